@@ -1,0 +1,32 @@
+use Rattle.std.proofs.Common.{Contains, sym, ◌∙◌, ap, arith}
+use Rattle.std.proofs.lemmas.Grind.{common_steps}
+use Rattle.bson_doc.specs.declared.doc.Field.{Field}
+use Rattle.bson_doc.proofs.NameLemmas.{first_place, with_set-at, with_set-new, found-none, IsDocument-with_set}
+use Rattle.bson_doc.proofs.doc.Doc.set.Goals as goal
+
+pub invariant_of-self : goal.invariant_of-self
+invariant_of-self c =
+    let clean : ¬ Contains c.args.name 0 = grind (arith, common_steps) in
+    let place = sym (rw (c.deref.ensures.value, c.as_str-2.ensures) at c.place_of.ensures) ∙ c.in-Some.is in
+    let first = first_place c.args.name c.self.inside.fields.items c.in-Some.place c.index_mut.result.now place in
+    let kept : Field = record { name = c.index_mut.result.now.name; value = c.args.value } in
+    let new = with_set-at c.args.name c.self.inside.fields.items c.in-Some.place c.index_mut.result.now kept first (ap (λ (f : Field). f.name) c.index_mut.ensures.value) in
+    rw new (IsDocument-with_set _ _ _ c.self.invariant clean)
+
+pub append-requires-clause-new : goal.append-requires-clause-new
+append-requires-clause-new c =
+    let none = found-none c.args.name c.self.inside.fields.items (sym (rw (c.deref.ensures.value, c.as_str-2.ensures) at c.place_of.ensures) ∙ c.in-None.is) in
+    rw (← c.self.view_is) none
+
+pub returns-in-Some-clause-ok : goal.returns-in-Some-clause-ok
+returns-in-Some-clause-ok c =
+    let place = sym (rw (c.deref.ensures.value, c.as_str-2.ensures) at c.place_of.ensures) ∙ c.in-Some.is in
+    let first = first_place c.args.name c.self.inside.fields.items c.in-Some.place c.index_mut.result.now place in
+    let kept : Field = record { name = c.index_mut.result.now.name; value = c.args.value } in
+    let new = with_set-at c.args.name c.self.inside.fields.items c.in-Some.place c.index_mut.result.now kept first (ap (λ (f : Field). f.name) c.index_mut.ensures.value) in
+    rw (← c.self.view_is) new
+
+pub returns-in_ok-append-in-None-clause-ok : goal.returns-in_ok-append-in-None-clause-ok
+returns-in_ok-append-in-None-clause-ok c =
+    let none = found-none c.args.name c.self.inside.fields.items (sym (rw (c.deref.ensures.value, c.as_str-2.ensures) at c.place_of.ensures) ∙ c.in-None.is) in
+    rw (c.in_ok-append-in-None.ensures.ok, ← c.self.view_is) (sym (with_set-new _ _ _ none))
