@@ -1,0 +1,76 @@
+//! Runs each example script of the folder and compares what it prints with what is written beside it.
+#![tactic(auto)]
+
+use anyhow::{Context, Result};
+use rs_io::{MemSink, MemSource};
+use std::alloc::Global;
+use std::fs;
+use std::process::ExitCode;
+
+fn main(rt: HostRuntime) -> Result<ExitCode> {
+    let mut as_written = true;
+    for name in names(&rt)? {
+        let script = read(&rt, &name, "replset")?;
+        let written = read(&rt, &name, "out")?;
+        let printed = transcript(rt.alloc(), script)?;
+        match first_difference(&written, &printed) {
+            None => println!(rt; "{name}: as written")?,
+            Some(line) => {
+                as_written = false;
+                println!(rt; "{name}: line {line} of the transcript differs")?;
+            }
+        }
+    }
+    Ok(if as_written {
+        ExitCode::SUCCESS
+    } else {
+        ExitCode::FAILURE
+    })
+}
+
+/// The names of the scripts, in order.
+fn names(rt: &HostRuntime) -> Result<Vec<String>> {
+    let mut names = Vec::new(rt.alloc());
+    for entry in fs::read_dir(rt, ".")? {
+        let entry = entry?;
+        if let Some(name) = entry
+            .file_name()
+            .to_str()
+            .and_then(|file| file.strip_suffix(".replset"))
+        {
+            names.push(String::from_str(rt.alloc(), name)?)?;
+        }
+    }
+    names.sort()?;
+    Ok(names)
+}
+
+fn read(rt: &HostRuntime, name: &str, ending: &str) -> Result<Vec<u8>> {
+    let path = format!(in rt.alloc(); "{name}.{ending}")?;
+    fs::read(rt, path.as_str()).context("reading an example")
+}
+
+/// What the script prints.
+fn transcript(alloc: Global, script: Vec<u8>) -> Result<Vec<u8>> {
+    let words = vec![in alloc; String::from_str(alloc, "run")?]?;
+    let mut source = MemSource::new(script, Vec::new(alloc));
+    let mut sink = MemSink::new(alloc, Vec::new(alloc));
+    let _ = set_program::run_set(alloc, &words, &mut source, &mut sink);
+    Ok(sink.bytes().to_vec(alloc)?)
+}
+
+/// The number of the first line in which the texts differ.
+fn first_difference(written: &[u8], printed: &[u8]) -> Option<usize> {
+    let mut written = written.split(|byte| *byte == b'\n');
+    let mut printed = printed.split(|byte| *byte == b'\n');
+    for line in 1..usize::MAX {
+        let (wanted, found) = (written.next(), printed.next());
+        if wanted != found {
+            return Some(line);
+        }
+        if wanted.is_none() {
+            break;
+        }
+    }
+    None
+}
