@@ -1,0 +1,8 @@
+pub mod AgainLemmas
+pub mod DigitLemmas
+pub mod DocumentLemmas
+pub mod PartLemmas
+pub mod ReadingLemmas
+pub mod SpellingLemmas
+pub mod TextLemmas
+pub mod ValueLemmas

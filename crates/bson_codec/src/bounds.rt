@@ -1,0 +1,19 @@
+/// How many bytes and levels a document may have. The document itself is level 1, and each document
+/// or array inside is a level more.
+#[derive(Clone, Copy, Debug, PartialEq, Eq)]
+pub struct Bounds {
+    pub bytes: u32,
+    pub levels: u32,
+}
+
+/// The bounds of a stored document.
+pub const DOCUMENT: Bounds = Bounds {
+    bytes: 262_144,
+    levels: 100,
+};
+
+/// The bounds of an oplog entry, which holds documents.
+pub const ENTRY: Bounds = Bounds {
+    bytes: 1_048_576,
+    levels: 103,
+};

@@ -1,0 +1,32 @@
+ghost use Rattle.std.specs.Prelude.{◌≡◌, ◌<◌, ◌≤◌, ◌^◌, ◌↔◌, IfOk, OnOk, IsErrOf};
+ghost use Rattle.bson_codec.specs.Length.{document_length, document_levels};
+ghost use Rattle.bson_codec.specs.Sound.{IsSound};
+ghost use Rattle.bson_codec.specs.Spelling.{document_bytes, IsSpelling};
+
+use crate::depth::levels;
+use crate::writing::write;
+use crate::{Bounds, EncodeError, size};
+use bson_doc::Doc;
+use std::alloc::Global;
+
+/// The bytes of a document (BSON 1.1), its one spelling. It is `TooDeep` with more levels than the
+/// bounds have, and else `TooLarge` with more bytes.
+pub fn encode(alloc: Global, doc: &Doc, bounds: Bounds) -> Result<Vec<u8>, EncodeError>
+    requires { bounds.bytes < 2 ^ 31 }
+    ensures ok { IfOk result (λ bytes. IsSpelling bounds.bytes bounds.levels doc.now bytes.items) }
+    ensures sound { OnOk result (IsSound doc.now) }
+    ensures too_deep { IsErrOf result EncodeError.TooDeep ↔ (bounds.levels < document_levels doc.now) }
+    ensures too_large { IsErrOf result EncodeError.TooLarge
+        ↔ ((document_levels doc.now ≤ bounds.levels) × (bounds.bytes < document_length doc.now)) }
+{
+    let most = u64::from(bounds.levels);
+    if levels(doc, most + 1) > most {
+        return Err(EncodeError::TooDeep);
+    }
+    if size(doc) > u64::from(bounds.bytes) {
+        return Err(EncodeError::TooLarge);
+    }
+    let mut bytes = Vec::new(alloc);
+    write(alloc, doc, &mut bytes)?;
+    Ok(bytes)
+}
