@@ -1,0 +1,248 @@
+-- What is read is a spelling of what is given: documents, arrays and whole values.
+use Rattle.std.proofs.Common.{◌≡◌, ◌≢◌, ℕ, ℤ, zero, suc, ◌+◌, ◌-◌, ◌*◌, ◌/◌, ◌%◌, ◌^◌, ◌<◌, ◌≤◌, lit<, min, max, Bool, true, false, not, cond, List, [], ◌∷◌, ◌++◌, ◌==◌, ◌&&◌, ◌||◌, length, take, drop, get_or, Option, Some, None, Result, Ok, Err, refl, sym, ap, subst, ◌∙◌, append_assoc, arith, ◌⊎◌, inl, inr, pos, neg_ℤ}
+use Rattle.std.specs.Prelude.{codes, is_some, Contains}
+use Rattle.std.proofs.lemmas.List.{length-drop, length-append}
+use Rattle.bson_doc.specs.Tree.{Tree, document, array, Fields, no_fields, field, Trees, no_items, item, IsDocument, found, with_field, with_item}
+use Rattle.bson_doc.proofs.NameLemmas.{with_set-new, IsDocument-with_set}
+use Rattle.doc_text.specs.declared.fault.Fault.{Fault}
+use Rattle.doc_text.specs.declared.fault.Rule.TheVariants.{Unexpected, DuplicateName, TooDeep}
+use Rattle.doc_text.specs.Class.{behind_spaces}
+use Rattle.doc_text.specs.Fault.{Read, ◌>>=◌, fails}
+use Rattle.doc_text.specs.Marks.{mark_at, spaced_at}
+use Rattle.doc_text.specs.Names.{name_at}
+use Rattle.doc_text.specs.Scalars.{scalar_at}
+use Rattle.doc_text.specs.Values.{begins_with, field_at, fields_at, items_at, inside_document, inside_array, document_at, array_at, value_at}
+use Rattle.doc_text.specs.Spelling.{IsSpaces, IsSpaced, IsClosing, SpellsName, SpellsField, Spells, SpellsFields, SpellsItems, SpellsLaterFields, SpellsLaterItems, levels, field_levels, item_levels, GoesNoFurther, Stands}
+use Rattle.doc_text.proofs.SpelledIsRead.{joined, joined-is, joined_items, joined_items-is}
+use Rattle.doc_text.proofs.ReadIsSpelled.{same, Behind, StandsAs, mark_gets, spaced_gets, spaces_front}
+use Rattle.doc_text.proofs.ReadStrings.{NameRead, name_gets}
+use Rattle.doc_text.proofs.ReadScalars.{scalar_gets}
+use Rattle.doc_text.proofs.Results.{Gets, bind_gets, gets_more, cond_gets}
+
+-- what a reader of members gives stands there
+abbrev pub Sound : ℕ → (List ℕ → Read Tree) → Type 0
+Sound most member = (input : List ℕ) → Gets (member input) (StandsAs most input)
+
+-- a new name at the end keeps the names apart
+IsDocument-with_field : (fs : Fields) (name : List ℕ) (value : Tree) → IsDocument fs → ¬ Contains name 0 → found name fs ≡ None → IsDocument (with_field fs name value)
+IsDocument-with_field fs name value apart clean new = subst IsDocument (with_set-new fs name value new) (IsDocument-with_set fs name value apart clean)
+
+not_found : (o : Option Tree) → is_some o ≡ false → o ≡ None
+not_found None h = refl
+not_found (Some x) h = absurd cc
+
+begun : (mark : ℕ) (input : List ℕ) → begins_with mark input ≡ true → input ≡ mark ∷ drop 1 input
+begun mark [] h = absurd cc
+begun mark (c ∷ rest) h = ap (λ (x : ℕ). x ∷ rest) (same c mark h)
+
+-- ---- fields
+
+pub record FieldRead (most : ℕ) (so_far : Fields) (input : List ℕ) (x : Fields × List ℕ) : Type 0 where
+  pub name : List ℕ
+  pub value : Tree
+  pub one : List ℕ
+  pub spaces : List ℕ
+  pub grown : x.0 ≡ with_field so_far name value
+  pub new : found name so_far ≡ None
+  pub clean : ¬ Contains name 0
+  pub spelled : SpellsField name (Spells value) one
+  pub blank : IsSpaces spaces
+  pub whole : input ≡ one ++ (spaces ++ x.1)
+  pub shallow : levels value ≤ most
+
+field_gets : (most : ℕ) (member : List ℕ → Read Tree) → Sound most member → (so_far : Fields) (input : List ℕ) → Gets (field_at member so_far input) (FieldRead most so_far input)
+unfolding field_at
+field_gets most member sound so_far input =
+    bind_gets (name_at input) _ (NameRead input) (FieldRead most so_far input) (name_gets input) (λ name a.
+    cond_gets (is_some (found name.0 so_far)) _ _ (FieldRead most so_far input) (λ _. tt) (λ new.
+    bind_gets (spaced_at 58 name.1) _ (Behind (IsSpaced 58) name.1) (FieldRead most so_far input) (spaced_gets 58 name.1) (λ inside b.
+    bind_gets (member inside) _ (StandsAs most inside) (FieldRead most so_far input) (sound inside) (λ value c.
+    let after = spaces_front value.1 in
+    let parts : input ≡ (a.0 ++ (b.0 ++ c.0)) ++ (after.0 ++ behind_spaces value.1) =
+    a.2 ∙ ap (λ (x : List ℕ). a.0 ++ x) (b.2 ∙ ap (λ (x : List ℕ). b.0 ++ x) (c.2 ∙ ap (λ (x : List ℕ). c.0 ++ x) after.2)) ∙ sym (simp append_assoc) in
+    record {
+      name = name.0;
+      value = value.0;
+      one = a.0 ++ (b.0 ++ c.0);
+      spaces = after.0;
+      grown = refl;
+      new = not_found (found name.0 so_far) new;
+      clean = a.3;
+      spelled = (a.0, b.0, c.0, a.1, b.1, c.1, refl);
+      blank = after.1;
+      whole = parts;
+      shallow = c.4;
+    }))))
+
+-- a first field, those behind it, and the closing brace
+pub record FieldsRead (most : ℕ) (so_far : Fields) (input : List ℕ) (x : Fields × List ℕ) : Type 0 where
+  pub name : List ℕ
+  pub value : Tree
+  pub others : Fields
+  pub one : List ℕ
+  pub later : List ℕ
+  pub grown : x.0 ≡ joined (with_field so_far name value) others
+  pub apart : IsDocument so_far → IsDocument x.0
+  pub spelled : SpellsField name (Spells value) one
+  pub behind : SpellsLaterFields others later
+  pub whole : input ≡ one ++ (later ++ x.1)
+  pub shallow : levels value ≤ most
+  pub others_shallow : field_levels others ≤ most
+
+pub fields_gets : (most : ℕ) (member : List ℕ → Read Tree) → Sound most member → (fuel : ℕ) (so_far : Fields) (input : List ℕ) → Gets (fields_at member fuel so_far input) (FieldsRead most so_far input)
+unfolding fields_at
+fields_gets most member sound zero so_far input = tt
+fields_gets most member sound (suc fuel) so_far input =
+    bind_gets (field_at member so_far input) _ (FieldRead most so_far input) (FieldsRead most so_far input) (field_gets most member sound so_far input) (λ got a.
+    cond_gets (begins_with 125 got.1) _ _ (FieldsRead most so_far input) (λ closed.
+    let mark = begun 125 got.1 closed in
+    let closing : IsClosing 125 (a.spaces ++ 125 ∷ []) = record { before = a.spaces; spaces_before = a.blank; whole = refl } in
+    record {
+      name = a.name;
+      value = a.value;
+      others = no_fields;
+      one = a.one;
+      later = a.spaces ++ 125 ∷ [];
+      grown = a.grown;
+      apart = λ before. subst IsDocument (sym a.grown) (IsDocument-with_field so_far a.name a.value before a.clean a.new);
+      spelled = a.spelled;
+      behind = closing;
+      whole = a.whole ∙ ap (λ (x : List ℕ). a.one ++ x) (ap (λ (x : List ℕ). a.spaces ++ x) mark ∙ sym (append_assoc a.spaces (125 ∷ []) (drop 1 got.1)));
+      shallow = a.shallow;
+      others_shallow = omega arith;
+    }) (λ _.
+    bind_gets (mark_at 44 got.1) _ (λ rest. got.1 ≡ 44 ∷ rest) (FieldsRead most so_far input) (mark_gets 44 got.1) (λ rest comma.
+    gets_more (fields_at member fuel got.0 (behind_spaces rest)) (FieldsRead most got.0 (behind_spaces rest)) (FieldsRead most so_far input) (fields_gets most member sound fuel got.0 (behind_spaces rest)) (λ x b.
+    let after = spaces_front rest in
+    let spaced : IsSpaced 44 (a.spaces ++ 44 ∷ after.0) = record { before = a.spaces; after = after.0; spaces_before = a.blank; spaces_after = after.1; whole = refl } in
+    let parts : a.spaces ++ got.1 ≡ ((a.spaces ++ 44 ∷ after.0) ++ (b.one ++ b.later)) ++ x.1 =
+    ap (λ (y : List ℕ). a.spaces ++ y) (comma ∙ ap (λ (y : List ℕ). 44 ∷ y) (after.2 ∙ ap (λ (y : List ℕ). after.0 ++ y) b.whole)) ∙ sym (simp append_assoc) in
+    record {
+      name = a.name;
+      value = a.value;
+      others = field b.name b.value b.others;
+      one = a.one;
+      later = (a.spaces ++ 44 ∷ after.0) ++ (b.one ++ b.later);
+      grown = b.grown ∙ ap (λ (fs : Fields). joined (with_field fs b.name b.value) b.others) a.grown;
+      apart = λ before. b.apart (subst IsDocument (sym a.grown) (IsDocument-with_field so_far a.name a.value before a.clean a.new));
+      spelled = a.spelled;
+      behind = (a.spaces ++ 44 ∷ after.0, b.one, b.later, spaced, b.spelled, b.behind, refl);
+      whole = a.whole ∙ ap (λ (y : List ℕ). a.one ++ y) parts;
+      shallow = a.shallow;
+      others_shallow = omega (arith, b.shallow, b.others_shallow);
+    }))))
+
+-- ---- items
+
+pub record ItemsRead (most : ℕ) (so_far : Trees) (input : List ℕ) (x : Trees × List ℕ) : Type 0 where
+  pub value : Tree
+  pub others : Trees
+  pub one : List ℕ
+  pub later : List ℕ
+  pub grown : x.0 ≡ joined_items (with_item so_far value) others
+  pub spelled : Spells value one
+  pub behind : SpellsLaterItems others later
+  pub whole : input ≡ one ++ (later ++ x.1)
+  pub shallow : levels value ≤ most
+  pub others_shallow : item_levels others ≤ most
+
+pub items_gets : (most : ℕ) (member : List ℕ → Read Tree) → Sound most member → (fuel : ℕ) (so_far : Trees) (input : List ℕ) → Gets (items_at member fuel so_far input) (ItemsRead most so_far input)
+unfolding items_at
+items_gets most member sound zero so_far input = tt
+items_gets most member sound (suc fuel) so_far input =
+    bind_gets (member input) _ (StandsAs most input) (ItemsRead most so_far input) (sound input) (λ got a.
+    let before = spaces_front got.1 in
+    cond_gets (begins_with 93 (behind_spaces got.1)) _ _ (ItemsRead most so_far input) (λ closed.
+    let mark = begun 93 (behind_spaces got.1) closed in
+    let closing : IsClosing 93 (before.0 ++ 93 ∷ []) = record { before = before.0; spaces_before = before.1; whole = refl } in
+    record {
+      value = got.0;
+      others = no_items;
+      one = a.0;
+      later = before.0 ++ 93 ∷ [];
+      grown = refl;
+      spelled = a.1;
+      behind = closing;
+      whole = a.2 ∙ ap (λ (x : List ℕ). a.0 ++ x) (before.2 ∙ ap (λ (x : List ℕ). before.0 ++ x) mark ∙ sym (append_assoc before.0 (93 ∷ []) (drop 1 (behind_spaces got.1))));
+      shallow = a.4;
+      others_shallow = omega arith;
+    }) (λ _.
+    bind_gets (mark_at 44 (behind_spaces got.1)) _ (λ rest. behind_spaces got.1 ≡ 44 ∷ rest) (ItemsRead most so_far input) (mark_gets 44 (behind_spaces got.1)) (λ rest comma.
+    gets_more (items_at member fuel (with_item so_far got.0) (behind_spaces rest)) (ItemsRead most (with_item so_far got.0) (behind_spaces rest)) (ItemsRead most so_far input) (items_gets most member sound fuel (with_item so_far got.0) (behind_spaces rest)) (λ x b.
+    let after = spaces_front rest in
+    let spaced : IsSpaced 44 (before.0 ++ 44 ∷ after.0) = record { before = before.0; after = after.0; spaces_before = before.1; spaces_after = after.1; whole = refl } in
+    let parts : got.1 ≡ ((before.0 ++ 44 ∷ after.0) ++ (b.one ++ b.later)) ++ x.1 =
+    before.2 ∙ ap (λ (y : List ℕ). before.0 ++ y) (comma ∙ ap (λ (y : List ℕ). 44 ∷ y) (after.2 ∙ ap (λ (y : List ℕ). after.0 ++ y) b.whole)) ∙ sym (simp append_assoc) in
+    record {
+      value = got.0;
+      others = item b.value b.others;
+      one = a.0;
+      later = (before.0 ++ 44 ∷ after.0) ++ (b.one ++ b.later);
+      grown = b.grown;
+      spelled = a.1;
+      behind = (before.0 ++ 44 ∷ after.0, b.one, b.later, spaced, b.spelled, b.behind, refl);
+      whole = a.2 ∙ ap (λ (y : List ℕ). a.0 ++ y) parts;
+      shallow = a.4;
+      others_shallow = omega (arith, b.shallow, b.others_shallow);
+    }))))
+
+-- ---- values
+
+document_gets : (most : ℕ) (member : List ℕ → Read Tree) → Sound most member → (input : List ℕ) → Gets (document_at member input) (StandsAs (suc most) input)
+unfolding document_at
+document_gets most member sound input =
+    bind_gets (mark_at 123 input) _ (λ rest. input ≡ 123 ∷ rest) (StandsAs (suc most) input) (mark_gets 123 input) (λ rest opened.
+    let spaces = spaces_front rest in
+    cond_gets (begins_with 125 (behind_spaces rest)) _ _ (StandsAs (suc most) input) (λ closed.
+    let mark = begun 125 (behind_spaces rest) closed in
+    let closing : IsClosing 125 (spaces.0 ++ 125 ∷ []) = record { before = spaces.0; spaces_before = spaces.1; whole = refl } in
+    let whole : input ≡ (123 ∷ (spaces.0 ++ 125 ∷ [])) ++ drop 1 (behind_spaces rest) =
+    opened ∙ ap (λ (x : List ℕ). 123 ∷ x) (spaces.2 ∙ ap (λ (x : List ℕ). spaces.0 ++ x) mark ∙ sym (append_assoc spaces.0 (125 ∷ []) (drop 1 (behind_spaces rest)))) in
+    (123 ∷ (spaces.0 ++ 125 ∷ []), (tt, spaces.0 ++ 125 ∷ [], closing, refl), whole, tt, omega arith)) (λ _.
+    bind_gets (fields_at member (suc (length (behind_spaces rest))) no_fields (behind_spaces rest)) _ (FieldsRead most no_fields (behind_spaces rest)) (StandsAs (suc most) input) (fields_gets most member sound (suc (length (behind_spaces rest))) no_fields (behind_spaces rest)) (λ x a.
+    let made : x.0 ≡ field a.name a.value a.others = a.grown ∙ joined-is (with_field no_fields a.name a.value) a.others in
+    let apart : IsDocument (field a.name a.value a.others) = subst IsDocument made (a.apart tt) in
+    let inside : SpellsFields (field a.name a.value a.others) (spaces.0 ++ (a.one ++ a.later)) = (spaces.0, a.one, a.later, spaces.1, a.spelled, a.behind, refl) in
+    let whole : input ≡ (123 ∷ (spaces.0 ++ (a.one ++ a.later))) ++ x.1 =
+    opened ∙ ap (λ (y : List ℕ). 123 ∷ y) (spaces.2 ∙ ap (λ (y : List ℕ). spaces.0 ++ y) a.whole ∙ sym (simp append_assoc)) in
+    let stands : StandsAs (suc most) input (document (field a.name a.value a.others), x.1) = (123 ∷ (spaces.0 ++ (a.one ++ a.later)), (apart, spaces.0 ++ (a.one ++ a.later), inside, refl), whole, tt, omega (arith, a.shallow, a.others_shallow)) in
+    subst (λ (fs : Fields). StandsAs (suc most) input (document fs, x.1)) (sym made) stands)))
+
+array_gets : (most : ℕ) (member : List ℕ → Read Tree) → Sound most member → (input : List ℕ) → Gets (array_at member input) (StandsAs (suc most) input)
+unfolding array_at
+array_gets most member sound input =
+    bind_gets (mark_at 91 input) _ (λ rest. input ≡ 91 ∷ rest) (StandsAs (suc most) input) (mark_gets 91 input) (λ rest opened.
+    let spaces = spaces_front rest in
+    cond_gets (begins_with 93 (behind_spaces rest)) _ _ (StandsAs (suc most) input) (λ closed.
+    let mark = begun 93 (behind_spaces rest) closed in
+    let closing : IsClosing 93 (spaces.0 ++ 93 ∷ []) = record { before = spaces.0; spaces_before = spaces.1; whole = refl } in
+    let whole : input ≡ (91 ∷ (spaces.0 ++ 93 ∷ [])) ++ drop 1 (behind_spaces rest) =
+    opened ∙ ap (λ (x : List ℕ). 91 ∷ x) (spaces.2 ∙ ap (λ (x : List ℕ). spaces.0 ++ x) mark ∙ sym (append_assoc spaces.0 (93 ∷ []) (drop 1 (behind_spaces rest)))) in
+    (91 ∷ (spaces.0 ++ 93 ∷ []), (spaces.0 ++ 93 ∷ [], closing, refl), whole, tt, omega arith)) (λ _.
+    bind_gets (items_at member (suc (length (behind_spaces rest))) no_items (behind_spaces rest)) _ (ItemsRead most no_items (behind_spaces rest)) (StandsAs (suc most) input) (items_gets most member sound (suc (length (behind_spaces rest))) no_items (behind_spaces rest)) (λ x a.
+    let made : x.0 ≡ item a.value a.others = a.grown ∙ joined_items-is (with_item no_items a.value) a.others in
+    let inside : SpellsItems (item a.value a.others) (spaces.0 ++ (a.one ++ a.later)) = (spaces.0, a.one, a.later, spaces.1, a.spelled, a.behind, refl) in
+    let whole : input ≡ (91 ∷ (spaces.0 ++ (a.one ++ a.later))) ++ x.1 =
+    opened ∙ ap (λ (y : List ℕ). 91 ∷ y) (spaces.2 ∙ ap (λ (y : List ℕ). spaces.0 ++ y) a.whole ∙ sym (simp append_assoc)) in
+    let stands : StandsAs (suc most) input (array (item a.value a.others), x.1) = (91 ∷ (spaces.0 ++ (a.one ++ a.later)), (spaces.0 ++ (a.one ++ a.later), inside, refl), whole, tt, omega (arith, a.shallow, a.others_shallow)) in
+    subst (λ (ts : Trees). StandsAs (suc most) input (array ts, x.1)) (sym made) stands)))
+
+pub value_gets : (most : ℕ) → Sound most (value_at most)
+unfolding value_at
+value_gets zero = λ input. cond_gets (begins_with 123 input || begins_with 91 input) (fails TooDeep input) (scalar_at input) (StandsAs zero input) (λ _. tt) (λ _. scalar_gets zero input)
+value_gets (suc most) = λ input.
+    cond_gets (begins_with 123 input) _ _ (StandsAs (suc most) input) (λ _. document_gets most (value_at most) (value_gets most) input) (λ _.
+    cond_gets (begins_with 91 input) _ _ (StandsAs (suc most) input) (λ _. array_gets most (value_at most) (value_gets most) input) (λ _. scalar_gets (suc most) input))
+
+pub read_stands : (bytes front : List ℕ) (at : ℕ) (tree : Tree) (rest : List ℕ) → at ≤ length bytes → front ≡ drop at bytes → value_at 100 front ≡ Ok (tree, rest) → Stands bytes at tree (length bytes - length rest)
+read_stands bytes front at tree rest within is read =
+    let stands : StandsAs 100 front (tree, rest) = rw read at (value_gets 100 front) in
+    record {
+      spelling = stands.0;
+      rest = rest;
+      spelled = stands.1;
+      shallow = stands.4;
+      parts = sym is ∙ stands.2;
+      whole = stands.3;
+      place = omega (arith, within, length-drop at bytes, ap length is, ap length stands.2, length-append stands.0 rest);
+    }

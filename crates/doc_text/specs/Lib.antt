@@ -1,0 +1,13 @@
+pub mod Again
+pub mod Bytes
+pub mod Class
+pub mod Fault
+pub mod HexText
+pub mod Integers
+pub mod Marks
+pub mod Names
+pub mod Printing
+pub mod Scalars
+pub mod Spelling
+pub mod Strings
+pub mod Values

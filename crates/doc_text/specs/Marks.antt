@@ -1,0 +1,28 @@
+-- Single marks and words, and the spaces round them.
+use Rattle.std.specs.Prelude.{ℕ, List, [], ◌∷◌, Result, Ok, ◌==◌, if◌then◌else◌}
+use Rattle.doc_text.specs.declared.fault.Rule.TheVariants.{Unexpected}
+use Rattle.doc_text.specs.declared.fault.Fault.{Fault}
+use Rattle.doc_text.specs.Class.{behind_spaces}
+use Rattle.doc_text.specs.Fault.{◌>>=◌, fails}
+
+-- what stands behind a mark
+unfoldable pub mark_at : ℕ → List ℕ → Result (List ℕ) Fault
+mark_at mark [] = fails Unexpected []
+mark_at mark (c ∷ rest) = if c == mark then Ok rest else fails Unexpected (c ∷ rest)
+
+-- what stands behind a mark with spaces round it
+unfoldable pub spaced_at : ℕ → List ℕ → Result (List ℕ) Fault
+spaced_at mark text = do
+  rest ← mark_at mark (behind_spaces text)
+  Ok (behind_spaces rest)
+
+-- what stands behind a mark with spaces before it
+unfoldable pub closing_at : ℕ → List ℕ → Result (List ℕ) Fault
+closing_at mark text = mark_at mark (behind_spaces text)
+
+-- what stands behind a word
+unfoldable pub word_at : List ℕ → List ℕ → Result (List ℕ) Fault
+word_at [] text = Ok text
+word_at (letter ∷ letters) text = do
+  rest ← mark_at letter text
+  word_at letters rest

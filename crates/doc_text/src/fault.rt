@@ -1,0 +1,80 @@
+// Why a reader stopped.
+ghost use Rattle.std.specs.Prelude.{◌≡◌};
+ghost use Rattle.doc_text.specs.declared.fault.ReadError.TheVariants.{Memory};
+
+use crate::TextError;
+use std::alloc::{AllocError, AllocFailed};
+
+/// What a text breaks.
+#[derive(Clone, Copy)]
+pub enum Rule {
+    Unexpected,
+    Number,
+    Escape,
+    Hex,
+    DuplicateName,
+    TooDeep,
+    NameZero,
+}
+
+/// A broken rule, and how many bytes are left from the first byte that can't go on.
+#[derive(Clone, Copy)]
+pub struct Fault {
+    pub rule: Rule,
+    pub left: usize,
+}
+
+#[derive(Clone, Copy)]
+pub enum ReadError {
+    Memory,
+    Fault(Fault),
+}
+
+/// What a reader took from the front, and the text behind it.
+pub type Read<'a, T> = Result<(T, &'a str), ReadError>;
+
+impl From<AllocError> for ReadError {
+    ghost from_gives = { λ _ e. e ≡ Memory };
+
+    fn from(_: AllocError) -> Self {
+        ReadError::Memory
+    }
+}
+
+impl<T: Drop> From<AllocFailed<T>> for ReadError {
+    ghost from_gives = { λ _ e. e ≡ Memory };
+
+    fn from(_: AllocFailed<T>) -> Self {
+        ReadError::Memory
+    }
+}
+
+impl Fault {
+    ghost use Rattle.doc_text.specs.Fault.{fault_at, placed};
+
+    /// The first byte of the text breaks the rule, or its end does.
+    pub fn at(rule: Rule, text: &str) -> Self
+        ensures { result ≡ fault_at rule text.now }
+    {
+        Fault {
+            rule,
+            left: text.len(),
+        }
+    }
+
+    /// The error of a text of so many bytes.
+    pub fn placed(self, len: usize) -> TextError
+        ensures { result ≡ placed len self }
+    {
+        let place = len.saturating_sub(self.left);
+        match self.rule {
+            Rule::Unexpected => TextError::Unexpected(place),
+            Rule::Number => TextError::Number(place),
+            Rule::Escape => TextError::Escape(place),
+            Rule::Hex => TextError::Hex(place),
+            Rule::DuplicateName => TextError::DuplicateName(place),
+            Rule::TooDeep => TextError::TooDeep(place),
+            Rule::NameZero => TextError::NameZero(place),
+        }
+    }
+}

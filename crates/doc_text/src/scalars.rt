@@ -1,0 +1,83 @@
+// Values that hold no others.
+ghost use Rattle.std.specs.Prelude.{◌≡◌, ◌<◌, IfOk, length};
+ghost use Rattle.bson_doc.specs.View.{tree_of};
+ghost use Rattle.doc_text.specs.Fault.{Gives};
+ghost use Rattle.doc_text.specs.Scalars.{date_at, binary_at, id_at, time_at, string_at, scalar_at};
+
+use crate::fault::{Fault, Read, ReadError, Rule};
+use crate::hex_text::{binary_hex, id_hex};
+use crate::integers::{long, natural, number};
+use crate::marks::{closing, mark, spaced, word};
+use crate::strings::letters;
+use bson_doc::Value;
+use std::alloc::Global;
+
+#[tactic(auto, unfolding(crate::specs::Scalars::string_at))]
+fn string<'a>(alloc: Global, text: &'a str) -> Read<'a, Value>
+    ensures gives { Gives (λ x. (tree_of x.0, x.1.now)) result (string_at text.now) }
+    ensures shorter { IfOk result (λ x. length x.1.now < length text.now) }
+{
+    let (string, rest) = letters(alloc, mark(text, b'"')?, false)?;
+    Ok((Value::Text(string), rest))
+}
+
+#[tactic(auto, unfolding(crate::specs::Scalars::date_at))]
+fn date(text: &str) -> Read<'_, Value>
+    ensures gives { Gives (λ x. (tree_of x.0, x.1.now)) result (date_at text.now) }
+    ensures shorter { IfOk result (λ x. length x.1.now < length text.now) }
+{
+    let (milliseconds, rest) = long(spaced(word(text, b"Date")?, b'(')?)?;
+    Ok((Value::Date(milliseconds), closing(rest, b')')?))
+}
+
+#[tactic(auto, unfolding(crate::specs::Scalars::binary_at))]
+fn binary<'a>(alloc: Global, text: &'a str) -> Read<'a, Value>
+    ensures gives { Gives (λ x. (tree_of x.0, x.1.now)) result (binary_at text.now) }
+    ensures shorter { IfOk result (λ x. length x.1.now < length text.now) }
+{
+    let (subtype, rest) = natural(spaced(word(text, b"Bin")?, b'(')?, 255)?;
+    let (bytes, rest) = binary_hex(alloc, mark(spaced(rest, b',')?, b'"')?)?;
+    Ok((Value::Binary(subtype as u8, bytes), closing(rest, b')')?))
+}
+
+#[tactic(auto, unfolding(crate::specs::Scalars::id_at))]
+fn id(text: &str) -> Read<'_, Value>
+    ensures gives { Gives (λ x. (tree_of x.0, x.1.now)) result (id_at text.now) }
+    ensures shorter { IfOk result (λ x. length x.1.now < length text.now) }
+{
+    let (bytes, rest) = id_hex(mark(spaced(word(text, b"Id")?, b'(')?, b'"')?)?;
+    Ok((Value::ObjectId(bytes), closing(rest, b')')?))
+}
+
+#[tactic(auto, unfolding(crate::specs::Scalars::time_at))]
+fn time(text: &str) -> Read<'_, Value>
+    ensures gives { Gives (λ x. (tree_of x.0, x.1.now)) result (time_at text.now) }
+    ensures shorter { IfOk result (λ x. length x.1.now < length text.now) }
+{
+    let (seconds, rest) = natural(spaced(word(text, b"Time")?, b'(')?, u32::MAX)?;
+    let (increment, rest) = natural(spaced(rest, b',')?, u32::MAX)?;
+    let timestamp = u64::from(seconds) * (1 << 32) + u64::from(increment);
+    Ok((Value::Timestamp(timestamp), closing(rest, b')')?))
+}
+
+/// A value that is no document and no array.
+#[tactic(auto, unfolding(crate::specs::Scalars::scalar_at, crate::specs::Scalars::constant_at))]
+pub fn scalar<'a>(alloc: Global, text: &'a str) -> Read<'a, Value>
+    ensures gives { Gives (λ x. (tree_of x.0, x.1.now)) result (scalar_at text.now) }
+    ensures shorter { IfOk result (λ x. length x.1.now < length text.now) }
+{
+    let [first, ..] = text.as_bytes() else {
+        return Err(ReadError::Fault(Fault::at(Rule::Unexpected, text)));
+    };
+    match first {
+        b'"' => string(alloc, text),
+        b'n' => Ok((Value::Null, word(text, b"null")?)),
+        b't' => Ok((Value::Boolean(true), word(text, b"true")?)),
+        b'f' => Ok((Value::Boolean(false), word(text, b"false")?)),
+        b'D' => date(text),
+        b'B' => binary(alloc, text),
+        b'I' => id(text),
+        b'T' => time(text),
+        _ => number(text),
+    }
+}

@@ -1,0 +1,155 @@
+// The one text of each value.
+ghost use Rattle.std.specs.Prelude.{◌≡◌, ◌++◌, IfOk, OnOk, OnErr, string_bytes, false};
+ghost use Rattle.bson_doc.specs.View.{tree_of};
+ghost use Rattle.bson_doc.specs.Tree.{document, array};
+ghost use Rattle.doc_text.specs.Bytes.{is_plain};
+ghost use Rattle.doc_text.specs.Spelling.{IsLawful, Spells};
+ghost use Rattle.doc_text.specs.Again.{IsReadAgain};
+ghost use Rattle.doc_text.specs.Printing.{printed, printed_name, is_bare, quoted, printed_byte};
+
+use crate::class::{Class, starts_name};
+use crate::marks::skip;
+use bson_doc::{Doc, Items, Mem, Value};
+use std::alloc::Global;
+use std::fmt::Write;
+
+/// The escape of a byte that has to be escaped.
+#[tactic(auto, using(crate::proofs::Quoting::code_printed))]
+fn write_escape(byte: u8, out: &mut String) -> Mem<()>
+    requires { is_plain byte ≡ false }
+    ensures { OnOk result (string_bytes out.new ≡ string_bytes out.old ++ printed_byte byte) }
+{
+    match byte {
+        b'"' => out.push_str("\\\""),
+        b'\\' => out.push_str("\\\\"),
+        b'\n' => out.push_str("\\n"),
+        b'\r' => out.push_str("\\r"),
+        b'\t' => out.push_str("\\t"),
+        _ => {
+            out.push_str("\\u00")?;
+            out.push_str(&hex::encode(*out.allocator(), [byte])?)
+        }
+    }
+}
+
+/// A string between quotation marks.
+fn write_string(string: &str, out: &mut String) -> Mem<()>
+    ensures { OnOk result (string_bytes out.new ≡ string_bytes out.old ++ quoted string.now) }
+{
+    out.push_str("\"")?;
+    let mut rest = string;
+    loop {
+        let (plain, stop) = Class::Plain.run(rest);
+        out.push_str(plain)?;
+        let [byte, ..] = stop.as_bytes() else {
+            break;
+        };
+        write_escape(*byte, out)?;
+        rest = skip(stop);
+    }
+    out.push_str("\"")
+}
+
+fn is_bare(name: &str) -> bool
+    ensures { result ≡ is_bare name.now }
+{
+    let (_, rest) = Class::Name.run(name);
+    match name.as_bytes() {
+        [first, ..] => starts_name(*first) && rest.is_empty(),
+        [] => false,
+    }
+}
+
+fn write_name(name: &str, out: &mut String) -> Mem<()>
+    ensures { OnOk result (string_bytes out.new ≡ string_bytes out.old ++ printed_name name.now) }
+{
+    if is_bare(name) {
+        out.push_str(name)
+    } else {
+        write_string(name, out)
+    }
+}
+
+#[cycle(write)]
+#[tactic(auto, unfolding(crate::specs::Printing::printed))]
+fn write_document(fields: &Doc, out: &mut String) -> Mem<()>
+    ensures { OnOk result (string_bytes out.new ≡ string_bytes out.old ++ printed (document fields.now)) }
+{
+    out.push_str("{")?;
+    for place in 0..fields.len() {
+        let Some((name, value)) = fields.at(place) else {
+            unreachable!();
+        };
+        if place > 0 {
+            out.push_str(", ")?;
+        }
+        write_name(name, out)?;
+        out.push_str(": ")?;
+        write(value, out)?;
+    }
+    out.push_str("}")
+}
+
+#[cycle(write)]
+#[tactic(auto, unfolding(crate::specs::Printing::printed))]
+fn write_array(items: &Items, out: &mut String) -> Mem<()>
+    ensures { OnOk result (string_bytes out.new ≡ string_bytes out.old ++ printed (array items.now)) }
+{
+    out.push_str("[")?;
+    for place in 0..items.len() {
+        let Some(value) = items.at(place) else {
+            unreachable!();
+        };
+        if place > 0 {
+            out.push_str(", ")?;
+        }
+        write(value, out)?;
+    }
+    out.push_str("]")
+}
+
+#[cycle(write)]
+#[tactic(auto, unfolding(crate::specs::Printing::printed))]
+fn write(value: &Value, out: &mut String) -> Mem<()>
+    ensures { OnOk result (string_bytes out.new ≡ string_bytes out.old ++ printed (tree_of value.now)) }
+{
+    match value {
+        Value::Null => out.push_str("null"),
+        Value::Boolean(true) => out.push_str("true"),
+        Value::Boolean(false) => out.push_str("false"),
+        Value::Int32(number) => write!(out, "{number}"),
+        Value::Int64(number) => write!(out, "{number}L"),
+        Value::Text(text) => write_string(text.as_str(), out),
+        Value::Document(fields) => write_document(fields, out),
+        Value::Array(items) => write_array(items, out),
+        Value::Date(milliseconds) => write!(out, "Date({milliseconds})"),
+        Value::Binary(subtype, bytes) => {
+            let digits = hex::encode(*out.allocator(), bytes.as_slice())?;
+            write!(out, "Bin({subtype}, \"{digits}\")")
+        }
+        Value::ObjectId(bytes) => {
+            let digits = hex::encode(*out.allocator(), bytes)?;
+            write!(out, "Id(\"{digits}\")")
+        }
+        Value::Timestamp(timestamp) => {
+            let seconds = timestamp >> 32;
+            let increment = timestamp % (1 << 32);
+            write!(out, "Time({seconds}, {increment})")
+        }
+    }
+}
+
+/// Appends the one printed text of a value. Want of memory leaves `out` as it was.
+pub fn write_value(value: &Value, out: &mut String) -> Mem<()>
+    ensures ok { OnOk result (string_bytes out.new ≡ string_bytes out.old ++ printed (tree_of value.now)) }
+    ensures err { OnErr result (string_bytes out.new ≡ string_bytes out.old) }
+    // What was written is a spelling of the value, and is read again, whatever stands behind it that
+    // doesn't go on with a number.
+    ensures spelled { OnOk result (IsLawful (tree_of value.now) → Spells (tree_of value.now) (printed (tree_of value.now))) }
+    ensures again { OnOk result (IsReadAgain (string_bytes out.old) (string_bytes out.new) (tree_of value.now)) }
+{
+    let mut text = String::new(*out.allocator());
+    write(value, &mut text)?;
+    out.push_str(&text)?;
+    Ok(())
+}
