@@ -1,0 +1,4 @@
+pub mod DocsLemmas
+pub mod FieldLemmas
+pub mod IndexLemmas
+pub mod WalkLemmas

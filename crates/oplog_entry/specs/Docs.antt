@@ -1,0 +1,30 @@
+-- The documents that a log of entries leaves.
+use Rattle.std.specs.Prelude.{List, Option, None, Some, fold}
+use Rattle.std.specs.FinMap.{FinMap, empty, get, insert, remove}
+use Rattle.bson_doc.specs.Tree.{Fields}
+use Rattle.bson_doc.specs.Place.{Place, place_cmp}
+use Rattle.oplog_entry.specs.declared.entry.Op.{Op}
+use Rattle.oplog_entry.specs.declared.entry.Entry.{Entry}
+use Rattle.oplog_entry.specs.Step.{place_of, document_after}
+
+-- the document of each collection and key, where there is one, in order of collection and key
+abbrev pub Documents : Type 0
+Documents = FinMap place_cmp Fields
+
+-- the documents with this at a place, or with none there
+abbrev pub put_at : Documents → Place → Option Fields → Documents
+put_at documents place (Some document) = insert documents place document
+put_at documents place None = remove documents place
+
+-- the documents after an op that touches the document of a place, or none
+abbrev pub applied_at : Documents → Op → Option Place → Documents
+applied_at documents op None = documents
+applied_at documents op (Some place) = put_at documents place (document_after op (get documents place))
+
+-- the documents after one entry more
+abbrev pub applied : Documents → Entry → Documents
+applied documents entry = applied_at documents entry.op (place_of entry.op)
+
+-- the documents of a log: its entries, applied one after another
+abbrev pub docs : List Entry → Documents
+docs log = fold applied empty log

@@ -1,0 +1,41 @@
+-- What an entry owes.
+use Rattle.std.specs.Prelude.{◌≡◌, ◌<◌, ◌^◌, ℕ, Bool, false, List, Contains, None, IsSome, ⊤, codes}
+use Rattle.std.specs.List.{list_any}
+use Rattle.std.specs.Str.{bytes_eq}
+use Rattle.bson_doc.specs.Tree.{text, Fields, no_fields, field, Trees, no_items, item, found}
+use Rattle.bson_doc.specs.Key.{key_of}
+use Rattle.bson_doc.specs.View.{tree_of}
+use Rattle.oplog_entry.specs.declared.entry.Op.{Op}
+use Rattle.oplog_entry.specs.declared.entry.Op.TheVariants.{Insert, Replace, Fields as SetFields, Delete, Noop}
+use Rattle.oplog_entry.specs.declared.entry.Entry.{Entry}
+use Rattle.oplog_entry.specs.Step.{id_key, strings_of}
+
+-- the first field is `_id`
+abbrev pub BeginsWithId : Fields → Type 0
+BeginsWithId no_fields = ⊥
+BeginsWithId (field name value rest) = name ≡ codes "_id"
+
+-- a name is one of these
+abbrev pub is_among : List ℕ → List (List ℕ) → Bool
+is_among name names = list_any (bytes_eq name) names
+
+-- distinct strings without a zero byte, none of them `_id`
+abbrev pub AreUnsets : Trees → Type 0
+AreUnsets no_items = ⊤
+AreUnsets (item (text name) rest) =
+    (¬ Contains name 0) × (bytes_eq name (codes "_id") ≡ false) × (is_among name (strings_of rest) ≡ false) × AreUnsets rest
+AreUnsets (item _ rest) = ⊥
+
+-- A document begins with an `_id` that has a key, an `id` has a key, and fields leave the `_id` alone.
+abbrev pub IsLawfulOp : Op → Type 0
+IsLawfulOp (Insert ns o) = BeginsWithId o × IsSome (id_key o)
+IsLawfulOp (Replace ns id o) = BeginsWithId o × IsSome (id_key o) × (key_of (tree_of id) ≡ id_key o)
+IsLawfulOp (SetFields ns id sets unsets) =
+    IsSome (key_of (tree_of id)) × (found (codes "_id") sets ≡ None) × AreUnsets unsets
+IsLawfulOp (Delete ns id) = IsSome (key_of (tree_of id))
+IsLawfulOp Noop = ⊤
+
+-- a term below 2^63, and a lawful op
+pub record IsLawful (entry : Entry) : Type 0 where
+  pub term : entry.optime.term < 2 ^ 63
+  pub op : IsLawfulOp entry.op

@@ -1,0 +1,11 @@
+pub mod Docs
+pub mod Index
+pub mod Lawful
+pub mod Step
+pub mod Visible
+pub mod Walk
+pub use Rattle.bson_doc.specs.Code
+pub use Rattle.bson_doc.specs.Key
+pub use Rattle.bson_doc.specs.Place
+pub use Rattle.bson_doc.specs.Tree
+pub use Rattle.bson_doc.specs.View

@@ -1,0 +1,21 @@
+-- A changed document, field by field: what stays, each with its new value, and then what is new.
+use Rattle.std.specs.Prelude.{ℕ, List, is_some, unwrap_or, if◌then◌else◌}
+use Rattle.bson_doc.specs.Tree.{Fields, no_fields, field, found}
+use Rattle.oplog_entry.specs.Lawful.{is_among}
+
+-- some fields, and then others
+abbrev pub join : Fields → Fields → Fields
+join no_fields later = later
+join (field name value rest) later = field name value (join rest later)
+
+-- what stays of a document, each field with its new value where there is one
+abbrev pub kept : List (List ℕ) → Fields → Fields → Fields
+kept gone sets no_fields = no_fields
+kept gone sets (field name value rest) =
+    if is_among name gone then kept gone sets rest else field name (unwrap_or (found name sets) value) (kept gone sets rest)
+
+-- what is new to a document
+abbrev pub fresh : List (List ℕ) → Fields → Fields → Fields
+fresh gone d no_fields = no_fields
+fresh gone d (field name value rest) =
+    if is_among name gone then fresh gone d rest else (if is_some (found name d) then fresh gone d rest else field name value (fresh gone d rest))

@@ -1,0 +1,123 @@
+ghost use Rattle.std.specs.Prelude.{◌≡◌, IfOk};
+ghost use Rattle.oplog_entry.specs.Lawful.{IsLawful, IsLawfulOp};
+ghost use Rattle.oplog_entry.specs.Step.{place_of};
+
+use bson_doc::{Doc, IdKey, Items, KeyError, Mem, Text, Value};
+use rs_optime::OpTime;
+use std::alloc::AllocError;
+
+/// What an entry of the oplog does to one document. `ns` is the collection, and `id` the document's `_id`.
+#[derive(Drop)]
+pub enum Op {
+    /// The document `o`, with its `_id` first, is there.
+    Insert {
+        ns: Text,
+        o: Doc,
+    },
+    /// The document `o`, with its `_id` first, stands in place of the one before.
+    Replace {
+        ns: Text,
+        id: Value,
+        o: Doc,
+    },
+    /// Each field of `sets` has its value, and then the names in `unsets` are gone.
+    Fields {
+        ns: Text,
+        id: Value,
+        sets: Doc,
+        unsets: Items,
+    },
+    /// The document is gone.
+    Delete {
+        ns: Text,
+        id: Value,
+    },
+    /// Nothing happens to any document. A new primary writes it.
+    Noop,
+}
+
+/// One entry of an oplog. An entry is lawful (`IsLawful`) where its term is below 2^63, its `_id` is one that tells
+/// documents apart, and its fields leave that `_id` alone.
+#[derive(Drop)]
+pub struct Entry {
+    pub optime: OpTime,
+    pub op: Op,
+}
+
+impl Op {
+    /// The same op once more.
+    pub fn copy(&self) -> Mem<Op>
+        ensures { IfOk result (λ op. op ≡ self.now) }
+    {
+        Ok(match self {
+            Op::Insert { ns, o } => Op::Insert {
+                ns: ns.copy()?,
+                o: o.copy()?,
+            },
+            Op::Replace { ns, id, o } => Op::Replace {
+                ns: ns.copy()?,
+                id: id.copy()?,
+                o: o.copy()?,
+            },
+            Op::Fields {
+                ns,
+                id,
+                sets,
+                unsets,
+            } => Op::Fields {
+                ns: ns.copy()?,
+                id: id.copy()?,
+                sets: sets.copy()?,
+                unsets: unsets.copy()?,
+            },
+            Op::Delete { ns, id } => Op::Delete {
+                ns: ns.copy()?,
+                id: id.copy()?,
+            },
+            Op::Noop => Op::Noop,
+        })
+    }
+
+    /// The collection and the key of the document that the op touches. None for a no-op.
+    pub fn key(&self) -> Mem<Option<(Text, IdKey)>>
+        requires { IsLawfulOp self.now }
+        ensures { IfOk result (λ place. place ≡ place_of self.now) }
+    {
+        let (ns, id) = match self {
+            Op::Insert { ns, o } => match o.get("_id") {
+                Some(id) => (ns, id),
+                None => unreachable!(),
+            },
+            Op::Replace { ns, id, .. } | Op::Fields { ns, id, .. } | Op::Delete { ns, id } => (
+                ns, id,
+            ),
+            Op::Noop => return Ok(None),
+        };
+        let key = match IdKey::of(id) {
+            Ok(key) => key,
+            Err(KeyError::Memory) => return Err(AllocError),
+            Err(KeyError::Kind(_)) => unreachable!(),
+        };
+        Ok(Some((ns.copy()?, key)))
+    }
+}
+
+impl Entry {
+    /// The same entry once more.
+    pub fn copy(&self) -> Mem<Entry>
+        ensures { IfOk result (λ entry. entry ≡ self.now) }
+    {
+        Ok(Entry {
+            optime: self.optime,
+            op: self.op.copy()?,
+        })
+    }
+
+    /// The collection and the key of the document that the entry touches. None for a no-op.
+    pub fn key(&self) -> Mem<Option<(Text, IdKey)>>
+        requires { IsLawful self.now }
+        ensures { IfOk result (λ place. place ≡ place_of self.now.op) }
+    {
+        self.op.key()
+    }
+}
