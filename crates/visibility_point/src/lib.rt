@@ -1,0 +1,11 @@
+//! How far an oplog can be read while slots are open: up to the last entry before the first hole (MongoDB's architecture
+//! guide, "oplog holes").
+#![tactic(auto)]
+
+mod laws;
+mod point;
+#[cfg(test)]
+mod tests;
+
+pub use laws::nothing_appears_behind;
+pub use point::visible;
