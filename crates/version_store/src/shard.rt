@@ -1,0 +1,167 @@
+// The part of the documents whose places have one number by their hash.
+ghost use Rattle.std.specs.Prelude.{◌≡◌, [], All, Some, None, true, false, MatchOption, OnOk, OnErr};
+ghost use Rattle.std.specs.Option.{option_copied};
+ghost use Rattle.version_store.specs.Past.{no_past, is_before, latest_of, shown, with_version, held_by, back_to, pruned, IsRising};
+ghost use Rattle.version_store.specs.Places.{AddsPlaces, is_shown};
+ghost use Rattle.version_store.specs.Documents.{ChangesEachIn};
+ghost use Rattle.version_store.specs.Shards.{documents_of, past_of, BelongsTo, HasItsOwn, OwnsAll, ChangesCollection, ChangesOf, ChangesEachOf};
+
+use crate::collection::Collection;
+use bson_doc::{Doc, IdKey, Text};
+use rs_optime::{Mem, OpTime};
+use std::alloc::Global;
+use std::collections::{BTreeMap, BTreeSet};
+use std::marker::Model;
+
+/// The documents of one shard, by collection and then by key, so that no look-up makes a key.
+#[derive(Drop)]
+pub(crate) struct Shard {
+    alloc: Global,
+    number: u32,
+    count: u32,
+    collections: BTreeMap<String, Collection>,
+}
+
+impl Model for Shard {
+    ghost use Rattle.version_store.specs.Shards.{Shard as Seen, HasItsOwn};
+    ghost use Rattle.version_store.specs.ShardView.{collections_of};
+    ghost use Rattle.version_store.specs.Code.{shard_code};
+
+    ghost Value = { Seen };
+
+    ghost coded = { shard_code };
+
+    ghost view = { λ s. record { number = s.number; count = s.count; collections = collections_of s.collections.entries } };
+
+    ghost invariant = { λ s. HasItsOwn (record { number = s.number; count = s.count; collections = collections_of s.collections.entries }) };
+}
+
+impl Shard {
+    pub(crate) fn new(alloc: Global, number: u32, count: u32) -> Self
+        ensures { result ≡ record { number = number; count = count; collections = [] } }
+    {
+        Shard {
+            alloc,
+            number,
+            count,
+            collections: BTreeMap::new(alloc),
+        }
+    }
+
+    pub(crate) fn latest(&self, ns: &str, id: &IdKey) -> Option<&Doc>
+        ensures latest { option_copied result ≡ latest_of (past_of self.now (ns.now, id.now)).versions }
+        ensures rising { IsRising (past_of self.now (ns.now, id.now)).versions }
+    {
+        self.collection(ns)?.latest(id)
+    }
+
+    pub(crate) fn read_at(&self, ns: &str, id: &IdKey, at: OpTime) -> Option<&Doc>
+        ensures shown { option_copied result ≡ shown at (past_of self.now (ns.now, id.now)).versions }
+        ensures rising { IsRising (past_of self.now (ns.now, id.now)).versions }
+    {
+        self.collection(ns)?.read_at(id, at)
+    }
+
+    pub(crate) fn holder(&self, ns: &str, id: &IdKey) -> Option<u32>
+        ensures { result ≡ (past_of self.now (ns.now, id.now)).holder }
+    {
+        self.collection(ns)?.holder(id)
+    }
+
+    pub(crate) fn hold(&mut self, ns: &str, id: &IdKey, writer: u32) -> Mem<()>
+        requires { BelongsTo self.old.number self.old.count (ns.now, id.now) }
+        ensures ok { OnOk result (ChangesOf self.old self.new (ns.now, id.now) (held_by (past_of self.old (ns.now, id.now)) (Some writer))) }
+        ensures err { OnErr result (self.new ≡ self.old) }
+    {
+        if let Some(collection) = self.collections.get_mut(ns) {
+            collection.hold(id, writer)?;
+            return Ok(());
+        }
+        let mut collection = Collection::new(self.alloc);
+        collection.hold(id, writer)?;
+        self.add(ns, collection)?;
+        Ok(())
+    }
+
+    pub(crate) fn release(&mut self, ns: &str, id: &IdKey)
+        requires { BelongsTo self.old.number self.old.count (ns.now, id.now) }
+        ensures { ChangesOf self.old self.new (ns.now, id.now) (held_by (past_of self.old (ns.now, id.now)) None) }
+    {
+        let Some(collection) = self.collections.get_mut(ns) else {
+            return;
+        };
+        collection.release(id);
+    }
+
+    pub(crate) fn put(&mut self, ns: &str, id: IdKey, at: OpTime, doc: Option<Doc>) -> Mem<()>
+        requires own { BelongsTo self.old.number self.old.count (ns.now, id) }
+        requires later { All (λ version. is_before version.at at ≡ true) (past_of self.old (ns.now, id)).versions }
+        ensures ok { OnOk result (ChangesOf self.old self.new (ns.now, id) (with_version (past_of self.old (ns.now, id)) (record { at = at; doc = doc }))) }
+        ensures err { OnErr result (self.new ≡ self.old) }
+    {
+        if let Some(collection) = self.collections.get_mut(ns) {
+            collection.put(id, at, doc)?;
+            return Ok(());
+        }
+        let mut collection = Collection::new(self.alloc);
+        collection.put(id, at, doc)?;
+        self.add(ns, collection)?;
+        Ok(())
+    }
+
+    pub(crate) fn back_to(&mut self, at: OpTime)
+        ensures { ChangesEachOf self.old self.new (back_to at) }
+    {
+        self.collections.retain(
+            |_name, collection| -> bool
+                ensures each { ChangesEachIn collection.old collection.new (back_to at) }
+                ensures dropped { result ≡ false → collection.new ≡ [] }
+            {
+                collection.back_to(at);
+                !collection.is_empty()
+            },
+        );
+    }
+
+    pub(crate) fn prune(&mut self, at: OpTime)
+        ensures { ChangesEachOf self.old self.new (pruned at) }
+    {
+        self.collections.retain(
+            |_name, collection| -> bool
+                ensures each { ChangesEachIn collection.old collection.new (pruned at) }
+                ensures dropped { result ≡ false → collection.new ≡ [] }
+            {
+                collection.prune(at);
+                !collection.is_empty()
+            },
+        );
+    }
+
+    /// Adds the places of the documents that a read at an optime shows.
+    pub(crate) fn add_places(&self, at: OpTime, places: &mut BTreeSet<(Text, IdKey)>) -> Mem<()>
+        ensures places { OnOk result (AddsPlaces places.old places.new (λ place. is_shown at (past_of self.now place))) }
+        ensures own { HasItsOwn self.now }
+    {
+        for (name, collection) in &self.collections {
+            collection.add_places(name, at, places)?;
+        }
+        Ok(())
+    }
+
+    fn collection(&self, ns: &str) -> Option<&Collection>
+        ensures { MatchOption result (documents_of self.now.collections ns.now ≡ []) (λ c. documents_of self.now.collections ns.now ≡ c.now) }
+    {
+        self.collections.get(ns)
+    }
+
+    /// Puts a collection there, in the place of one that has its name.
+    fn add(&mut self, ns: &str, collection: Collection) -> Mem<()>
+        requires { OwnsAll self.old.number self.old.count ns.now collection }
+        ensures ok { OnOk result (ChangesCollection self.old self.new ns.now collection) }
+        ensures err { OnErr result (self.new ≡ self.old) }
+    {
+        let name = String::from_str(self.alloc, ns)?;
+        self.collections.insert(name, collection)?;
+        Ok(())
+    }
+}

@@ -1,0 +1,198 @@
+ghost use Rattle.std.specs.Prelude.{◌≡◌, ◌≢◌, ◌↔◌, ◌<◌, ◌≤◌, ◌∷◌, ◌++◌, ℕ, All, Contains, Some, None, is_some, IsSome, true, IfOk, IsErrOf, OnOk, OnErr};
+ghost use Rattle.std.specs.Option.{option_copied};
+ghost use Rattle.bson_doc.specs.Place.{Place, place_cmp};
+ghost use Rattle.std.specs.BTreeSet.{contains};
+ghost use Rattle.std.specs.List.Sorted.{IsStrictlySortedBy};
+ghost use Rattle.version_store.specs.Past.{no_past, is_before, latest_of, shown, with_version, held_by, back_to, pruned, IsRising};
+ghost use Rattle.version_store.specs.Shards.{past_of};
+ghost use Rattle.version_store.specs.Store.{past_at, versions_at, holder_at, shown_at, Changes, ChangesEach};
+
+use crate::place::shard_of;
+use crate::shard::Shard;
+use bson_doc::{Doc, IdKey, Text};
+use rs_optime::{Mem, OpTime};
+use std::alloc::{AllocError, Global};
+use std::collections::BTreeSet;
+use std::marker::Model;
+use thiserror::Error;
+
+/// Why a document wasn't held.
+#[derive(Clone, Copy, Debug, PartialEq, Eq, Error)]
+pub enum HoldError {
+    /// Another writer holds it: which one.
+    #[error("writer {0} holds the document")]
+    Held(u32),
+    #[error("out of memory")]
+    Memory,
+}
+
+impl From<AllocError> for HoldError {
+    ghost use Rattle.std.specs.Prelude.{◌≡◌};
+    ghost use Rattle.version_store.specs.declared.store.HoldError.TheVariants.{Memory};
+
+    ghost from_gives = { λ _ e. e ≡ Memory };
+
+    fn from(_: AllocError) -> Self {
+        HoldError::Memory
+    }
+}
+
+/// Documents with their versions by optime, and the writers that hold them, in shards.
+#[derive(Drop)]
+pub struct VersionStore {
+    count: u32,
+    shards: Vec<Shard>,
+}
+
+impl Model for VersionStore {
+    ghost use Rattle.version_store.specs.Store.{Store};
+    ghost use Rattle.version_store.specs.Code.{store_code};
+
+    ghost Value = { Store };
+
+    ghost coded = { store_code };
+
+    ghost use Rattle.version_store.specs.Store.{AreShards};
+
+    ghost view = { λ s. record { count = s.count; shards = s.shards.items } };
+
+    ghost invariant = { λ s. AreShards s.count s.shards.items };
+}
+
+impl VersionStore {
+    /// No document, in so many shards.
+    pub fn new(alloc: Global, shards: u32) -> Mem<Self>
+        requires { 0 < shards }
+        ensures count { IfOk result (λ store. store.count ≡ shards) }
+        ensures empty { IfOk result (λ store. (place : Place) → past_at store place ≡ no_past) }
+    {
+        let mut list = Vec::with_capacity(alloc, shards as usize)?;
+        for number in 0..shards {
+            list.push(Shard::new(alloc, number, shards))?;
+        }
+        Ok(VersionStore {
+            count: shards,
+            shards: list,
+        })
+    }
+
+    /// The newest version of a document. None where it was deleted or never was.
+    pub fn latest(&self, ns: &str, id: &IdKey) -> Option<&Doc>
+        ensures latest { option_copied result ≡ latest_of (versions_at self.now (ns.now, id.now)) }
+        ensures rising { IsRising (versions_at self.now (ns.now, id.now)) }
+    {
+        self.shard(ns, id).latest(ns, id)
+    }
+
+    /// The newest version of a document at or before an optime. None where that is a deletion, or there is none.
+    pub fn read_at(&self, ns: &str, id: &IdKey, at: OpTime) -> Option<&Doc>
+        ensures shown { option_copied result ≡ shown_at self.now (ns.now, id.now) at }
+        ensures rising { IsRising (versions_at self.now (ns.now, id.now)) }
+    {
+        self.shard(ns, id).read_at(ns, id, at)
+    }
+
+    /// The writer that holds a document.
+    pub fn holder(&self, ns: &str, id: &IdKey) -> Option<u32>
+        ensures { result ≡ holder_at self.now (ns.now, id.now) }
+    {
+        self.shard(ns, id).holder(ns, id)
+    }
+
+    /// Lets a writer hold a document. `Held` where another writer holds it.
+    pub fn hold(&mut self, ns: &str, id: &IdKey, writer: u32) -> Result<(), HoldError>
+        ensures ok { OnOk result (Changes self.old self.new (ns.now, id.now) (held_by (past_at self.old (ns.now, id.now)) (Some writer))) }
+        ensures held { (other : ℕ) → IsErrOf result (HoldError.Held other) ↔ ((holder_at self.old (ns.now, id.now) ≡ Some other) × (other ≢ writer)) }
+        ensures err { OnErr result (self.new ≡ self.old) }
+    {
+        if let Some(other) = self.holder(ns, id)
+            && other != writer
+        {
+            return Err(HoldError::Held(other));
+        }
+        let place = shard_of(ns, id, self.count) as usize;
+        let shard = &mut self.shards[place];
+        shard.hold(ns, id, writer)?;
+        Ok(())
+    }
+
+    /// Lets go of a document, whoever holds it.
+    pub fn release(&mut self, ns: &str, id: &IdKey)
+        ensures { Changes self.old self.new (ns.now, id.now) (held_by (past_at self.old (ns.now, id.now)) None) }
+    {
+        let place = shard_of(ns, id, self.count) as usize;
+        let shard = &mut self.shards[place];
+        shard.release(ns, id);
+    }
+
+    /// Adds a version of a document, newer than each that it has. None is a deletion.
+    pub fn put(&mut self, ns: Text, id: IdKey, at: OpTime, doc: Option<Doc>) -> Mem<()>
+        requires { All (λ version. is_before version.at at ≡ true) (versions_at self.old (ns, id)) }
+        ensures ok { OnOk result (Changes self.old self.new (ns, id) (with_version (past_at self.old (ns, id)) (record { at = at; doc = doc }))) }
+        ensures err { OnErr result (self.new ≡ self.old) }
+    {
+        self.put_in(ns.as_str(), id, at, doc)
+    }
+
+    /// The places of the documents that a read at an optime shows, in order of collection and key.
+    pub fn keys_at(&self, at: OpTime) -> Mem<Vec<(Text, IdKey)>>
+        ensures order { IfOk result (λ keys. IsStrictlySortedBy place_cmp keys.items) }
+        ensures shown { IfOk result (λ keys. (place : Place) → Contains keys.items place ↔ IsSome (shown_at self.now place at)) }
+    {
+        let keys = listed(*self.shards.allocator(), self.places_at(at)?)?;
+        Ok(keys)
+    }
+
+    /// Drops every version behind an optime.
+    pub fn back_to(&mut self, at: OpTime)
+        ensures { ChangesEach self.old self.new (back_to at) }
+    {
+        for shard in self.shards.iter_mut() {
+            shard.back_to(at);
+        }
+    }
+
+    /// Drops the versions that no read at or after an optime can tell from none: those before the newest one at or
+    /// before it, and that one too where it is a deletion.
+    pub fn prune(&mut self, at: OpTime)
+        ensures dropped { ChangesEach self.old self.new (pruned at) }
+    {
+        for shard in self.shards.iter_mut() {
+            shard.prune(at);
+        }
+    }
+
+    fn put_in(&mut self, ns: &str, id: IdKey, at: OpTime, doc: Option<Doc>) -> Mem<()>
+        requires { All (λ version. is_before version.at at ≡ true) (versions_at self.old (ns.now, id)) }
+        ensures ok { OnOk result (Changes self.old self.new (ns.now, id) (with_version (past_at self.old (ns.now, id)) (record { at = at; doc = doc }))) }
+        ensures err { OnErr result (self.new ≡ self.old) }
+    {
+        let place = shard_of(ns, &id, self.count) as usize;
+        let shard = &mut self.shards[place];
+        shard.put(ns, id, at, doc)?;
+        Ok(())
+    }
+
+    fn places_at(&self, at: OpTime) -> Mem<BTreeSet<(Text, IdKey)>>
+        ensures { IfOk result (λ places. (place : Place) → contains place_cmp places place ≡ is_some (shown_at self.now place at)) }
+    {
+        let mut places = BTreeSet::new(*self.shards.allocator());
+        for shard in &self.shards {
+            shard.add_places(at, &mut places)?;
+        }
+        Ok(places)
+    }
+
+    fn shard(&self, ns: &str, id: &IdKey) -> &Shard
+        ensures { past_of result.now (ns.now, id.now) ≡ past_at self.now (ns.now, id.now) }
+    {
+        &self.shards[shard_of(ns, id, self.count) as usize]
+    }
+}
+
+fn listed(alloc: Global, places: BTreeSet<(Text, IdKey)>) -> Mem<Vec<(Text, IdKey)>>
+    ensures order { IfOk result (λ keys. IsStrictlySortedBy place_cmp keys.items) }
+    ensures keys { IfOk result (λ keys. keys.items ≡ places.keys) }
+{
+    places.into_iter().collect(alloc)
+}
