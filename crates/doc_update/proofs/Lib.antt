@@ -1,0 +1,5 @@
+pub mod IdLemmas
+pub mod NameRules
+pub mod OrderLemmas
+pub mod SameLemmas
+pub mod SoundLemmas

@@ -1,0 +1,8 @@
+use Rattle.std.proofs.Common.{◌≡◌}
+use Rattle.bson_doc.specs.Tree.{fields_from}
+use Rattle.doc_update.specs.Effect.{present}
+use Rattle.doc_update.specs.Ordered.{placed_all}
+use Rattle.doc_update.proofs.preparing.put_present.Given as goal
+
+abbrev pub invariant-loop-place : goal.invariant-loop-place
+invariant-loop-place l = l.unsets ≡ placed_all (present l.document (fields_from l.place l.fields)) l.initial.unsets

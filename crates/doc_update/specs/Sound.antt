@@ -1,0 +1,43 @@
+-- What a write needs of the document that is there, and what its op owes.
+use Rattle.std.specs.Prelude.{◌≡◌, ℕ, ⊤, Bool, true, false, List, Option, None, Some, Result, Ok, Err, codes}
+use Rattle.bson_doc.specs.Tree.{Fields, IsDocument}
+use Rattle.bson_doc.specs.Place.{Place}
+use Rattle.oplog_entry.specs.Lawful.{BeginsWithId, IsLawfulOp}
+use Rattle.oplog_entry.specs.Step.{id_key, place_of, document_after}
+use Rattle.oplog_entry.specs.Walk.{join}
+use Rattle.doc_update.specs.Effect.{under}
+use Rattle.doc_update.specs.Increment.{has_wrong_side, has_overflow, sums}
+use Rattle.doc_update.specs.Ordered.{in_byte_order}
+use Rattle.doc_update.specs.declared.write.Prepared.{Prepared}
+use Rattle.doc_update.specs.declared.write.Prepared.TheVariants.{Entry, NoMatch, Unchanged}
+use Rattle.doc_update.specs.declared.write.WriteRefusal.{WriteRefusal}
+use Rattle.doc_update.specs.declared.write.WriteRefusal.TheVariants.{IncType, IncOverflow, Memory}
+
+-- the document begins with an `_id` of the key that the write names
+abbrev pub IsNamed : Result Place WriteRefusal → Fields → Type 0
+IsNamed (Ok place) doc = BeginsWithId doc × (id_key doc ≡ Some place.1)
+IsNamed (Err why) doc = ⊥
+
+abbrev pub named_place : Result Place WriteRefusal → Option Place
+named_place (Ok place) = Some place
+named_place (Err why) = None
+
+-- a logged op is lawful, touches the document that the write names, and leaves the document that is given with it
+abbrev pub IsSound : Result Place WriteRefusal → Option Fields → Prepared → Type 0
+IsSound place before (Entry op after) =
+    IsLawfulOp op × (place_of op ≡ named_place place) × (after ≡ document_after op before)
+IsSound place before NoMatch = ⊤
+IsSound place before Unchanged = ⊤
+
+-- what is set by an update, or why it can't be
+abbrev pub SetsAre : Fields → Fields → Result Fields WriteRefusal → Type 0
+SetsAre operators doc (Ok sets) =
+    (has_wrong_side doc (under (codes "$inc") operators) ≡ false)
+    × (has_overflow doc (under (codes "$inc") operators) ≡ false)
+    × (sets ≡ in_byte_order (join (under (codes "$set") operators) (sums doc (under (codes "$inc") operators))))
+SetsAre operators doc (Err IncType) = has_wrong_side doc (under (codes "$inc") operators) ≡ true
+SetsAre operators doc (Err IncOverflow) =
+    (has_wrong_side doc (under (codes "$inc") operators) ≡ false)
+    × (has_overflow doc (under (codes "$inc") operators) ≡ true)
+SetsAre operators doc (Err Memory) = ⊤
+SetsAre operators doc (Err _) = ⊥

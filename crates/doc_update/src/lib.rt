@@ -1,0 +1,14 @@
+//! Writes to one document: what each makes of the document that stands there, what is logged of it, and why it is
+//! refused (MongoDB manual, update operators).
+#![tactic(auto)]
+
+mod checks;
+mod increment;
+mod ordered;
+mod preparing;
+mod same;
+mod write;
+
+pub use checks::check;
+pub use preparing::prepare;
+pub use write::{Prepared, WriteOp, WriteRefusal};

@@ -1,0 +1,276 @@
+// What a write that was checked comes to.
+ghost use Rattle.std.specs.Prelude.{◌≡◌, [], ◌∷◌, false, Contains, if◌then◌else◌, IfOk, IfSome, IsOk, IsSome, OnOk, None, Some, codes, unwrap_or};
+ghost use Rattle.std.specs.Option.{option_copied};
+ghost use Rattle.bson_doc.specs.Key.{key_of};
+ghost use Rattle.bson_doc.specs.Tree.{found, field, without, with_field, no_fields, IsDocument};
+ghost use Rattle.bson_doc.specs.View.{tree_of};
+ghost use Rattle.oplog_entry.specs.Lawful.{is_among};
+ghost use Rattle.doc_update.specs.Increment.{AddsSums};
+ghost use Rattle.doc_update.specs.Check.{all_names, checked, has_twice};
+ghost use Rattle.doc_update.specs.Effect.{is_too_large, stored, written, under, present, insert_prepared, prepared, replace_prepared, update_prepared};
+ghost use Rattle.doc_update.specs.Ordered.{placed_all, in_byte_order};
+ghost use Rattle.doc_update.specs.Refusal.{Answers};
+ghost use Rattle.doc_update.specs.Sound.{IsNamed, IsSound, SetsAre};
+
+use crate::increment::add_sums;
+use crate::ordered::Ordered;
+use crate::same::same_document;
+use crate::{Prepared, WriteOp, WriteRefusal};
+use bson_codec::{DOCUMENT, EncodeError, encode};
+use bson_doc::{Doc, Mem, Text, Value};
+use oplog_entry::{FieldIndex, Op, with_changes};
+use std::alloc::{AllocError, Global};
+
+/// Writes one field, unless it is the `_id`.
+fn append_other(whole: &mut Doc, name: Text, value: &Value) -> Mem<()>
+    requires clean { is_among name (codes "_id" ∷ []) ≡ false → ¬ Contains name 0 }
+    requires new { is_among name (codes "_id" ∷ []) ≡ false → found name whole.old ≡ None }
+    ensures { OnOk result (whole.new ≡ (if is_among name (codes "_id" ∷ []) then whole.old
+        else with_field whole.old name (tree_of value.now))) }
+{
+    if name.as_str() == "_id" {
+        return Ok(());
+    }
+    whole.append(name, value.copy()?)
+}
+
+/// A document with an `_id` in front of its other fields.
+fn with_id_first(alloc: Global, id: &Value, doc: &Doc) -> Mem<Doc>
+    ensures { IfOk result (λ d. d ≡ field (codes "_id") (tree_of id.now) (without doc.now (codes "_id"))) }
+{
+    let mut whole = Doc::new(alloc);
+    whole.append(Text::from_str(alloc, "_id")?, id.copy()?)?;
+    for place in 0..doc.len() {
+        let Some((name, value)) = doc.at(place) else {
+            unreachable!()
+        };
+        append_other(&mut whole, Text::from_str(alloc, name)?, value)?;
+    }
+    Ok(whole)
+}
+
+/// Whether a document is longer or deeper than one that is stored may be.
+fn is_too_large(alloc: Global, doc: &Doc) -> Mem<bool>
+    ensures { IfOk result (λ large. large ≡ is_too_large doc.now) }
+{
+    match encode(alloc, doc, DOCUMENT) {
+        Ok(_) => Ok(false),
+        Err(EncodeError::TooDeep | EncodeError::TooLarge) => Ok(true),
+        Err(EncodeError::Memory) => Err(AllocError),
+    }
+}
+
+/// An op that leaves a document, unless that is too large.
+fn stored(alloc: Global, op: Op, after: Doc) -> Result<Prepared, WriteRefusal>
+    ensures { Answers result (stored op after) }
+{
+    if is_too_large(alloc, &after)? {
+        return Err(WriteRefusal::DocTooLarge);
+    }
+    Ok(Prepared::Entry {
+        op,
+        after: Some(after),
+    })
+}
+
+/// The same, unless the document stays as it is.
+fn written(alloc: Global, op: Op, before: &Doc, after: Doc) -> Result<Prepared, WriteRefusal>
+    ensures { Answers result (written op before.now after) }
+{
+    if same_document(&after, before) {
+        return Ok(Prepared::Unchanged);
+    }
+    stored(alloc, op, after)
+}
+
+/// The fields that an operator is given.
+fn under<'a>(operators: &'a Doc, name: &str) -> Option<&'a Doc>
+    ensures { unwrap_or (option_copied result) no_fields ≡ under name.now operators.now }
+{
+    match operators.get(name) {
+        Some(Value::Document(fields)) => Some(fields),
+        _ => None,
+    }
+}
+
+/// Puts each field in its place.
+#[tactic(auto, using(crate::proofs::NameRules::places))]
+fn put_all(alloc: Global, sets: &mut Ordered, fields: &Doc) -> Mem<()>
+    ensures all { OnOk result (sets.new ≡ placed_all fields.now sets.old) }
+    ensures names { IsDocument fields.now }
+{
+    for place in (0..fields.len()).rev() {
+        let Some((name, value)) = fields.at(place) else {
+            unreachable!()
+        };
+        sets.put(Text::from_str(alloc, name)?, value.copy()?)?;
+    }
+    Ok(())
+}
+
+fn put_sums(
+    alloc: Global,
+    sets: &mut Ordered,
+    operators: &Doc,
+    document: &FieldIndex<'_>,
+) -> Result<(), WriteRefusal>
+    ensures sums { AddsSums document.now (under (codes "$inc") operators.now) sets.old sets.new result }
+    ensures names { IsDocument (under (codes "$inc") operators.now) }
+{
+    match under(operators, "$inc") {
+        Some(operands) => add_sums(alloc, sets, operands, document),
+        None => Ok(()),
+    }
+}
+
+fn put_sets(alloc: Global, sets: &mut Ordered, operators: &Doc) -> Mem<()>
+    ensures all { OnOk result (sets.new ≡ placed_all (under (codes "$set") operators.now) sets.old) }
+    ensures names { IsDocument (under (codes "$set") operators.now) }
+{
+    match under(operators, "$set") {
+        Some(fields) => put_all(alloc, sets, fields),
+        None => Ok(()),
+    }
+}
+
+/// What an update sets: the fields of `$set` and the sums of `$inc`, in byte order of their names.
+#[tactic(auto, using(crate::proofs::NameRules::joins))]
+fn sets_of(
+    alloc: Global,
+    operators: &Doc,
+    document: &FieldIndex<'_>,
+) -> Result<Ordered, WriteRefusal>
+    ensures sets { SetsAre operators.now document.now result }
+    ensures added { IsDocument (under (codes "$inc") operators.now) }
+    ensures set { OnOk result (IsDocument (under (codes "$set") operators.now)) }
+{
+    let mut sets = Ordered::new(alloc);
+    put_sums(alloc, &mut sets, operators, document)?;
+    put_sets(alloc, &mut sets, operators)?;
+    Ok(sets)
+}
+
+/// Puts each of these names that is there in its place.
+#[tactic(auto, using(crate::proofs::NameRules::places))]
+fn put_present(
+    alloc: Global,
+    unsets: &mut Ordered,
+    fields: &Doc,
+    document: &FieldIndex<'_>,
+) -> Mem<()>
+    ensures all { OnOk result (unsets.new ≡ placed_all (present document.now fields.now) unsets.old) }
+    ensures names { IsDocument fields.now }
+{
+    for place in (0..fields.len()).rev() {
+        let Some((name, _)) = fields.at(place) else {
+            unreachable!()
+        };
+        let name = Text::from_str(alloc, name)?;
+        if document.get(&name).is_some() {
+            unsets.put(name, Value::Null)?;
+        }
+    }
+    Ok(())
+}
+
+/// The names of `$unset` that are there, in byte order.
+fn unsets_of(alloc: Global, operators: &Doc, document: &FieldIndex<'_>) -> Mem<Ordered>
+    ensures unsets { IfOk result (λ unsets. unsets ≡ in_byte_order (present document.now (under (codes "$unset") operators.now))) }
+    ensures names { IsDocument (under (codes "$unset") operators.now) }
+{
+    let mut unsets = Ordered::new(alloc);
+    if let Some(fields) = under(operators, "$unset") {
+        put_present(alloc, &mut unsets, fields, document)?;
+    }
+    Ok(unsets)
+}
+
+fn prepare_insert(alloc: Global, ns: &Text, doc: &Doc) -> Result<Prepared, WriteRefusal>
+    requires { IsSome (found (codes "_id") doc.now) }
+    ensures { Answers result (insert_prepared ns.now doc.now) }
+{
+    let Some(id) = doc.get("_id") else {
+        unreachable!()
+    };
+    let after = with_id_first(alloc, id, doc)?;
+    let op = Op::Insert {
+        ns: ns.copy()?,
+        o: after.copy()?,
+    };
+    stored(alloc, op, after)
+}
+
+fn prepare_replace(
+    alloc: Global,
+    ns: &Text,
+    id: &Value,
+    doc: &Doc,
+    before: &Doc,
+) -> Result<Prepared, WriteRefusal>
+    requires { IsSome (found (codes "_id") before.now) }
+    ensures { Answers result (replace_prepared ns.now id.now doc.now before.now) }
+{
+    let Some(own) = before.get("_id") else {
+        unreachable!()
+    };
+    let after = with_id_first(alloc, own, doc)?;
+    let op = Op::Replace {
+        ns: ns.copy()?,
+        id: id.copy()?,
+        o: after.copy()?,
+    };
+    written(alloc, op, before, after)
+}
+
+fn prepare_update(
+    alloc: Global,
+    ns: &Text,
+    id: &Value,
+    operators: &Doc,
+    before: &Doc,
+) -> Result<Prepared, WriteRefusal>
+    requires { has_twice (all_names operators.now) ≡ false }
+    ensures answer { Answers result (update_prepared ns.now id.now operators.now before.now) }
+    ensures names { OnOk result (IsDocument (under (codes "$unset") operators.now)) }
+{
+    let document = FieldIndex::new(alloc, before)?;
+    let sets = sets_of(alloc, operators, &document)?.document(alloc)?;
+    let unsets = unsets_of(alloc, operators, &document)?.names(alloc)?;
+    let after = with_changes(alloc, before, &sets, &unsets)?;
+    let op = Op::Fields {
+        ns: ns.copy()?,
+        id: id.copy()?,
+        sets,
+        unsets,
+    };
+    written(alloc, op, before, after)
+}
+
+/// What a write comes to that `check` let through, where `before` is the document of its key. It is refused as
+/// `DuplicateKey`, `IncType`, `IncOverflow` or `DocTooLarge`, in this order. The op of an entry is lawful, and applied
+/// to `before` it leaves `after`.
+pub fn prepare(alloc: Global, op: &WriteOp, before: Option<&Doc>) -> Result<Prepared, WriteRefusal>
+    requires checked { IsOk (checked op.now) }
+    requires own { IfSome (option_copied before) (λ d. IsNamed (checked op.now) d) }
+    ensures answer { Answers result (prepared op.now (option_copied before.entry)) }
+    ensures sound { IfOk result (λ p. IsSound (checked op.now) (option_copied before.entry) p) }
+{
+    match (op, before) {
+        (WriteOp::Insert { ns, doc }, None) => prepare_insert(alloc, ns, doc),
+        (WriteOp::Insert { .. }, Some(_)) => Err(WriteRefusal::DuplicateKey),
+        (_, None) => Ok(Prepared::NoMatch),
+        (WriteOp::Replace { ns, id, doc }, Some(before)) => prepare_replace(
+            alloc, ns, id, doc, before,
+        ),
+        (WriteOp::Update { ns, id, operators }, Some(before)) => {
+            prepare_update(alloc, ns, id, operators, before)
+        }
+        (WriteOp::Delete { ns, id }, Some(_)) => {
+            let op = Op::Delete {
+                ns: ns.copy()?,
+                id: id.copy()?,
+            };
+            Ok(Prepared::Entry { op, after: None })
+        }
+    }
+}

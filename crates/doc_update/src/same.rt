@@ -1,0 +1,65 @@
+// Whether two values are the same, kind by kind and field by field.
+ghost use Rattle.std.specs.Prelude.{◌≡◌};
+ghost use Rattle.bson_doc.specs.View.{tree_of};
+ghost use Rattle.doc_update.specs.Same.{same_tree, same_fields, same_items};
+
+use bson_doc::{Doc, Items, Value};
+
+#[cycle(same)]
+#[tactic(auto, using(crate::proofs::SameLemmas::sameness))]
+fn same_value(one: &Value, two: &Value) -> bool
+    ensures { result ≡ same_tree (tree_of one.now) (tree_of two.now) }
+{
+    match (one, two) {
+        (Value::Null, Value::Null) => true,
+        (Value::Int32(one), Value::Int32(two)) => one == two,
+        (Value::Int64(one), Value::Int64(two)) => one == two,
+        (Value::Text(one), Value::Text(two)) => one == two,
+        (Value::Document(one), Value::Document(two)) => same_document(one, two),
+        (Value::Array(one), Value::Array(two)) => same_array(one, two),
+        (Value::Binary(kind, one), Value::Binary(other_kind, two)) => kind == other_kind
+            && one == two,
+        (Value::ObjectId(one), Value::ObjectId(two)) => one == two,
+        (Value::Boolean(one), Value::Boolean(two)) => one == two,
+        (Value::Date(one), Value::Date(two)) => one == two,
+        (Value::Timestamp(one), Value::Timestamp(two)) => one == two,
+        _ => false,
+    }
+}
+
+#[cycle(same)]
+#[tactic(auto, using(crate::proofs::SameLemmas::sameness))]
+fn same_array(one: &Items, two: &Items) -> bool
+    ensures { result ≡ same_items one.now two.now }
+{
+    if one.len() != two.len() {
+        return false;
+    }
+    for place in 0..one.len() {
+        if let (Some(first), Some(second)) = (one.at(place), two.at(place))
+            && !same_value(first, second)
+        {
+            return false;
+        }
+    }
+    true
+}
+
+/// Whether two documents have the same fields in the same order, and so the same bytes.
+#[cycle(same)]
+#[tactic(auto, using(crate::proofs::SameLemmas::sameness))]
+pub(crate) fn same_document(one: &Doc, two: &Doc) -> bool
+    ensures { result ≡ same_fields one.now two.now }
+{
+    if one.len() != two.len() {
+        return false;
+    }
+    for place in 0..one.len() {
+        if let (Some(first), Some(second)) = (one.at(place), two.at(place))
+            && (first.0 != second.0 || !same_value(first.1, second.1))
+        {
+            return false;
+        }
+    }
+    true
+}

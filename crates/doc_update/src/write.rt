@@ -1,0 +1,88 @@
+ghost use Rattle.std.specs.Prelude.{◌≡◌};
+
+use bson_doc::{Doc, KeyError, Text, Value};
+use oplog_entry::Op;
+use std::alloc::{AllocError, AllocFailed};
+use thiserror::Error;
+
+/// A write to one document of the collection `ns`. `id` is the value that its `_id` is compared with, as a key.
+#[derive(Drop)]
+pub enum WriteOp {
+    /// `doc` is stored, unless a document with its `_id` is there.
+    Insert { ns: Text, doc: Doc },
+    /// `doc` stands in place of the document that is there, whose `_id` stays.
+    Replace { ns: Text, id: Value, doc: Doc },
+    /// The document is changed by `$set`, `$unset` and `$inc`.
+    Update { ns: Text, id: Value, operators: Doc },
+    /// The document is gone.
+    Delete { ns: Text, id: Value },
+}
+
+/// What a write comes to, given the document that is there.
+#[derive(Drop)]
+pub enum Prepared {
+    /// This op is logged, and it leaves this document.
+    Entry { op: Op, after: Option<Doc> },
+    /// No document has the key. Nothing is logged.
+    NoMatch,
+    /// The document stays as it is, byte for byte. Nothing is logged.
+    Unchanged,
+}
+
+/// Why a write is refused.
+#[derive(Clone, Copy, Debug, PartialEq, Eq, Error)]
+pub enum WriteRefusal {
+    #[error("a document with this key is there")]
+    DuplicateKey,
+    #[error("the document has no _id")]
+    NoId,
+    #[error("the _id is of a kind that is no key")]
+    BadIdKind,
+    #[error("the _id can't change")]
+    ImmutableId,
+    #[error("$inc takes integers")]
+    IncType,
+    #[error("the sum has no room in 64 bits")]
+    IncOverflow,
+    #[error("the document is too large")]
+    DocTooLarge,
+    /// 1: an operator is unknown. 2: there is no operator, or one isn't given a document. 3: a name is empty, begins
+    /// with a dollar sign or has a dot. 4: a name stands twice.
+    #[error("the update breaks rule {0}")]
+    BadUpdate(u32),
+    #[error("out of memory")]
+    Memory,
+}
+
+impl From<AllocError> for WriteRefusal {
+    ghost use Rattle.doc_update.specs.declared.write.WriteRefusal.TheVariants.{Memory};
+
+    ghost from_gives = { λ _ e. e ≡ Memory };
+
+    fn from(_: AllocError) -> Self {
+        WriteRefusal::Memory
+    }
+}
+
+impl<T: Drop> From<AllocFailed<T>> for WriteRefusal {
+    ghost use Rattle.doc_update.specs.declared.write.WriteRefusal.TheVariants.{Memory};
+
+    ghost from_gives = { λ _ e. e ≡ Memory };
+
+    fn from(_: AllocFailed<T>) -> Self {
+        WriteRefusal::Memory
+    }
+}
+
+impl From<KeyError> for WriteRefusal {
+    ghost use Rattle.doc_update.specs.Refusal.{refusal_of_key};
+
+    ghost from_gives = { λ e r. r ≡ refusal_of_key e };
+
+    fn from(error: KeyError) -> Self {
+        match error {
+            KeyError::Kind(_) => WriteRefusal::BadIdKind,
+            KeyError::Memory => WriteRefusal::Memory,
+        }
+    }
+}
