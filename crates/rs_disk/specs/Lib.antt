@@ -1,0 +1,12 @@
+pub mod File
+pub mod Images
+pub mod Orders
+pub mod State
+pub mod Pages
+pub mod Past
+pub mod Picks
+pub mod Calls
+pub mod Strikes
+pub mod Memory
+pub mod Moments
+pub mod Steps

@@ -1,0 +1,35 @@
+// A call that is to fail.
+ghost use Rattle.std.specs.Prelude.{◌≡◌, option_map, None, Some, MatchOption, IsTrue, false, true};
+
+#[derive(Clone, Copy, Drop)]
+pub(crate) struct Arm {
+    // Which of the calls from now on, counted from 1.
+    pub(crate) calls: u32,
+    // Which image a power cut within it leaves, where it is one.
+    pub(crate) pick: Option<u64>,
+}
+
+impl Arm {
+    ghost use Rattle.rs_disk.specs.Strikes.{strikes, counted};
+
+    // Counts a call, and gives the arm where that call is to fail.
+    pub(crate) fn count(next: &mut Option<Arm>) -> Option<Arm>
+        ensures strikes { MatchOption result (strikes next.old ≡ false) (λ arm. (next.old ≡ Some arm) × (strikes next.old ≡ true)) }
+        ensures counted { next.new ≡ counted next.old }
+    {
+        match *next {
+            None => None,
+            Some(arm) if arm.calls <= 1 => {
+                *next = None;
+                Some(arm)
+            }
+            Some(arm) => {
+                *next = Some(Arm {
+                    calls: arm.calls - 1,
+                    pick: arm.pick,
+                });
+                None
+            }
+        }
+    }
+}
