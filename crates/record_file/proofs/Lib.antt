@@ -1,0 +1,6 @@
+mod ListLemmas
+mod MomentLemmas
+mod AppendLemmas
+mod ParseLemmas
+mod OpenLemmas
+mod StepLemmas

@@ -1,0 +1,28 @@
+-- Lists of open records, and lists of which a front is known.
+use Rattle.std.proofs.Common.{◌≡◌, ◌≢◌, ℕ, ◌^◌, ◌<◌, ◌≤◌, List, [], ◌∷◌, ◌++◌, length, take, drop, refl, sym, ◌∙◌, ap, arith, length-take, take-append-drop}
+use Rattle.std.specs.Prelude.{slice_index}
+use Rattle.std.proofs.lemmas.List.{append_assoc, append-nil, ext_get_or, get_or-take}
+use Rattle.record_file.specs.Records.{AreOpen, body}
+
+-- a list that has these elements in front
+pub begins_with : (front list : List ℕ) → length front ≤ length list → ((k : ℕ) → k < length front → slice_index list k ≡ slice_index front k)
+    → list ≡ front ++ drop (length front) list
+begins_with front list short same =
+    let n = length front in
+    let is : take n list ≡ front = ext_get_or 0 (take n list) front (omega (arith, length-take n list))
+    (λ k inside. let here : k < n = omega (arith, length-take n list) in get_or-take n list k 0 here ∙ same k here) in
+    sym (take-append-drop n list) ∙ ap (λ (l : List ℕ). l ++ drop n list) is
+
+-- one open record more
+pub open_push : (records : List (List ℕ)) (front : List ℕ) (gate : ℕ) (piece : List ℕ) → AreOpen records front → gate ≢ 0 → length piece < 2 ^ 32
+    → AreOpen (records ++ piece ∷ []) (front ++ gate ∷ body piece)
+open_push [] front gate piece none is_open small =
+    (gate, [], is_open, small, ap (λ (l : List ℕ). l ++ gate ∷ body piece) none ∙ sym (append-nil (gate ∷ body piece)), refl)
+open_push (first ∷ records) front gate piece (first_gate, rest, first_open, first_small, is, others) is_open small = (
+  first_gate,
+  rest ++ gate ∷ body piece,
+  first_open,
+  first_small,
+  ap (λ (l : List ℕ). l ++ gate ∷ body piece) is ∙ append_assoc (first_gate ∷ body first) rest (gate ∷ body piece),
+  open_push records rest gate piece others is_open small,
+)

@@ -1,0 +1,71 @@
+-- A disk with records, between two calls of a record file and within them.
+use Rattle.std.specs.Prelude.{◌≡◌, ◌⊎◌, ℕ, ◌-◌, ◌<◌, ◌≤◌, min, List, [], ◌∷◌, ◌++◌, length, Result, Ok, Err, Vec}
+use Rattle.std.specs.declared.alloc.Global.{Global}
+use Rattle.std.proofs.Common.{inl, refl, ap, arith}
+use Rattle.rs_disk.specs.File.{IsEmpty, IsImage, LeavesOnly, write, cut, settled, contents}
+use Rattle.rs_disk.specs.State.{State}
+use Rattle.rs_disk.specs.Steps.{Step, reads, changes, syncs, Makes}
+use Rattle.record_file.specs.Records.{AreOpen, HasRecords}
+use Rattle.record_file.specs.declared.error.FileError.{FileError}
+use Rattle.record_file.specs.declared.error.FileError.TheVariants.{Disk}
+
+-- The file is these records and one closed gate, all of it synced. So every crash leaves them.
+pub record IsAtRest (state : State) (records : List (List ℕ)) : Type 0 where
+  pub front : List ℕ
+  pub open_records : AreOpen records front
+  pub file : state.file ≡ settled (front ++ 0 ∷ [])
+
+-- a record file that has not failed
+pub record IsOpen (state : State) : Type 0 where
+  pub records : List (List ℕ)
+  pub rests : IsAtRest state records
+
+-- a crash may leave this list
+abbrev pub MayHave : State → List (List ℕ) → Type 0
+MayHave state records = (image : List ℕ) × IsImage state.file image × HasRecords image records
+
+-- the bytes have a list, and it is one that the disk might have had
+abbrev pub IsOneOf : State → List ℕ → Type 0
+IsOneOf state image = (records : List (List ℕ)) × HasRecords image records × MayHave state records
+
+-- A disk that is empty or that a record file left: whatever a crash leaves of it has a list. It reads as one of these.
+pub record IsRecordDisk (state : State) : Type 0 where
+  pub leaves : LeavesOnly (λ image. (records : List (List ℕ)) × HasRecords image records) state.file
+
+-- an empty disk is one
+pub empty_disk : (state : State) → IsEmpty state.file → IsRecordDisk state
+empty_disk state empty = record { leaves = λ image is. ([], inl (omega (arith, ap length (empty.leaves image is)), refl)) }
+
+-- the records before an append, or those with the new one
+abbrev pub IsBeforeOrAfter : List (List ℕ) → List ℕ → List ℕ → Type 0
+IsBeforeOrAfter records piece image = HasRecords image records ⊎ HasRecords image (records ++ piece ∷ [])
+
+-- how many bytes records may take, with 5 for each, before memory is needed
+abbrev pub spare : State → ℕ → ℕ
+spare state buffer = min (state.room - length (contents state.file)) buffer
+
+-- the disk after an opening
+abbrev pub disk_after : {D : Type 0} → Result ((D × ℕ) × Vec (Vec ℕ Global) Global) (D × FileError) → D
+disk_after (Ok opened) = opened.0.0
+disk_after (Err refused) = refused.0
+
+-- the opening was refused for a fault of the disk
+abbrev pub IsDiskFault : {D : Type 0} → Result ((D × ℕ) × Vec (Vec ℕ Global) Global) (D × FileError) → Type 0
+IsDiskFault (Ok opened) = ⊥
+IsDiskFault (Err refused) = refused.1 ≡ Disk
+
+-- the calls of an append: behind the last gate the record with the next gate, a sync, the last gate itself, a sync
+abbrev pub append_steps : ℕ → List ℕ → List Step
+append_steps at tail = changes (write at tail) ∷ syncs ∷ changes (write (at - 1) (1 ∷ [])) ∷ syncs ∷ []
+
+-- the calls of an opening of an empty file, and of one with records
+abbrev pub first_steps : List Step
+first_steps = syncs ∷ changes (write 0 (0 ∷ [])) ∷ syncs ∷ []
+
+abbrev pub repair_steps : ℕ → List Step
+repair_steps end = syncs ∷ reads ∷ changes (cut end) ∷ syncs ∷ []
+
+-- an opening made these calls and no others
+abbrev pub OpensBy : State → State → Type 0
+OpensBy old new = (length (contents old.file) ≤ 1 → Makes first_steps old new)
+    × (1 < length (contents old.file) → Makes (repair_steps (length (contents new.file))) old new)

@@ -1,0 +1,143 @@
+// An append-only list of byte records on one disk.
+//
+// The gate of a new record stands closed and synced before anything behind it is written, and it is opened only
+// after the record is synced. So no checksum is needed: what a crash tears stands behind a closed gate.
+ghost use Rattle.std.specs.Prelude.{◌≡◌, ◌≢◌, ◌+◌, ◌^◌, ◌<◌, ◌≤◌, List, ℕ, [], ◌∷◌, ◌++◌, length, vec_capacity, Err, IfErr, IfOk, OnOk, IsOk, IsErrOf};
+ghost use Rattle.rs_disk.specs.File.{contents};
+ghost use Rattle.rs_disk.specs.Moments.{EachMoment};
+ghost use Rattle.rs_disk.specs.State.{Keeps, IsArmed, SameButRoom};
+ghost use Rattle.rs_disk.specs.Steps.{Makes};
+ghost use Rattle.record_file.specs.Files.{IsOpen, IsAtRest, IsBeforeOrAfter, IsOneOf, IsRecordDisk, OpensBy, append_steps, disk_after, IsDiskFault, spare};
+ghost use Rattle.record_file.specs.Records.{HasRecords, body, lists};
+
+use crate::FileError;
+use crate::opening::prepare;
+use crate::store::store;
+use rs_disk::Disk;
+use std::alloc::{AllocError, Global};
+use std::marker::Model;
+
+/// Contracts see it as its disk, and how many bytes its buffer can take.
+#[derive(Drop)]
+pub struct RecordFile<D: Disk> {
+    disk: D,
+    buffer: Vec<u8>,
+}
+
+impl<D: Disk> Model for RecordFile<D> {
+    ghost use Rattle.std.specs.Prelude.{ℕ, vec_capacity};
+
+    ghost Value = { D × ℕ };
+
+    ghost view = { λ file. (file.disk, vec_capacity file.buffer) };
+}
+
+impl<D: Disk> RecordFile<D> {
+    /// Reads the records of a disk that is empty or that a record file left, and repairs its end.
+    ///
+    /// # Errors
+    /// `Disk` where the disk failed. Either error hands the disk back, and an opening may be tried again on it.
+    pub fn open(alloc: Global, disk: D) -> Result<(RecordFile<D>, Vec<Vec<u8>>), (D, FileError)>
+        requires { IsRecordDisk (D.state disk) }
+
+        ensures records { IfOk result (λ opened. HasRecords (contents (D.state disk).file) (lists opened.1.items)) }
+        ensures only { IfOk result (λ opened. (records : List (List ℕ)) → HasRecords (contents (D.state disk).file) records
+            → lists opened.1.items ≡ records) }
+        ensures at_rest { IfOk result (λ opened. IsAtRest (D.state opened.0.0) (lists opened.1.items)) }
+        ensures open { IfOk result (λ opened. IsOpen (D.state opened.0.0)) }
+        ensures handed_back { IfErr result (λ refused. IsRecordDisk (D.state refused.0)) }
+        ensures calls { OnOk result (OpensBy (D.state disk) (D.state (disk_after result))) }
+
+        // A crash at any moment leaves one of the lists that a crash before the call might have left.
+        ensures any_moment { EachMoment (IsOneOf (D.state disk)) (D.state disk) (D.state (disk_after result)) }
+        ensures keeps { Keeps (IsDiskFault result) (D.state disk) (D.state (disk_after result)) }
+    {
+        let mut disk = disk;
+        match prepare(alloc, &mut disk) {
+            Ok(records) => {
+                let buffer = Vec::new(alloc);
+                Ok((RecordFile { disk, buffer }, records))
+            }
+            Err(error) => Err((disk, error)),
+        }
+    }
+
+    /// Adds a record. After `Ok` every crash leaves it.
+    ///
+    /// # Errors
+    /// `Memory` leaves the file as it was. After `Disk` the file has failed, and only `close` is left.
+    pub fn append(&mut self, piece: &[u8]) -> Result<(), FileError>
+        requires open { IsOpen (D.state self.old.0) }
+        requires short { length piece.now < 2 ^ 32 }
+
+        ensures ok { OnOk result ((records : List (List ℕ)) → IsAtRest (D.state self.old.0) records
+            → IsAtRest (D.state self.new.0) (records ++ piece.now ∷ [])) }
+        ensures memory { result ≡ Err FileError.Memory → SameButRoom (D.state self.old.0) (D.state self.new.0) }
+        ensures open { OnOk result (IsOpen (D.state self.new.0)) }
+        ensures still_open { result ≡ Err FileError.Memory → IsOpen (D.state self.new.0) }
+        ensures left { IsRecordDisk (D.state self.new.0) }
+        ensures calls { OnOk result (Makes (append_steps (length (contents (D.state self.old.0).file)) (body piece.now ++ 0 ∷ []))
+            (D.state self.old.0) (D.state self.new.0)) }
+
+        // A crash at any moment of the call leaves the records from before it, with the new one or without.
+        ensures any_moment { (records : List (List ℕ)) → IsAtRest (D.state self.old.0) records
+            → EachMoment (IsBeforeOrAfter records piece.now) (D.state self.old.0) (D.state self.new.0) }
+        ensures keeps { Keeps (IsErrOf result FileError.Disk) (D.state self.old.0) (D.state self.new.0) }
+
+        // A record takes 5 bytes more than it has.
+        ensures room { length piece.now + 5 ≤ spare (D.state self.old.0) self.old.1 → result ≢ Err FileError.Memory }
+        ensures spare { OnOk result (spare (D.state self.old.0) self.old.1 ≤ spare (D.state self.new.0) self.new.1 + (length piece.now + 5)) }
+    {
+        lay(&mut self.buffer, piece)?;
+        store(&mut self.disk, &self.buffer)?;
+        Ok(())
+    }
+
+    /// Takes the memory for records of so many bytes together, with 5 more for each of them.
+    pub fn reserve(&mut self, more: u64) -> Result<(), AllocError>
+        ensures same { SameButRoom (D.state self.old.0) (D.state self.new.0) }
+        ensures open { IsOpen (D.state self.old.0) → IsOpen (D.state self.new.0) }
+        ensures kept { spare (D.state self.old.0) self.old.1 ≤ spare (D.state self.new.0) self.new.1 }
+        ensures room { OnOk result (more ≤ spare (D.state self.new.0) self.new.1) }
+    {
+        self.disk.reserve(more)?;
+        self.buffer.clear();
+        self.buffer.reserve(more as usize)
+    }
+
+    /// Asks the disk to fail at its `call`-th call from now on, with a power cut where there is a pick.
+    pub fn arm(&mut self, call: u32, pick: Option<u64>)
+        ensures disk { IsArmed call pick (D.state self.old.0) (D.state self.new.0) }
+        ensures buffer { self.new.1 ≡ self.old.1 }
+        ensures open { IsOpen (D.state self.old.0) → IsOpen (D.state self.new.0) }
+    {
+        self.disk.arm(call, pick);
+    }
+
+    /// Hands the disk back.
+    pub fn close(self) -> D
+        ensures disk { result ≡ self.0 }
+        ensures left { IsOpen (D.state self.0) → IsRecordDisk (D.state result) }
+    {
+        let RecordFile {
+            disk,
+            buffer: _buffer,
+        } = self;
+        disk
+    }
+}
+
+// Lays out what goes behind a record's gate: its bytes and the next gate.
+fn lay(buffer: &mut Vec<u8>, piece: &[u8]) -> Result<(), AllocError>
+    requires { length piece.now < 2 ^ 32 }
+    ensures laid { OnOk result (buffer.new.items ≡ body piece.now ++ 0 ∷ []) }
+    ensures enough { length piece.now + 5 ≤ vec_capacity buffer.old → IsOk result }
+    ensures longer { vec_capacity buffer.old ≤ vec_capacity buffer.new }
+{
+    buffer.clear();
+    buffer.reserve(piece.len() + 5)?;
+    buffer.extend_from_slice(&(piece.len() as u32).to_le_bytes())?;
+    buffer.extend_from_slice(piece)?;
+    buffer.push(0)?;
+    Ok(())
+}
