@@ -1,15 +1,14 @@
 -- A string is read run by run, escape by escape.
-use Rattle.std.proofs.Common.{◌≡◌, ◌≢◌, ℕ, zero, suc, ◌+◌, ◌-◌, ◌<◌, ◌≤◌, Bool, true, false, cond, List, [], ◌∷◌, ◌++◌, ◌==◌, length, take, drop, get_or, Result, Ok, Err, refl, sym, ap, subst, ◌∙◌, append_assoc, arith, inl, inr}
+use Rattle.std.proofs.Common.{◌≡◌, ◌≢◌, ℕ, zero, suc, ◌+◌, ◌-◌, ◌<◌, ◌≤◌, Bool, true, false, cond, List, [], ◌∷◌, ◌++◌, ◌==◌, length, take, drop, get_or, Ok, Err, refl, sym, ap, ◌∙◌, append_assoc, arith}
 use Rattle.std.specs.Prelude.{encode_utf8}
 use Rattle.std.specs.List.{prefix_len}
 use Rattle.std.proofs.lemmas.List.{append-nil, length-drop, get_or-drop}
 use Rattle.std.proofs.lemmas.List.Sums.{prefix_len_stops}
-use Rattle.doc_text.specs.declared.fault.Fault.{Fault}
 use Rattle.doc_text.specs.declared.fault.Rule.TheVariants.{Unexpected}
 use Rattle.doc_text.specs.declared.fault.ReadError.{ReadError}
 use Rattle.doc_text.specs.declared.fault.ReadError.TheVariants as stops
 use Rattle.doc_text.specs.Bytes.{is_plain}
-use Rattle.doc_text.specs.Fault.{Read, ◌>>=◌, fault_at, fails, Fails}
+use Rattle.doc_text.specs.Fault.{Read, ◌>>=◌, fault_at, Fails}
 use Rattle.doc_text.specs.Strings.{escape_at, letters_at}
 
 -- what was read before, and what is still read

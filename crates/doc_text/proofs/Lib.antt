@@ -2,6 +2,10 @@ pub mod Cuts
 pub mod HexDigits
 pub mod HexTexts
 pub mod Letters
+pub mod LocalScalars
+pub mod LocalStrings
+pub mod LocalValues
+pub mod Locality
 pub mod Members
 pub mod NamesAreClean
 pub mod Numerals
@@ -12,6 +16,7 @@ pub mod ReadIsSpelled
 pub mod ReadScalars
 pub mod ReadStrings
 pub mod ReadValues
+pub mod Refusals
 pub mod Results
 pub mod SpelledFields
 pub mod SpelledIsRead

@@ -1,12 +1,11 @@
 -- The members of a document or an array are read one after the other.
-use Rattle.std.proofs.Common.{◌≡◌, ◌≢◌, ℕ, zero, suc, ◌+◌, ◌-◌, ◌<◌, ◌≤◌, Bool, true, false, cond, List, [], ◌∷◌, ◌==◌, length, drop, Result, Ok, Err, refl, sym, ap, subst, ◌∙◌, arith, inl, inr}
+use Rattle.std.proofs.Common.{◌≡◌, ◌≢◌, ℕ, zero, suc, ◌-◌, ◌<◌, true, false, List, [], ◌∷◌, length, Ok, Err, refl, sym, ap, ◌∙◌, arith, inl, inr}
 use Rattle.std.specs.Prelude.{is_some}
 use Rattle.std.proofs.lemmas.Bool.{cases_eq}
 use Rattle.bson_doc.specs.Tree.{Tree, array, document, Fields, no_fields, Trees, no_items, found, with_field, with_item}
-use Rattle.doc_text.specs.declared.fault.Fault.{Fault}
 use Rattle.doc_text.specs.declared.fault.ReadError.{ReadError}
 use Rattle.doc_text.specs.declared.fault.ReadError.TheVariants as stops
-use Rattle.doc_text.specs.declared.fault.Rule.TheVariants.{Unexpected, DuplicateName}
+use Rattle.doc_text.specs.declared.fault.Rule.TheVariants.{DuplicateName}
 use Rattle.doc_text.specs.Class.{behind_spaces}
 use Rattle.doc_text.specs.Fault.{Read, ◌>>=◌, fault_at, Fails}
 use Rattle.doc_text.specs.Marks.{mark_at, spaced_at}

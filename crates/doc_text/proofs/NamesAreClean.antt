@@ -1,5 +1,5 @@
 -- A name that is read has no zero byte.
-use Rattle.std.proofs.Common.{◌≡◌, ◌≢◌, ℕ, zero, suc, lit<, ◌+◌, ◌*◌, ◌/◌, ◌%◌, ◌<◌, ◌≤◌, Bool, true, false, cond, eqb, ltb, List, [], ◌∷◌, ◌++◌, ◌==◌, ◌&&◌, length, take, drop, Option, Some, None, Result, Ok, Err, refl, sym, ap, subst, ◌∙◌, arith, inl, inr}
+use Rattle.std.proofs.Common.{◌≡◌, ℕ, zero, suc, ◌+◌, ◌/◌, ◌%◌, ◌<◌, Bool, true, false, cond, ltb, List, [], ◌∷◌, ◌++◌, ◌==◌, length, take, Option, Some, None, Result, Ok, Err, refl, arith}
 use Rattle.std.specs.Prelude.{Contains, encode_utf8}
 use Rattle.std.specs.List.{prefix_len, take_while}
 use lib.Utf8.{encode}
@@ -7,11 +7,9 @@ use denote.Ref.{Bor}
 use Rattle.std.specs.Result.{IfOk}
 use Rattle.bson_doc.specs.declared.text.Text.{Text}
 use Rattle.doc_text.specs.declared.fault.ReadError.{ReadError}
-use Rattle.doc_text.specs.declared.fault.Rule.TheVariants.{Unexpected, Escape, NameZero}
-use Rattle.doc_text.specs.Bytes.{is_name_byte, is_name_start, is_plain}
-use Rattle.doc_text.specs.Fault.{Read, ◌>>=◌, fails, fault_at, Gives}
-use Rattle.doc_text.specs.Strings.{hex_digit_at, unicode_at, named_character, or_escape, escape_at, letters_at}
-use Rattle.doc_text.specs.Names.{name_at}
+use Rattle.doc_text.specs.Bytes.{is_name_byte, is_plain}
+use Rattle.doc_text.specs.Fault.{Read, ◌>>=◌, Gives}
+use Rattle.doc_text.specs.Strings.{unicode_at, named_character, or_escape, escape_at, letters_at}
 use Rattle.doc_text.proofs.Results.{Gets, bind_gets, bind_any, cond_gets}
 
 -- no byte is zero

@@ -1,5 +1,5 @@
 -- Numerals at the front of a text.
-use Rattle.std.proofs.Common.{◌≡◌, ◌≢◌, ℕ, suc, lit<, ◌+◌, ◌-◌, ◌<◌, ◌≤◌, Bool, true, false, cond, List, [], ◌∷◌, ◌++◌, length, take, drop, Result, Ok, Err, refl, sym, ap, subst, ◌∙◌, arith, inl, inr}
+use Rattle.std.proofs.Common.{◌≡◌, ◌≢◌, ℕ, suc, lit<, ◌+◌, ◌-◌, ◌<◌, Bool, true, false, cond, List, [], ◌∷◌, ◌++◌, length, take, drop, Ok, refl, sym, ap, subst, ◌∙◌, arith, inl, inr}
 use Rattle.std.specs.List.{prefix_len}
 use Rattle.std.specs.Char.{is_ascii_digit, digit_value}
 use Rattle.std.specs.Str.{IsUtf8, IsCharBoundary}
@@ -8,8 +8,6 @@ use Rattle.std.proofs.lemmas.Bool.{cases_eq}
 use Rattle.std.proofs.lemmas.List.{take-append-drop, take_at, drop_at, length-append}
 use Rattle.std.proofs.lemmas.Str.{IsCharBoundary-at_seam, IsCharBoundary-after_ascii, IsUtf8-drop}
 use Rattle.std.proofs.lemmas.Str.Parse.{digit_from_value}
-use Rattle.doc_text.specs.declared.fault.Rule.TheVariants.{Unexpected}
-use Rattle.doc_text.specs.Fault.{◌>>=◌, fault_at}
 use Rattle.doc_text.specs.Integers.{digits_at, integer_at}
 use Rattle.doc_text.proofs.Results.{guard_ok}
 

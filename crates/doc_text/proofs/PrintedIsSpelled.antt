@@ -1,14 +1,13 @@
 -- What is printed of a value spells it.
-use Rattle.std.proofs.Common.{◌≡◌, ◌≢◌, ℕ, ℤ, zero, suc, ◌+◌, ◌-◌, ◌*◌, ◌/◌, ◌%◌, ◌^◌, ◌<◌, ◌≤◌, lit<, min, max, Bool, true, false, not, cond, List, [], ◌∷◌, ◌++◌, ◌==◌, ◌&&◌, ◌||◌, length, take, drop, get_or, Option, Some, None, Result, Ok, Err, refl, sym, ap, subst, ◌∙◌, append_assoc, arith, ◌⊎◌, inl, inr, pos, neg_ℤ, nat_lt}
-use Rattle.std.specs.Prelude.{codes, negsuc, encode_utf8, Contains, slice_index}
+use Rattle.std.proofs.Common.{◌≡◌, ◌≢◌, ℕ, ℤ, suc, ◌+◌, ◌/◌, ◌%◌, ◌^◌, ◌<◌, ◌≤◌, lit<, Bool, true, false, cond, List, [], ◌∷◌, ◌++◌, ◌==◌, ◌&&◌, length, drop, Some, refl, sym, ap, subst, ◌∙◌, append_assoc, arith, inl, inr, pos, neg_ℤ, nat_lt}
+use Rattle.std.specs.Prelude.{codes, negsuc, Contains, slice_index}
 use Rattle.std.specs.List.{flat_map}
 use Rattle.std.specs.Fmt.{decimal, signed_decimal}
-use Rattle.std.specs.Str.Parse.{digits_value}
 use Rattle.std.proofs.lemmas.Bool.{cases_eq}
 use Rattle.std.proofs.lemmas.List.{drop_at, length-append}
 use Rattle.std.proofs.lemmas.Fmt.{decimal_is_IsNumeral}
 use Rattle.std.proofs.lemmas.Str.{encode_ascii}
-use Rattle.hex.specs.Hex.{IsBytes, hex_digit_value, encode_with, encode_lower, lower_digits}
+use Rattle.hex.specs.Hex.{IsBytes, encode_with, encode_lower, lower_digits}
 use Rattle.hex.proofs.HexLemmas.{decode_of-encode_lower, IsDigits-lower_digits}
 use Rattle.bson_doc.specs.Tree.{Tree, null, int32, int64, text, document, array, binary, object_id, boolean, date, timestamp, Fields, no_fields, field, Trees, no_items, item, IsDocument}
 use Rattle.doc_text.specs.Bytes.{is_plain}
@@ -198,8 +197,8 @@ mutual
 
 -- ---- and is read again
 
-pub read_again : (old : List ℕ) (tree : Tree) → IsReadAgain old (old ++ printed tree) tree
-read_again old tree behind lawful shallow whole =
+appended_again : (old : List ℕ) (tree : Tree) → IsLawful tree → IsReadAgain old (old ++ printed tree) tree
+appended_again old tree lawful behind shallow whole =
     let stands : Stands ((old ++ printed tree) ++ behind) (length old) tree (length (old ++ printed tree)) = record {
       spelling = printed tree;
       rest = behind;
@@ -210,3 +209,6 @@ read_again old tree behind lawful shallow whole =
       place = length-append old (printed tree);
     } in
     stands_answer ((old ++ printed tree) ++ behind) (length old) tree (length (old ++ printed tree)) (omega (arith, length-append (old ++ printed tree) behind, length-append old (printed tree))) stands
+
+pub read_again : (old new : List ℕ) (tree : Tree) → IsLawful tree → new ≡ old ++ printed tree → IsReadAgain old new tree
+read_again old new tree lawful is = subst (λ (bytes : List ℕ). IsReadAgain old bytes tree) (sym is) (appended_again old tree lawful)

@@ -1,27 +1,25 @@
 -- What is read is a spelling of what is given: marks, numbers and texts.
-use Rattle.std.proofs.Common.{◌≡◌, ◌≢◌, ℕ, ℤ, zero, suc, ◌+◌, ◌-◌, ◌*◌, ◌/◌, ◌%◌, ◌^◌, ◌<◌, ◌≤◌, lit<, min, max, Bool, true, false, not, cond, List, [], ◌∷◌, ◌++◌, ◌==◌, ◌&&◌, ◌||◌, length, take, drop, get_or, Option, Some, None, Result, Ok, Err, refl, sym, ap, subst, ◌∙◌, append_assoc, arith, ◌⊎◌, inl, inr, pos, neg_ℤ}
-use Rattle.std.specs.Prelude.{encode_utf8, codes}
-use Rattle.std.specs.List.{prefix_len, AllByRecursion, list_all}
+use Rattle.std.proofs.Common.{◌≡◌, ℕ, ℤ, suc, ◌+◌, ◌%◌, ◌^◌, ◌<◌, ◌≤◌, min, Bool, true, false, cond, List, [], ◌∷◌, ◌++◌, ◌==◌, ◌&&◌, ◌||◌, length, take, drop, Result, Ok, Err, refl, sym, ap, ◌∙◌, append_assoc, arith, inl, inr}
+use Rattle.std.specs.Prelude.{codes}
+use Rattle.std.specs.List.{prefix_len}
 use Rattle.std.specs.Char.{is_ascii_digit}
-use Rattle.std.specs.Str.Parse.{AllDigits, IsNumeral, digits_value, signed_digits_value}
-use Rattle.std.proofs.lemmas.Bool.{cases_eq, and_parts}
-use Rattle.std.proofs.lemmas.List.{take-append-drop, append-nil, length-take}
+use Rattle.std.specs.Str.Parse.{IsNumeral, digits_value, signed_digits_value}
+use Rattle.std.proofs.lemmas.Bool.{and_parts}
+use Rattle.std.proofs.lemmas.List.{take-append-drop, length-take}
 use Rattle.std.proofs.lemmas.List.Sums.{prefix_len-le-length}
-use Rattle.hex.specs.Hex.{is_hex_digit, hex_digit_value, decode_of}
-use Rattle.hex.specs.declared.error.FromHexError.{FromHexError}
+use Rattle.hex.specs.Hex.{is_hex_digit, decode_of}
 use Rattle.hex.proofs.HexLemmas.{decode_of-digits, decode_of-ok}
 use Rattle.bson_doc.specs.Tree.{Tree, int32, int64}
 use Rattle.doc_text.specs.declared.fault.Fault.{Fault}
-use Rattle.doc_text.specs.declared.fault.Rule.TheVariants.{Unexpected, Number, Escape, Hex, NameZero}
-use Rattle.doc_text.specs.Bytes.{is_space, is_plain, is_name_byte, is_name_start}
+use Rattle.doc_text.specs.declared.fault.Rule.TheVariants.{Unexpected, Number}
+use Rattle.doc_text.specs.Bytes.{is_space}
 use Rattle.doc_text.specs.Class.{behind_spaces}
-use Rattle.doc_text.specs.Fault.{Read, ◌>>=◌, fails, fault_at}
+use Rattle.doc_text.specs.Fault.{◌>>=◌, fails}
 use Rattle.doc_text.specs.Marks.{mark_at, spaced_at, closing_at, word_at}
 use Rattle.doc_text.specs.Integers.{fits, ranged, digits_at, integer_at, natural_at, long_at, kind_at, number_at}
 use Rattle.doc_text.specs.HexText.{bytes_of, closed_at, hex_fault, binary_hex_at, id_hex_at}
-use Rattle.doc_text.specs.Strings.{hex_digit_at, unicode_at, named_character, or_escape, escape_at, letters_at}
-use Rattle.doc_text.specs.Spelling.{IsSpaces, IsSpaced, IsClosing, Letter, itself, named, coded, written, IsCode, Means, SpellsLetters, SpellsString, SpellsInteger, SpellsNatural, SpellsHex, Spells, levels, GoesNoFurther, continues_number}
-use Rattle.doc_text.proofs.Numerals.{run_of_digits, no_sign}
+use Rattle.doc_text.specs.Spelling.{IsSpaces, IsSpaced, IsClosing, SpellsInteger, SpellsNatural, Spells, levels, GoesNoFurther}
+use Rattle.doc_text.proofs.Numerals.{run_of_digits}
 use Rattle.std.proofs.Common.{nat_le}
 use Rattle.std.specs.List.{AllPass}
 use Rattle.doc_text.proofs.HexTexts.{run_of_hex_digits, some_digits, decoded}

@@ -1,18 +1,16 @@
 -- What is read is a spelling of what is given: values that hold no others.
-use Rattle.std.proofs.Common.{◌≡◌, ◌≢◌, ℕ, ℤ, zero, suc, ◌+◌, ◌-◌, ◌*◌, ◌/◌, ◌%◌, ◌^◌, ◌<◌, ◌≤◌, lit<, min, max, Bool, true, false, not, cond, List, [], ◌∷◌, ◌++◌, ◌==◌, ◌&&◌, ◌||◌, length, take, drop, get_or, Option, Some, None, Result, Ok, Err, refl, sym, ap, subst, ◌∙◌, append_assoc, arith, ◌⊎◌, inl, inr, pos, neg_ℤ}
+use Rattle.std.proofs.Common.{◌≡◌, ℕ, ◌^◌, ◌≤◌, true, false, List, [], ◌∷◌, ◌++◌, ◌==◌, length, refl, sym, ap, ◌∙◌, append_assoc, arith}
 use Rattle.std.specs.Prelude.{codes}
-use Rattle.bson_doc.specs.Tree.{Tree, null, text, binary, object_id, boolean, date, timestamp}
-use Rattle.doc_text.specs.declared.fault.Fault.{Fault}
-use Rattle.doc_text.specs.Fault.{Read, ◌>>=◌}
+use Rattle.bson_doc.specs.Tree.{Tree, null, boolean}
 use Rattle.doc_text.specs.Marks.{mark_at, spaced_at, closing_at, word_at}
-use Rattle.doc_text.specs.Integers.{fits, natural_at, long_at, number_at}
+use Rattle.doc_text.specs.Integers.{fits, natural_at, long_at}
 use Rattle.doc_text.specs.Strings.{letters_at}
 use Rattle.doc_text.specs.HexText.{binary_hex_at, id_hex_at}
 use Rattle.doc_text.specs.Scalars.{string_at, date_at, binary_at, id_at, time_at, constant_at, scalar_at}
-use Rattle.doc_text.specs.Spelling.{IsSpaced, IsClosing, SpellsString, SpellsInteger, SpellsNatural, SpellsHex, Spells, GoesNoFurther, levels}
+use Rattle.doc_text.specs.Spelling.{IsSpaced, IsClosing, SpellsString, SpellsInteger, SpellsNatural, Spells, GoesNoFurther, levels}
 use Rattle.doc_text.proofs.ReadIsSpelled.{Behind, StandsAs, HexRead, mark_gets, spaced_gets, closing_gets, word_gets, natural_gets, long_gets, number_gets, binary_hex_gets, id_hex_gets}
 use Rattle.doc_text.proofs.ReadStrings.{LettersRead, letters_gets}
-use Rattle.doc_text.proofs.Results.{Gets, bind_gets, gets_more, cond_gets}
+use Rattle.doc_text.proofs.Results.{Gets, bind_gets, cond_gets}
 
 string_gets : (most : ℕ) (input : List ℕ) → Gets (string_at input) (StandsAs most input)
 unfolding string_at

@@ -1,20 +1,18 @@
 -- What is read is a spelling of what is given: strings and names.
-use Rattle.std.proofs.Common.{◌≡◌, ◌≢◌, ℕ, ℤ, zero, suc, ◌+◌, ◌-◌, ◌*◌, ◌/◌, ◌%◌, ◌^◌, ◌<◌, ◌≤◌, lit<, min, max, Bool, true, false, not, cond, List, [], ◌∷◌, ◌++◌, ◌==◌, ◌&&◌, ◌||◌, length, take, drop, get_or, Option, Some, None, Result, Ok, Err, refl, sym, ap, subst, ◌∙◌, append_assoc, arith, ◌⊎◌, inl, inr, pos, neg_ℤ}
+use Rattle.std.proofs.Common.{◌≡◌, ℕ, zero, suc, ◌+◌, ◌*◌, Bool, true, false, cond, List, [], ◌∷◌, ◌++◌, ◌==◌, ◌&&◌, length, take, Option, Some, None, Result, Ok, Err, refl, sym, ap, subst, ◌∙◌, append_assoc, arith, inl, inr}
 use Rattle.std.specs.Prelude.{encode_utf8, Contains, nat_le}
-use Rattle.std.specs.List.{prefix_len, take_while, list_all}
+use Rattle.std.specs.List.{prefix_len, list_all}
 use Rattle.std.proofs.lemmas.List.{take-append-drop}
 use Rattle.hex.specs.Hex.{hex_digit_value}
 use Rattle.doc_text.specs.declared.fault.Fault.{Fault}
-use Rattle.doc_text.specs.declared.fault.Rule.TheVariants.{Unexpected, Escape, NameZero}
 use Rattle.doc_text.specs.Bytes.{is_plain, is_name_byte, is_name_start}
-use Rattle.doc_text.specs.Fault.{Read, ◌>>=◌, fails, fault_at}
 use Rattle.doc_text.specs.Strings.{hex_digit_at, unicode_at, named_character, or_escape, escape_at, letters_at}
-use Rattle.doc_text.specs.Names.{bare_at, name_at}
+use Rattle.doc_text.specs.Names.{name_at}
 use Rattle.doc_text.specs.Printing.{is_bare}
 use Rattle.doc_text.specs.Spelling.{Letter, itself, named, coded, written, IsCode, Means, SpellsLetters, SpellsString, SpellsName}
-use Rattle.doc_text.proofs.NamesAreClean.{no_zero, IsClean, letters_clean, bare_clean, CleanFront}
-use Rattle.doc_text.proofs.ReadIsSpelled.{same, Behind}
-use Rattle.doc_text.proofs.Results.{Gets, bind_gets, gets_more, cond_gets}
+use Rattle.doc_text.proofs.NamesAreClean.{no_zero, letters_clean, bare_clean, CleanFront}
+use Rattle.doc_text.proofs.ReadIsSpelled.{same}
+use Rattle.doc_text.proofs.Results.{Gets, bind_gets, cond_gets}
 
 -- ---- escapes
 

@@ -1,18 +1,17 @@
 -- What is read is a spelling of what is given: documents, arrays and whole values.
-use Rattle.std.proofs.Common.{◌≡◌, ◌≢◌, ℕ, ℤ, zero, suc, ◌+◌, ◌-◌, ◌*◌, ◌/◌, ◌%◌, ◌^◌, ◌<◌, ◌≤◌, lit<, min, max, Bool, true, false, not, cond, List, [], ◌∷◌, ◌++◌, ◌==◌, ◌&&◌, ◌||◌, length, take, drop, get_or, Option, Some, None, Result, Ok, Err, refl, sym, ap, subst, ◌∙◌, append_assoc, arith, ◌⊎◌, inl, inr, pos, neg_ℤ}
-use Rattle.std.specs.Prelude.{codes, is_some, Contains}
+use Rattle.std.proofs.Common.{◌≡◌, ℕ, zero, suc, ◌-◌, ◌≤◌, true, false, List, [], ◌∷◌, ◌++◌, ◌||◌, length, drop, Option, Some, None, Ok, refl, sym, ap, subst, ◌∙◌, append_assoc, arith}
+use Rattle.std.specs.Prelude.{is_some, Contains}
 use Rattle.std.proofs.lemmas.List.{length-drop, length-append}
 use Rattle.bson_doc.specs.Tree.{Tree, document, array, Fields, no_fields, field, Trees, no_items, item, IsDocument, found, with_field, with_item}
 use Rattle.bson_doc.proofs.NameLemmas.{with_set-new, IsDocument-with_set}
-use Rattle.doc_text.specs.declared.fault.Fault.{Fault}
-use Rattle.doc_text.specs.declared.fault.Rule.TheVariants.{Unexpected, DuplicateName, TooDeep}
+use Rattle.doc_text.specs.declared.fault.Rule.TheVariants.{TooDeep}
 use Rattle.doc_text.specs.Class.{behind_spaces}
-use Rattle.doc_text.specs.Fault.{Read, ◌>>=◌, fails}
+use Rattle.doc_text.specs.Fault.{Read, fails}
 use Rattle.doc_text.specs.Marks.{mark_at, spaced_at}
 use Rattle.doc_text.specs.Names.{name_at}
 use Rattle.doc_text.specs.Scalars.{scalar_at}
-use Rattle.doc_text.specs.Values.{begins_with, field_at, fields_at, items_at, inside_document, inside_array, document_at, array_at, value_at}
-use Rattle.doc_text.specs.Spelling.{IsSpaces, IsSpaced, IsClosing, SpellsName, SpellsField, Spells, SpellsFields, SpellsItems, SpellsLaterFields, SpellsLaterItems, levels, field_levels, item_levels, GoesNoFurther, Stands}
+use Rattle.doc_text.specs.Values.{begins_with, field_at, fields_at, items_at, document_at, array_at, value_at}
+use Rattle.doc_text.specs.Spelling.{IsSpaces, IsSpaced, IsClosing, SpellsField, Spells, SpellsFields, SpellsItems, SpellsLaterFields, SpellsLaterItems, levels, field_levels, item_levels, Stands}
 use Rattle.doc_text.proofs.SpelledIsRead.{joined, joined-is, joined_items, joined_items-is}
 use Rattle.doc_text.proofs.ReadIsSpelled.{same, Behind, StandsAs, mark_gets, spaced_gets, spaces_front}
 use Rattle.doc_text.proofs.ReadStrings.{NameRead, name_gets}

@@ -1,25 +1,18 @@
 -- A value and a field are read from their first byte on.
-use Rattle.std.proofs.Common.{◌≡◌, ◌≢◌, ℕ, ℤ, zero, suc, ◌+◌, ◌-◌, ◌*◌, ◌/◌, ◌%◌, ◌^◌, ◌<◌, ◌≤◌, lit<, min, max, Bool, true, false, not, cond, List, [], ◌∷◌, ◌++◌, ◌==◌, ◌&&◌, ◌||◌, length, take, drop, get_or, Option, Some, None, Result, Ok, Err, refl, sym, ap, subst, ◌∙◌, append_assoc, arith, ◌⊎◌, inl, inr, pos, neg_ℤ}
-use Rattle.std.specs.Prelude.{codes, is_some}
+use Rattle.std.proofs.Common.{◌≡◌, ℕ, zero, suc, true, false, List, [], ◌∷◌, ◌++◌, None, Ok, refl, ap, ◌∙◌, append_assoc, arith, inl, inr}
+use Rattle.std.specs.Prelude.{codes}
 use Rattle.std.specs.List.{prefix_len}
-use Rattle.std.specs.Str.{bytes_eq}
 use Rattle.std.proofs.lemmas.Bool.{cases_eq}
-use Rattle.std.proofs.lemmas.List.{length-append}
-use Rattle.bson_doc.specs.Tree.{Tree, null, int32, int64, text, document, array, binary, object_id, boolean, date, timestamp, Fields, no_fields, field, Trees, no_items, item, IsDocument, found, with_field, with_item}
-use Rattle.bson_doc.proofs.DocLemmas.{not_first}
-use Rattle.bson_doc.proofs.NameLemmas.{is_some-with_field}
-use Rattle.doc_text.specs.declared.fault.Rule.TheVariants.{Unexpected, DuplicateName, TooDeep}
-use Rattle.doc_text.specs.Bytes.{is_space, is_name_byte}
+use Rattle.bson_doc.specs.Tree.{Tree, null, boolean, Fields, found, with_field}
+use Rattle.doc_text.specs.Bytes.{is_name_byte}
 use Rattle.doc_text.specs.Class.{behind_spaces}
-use Rattle.doc_text.specs.Fault.{Read, ◌>>=◌, fails}
-use Rattle.doc_text.specs.Marks.{mark_at, spaced_at}
 use Rattle.doc_text.specs.Integers.{digits_at, integer_at, number_at}
 use Rattle.doc_text.specs.Names.{name_at}
 use Rattle.doc_text.specs.Scalars.{scalar_at}
-use Rattle.doc_text.specs.Values.{begins_with, field_at, fields_at, items_at, document_at, array_at, value_at}
-use Rattle.doc_text.specs.Spelling.{IsSpaces, IsSpaced, IsClosing, SpellsName, SpellsField, Spells, SpellsFields, SpellsItems, SpellsLaterFields, SpellsLaterItems, levels, field_levels, item_levels, GoesNoFurther}
-use Rattle.doc_text.proofs.SpelledMarks.{NoSpace, no_space, behind_spaces-over, mark_over, before_mark, before_closing, spaced_over, closing_over, word_over, spaced_stops, closing_stops, goes_on, goes_no_further}
-use Rattle.doc_text.proofs.SpelledScalars.{int32_read, int64_read, string_read, constant_read, date_read, id_read, binary_read, time_read}
+use Rattle.doc_text.specs.Values.{begins_with, field_at, value_at}
+use Rattle.doc_text.specs.Spelling.{SpellsField, Spells, GoesNoFurther}
+use Rattle.doc_text.proofs.SpelledMarks.{NoSpace, no_space, spaced_over, spaced_stops, goes_on, goes_no_further}
+use Rattle.doc_text.proofs.SpelledScalars.{constant_read}
 use Rattle.doc_text.proofs.SpelledStrings.{name_over}
 
 -- what spells a value is read as that value

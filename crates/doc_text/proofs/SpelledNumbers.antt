@@ -1,23 +1,20 @@
 -- Numbers and hexadecimal digits are read as they are spelled.
-use Rattle.std.proofs.Common.{◌≡◌, ◌≢◌, ℕ, ℤ, zero, suc, ◌+◌, ◌-◌, ◌*◌, ◌/◌, ◌%◌, ◌^◌, ◌<◌, ◌≤◌, lit<, min, max, Bool, true, false, not, cond, List, [], ◌∷◌, ◌++◌, ◌==◌, ◌&&◌, ◌||◌, length, take, drop, get_or, Option, Some, None, Result, Ok, Err, refl, sym, ap, subst, ◌∙◌, append_assoc, arith, ◌⊎◌, inl, inr, pos, neg_ℤ, nat_le}
+use Rattle.std.proofs.Common.{◌≡◌, ◌≢◌, ℕ, ℤ, ◌%◌, ◌^◌, ◌<◌, true, false, List, [], ◌∷◌, ◌++◌, ◌==◌, length, Ok, refl, sym, ap, ◌∙◌, arith, inl, inr, pos, nat_le}
 use Rattle.std.specs.List.{prefix_len, AllByRecursion, AllPass}
 use Rattle.std.specs.Char.{is_ascii_digit, digit_value}
 use Rattle.std.specs.Str.Parse.{AllDigits, IsNumeral, digits_value, signed_digits_value}
 use Rattle.std.proofs.lemmas.Str.Parse.{digit_from_value}
 use Rattle.std.proofs.lemmas.List.{take_at, drop_at}
-use Rattle.std.proofs.lemmas.Bool.{cases_eq}
 use Rattle.std.proofs.lemmas.List.Elements.{All-head, All-tail}
 use Rattle.hex.specs.Hex.{is_hex_digit, decode_of}
 use Rattle.hex.proofs.HexLemmas.{decode_of-ok}
-use Rattle.bson_doc.specs.Tree.{Tree, int32, int64}
-use Rattle.doc_text.specs.declared.fault.Rule.TheVariants.{Unexpected, Number}
-use Rattle.doc_text.specs.Fault.{Read, ◌>>=◌, fails, fault_at}
-use Rattle.doc_text.specs.Integers.{fits, ranged, digits_at, integer_at, natural_at, long_at, kind_at, number_at}
-use Rattle.doc_text.specs.HexText.{bytes_of, closed_at, binary_hex_at, id_hex_at}
-use Rattle.doc_text.specs.Spelling.{SpellsInteger, SpellsNatural, SpellsHex, continues_number}
-use Rattle.doc_text.proofs.Numerals.{no_sign, integer_plain, integer_minus}
+use Rattle.bson_doc.specs.Tree.{int32, int64}
+use Rattle.doc_text.specs.Integers.{fits, digits_at, integer_at, natural_at, long_at, kind_at, number_at}
+use Rattle.doc_text.specs.HexText.{binary_hex_at, id_hex_at}
+use Rattle.doc_text.specs.Spelling.{SpellsInteger, SpellsNatural, continues_number}
+use Rattle.doc_text.proofs.Numerals.{integer_plain, integer_minus}
 use Rattle.doc_text.proofs.HexTexts.{closed_right, decoded}
-use Rattle.doc_text.proofs.SpelledMarks.{run_over, NoSpace, goes_on}
+use Rattle.doc_text.proofs.SpelledMarks.{run_over}
 
 digit_is : (c : ℕ) → digit_value c < 10 → is_ascii_digit c ≡ true
 digit_is c small =

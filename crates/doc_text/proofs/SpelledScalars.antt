@@ -1,16 +1,11 @@
 -- Values that hold no others are read as they are spelled.
-use Rattle.std.proofs.Common.{◌≡◌, ◌≢◌, ℕ, ℤ, zero, suc, ◌+◌, ◌-◌, ◌*◌, ◌/◌, ◌%◌, ◌^◌, ◌<◌, ◌≤◌, lit<, min, max, Bool, true, false, not, cond, List, [], ◌∷◌, ◌++◌, ◌==◌, ◌&&◌, ◌||◌, length, take, drop, get_or, Option, Some, None, Result, Ok, Err, refl, sym, ap, subst, ◌∙◌, append_assoc, arith, ◌⊎◌, inl, inr, pos, neg_ℤ}
+use Rattle.std.proofs.Common.{◌≡◌, ◌≢◌, ℕ, ℤ, ◌+◌, ◌*◌, ◌^◌, ◌<◌, lit<, true, false, List, [], ◌∷◌, ◌++◌, ◌==◌, length, Ok, refl, sym, ap, ◌∙◌, append_assoc, arith, inl, inr}
 use Rattle.std.specs.Prelude.{codes}
-use Rattle.std.specs.List.{prefix_len}
 use Rattle.std.specs.Char.{is_ascii_digit}
 use Rattle.std.specs.Str.Parse.{IsNumeral}
 use Rattle.std.proofs.lemmas.Str.Parse.{digit_from_value}
-use Rattle.bson_doc.specs.Tree.{Tree, null, int32, int64, text, binary, object_id, boolean, date, timestamp}
-use Rattle.doc_text.specs.Bytes.{is_space}
-use Rattle.doc_text.specs.Fault.{Read, ◌>>=◌}
-use Rattle.doc_text.specs.Marks.{mark_at, spaced_at, closing_at, word_at}
-use Rattle.doc_text.specs.Integers.{fits, number_at, long_at, natural_at}
-use Rattle.doc_text.specs.HexText.{binary_hex_at, id_hex_at}
+use Rattle.bson_doc.specs.Tree.{Tree, int32, int64, text, binary, object_id, date, timestamp}
+use Rattle.doc_text.specs.Integers.{fits, number_at}
 use Rattle.doc_text.specs.Scalars.{string_at, date_at, binary_at, id_at, time_at, constant_at, scalar_at}
 use Rattle.doc_text.specs.Spelling.{IsSpaced, IsClosing, SpellsString, SpellsInteger, SpellsNatural, SpellsHex, continues_number}
 use Rattle.doc_text.proofs.SpelledMarks.{NoSpace, no_space, mark_over, spaced_over, closing_over, word_over, spaced_stops, closing_stops}

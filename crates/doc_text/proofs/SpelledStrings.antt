@@ -1,17 +1,15 @@
 -- Strings and names are read as they are spelled.
-use Rattle.std.proofs.Common.{◌≡◌, ◌≢◌, ℕ, ℤ, zero, suc, ◌+◌, ◌-◌, ◌*◌, ◌/◌, ◌%◌, ◌^◌, ◌<◌, ◌≤◌, lit<, min, max, Bool, true, false, not, cond, List, [], ◌∷◌, ◌++◌, ◌==◌, ◌&&◌, ◌||◌, length, take, drop, get_or, Option, Some, None, Result, Ok, Err, refl, sym, ap, subst, ◌∙◌, append_assoc, arith, ◌⊎◌, inl, inr, pos, neg_ℤ}
-use Rattle.std.specs.Prelude.{encode_utf8}
+use Rattle.std.proofs.Common.{◌≡◌, ℕ, zero, suc, ◌+◌, ◌*◌, ◌<◌, ◌≤◌, lit<, Bool, true, false, cond, List, [], ◌∷◌, ◌++◌, ◌==◌, ◌&&◌, length, Option, Some, Ok, refl, sym, ap, ◌∙◌, append_assoc, arith, inl, inr}
 use Rattle.std.specs.List.{prefix_len, AllByRecursion, list_all}
 use Rattle.std.proofs.lemmas.Bool.{cases_eq, and_parts}
-use Rattle.std.proofs.lemmas.List.{append-nil, take_at, drop_at, length-append}
+use Rattle.std.proofs.lemmas.List.{take_at, drop_at, length-append}
 use Rattle.hex.specs.Hex.{hex_digit_value}
-use Rattle.doc_text.specs.Bytes.{is_plain, is_name_byte, is_name_start}
-use Rattle.doc_text.specs.Fault.{Read, ◌>>=◌}
+use Rattle.doc_text.specs.Bytes.{is_name_byte, is_name_start}
 use Rattle.doc_text.specs.Strings.{hex_digit_at, unicode_at, named_character, or_escape, escape_at, letters_at}
 use Rattle.doc_text.specs.Names.{bare_at, name_at}
 use Rattle.doc_text.specs.Printing.{is_bare}
 use Rattle.doc_text.specs.Spelling.{Letter, itself, named, coded, written, IsCode, Means, SpellsLetters, SpellsString, SpellsName}
-use Rattle.doc_text.proofs.Letters.{letters_at-plain, letters_at-mark, letters_at-escape, with_front}
+use Rattle.doc_text.proofs.Letters.{letters_at-plain, letters_at-mark, letters_at-escape}
 use Rattle.doc_text.proofs.SpelledMarks.{run_over}
 
 no_code_letter : (letter character : ℕ) → named_character letter ≡ Some character → (letter == 117) ≡ false

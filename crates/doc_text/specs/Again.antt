@@ -2,9 +2,9 @@
 use Rattle.std.specs.Prelude.{◌≡◌, ℕ, ◌≤◌, List, ◌++◌, length, Ok}
 use Rattle.bson_doc.specs.Tree.{Tree}
 use Rattle.doc_text.specs.Values.{answer_at}
-use Rattle.doc_text.specs.Spelling.{IsLawful, levels, GoesNoFurther}
+use Rattle.doc_text.specs.Spelling.{levels, GoesNoFurther}
 
 -- Behind the old text, the new one has the value, of at most 100 levels, whatever follows that doesn't go on with a number.
 abbrev pub IsReadAgain : List ℕ → List ℕ → Tree → Type 0
 IsReadAgain old new tree =
-    (behind : List ℕ) → IsLawful tree → levels tree ≤ 100 → GoesNoFurther tree behind → answer_at (new ++ behind) (length old) ≡ Ok (tree, length new)
+    (behind : List ℕ) → levels tree ≤ 100 → GoesNoFurther tree behind → answer_at (new ++ behind) (length old) ≡ Ok (tree, length new)

@@ -1,7 +1,6 @@
 -- Classes of bytes of the notation.
 use Rattle.std.specs.Prelude.{ℕ, Bool, not, ◌&&◌, ◌||◌, ◌==◌, nat_le, nat_lt}
 use Rattle.std.specs.Char.{is_ascii_digit}
-use Rattle.hex.specs.Hex.{is_hex_digit}
 
 abbrev pub is_space : ℕ → Bool
 is_space c = c == 32

@@ -1,5 +1,5 @@
 -- Bytes as hexadecimal digits, behind an opening quotation mark.
-use Rattle.std.specs.Prelude.{ℕ, ◌%◌, min, Bool, List, [], ◌∷◌, take, drop, Result, Ok, Err, ◌==◌, ◌&&◌, if◌then◌else◌}
+use Rattle.std.specs.Prelude.{ℕ, ◌%◌, min, Bool, List, [], ◌∷◌, take, drop, Ok, Err, ◌==◌, ◌&&◌, if◌then◌else◌}
 use Rattle.std.specs.Result.{result_unwrap_or}
 use Rattle.std.specs.List.{prefix_len}
 use Rattle.hex.specs.Hex.{is_hex_digit, decode_of}

@@ -7,6 +7,7 @@ pub mod Integers
 pub mod Marks
 pub mod Names
 pub mod Printing
+pub mod Refusal
 pub mod Scalars
 pub mod Spelling
 pub mod Strings

@@ -6,7 +6,6 @@ use Rattle.bson_doc.specs.View.{tree_of}
 use Rattle.doc_text.specs.declared.errors.TextError.{TextError}
 use Rattle.doc_text.specs.declared.errors.TextError.TheVariants as errors
 use Rattle.doc_text.specs.declared.fault.Rule.TheVariants.{Unexpected, DuplicateName, TooDeep}
-use Rattle.doc_text.specs.declared.fault.Fault.{Fault}
 use Rattle.doc_text.specs.Class.{behind_spaces}
 use Rattle.doc_text.specs.Fault.{Read, ◌>>=◌, fails, placed}
 use Rattle.doc_text.specs.Marks.{mark_at, spaced_at}

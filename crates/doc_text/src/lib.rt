@@ -21,4 +21,4 @@ mod writing;
 pub use bson_doc::Mem;
 pub use errors::TextError;
 pub use values::read_value;
-pub use writing::write_value;
+pub use writing::{write_document, write_value};

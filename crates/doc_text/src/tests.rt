@@ -154,3 +154,15 @@ fn levels(rt: HostRuntime) -> Result<(), Fail> {
     }
     Ok(())
 }
+
+#[test]
+fn writes_a_document(rt: HostRuntime) -> Result<(), Fail> {
+    let (value, _) = read(rt.alloc(), "{\"a\":1,b:[ ]}")?;
+    let Value::Document(document) = value else {
+        return Err(Fail::from("no document"));
+    };
+    let mut out = String::from_str(rt.alloc(), ">")?;
+    write_document(&document, &mut out)?;
+    assert_eq!(rt; out.as_str(), ">{a: 1, b: []}");
+    Ok(())
+}

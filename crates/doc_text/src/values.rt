@@ -1,8 +1,9 @@
 // Values, with the documents and arrays among them.
-ghost use Rattle.std.specs.Prelude.{◌≡◌, ◌<◌, ◌≤◌, ℕ, IfOk, Ok, length, IsCharBoundary};
+ghost use Rattle.std.specs.Prelude.{◌≡◌, ◌<◌, ◌≤◌, ℕ, IfOk, IfErr, Ok, length, IsCharBoundary};
 ghost use Rattle.bson_doc.specs.Tree.{Tree, document, array};
 ghost use Rattle.bson_doc.specs.View.{tree_of};
 ghost use Rattle.doc_text.specs.Fault.{Gives};
+ghost use Rattle.doc_text.specs.Refusal.{RulesOut};
 ghost use Rattle.doc_text.specs.Spelling.{Stands};
 ghost use Rattle.doc_text.specs.Values.{document_at, array_at, value_at, answer_at, Answers};
 
@@ -98,6 +99,8 @@ pub fn read_value(alloc: Global, text: &str, at: usize) -> Result<(Value, usize)
     ensures only { (tree : Tree) (end : ℕ) → Stands text.now at tree end → Answers result (Ok (tree, end)) }
     // Which error it is else.
     ensures exact { Answers result (answer_at text.now at) }
+    // Whatever stands behind the byte that an error names, there is no value.
+    ensures no_further { IfErr result (λ error. RulesOut text.now at error) }
 {
     match value(alloc, &text[at..], LEVELS) {
         Ok((value, rest)) => Ok((value, text.len() - rest.len())),

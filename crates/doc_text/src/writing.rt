@@ -1,7 +1,8 @@
 // The one text of each value.
 ghost use Rattle.std.specs.Prelude.{◌≡◌, ◌++◌, IfOk, OnOk, OnErr, string_bytes, false};
 ghost use Rattle.bson_doc.specs.View.{tree_of};
-ghost use Rattle.bson_doc.specs.Tree.{document, array};
+ghost use Rattle.bson_doc.specs.Tree.{int32, int64, document, array, binary, object_id, date};
+ghost use Rattle.bson_doc.specs.Tree as tree;
 ghost use Rattle.doc_text.specs.Bytes.{is_plain};
 ghost use Rattle.doc_text.specs.Spelling.{IsLawful, Spells};
 ghost use Rattle.doc_text.specs.Again.{IsReadAgain};
@@ -70,10 +71,64 @@ fn write_name(name: &str, out: &mut String) -> Mem<()>
     }
 }
 
+// Each writer also tells what its type says of a value: a number is in its kind's range, and so on.
+#[tactic(auto, unfolding(crate::specs::Printing::printed))]
+fn write_int32(number: i32, out: &mut String) -> Mem<()>
+    ensures written { OnOk result (string_bytes out.new ≡ string_bytes out.old ++ printed (int32 number)) }
+    ensures lawful { IsLawful (int32 number) }
+{
+    write!(out, "{number}")
+}
+
+#[tactic(auto, unfolding(crate::specs::Printing::printed))]
+fn write_int64(number: i64, out: &mut String) -> Mem<()>
+    ensures written { OnOk result (string_bytes out.new ≡ string_bytes out.old ++ printed (int64 number)) }
+    ensures lawful { IsLawful (int64 number) }
+{
+    write!(out, "{number}L")
+}
+
+#[tactic(auto, unfolding(crate::specs::Printing::printed))]
+fn write_date(milliseconds: i64, out: &mut String) -> Mem<()>
+    ensures written { OnOk result (string_bytes out.new ≡ string_bytes out.old ++ printed (date milliseconds)) }
+    ensures lawful { IsLawful (date milliseconds) }
+{
+    write!(out, "Date({milliseconds})")
+}
+
+#[tactic(auto, unfolding(crate::specs::Printing::printed))]
+fn write_binary(subtype: u8, bytes: &[u8], out: &mut String) -> Mem<()>
+    ensures written { OnOk result (string_bytes out.new ≡ string_bytes out.old ++ printed (binary subtype bytes.now)) }
+    ensures lawful { IsLawful (binary subtype bytes.now) }
+{
+    let digits = hex::encode(*out.allocator(), bytes)?;
+    write!(out, "Bin({subtype}, \"{digits}\")")
+}
+
+#[tactic(auto, unfolding(crate::specs::Printing::printed))]
+fn write_id(bytes: [u8; 12], out: &mut String) -> Mem<()>
+    ensures written { OnOk result (string_bytes out.new ≡ string_bytes out.old ++ printed (object_id bytes)) }
+    ensures lawful { IsLawful (object_id bytes) }
+{
+    let digits = hex::encode(*out.allocator(), bytes)?;
+    write!(out, "Id(\"{digits}\")")
+}
+
+#[tactic(auto, unfolding(crate::specs::Printing::printed))]
+fn write_timestamp(timestamp: u64, out: &mut String) -> Mem<()>
+    ensures written { OnOk result (string_bytes out.new ≡ string_bytes out.old ++ printed (tree.timestamp timestamp)) }
+    ensures lawful { IsLawful (tree.timestamp timestamp) }
+{
+    let seconds = timestamp >> 32;
+    let increment = timestamp % (1 << 32);
+    write!(out, "Time({seconds}, {increment})")
+}
+
 #[cycle(write)]
 #[tactic(auto, unfolding(crate::specs::Printing::printed))]
-fn write_document(fields: &Doc, out: &mut String) -> Mem<()>
-    ensures { OnOk result (string_bytes out.new ≡ string_bytes out.old ++ printed (document fields.now)) }
+fn write_fields(fields: &Doc, out: &mut String) -> Mem<()>
+    ensures written { OnOk result (string_bytes out.new ≡ string_bytes out.old ++ printed (document fields.now)) }
+    ensures lawful { OnOk result (IsLawful (document fields.now)) }
 {
     out.push_str("{")?;
     for place in 0..fields.len() {
@@ -92,8 +147,9 @@ fn write_document(fields: &Doc, out: &mut String) -> Mem<()>
 
 #[cycle(write)]
 #[tactic(auto, unfolding(crate::specs::Printing::printed))]
-fn write_array(items: &Items, out: &mut String) -> Mem<()>
-    ensures { OnOk result (string_bytes out.new ≡ string_bytes out.old ++ printed (array items.now)) }
+fn write_items(items: &Items, out: &mut String) -> Mem<()>
+    ensures written { OnOk result (string_bytes out.new ≡ string_bytes out.old ++ printed (array items.now)) }
+    ensures lawful { OnOk result (IsLawful (array items.now)) }
 {
     out.push_str("[")?;
     for place in 0..items.len() {
@@ -111,31 +167,22 @@ fn write_array(items: &Items, out: &mut String) -> Mem<()>
 #[cycle(write)]
 #[tactic(auto, unfolding(crate::specs::Printing::printed))]
 fn write(value: &Value, out: &mut String) -> Mem<()>
-    ensures { OnOk result (string_bytes out.new ≡ string_bytes out.old ++ printed (tree_of value.now)) }
+    ensures written { OnOk result (string_bytes out.new ≡ string_bytes out.old ++ printed (tree_of value.now)) }
+    ensures lawful { OnOk result (IsLawful (tree_of value.now)) }
 {
     match value {
         Value::Null => out.push_str("null"),
         Value::Boolean(true) => out.push_str("true"),
         Value::Boolean(false) => out.push_str("false"),
-        Value::Int32(number) => write!(out, "{number}"),
-        Value::Int64(number) => write!(out, "{number}L"),
+        Value::Int32(number) => write_int32(*number, out),
+        Value::Int64(number) => write_int64(*number, out),
         Value::Text(text) => write_string(text.as_str(), out),
-        Value::Document(fields) => write_document(fields, out),
-        Value::Array(items) => write_array(items, out),
-        Value::Date(milliseconds) => write!(out, "Date({milliseconds})"),
-        Value::Binary(subtype, bytes) => {
-            let digits = hex::encode(*out.allocator(), bytes.as_slice())?;
-            write!(out, "Bin({subtype}, \"{digits}\")")
-        }
-        Value::ObjectId(bytes) => {
-            let digits = hex::encode(*out.allocator(), bytes)?;
-            write!(out, "Id(\"{digits}\")")
-        }
-        Value::Timestamp(timestamp) => {
-            let seconds = timestamp >> 32;
-            let increment = timestamp % (1 << 32);
-            write!(out, "Time({seconds}, {increment})")
-        }
+        Value::Document(fields) => write_fields(fields, out),
+        Value::Array(items) => write_items(items, out),
+        Value::Date(milliseconds) => write_date(*milliseconds, out),
+        Value::Binary(subtype, bytes) => write_binary(*subtype, bytes.as_slice(), out),
+        Value::ObjectId(bytes) => write_id(*bytes, out),
+        Value::Timestamp(timestamp) => write_timestamp(*timestamp, out),
     }
 }
 
@@ -143,13 +190,28 @@ fn write(value: &Value, out: &mut String) -> Mem<()>
 pub fn write_value(value: &Value, out: &mut String) -> Mem<()>
     ensures ok { OnOk result (string_bytes out.new ≡ string_bytes out.old ++ printed (tree_of value.now)) }
     ensures err { OnErr result (string_bytes out.new ≡ string_bytes out.old) }
+    ensures lawful { OnOk result (IsLawful (tree_of value.now)) }
     // What was written is a spelling of the value, and is read again, whatever stands behind it that
     // doesn't go on with a number.
-    ensures spelled { OnOk result (IsLawful (tree_of value.now) → Spells (tree_of value.now) (printed (tree_of value.now))) }
+    ensures spelled { OnOk result (Spells (tree_of value.now) (printed (tree_of value.now))) }
     ensures again { OnOk result (IsReadAgain (string_bytes out.old) (string_bytes out.new) (tree_of value.now)) }
 {
     let mut text = String::new(*out.allocator());
     write(value, &mut text)?;
+    out.push_str(&text)?;
+    Ok(())
+}
+
+/// Appends the one printed text of a document. Want of memory leaves `out` as it was.
+pub fn write_document(document: &Doc, out: &mut String) -> Mem<()>
+    ensures ok { OnOk result (string_bytes out.new ≡ string_bytes out.old ++ printed (tree.document document.now)) }
+    ensures err { OnErr result (string_bytes out.new ≡ string_bytes out.old) }
+    ensures lawful { OnOk result (IsLawful (tree.document document.now)) }
+    ensures spelled { OnOk result (Spells (tree.document document.now) (printed (tree.document document.now))) }
+    ensures again { OnOk result (IsReadAgain (string_bytes out.old) (string_bytes out.new) (tree.document document.now)) }
+{
+    let mut text = String::new(*out.allocator());
+    write_fields(document, &mut text)?;
     out.push_str(&text)?;
     Ok(())
 }

@@ -1,4 +1,4 @@
-use Rattle.std.proofs.Common.{◌≡◌, arith}
+use Rattle.std.proofs.Common.{arith}
 use Rattle.doc_text.proofs.Cuts.{hex_boundary}
 use Rattle.doc_text.proofs.HexTexts.{id_len, id_wrong_mark, id_wrong_count}
 use Rattle.doc_text.proofs.hex_text.id_hex.Goals as goal

@@ -1,6 +1,5 @@
-use Rattle.std.proofs.Common.{◌≡◌, ◌∷◌, refl}
-use Rattle.doc_text.specs.Integers.{integer_at}
-use Rattle.doc_text.proofs.Numerals.{no_sign, integer_plain, integer_minus, minus_parts, front_at, back_at, boundary_at}
+use Rattle.std.proofs.Common.{◌∷◌}
+use Rattle.doc_text.proofs.Numerals.{integer_plain, integer_minus, minus_parts, front_at, back_at, boundary_at}
 use Rattle.doc_text.proofs.integers.integer.Goals as goal
 
 pub returns-in_default-clause-gives : goal.returns-in_default-clause-gives

@@ -1,4 +1,3 @@
-use Rattle.std.proofs.Common.{◌≡◌}
 use Rattle.doc_text.proofs.NamesAreClean.{no_zero, clean_string, bare_clean}
 use Rattle.doc_text.proofs.names.name.Goals as goal
 

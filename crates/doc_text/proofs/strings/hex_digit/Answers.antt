@@ -1,4 +1,4 @@
-use Rattle.std.proofs.Common.{◌≡◌, ◌<◌, length, arith}
+use Rattle.std.proofs.Common.{arith}
 use Rattle.doc_text.proofs.HexDigits.{hex_digit_ok, hex_digit_err}
 use Rattle.doc_text.proofs.strings.hex_digit.Goals as goal
 

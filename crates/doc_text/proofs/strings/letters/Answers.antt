@@ -1,11 +1,11 @@
-use Rattle.std.proofs.Common.{◌≡◌, ◌≤◌, ◌-◌, ◌++◌, length, drop, ap, sym, ◌∙◌, arith, rules}
+use Rattle.std.proofs.Common.{◌≤◌, ◌-◌, ◌++◌, length, ap, arith, rules}
 use Rattle.std.specs.Prelude.{string_bytes}
 use Rattle.std.specs.List.{prefix_len}
 use Rattle.std.proofs.lemmas.List.{length-drop}
 use Rattle.std.proofs.lemmas.Result.{err_from_is_err_and}
 use Rattle.doc_text.specs.Bytes.{is_plain}
 use Rattle.doc_text.specs.Strings.{letters_at}
-use Rattle.doc_text.proofs.Letters.{with_front, with_front-nil, behind_run, closed, escaped, not_escaped, stuck, stop_is_special}
+use Rattle.doc_text.proofs.Letters.{with_front-nil, behind_run, closed, escaped, not_escaped, stuck, stop_is_special}
 use Rattle.doc_text.proofs.strings.letters.Goals as goal
 
 pub loop-string-init : goal.loop-string-init

@@ -1,4 +1,4 @@
-use Rattle.std.proofs.Common.{◌≡◌, ℕ, ◌+◌, ◌*◌, ◌<◌, ◌≤◌, length}
+use Rattle.std.proofs.Common.{◌≡◌, ℕ, ◌+◌, ◌*◌, ◌<◌, length}
 use denote.Shadow.{shadow}
 use denote.Text.{Utf8}
 use Rattle.doc_text.specs.Values.{fields_at, items_at, document_at, array_at, value_at}

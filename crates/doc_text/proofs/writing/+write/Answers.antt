@@ -1,48 +1,66 @@
 use Rattle.std.proofs.Common.{◌≡◌, ◌+◌, ◌++◌, ap, ◌∙◌, arith}
 use Rattle.std.specs.Prelude.{string_bytes, codes}
 use Rattle.std.proofs.lemmas.Grind.{common_steps}
-use Rattle.bson_doc.specs.Tree.{fields_from, trees_from}
+use Rattle.bson_doc.specs.Tree.{document, fields_from, trees_from}
 use Rattle.bson_doc.specs.View.{tree_of}
 use Rattle.bson_doc.proofs.DocLemmas.{fields_from-end, trees_from-end}
 use Rattle.doc_text.specs.Printing.{printed_fields, printed_items}
+use Rattle.doc_text.specs.Spelling.{IsLawful, AreAllLawful}
 use Rattle.doc_text.proofs.Printed.{separator, with_separator, with_no_separator, item_written, field_written, array_written, document_written, item_smaller, field_smaller}
+use Rattle.doc_text.proofs.Results.{always}
 use Rattle.doc_text.proofs.writing.+write.Goals as goal
-use Rattle.doc_text.proofs.writing.+write.Goals.{write_array-then-place-gt0+in_ok-push_str-2, write_array-else-place-gt0, write_document-then-place-gt0+in_ok-push_str-2, write_document-else-place-gt0}
+use Rattle.doc_text.proofs.writing.+write.Goals.{write_items-then-place-gt0+in_ok-push_str-2, write_items-else-place-gt0, write_fields-then-place-gt0+in_ok-push_str-2, write_fields-else-place-gt0}
 
-pub write_array-write-requires : goal.write_array-write-requires
-write_array-write-requires t c =
+pub write_items-write-requires : goal.write_items-write-requires
+write_items-write-requires t c =
     (omega (arith, c.decreases, item_smaller c.loop-place.place c.args.items.now (trees_from (c.loop-place.place + 1) c.args.items.now) (tree_of c.in-Some.value.now) c.in-Some.ensures), tt)
 
-pub write_array-loop-place-preserved : goal.write_array-loop-place-preserved
-write_array-loop-place-preserved t c =
+pub write_items-loop-place-preserved : goal.write_items-loop-place-preserved
+write_items-loop-place-preserved t c =
     let between : string_bytes c.if-place-gt0.out ≡ string_bytes c.loop-place.out ++ separator c.loop-place.place =
     elim c.if-place-gt0.branch [
-      | write_array-then-place-gt0+in_ok-push_str-2 w ↦ with_separator c.loop-place.place _ _ w.if-place-gt0.true (ap string_bytes w.out-is ∙ w.in_ok-push_str-2.ensures.bytes)
-      | write_array-else-place-gt0 w ↦ with_no_separator c.loop-place.place _ _ w.if-place-gt0.false (ap string_bytes w.out-is)
+      | write_items-then-place-gt0+in_ok-push_str-2 w ↦ with_separator c.loop-place.place _ _ w.if-place-gt0.true (ap string_bytes w.out-is ∙ w.in_ok-push_str-2.ensures.bytes)
+      | write_items-else-place-gt0 w ↦ with_no_separator c.loop-place.place _ _ w.if-place-gt0.false (ap string_bytes w.out-is)
     ] in
-    rw (c.in_ok-write.ensures, between) (item_written c.loop-place.place c.args.items.now (trees_from (c.loop-place.place + 1) c.args.items.now) (tree_of c.in-Some.value.now) (string_bytes c.loop-place.out) ((string_bytes c.args.out.now ++ codes "[") ++ printed_items c.args.items.now) c.in-Some.ensures c.loop-place.invariant)
+    record {
+      written = rw (c.in_ok-write.ensures.written, between) (item_written c.loop-place.place c.args.items.now (trees_from (c.loop-place.place + 1) c.args.items.now) (tree_of c.in-Some.value.now) (string_bytes c.loop-place.out) ((string_bytes c.args.out.now ++ codes "[") ++ printed_items c.args.items.now) c.in-Some.ensures c.loop-place.invariant.written);
+      lawful = λ later. c.loop-place.invariant.lawful (rw c.in-Some.ensures (c.in_ok-write.ensures.lawful, later));
+    }
 
-pub write_array-returns : goal.write_array-returns
-write_array-returns t c =
+pub write_items-returns-clause-written : goal.write_items-returns-clause-written
+write_items-returns-clause-written t c =
     let end = trees_from-end c.args.items.now c.loop-place.place (omega (arith, c.loop-place-test.false, c.len-place-end.ensures)) in
-    let whole = array_written c.loop-place.place c.args.items.now (string_bytes c.loop-place.out) (string_bytes c.args.out.now) end c.loop-place.invariant in
+    let whole = array_written c.loop-place.place c.args.items.now (string_bytes c.loop-place.out) (string_bytes c.args.out.now) end c.loop-place.invariant.written in
     grind (arith, common_steps)
 
-pub write_document-write-requires : goal.write_document-write-requires
-write_document-write-requires t c =
+pub write_items-returns-clause-lawful : goal.write_items-returns-clause-lawful
+write_items-returns-clause-lawful t c =
+    let end = trees_from-end c.args.items.now c.loop-place.place (omega (arith, c.loop-place-test.false, c.len-place-end.ensures)) in
+    always c.push_str-2.result (AreAllLawful c.args.items.now) (c.loop-place.invariant.lawful (rw end tt))
+
+pub write_fields-write-requires : goal.write_fields-write-requires
+write_fields-write-requires t c =
     (omega (arith, c.decreases, field_smaller c.loop-place.place c.args.fields.now (fields_from (c.loop-place.place + 1) c.args.fields.now) c.in-Some.name.now (tree_of c.in-Some.value.now) c.in-Some.ensures), tt)
 
-pub write_document-loop-place-preserved : goal.write_document-loop-place-preserved
-write_document-loop-place-preserved t c =
+pub write_fields-loop-place-preserved : goal.write_fields-loop-place-preserved
+write_fields-loop-place-preserved t c =
     let between : string_bytes c.if-place-gt0.out ≡ string_bytes c.loop-place.out ++ separator c.loop-place.place =
     elim c.if-place-gt0.branch [
-      | write_document-then-place-gt0+in_ok-push_str-2 w ↦ with_separator c.loop-place.place _ _ w.if-place-gt0.true (ap string_bytes w.out-is ∙ w.in_ok-push_str-2.ensures.bytes)
-      | write_document-else-place-gt0 w ↦ with_no_separator c.loop-place.place _ _ w.if-place-gt0.false (ap string_bytes w.out-is)
+      | write_fields-then-place-gt0+in_ok-push_str-2 w ↦ with_separator c.loop-place.place _ _ w.if-place-gt0.true (ap string_bytes w.out-is ∙ w.in_ok-push_str-2.ensures.bytes)
+      | write_fields-else-place-gt0 w ↦ with_no_separator c.loop-place.place _ _ w.if-place-gt0.false (ap string_bytes w.out-is)
     ] in
-    rw (c.in_ok-write.ensures, c.in_ok-push_str-3.ensures.bytes, c.in_ok-write_name.ensures, between) (field_written c.loop-place.place c.args.fields.now (fields_from (c.loop-place.place + 1) c.args.fields.now) c.in-Some.name.now (tree_of c.in-Some.value.now) (string_bytes c.loop-place.out) ((string_bytes c.args.out.now ++ codes "{") ++ printed_fields c.args.fields.now) c.in-Some.ensures c.loop-place.invariant)
+    record {
+      written = rw (c.in_ok-write.ensures.written, c.in_ok-push_str-3.ensures.bytes, c.in_ok-write_name.ensures, between) (field_written c.loop-place.place c.args.fields.now (fields_from (c.loop-place.place + 1) c.args.fields.now) c.in-Some.name.now (tree_of c.in-Some.value.now) (string_bytes c.loop-place.out) ((string_bytes c.args.out.now ++ codes "{") ++ printed_fields c.args.fields.now) c.in-Some.ensures c.loop-place.invariant.written);
+      lawful = λ later. c.loop-place.invariant.lawful (rw c.in-Some.ensures (c.in_ok-write.ensures.lawful, later));
+    }
 
-pub write_document-returns : goal.write_document-returns
-write_document-returns t c =
+pub write_fields-returns-clause-written : goal.write_fields-returns-clause-written
+write_fields-returns-clause-written t c =
     let end = fields_from-end c.args.fields.now c.loop-place.place (omega (arith, c.loop-place-test.false, c.len-place-end.ensures)) in
-    let whole = document_written c.loop-place.place c.args.fields.now (string_bytes c.loop-place.out) (string_bytes c.args.out.now) end c.loop-place.invariant in
+    let whole = document_written c.loop-place.place c.args.fields.now (string_bytes c.loop-place.out) (string_bytes c.args.out.now) end c.loop-place.invariant.written in
     grind (arith, common_steps)
+
+pub write_fields-returns-clause-lawful : goal.write_fields-returns-clause-lawful
+write_fields-returns-clause-lawful t c =
+    let end = fields_from-end c.args.fields.now c.loop-place.place (omega (arith, c.loop-place-test.false, c.len-place-end.ensures.count)) in
+    always c.push_str-2.result (IsLawful (document c.args.fields.now)) (c.len-place-end.ensures.names, c.loop-place.invariant.lawful (rw end tt))

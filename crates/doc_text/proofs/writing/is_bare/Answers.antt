@@ -1,4 +1,4 @@
-use Rattle.std.proofs.Common.{◌≡◌, sym, ◌∙◌, arith}
+use Rattle.std.proofs.Common.{sym, arith}
 use Rattle.doc_text.proofs.Quoting.{bare_name}
 use Rattle.doc_text.proofs.writing.is_bare.Goals as goal
 

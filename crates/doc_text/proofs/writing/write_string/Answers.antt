@@ -1,8 +1,7 @@
-use Rattle.std.proofs.Common.{◌≡◌, ◌++◌, ◌∷◌, [], length, get_or, drop, ap, sym, ◌∙◌, append_assoc, arith}
+use Rattle.std.proofs.Common.{◌++◌, ◌∷◌, get_or, arith}
 use Rattle.std.specs.Prelude.{string_bytes}
-use Rattle.std.specs.List.{flat_map, prefix_len}
+use Rattle.std.specs.List.{flat_map}
 use Rattle.std.proofs.lemmas.Grind.{common_steps}
-use Rattle.doc_text.specs.Bytes.{is_plain}
 use Rattle.doc_text.specs.Printing.{printed_byte}
 use Rattle.doc_text.proofs.Cuts.{escaped_is_ascii}
 use Rattle.doc_text.proofs.Letters.{stop_is_special}

@@ -1,5 +1,4 @@
-use Rattle.std.proofs.Common.{◌≡◌, ℕ, ◌<◌, Bool, false, length, get_or, subst, sym, arith}
-use Rattle.std.specs.List.{prefix_len}
+use Rattle.std.proofs.Common.{◌≡◌, ℕ, ◌<◌, false, length, get_or, subst, sym, arith}
 use Rattle.std.specs.Str.{IsCharBoundary}
 use Rattle.doc_text.specs.Class.{is_in}
 use Rattle.doc_text.proofs.Cuts.{run_boundary, run_ends}
