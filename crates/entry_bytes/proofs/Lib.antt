@@ -1,0 +1,5 @@
+pub mod AnswerLemmas
+pub mod LayoutLemmas
+pub mod MarkLemmas
+pub mod PartLemmas
+pub mod PlaceLemmas

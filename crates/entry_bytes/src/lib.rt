@@ -1,0 +1,17 @@
+//! Entries of an oplog as bytes. Each is one BSON document (BSON 1.1), whose members `specs/Layout.antt` lists: the bytes
+//! of a lawful entry are read as that entry, and no others are read.
+#![tactic(auto)]
+
+mod error;
+mod laws;
+mod ops;
+mod places;
+mod reading;
+#[cfg(test)]
+mod tests;
+mod writing;
+
+pub use error::EntryError;
+pub use laws::documents_tell_entries;
+pub use reading::of_bytes;
+pub use writing::{body, letter, to_bytes};
