@@ -7,6 +7,8 @@ mod increment;
 mod ordered;
 mod preparing;
 mod same;
+#[cfg(test)]
+mod tests;
 mod write;
 
 pub use checks::check;

@@ -1,6 +1,6 @@
-ghost use Rattle.std.specs.Prelude.{◌≡◌};
+ghost use Rattle.std.specs.Prelude.{◌≡◌, IfOk};
 
-use bson_doc::{Doc, KeyError, Text, Value};
+use bson_doc::{Doc, KeyError, Mem, Text, Value};
 use oplog_entry::Op;
 use std::alloc::{AllocError, AllocFailed};
 use thiserror::Error;
@@ -16,6 +16,34 @@ pub enum WriteOp {
     Update { ns: Text, id: Value, operators: Doc },
     /// The document is gone.
     Delete { ns: Text, id: Value },
+}
+
+impl WriteOp {
+    /// The same write once more.
+    pub fn copy(&self) -> Mem<WriteOp>
+        ensures { IfOk result (λ op. op ≡ self.now) }
+    {
+        Ok(match self {
+            WriteOp::Insert { ns, doc } => WriteOp::Insert {
+                ns: ns.copy()?,
+                doc: doc.copy()?,
+            },
+            WriteOp::Replace { ns, id, doc } => WriteOp::Replace {
+                ns: ns.copy()?,
+                id: id.copy()?,
+                doc: doc.copy()?,
+            },
+            WriteOp::Update { ns, id, operators } => WriteOp::Update {
+                ns: ns.copy()?,
+                id: id.copy()?,
+                operators: operators.copy()?,
+            },
+            WriteOp::Delete { ns, id } => WriteOp::Delete {
+                ns: ns.copy()?,
+                id: id.copy()?,
+            },
+        })
+    }
 }
 
 /// What a write comes to, given the document that is there.
