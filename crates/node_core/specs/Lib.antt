@@ -1,0 +1,10 @@
+pub mod Admits
+pub mod Code
+pub mod Grown
+pub mod Kept
+pub mod Ledger
+pub mod Listing
+pub mod NodeCode
+pub mod Restored
+pub mod Seen
+pub mod Versions
