@@ -21,6 +21,10 @@ fn main(rt: HostRuntime) -> Result<ExitCode> {
             }
         }
     }
+    if !draws_the_line(rt.alloc())? {
+        as_written = false;
+        println!(rt; "the largest document is another")?;
+    }
     Ok(if as_written {
         ExitCode::SUCCESS
     } else {
@@ -57,6 +61,24 @@ fn transcript(alloc: Global, script: Vec<u8>) -> Result<Vec<u8>> {
     let mut sink = MemSink::new(alloc, Vec::new(alloc));
     let _ = set_program::run_set(alloc, &words, &mut source, &mut sink);
     Ok(sink.bytes().to_vec(alloc)?)
+}
+
+/// How many bytes a string may have in the largest document that is stored: `{_id: 1, s: STRING}` has 22 bytes more than
+/// its string, and may have 262,144.
+const LONGEST: usize = 262_122;
+
+/// Whether the largest string that fits a document is stored, and one byte more is refused.
+fn draws_the_line(alloc: Global) -> Result<bool> {
+    let mut longest = String::new(alloc);
+    for _ in 0..LONGEST {
+        longest.push('s')?;
+    }
+    let opening = "set 1\ncampaign n0\ndrain n0\n";
+    let script = format!(in alloc; "{opening}insert n0 t {{_id: 1, s: \"{longest}\"}}\n")?;
+    let stored = transcript(alloc, script.into_bytes())?.ends_with(b"4: written 1/0/2\n");
+    let script = format!(in alloc; "{opening}insert n0 t {{_id: 1, s: \"{longest}s\"}}\n")?;
+    let refused = transcript(alloc, script.into_bytes())?.ends_with(b"4: refused 9 DocTooLarge\n");
+    Ok(stored && refused)
 }
 
 /// The number of the first line in which the texts differ.
