@@ -1,0 +1,6 @@
+pub mod Kept
+pub mod Logs
+pub mod Points
+pub mod Rollback
+pub mod Sources
+pub mod Votes
