@@ -2,6 +2,6 @@ pub mod Length
 pub mod Numbers
 pub mod Outcome
 pub mod Reading
-pub mod Sound
+pub use Rattle.bson_doc.specs.Sound
 pub mod Spelling
 pub mod Wholes
