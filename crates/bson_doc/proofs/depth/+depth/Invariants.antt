@@ -1,8 +1,8 @@
 use Rattle.std.proofs.Common.{◌≡◌, ◌+◌, ◌-◌, ◌*◌, ◌≤◌, min, max}
 use Rattle.bson_doc.specs.Tree.{fields_from, fields_size, trees_from, trees_size, tree_size}
 use Rattle.bson_doc.specs.View.{tree_of}
-use Rattle.bson_codec.specs.Length.{fields_levels, items_levels}
-use Rattle.bson_codec.proofs.depth.+depth.Given as goal
+use Rattle.bson_doc.specs.Length.{fields_levels, items_levels}
+use Rattle.bson_doc.proofs.depth.+depth.Given as goal
 
 abbrev pub decreases-item_levels : goal.decreases-item_levels
 decreases-item_levels l = 2 * trees_size l.items.now

@@ -1,9 +1,9 @@
 // The levels of a document, counted up to a limit, so that no recursion is deeper.
 ghost use Rattle.std.specs.Prelude.{◌≡◌, ◌+◌, min};
 ghost use Rattle.bson_doc.specs.View.{tree_of};
-ghost use Rattle.bson_codec.specs.Length.{value_levels, document_levels, items_levels};
+ghost use Rattle.bson_doc.specs.Length.{value_levels, document_levels, items_levels};
 
-use bson_doc::{Doc, Items, Value};
+use crate::{Doc, Items, Value};
 
 #[cycle(depth)]
 fn levels_of(value: &Value, most: u64) -> u64
