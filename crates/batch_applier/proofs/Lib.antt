@@ -1,0 +1,4 @@
+pub mod PastLemmas
+mod PartLemmas
+mod WorkerLemmas
+mod BatchLemmas
