@@ -1,5 +1,5 @@
 -- A batch over all shards of a store.
-use Rattle.std.proofs.Common.{◌≡◌, ◌⊎◌, inl, inr, ◌∙◌, ◌<◌, ◌≤◌, ◌-◌, ◌%◌, ap, sym, subst, refl, arith, true, false, List, [], ◌∷◌, ℕ, suc, zero, length, take, drop, Option, None, Some}
+use Rattle.std.proofs.Common.{◌≡◌, inl, inr, ◌∙◌, ◌<◌, ◌%◌, ap, sym, subst, refl, arith, true, false, List, [], ◌∷◌, ℕ, suc, zero, length, take, drop, Option, None, Some}
 use Rattle.std.specs.Prelude.{slice_get, slice_index_or, unwrap_or}
 use Rattle.std.specs.List.{All, AllPairs}
 use Rattle.std.proofs.lemmas.List.Elements.{All-filter, filter_passes}

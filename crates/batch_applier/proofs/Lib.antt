@@ -1,3 +1,4 @@
+pub mod FreshLemmas
 pub mod PastLemmas
 mod PartLemmas
 mod WorkerLemmas

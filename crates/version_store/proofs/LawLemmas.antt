@@ -1,6 +1,6 @@
 -- What reads show after a prune, and after going back.
-use Rattle.std.proofs.Common.{◌≡◌, ◌∙◌, ◌<◌, ap, sym, refl, arith, Bool, true, false, not, cond, List, [], ◌∷◌, ◌++◌, ℕ, suc, zero, length, Option, None, Some}
-use Rattle.std.specs.Prelude.{filter, is_some, slice_index_or, option_and_then}
+use Rattle.std.proofs.Common.{◌≡◌, ◌∙◌, ap, sym, refl, arith, Bool, true, false, not, cond, List, [], ◌∷◌, ◌++◌, suc, zero, Option, None, Some}
+use Rattle.std.specs.Prelude.{filter, is_some}
 use Rattle.bson_doc.specs.Tree.{Fields}
 use Rattle.rs_optime.specs.declared.optime.OpTime.{OpTime}
 use Rattle.rs_optime.specs.Later.{earlier_of}
