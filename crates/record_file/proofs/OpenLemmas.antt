@@ -6,16 +6,15 @@ use Rattle.std.proofs.lemmas.Bool.{cases_lt}
 use Rattle.rs_disk.specs.File.{File, IsImage, LeavesOnly, changed, write, cut, settled, contents}
 use Rattle.rs_disk.specs.Images.{read_is_image, length-overwritten}
 use Rattle.rs_disk.specs.Moments.{EachMoment}
-use Rattle.rs_disk.specs.State.{State, IsDone, IsCrashed}
+use Rattle.rs_disk.specs.State.{State, IsDone}
 use Rattle.rs_disk.specs.Steps.{Step, Makes, reads, changes, syncs}
 use Rattle.rs_disk.proofs.MomentLemmas.{EachLeaves, settled_leaves, synced_leaves}
-use Rattle.record_file.specs.Files.{IsAtRest, IsOneOf, IsRecordDisk, AreOpeningSteps, EndsBy, OpensBy, first_steps, repair_steps}
+use Rattle.record_file.specs.Files.{IsAtRest, IsOneOf, IsRecordDisk, AreOpeningSteps, StopsBy, EndsBy, OpensBy, first_steps, repair_steps}
 use Rattle.record_file.specs.Parsed.{IsParsed}
 use Rattle.record_file.specs.Records.{HasRecords}
 use Rattle.record_file.specs.declared.error.FileError.{FileError}
-use Rattle.record_file.specs.declared.error.FileError.TheVariants.{Disk}
 use Rattle.record_file.proofs.ListLemmas.{begins_with}
-use Rattle.record_file.proofs.StepLemmas.{ended_moments, ends_more, stops_ends}
+use Rattle.record_file.proofs.StepLemmas.{ended_moments, ends_more, stops_ends, stops_before}
 
 -- where the records of some bytes end
 pub has_end : (bytes : List ℕ) → ((records : List (List ℕ)) × HasRecords bytes records) → 1 < length bytes → (records : List (List ℕ)) × (end : ℕ) × IsParsed bytes records end
@@ -102,24 +101,27 @@ repaired old mid mid' new bytes records end same parsed synced read was_cut is =
 
 -- the calls of an opening, by what was done of them
 module _ {T : Type 0} (result : Result T FileError) (old : State) where
-  pub sync_fails : (new : State) → IsRecordDisk old → result ≡ Err Disk → IsCrashed old.file old new → OpensBy result old new
-  sync_fails new has is crashed = elim (cases_lt 1 (length (contents old.file))) [
+  pub stops_at_once : (error : FileError) (new : State) → IsRecordDisk old → result ≡ Err error → StopsBy error (syncs ∷ []) old new → OpensBy result old new
+  stops_at_once error new has is stops = elim (cases_lt 1 (length (contents old.file))) [
     | inl long ↦ let there = has_end (contents old.file) (has.leaves (contents old.file) (read_is_image old.file)) long in
-        (repair_steps there.1, inr (long, there.0, there.1, there.2, refl), stops_ends result Disk (repair_steps there.1) old new is (inl crashed))
-    | inr short ↦ (first_steps, inl (omega arith, refl), stops_ends result Disk first_steps old new is (inl crashed))
+        (repair_steps there.1, inr (long, there.0, there.1, there.2, refl), stops_ends result error (repair_steps there.1) old new is (stops_before error syncs _ old new stops))
+    | inr short ↦ (first_steps, inl (omega arith, refl), stops_ends result error first_steps old new is (stops_before error syncs _ old new stops))
   ]
 
-  module _ (mid new : State) (synced : IsDone old.file (settled (contents old.file)) old mid) where
+  module _ (mid new : State) (synced : Makes (syncs ∷ []) old mid) where
+    is_synced : IsDone old.file (settled (contents old.file)) old mid
+    is_synced = record { file = synced.file; past = synced.past }
+
     same : contents mid.file ≡ contents old.file
     same = ap (λ (f : File). contents f) synced.file
 
     pub begins : length (contents mid.file) ≤ 1 → EndsBy result (changes (write 0 (0 ∷ [])) ∷ syncs ∷ []) mid new → OpensBy result old new
-    begins short ends = (first_steps, inl (omega (arith, ap length same), refl), ends_more result syncs (changes (write 0 (0 ∷ [])) ∷ syncs ∷ []) old mid new synced ends)
+    begins short ends = (first_steps, inl (omega (arith, ap length same), refl), ends_more result syncs (changes (write 0 (0 ∷ [])) ∷ syncs ∷ []) old mid new is_synced ends)
 
     pub repairs : 1 < length (contents mid.file) → (records : List (List ℕ)) × (end : ℕ) × IsParsed (contents mid.file) records end × EndsBy result (reads ∷ changes (cut end) ∷ syncs ∷ []) mid new
         → OpensBy result old new
     repairs long (records, end, parsed, ends) = (
       repair_steps end,
       inr (omega (arith, ap length same), records, end, subst (λ (l : List ℕ). IsParsed l records end) same parsed, refl),
-      ends_more result syncs (reads ∷ changes (cut end) ∷ syncs ∷ []) old mid new synced ends,
+      ends_more result syncs (reads ∷ changes (cut end) ∷ syncs ∷ []) old mid new is_synced ends,
     )

@@ -1,8 +1,9 @@
 // An opening.
-ghost use Rattle.std.specs.Prelude.{IfOk, IsErrOf};
+ghost use Rattle.std.specs.Prelude.{◌≡◌, [], ◌∷◌, length, IfOk, IsErrOf};
 ghost use Rattle.rs_disk.specs.File.{contents};
 ghost use Rattle.rs_disk.specs.State.{Keeps};
-ghost use Rattle.record_file.specs.Files.{IsAtRest, IsRecordDisk, OpensBy};
+ghost use Rattle.rs_disk.specs.Steps.{syncs};
+ghost use Rattle.record_file.specs.Files.{EndsBy, IsAtRest, IsRecordDisk, OpensBy};
 ghost use Rattle.record_file.specs.Records.{HasRecords, lists};
 
 use crate::FileError;
@@ -18,11 +19,20 @@ pub(crate) fn prepare<D: Disk>(alloc: Global, disk: &mut D) -> Result<Vec<Vec<u8
     ensures calls { OpensBy result (D.state disk.old) (D.state disk.new) }
     ensures keeps { Keeps (IsErrOf result FileError.Disk) (D.state disk.old) (D.state disk.new) }
 {
-    // What is read from here on is what every crash leaves.
-    disk.sync()?;
-    if disk.len() <= 1 {
+    let len = settle(disk)?;
+    if len <= 1 {
         begin(disk)?;
         return Ok(Vec::new(alloc));
     }
     repair(alloc, disk)
+}
+
+// Syncs, so that what is read from here on is what every crash leaves, and says how long the file is.
+fn settle<D: Disk>(disk: &mut D) -> Result<u64, FileError>
+    ensures length { IfOk result (λ len. len ≡ length (contents (D.state disk.new).file)) }
+    ensures calls { EndsBy result (syncs ∷ []) (D.state disk.old) (D.state disk.new) }
+    ensures keeps { Keeps (IsErrOf result FileError.Disk) (D.state disk.old) (D.state disk.new) }
+{
+    disk.sync()?;
+    Ok(disk.len())
 }
