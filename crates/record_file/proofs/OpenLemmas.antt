@@ -99,6 +99,12 @@ repaired old mid mid' new bytes records end same parsed synced read was_cut is =
       ∙ ap (λ (l : List ℕ). settled (take end l)) (sym same) ∙ ap settled (cut_off bytes records end parsed);
 }
 
+-- a sync leaves a record disk
+pub synced_has : (old mid : State) → IsRecordDisk old → Makes (syncs ∷ []) old mid → IsRecordDisk mid
+synced_has old mid has made =
+    let Has : List ℕ → Type 0 = λ image. (records : List (List ℕ)) × HasRecords image records in
+    record { leaves = subst (LeavesOnly Has) (sym made.file) (synced_leaves Has old.file has.leaves) }
+
 -- the calls of an opening, by what was done of them
 module _ {T : Type 0} (result : Result T FileError) (old : State) where
   pub stops_at_once : (error : FileError) (new : State) → IsRecordDisk old → result ≡ Err error → StopsBy error (syncs ∷ []) old new → OpensBy result old new

@@ -1,15 +1,15 @@
 -- How far the calls of an opening came, by how each of them ends.
-use Rattle.std.proofs.Common.{◌≡◌, inl, inr, List, [], ◌∷◌, ◌++◌, ℕ, ◌-◌, refl, sym, ap, subst, ◌∙◌, append_assoc}
+use Rattle.std.proofs.Common.{◌≡◌, inl, inr, List, [], ◌∷◌, ◌++◌, ℕ, refl, sym, ap, subst, ◌∙◌, append_assoc}
 use Rattle.std.specs.Prelude.{Result, Ok, Err}
-use Rattle.rs_disk.specs.File.{File, LeavesOnly, write, changed, settled, contents}
+use Rattle.rs_disk.specs.File.{write}
 use Rattle.rs_disk.specs.Moments.{EachMoment}
-use Rattle.rs_disk.specs.State.{State, IsDone, IsCrashed, Writes, SameButRoom}
+use Rattle.rs_disk.specs.State.{State, IsDone, Writes, SameButRoom}
 use Rattle.rs_disk.specs.Steps.{Step, in_step, after_step, Makes, MakesFirst, Breaks, changes, reads}
 use Rattle.rs_disk.proofs.MomentLemmas.{EachLeaves, makes_more, made_moments, broken_moments, first_moments}
 use Rattle.rs_disk.specs.declared.disk.DiskError.{DiskError}
 use Rattle.rs_disk.specs.declared.disk.DiskError.TheVariants.{Failed, Memory as NoRoom}
 use Rattle.record_file.specs.Causes.{file_error}
-use Rattle.record_file.specs.Files.{StopsBy, EndsBy, append_steps}
+use Rattle.record_file.specs.Files.{StopsBy, EndsBy}
 use Rattle.record_file.specs.declared.error.FileError.{FileError}
 use Rattle.record_file.specs.declared.error.FileError.TheVariants.{Disk, Memory}
 
@@ -52,13 +52,3 @@ pub ended_moments : {T : Type 0} (P : List ℕ → Type 0) (result : Result T Fi
 ended_moments P (Ok value) steps old new leaves ends = made_moments P steps old new leaves ends
 ended_moments P (Err Disk) steps old new leaves ends = broken_moments P steps old new leaves ends
 ended_moments P (Err Memory) steps old new leaves ends = first_moments P steps old new leaves ends
-
--- the last sync of an append fails
-pub last_sync_fails : {T : Type 0} (at : ℕ) (tail : List ℕ) (result : Result T FileError) (old behind synced opened new : State) → result ≡ Err Disk
-    → IsDone (changed (write at tail) old.file) (changed (write at tail) old.file) old behind
-    → IsDone behind.file (settled (contents behind.file)) behind synced
-    → IsDone (changed (write (at - 1) (1 ∷ [])) synced.file) (changed (write (at - 1) (1 ∷ [])) synced.file) synced opened
-    → IsCrashed opened.file opened new
-    → EndsBy result (append_steps at tail) old new
-last_sync_fails at tail result old behind synced opened new is wrote kept opens crashed =
-    stops_ends result Disk (append_steps at tail) old new is (inr (behind, wrote, inr (synced, kept, inr (opened, opens, inl crashed))))

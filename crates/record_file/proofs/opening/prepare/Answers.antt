@@ -1,6 +1,6 @@
 use Rattle.std.proofs.Common.{◌≡◌, rules, arith}
 use Rattle.std.specs.Prelude.{Ok, Err}
-use Rattle.record_file.proofs.OpenLemmas.{stops_at_once, begins, repairs}
+use Rattle.record_file.proofs.OpenLemmas.{stops_at_once, synced_has, begins, repairs}
 use Rattle.record_file.proofs.StepLemmas.{stops_ends}
 use Rattle.record_file.proofs.opening.prepare.Goals as goal
 
@@ -19,3 +19,6 @@ returns-then-len-le1-clause-calls g c = begins {T = Unit {0}} (Ok tt) _ _ _ c.in
 
 pub returns-clause-calls : goal.returns-clause-calls
 returns-clause-calls g c = repairs _ _ _ _ c.in_ok-len.ensures.calls (omega (arith, c.in_ok-len.ensures.length)) c.repair.ensures.calls
+
+pub repair-requires-clause-has : goal.repair-requires-clause-has
+repair-requires-clause-has g c = synced_has _ _ c.requires c.in_ok-len.ensures.calls
