@@ -1,0 +1,13 @@
+//! What no clause says of the crates below: memory that suffices, values from outside, and one fault in mid-stream.
+#![tactic(auto)]
+
+#[cfg(test)]
+mod disks;
+#[cfg(test)]
+mod entries;
+#[cfg(test)]
+mod records;
+#[cfg(test)]
+mod slots;
+#[cfg(test)]
+mod streams;
