@@ -1,4 +1,5 @@
-ghost use Rattle.std.specs.Prelude.{◌≡◌, true, false, IfOk, OnErr};
+ghost use Rattle.std.specs.Prelude.{◌≡◌, true, false, All, IfOk, OnErr};
+ghost use Rattle.oplog_entry.specs.Lawful.{IsLawful};
 ghost use Rattle.repl_msg.specs.Fetching.{continues};
 
 use oplog_entry::Entry;
@@ -14,6 +15,7 @@ pub struct OtherPlace;
 /// The entries of an answer that goes on behind a log's last optime.
 pub fn accept(last: OpTime, reply: &FetchReply) -> Result<&[Entry], OtherPlace>
     ensures ok { IfOk result (λ entries. (continues last reply.now ≡ true) × (entries.now ≡ reply.now.entries)) }
+    ensures lawful { IfOk result (λ entries. All IsLawful entries.now) }
     ensures err { OnErr result (continues last reply.now ≡ false) }
 {
     if !reply.holds || reply.base != last {
