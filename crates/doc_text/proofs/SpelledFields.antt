@@ -5,11 +5,11 @@ use Rattle.std.specs.List.{prefix_len}
 use Rattle.std.proofs.lemmas.Bool.{cases_eq}
 use Rattle.bson_doc.specs.Tree.{Tree, null, boolean, Fields, found, with_field}
 use Rattle.doc_text.specs.Bytes.{is_name_byte}
-use Rattle.doc_text.specs.Class.{behind_spaces}
 use Rattle.doc_text.specs.Integers.{digits_at, integer_at, number_at}
+use Rattle.doc_text.specs.Marks.{begins_with}
 use Rattle.doc_text.specs.Names.{name_at}
 use Rattle.doc_text.specs.Scalars.{scalar_at}
-use Rattle.doc_text.specs.Values.{begins_with, field_at, value_at}
+use Rattle.doc_text.specs.Values.{key_at, field_at, value_at}
 use Rattle.doc_text.specs.Spelling.{SpellsField, Spells, GoesNoFurther}
 use Rattle.doc_text.proofs.SpelledMarks.{NoSpace, no_space, spaced_over, spaced_stops, goes_on, goes_no_further}
 use Rattle.doc_text.proofs.SpelledScalars.{constant_read}
@@ -77,8 +77,8 @@ pub field_no_space : (name : List ℕ) (P : List ℕ → Type 0) (one rest : Lis
 field_no_space name P one rest spelled = name_no_space (one ++ rest) (name, spelled.1 ++ (spelled.2 ++ rest)) (field_named name P one rest spelled)
 
 pub field_over : (most : ℕ) (so_far : Fields) (name : List ℕ) (value : Tree) (one rest : List ℕ) → found name so_far ≡ None → SpellsField name (Spells value) one → Reads most value → prefix_len goes_on rest ≡ 0
-    → field_at (value_at most) so_far (one ++ rest) ≡ Ok (with_field so_far name value, behind_spaces rest)
-unfolding field_at
+    → field_at (value_at most) so_far (one ++ rest) ≡ Ok (with_field so_far name value, rest)
+unfolding field_at key_at
 field_over most so_far name value one rest new spelled reads stop =
     let valued = reads spelled.2 rest spelled.5 (goes_no_further value rest stop) in
     let coloned = spaced_over 58 spelled.1 (spelled.2 ++ rest) refl spelled.4 (value_no_space most (spelled.2 ++ rest) (value, rest) valued) in

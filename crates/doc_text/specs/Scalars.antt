@@ -3,7 +3,7 @@ use Rattle.std.specs.Prelude.{ℕ, ◌+◌, ◌*◌, ◌^◌, true, false, List,
 use Rattle.bson_doc.specs.Tree.{Tree, null, text, binary, object_id, boolean, date, timestamp}
 use Rattle.doc_text.specs.declared.fault.Rule.TheVariants.{Unexpected}
 use Rattle.doc_text.specs.Fault.{Read, ◌>>=◌, fails}
-use Rattle.doc_text.specs.Marks.{mark_at, spaced_at, closing_at, word_at}
+use Rattle.doc_text.specs.Marks.{mark_at, spaced_at, closing_at, word_at, opened_at}
 use Rattle.doc_text.specs.Integers.{natural_at, long_at, number_at}
 use Rattle.doc_text.specs.Strings.{letters_at}
 use Rattle.doc_text.specs.HexText.{binary_hex_at, id_hex_at}
@@ -18,8 +18,7 @@ string_at bytes = do
 -- `Date(MS)`
 unfoldable pub date_at : List ℕ → Read Tree
 date_at bytes = do
-  name ← word_at (codes "Date") bytes
-  inside ← spaced_at 40 name
+  inside ← opened_at (codes "Date") bytes
   milliseconds ← long_at inside
   rest ← closing_at 41 milliseconds.1
   Ok (date milliseconds.0, rest)
@@ -27,8 +26,7 @@ date_at bytes = do
 -- `Bin(SUBTYPE, "HEX")`
 unfoldable pub binary_at : List ℕ → Read Tree
 binary_at bytes = do
-  name ← word_at (codes "Bin") bytes
-  inside ← spaced_at 40 name
+  inside ← opened_at (codes "Bin") bytes
   subtype ← natural_at 255 inside
   second ← spaced_at 44 subtype.1
   digits ← mark_at 34 second
@@ -39,8 +37,7 @@ binary_at bytes = do
 -- `Id("HEX")`
 unfoldable pub id_at : List ℕ → Read Tree
 id_at bytes = do
-  name ← word_at (codes "Id") bytes
-  inside ← spaced_at 40 name
+  inside ← opened_at (codes "Id") bytes
   digits ← mark_at 34 inside
   content ← id_hex_at digits
   rest ← closing_at 41 content.1
@@ -49,8 +46,7 @@ id_at bytes = do
 -- `Time(SECONDS, INCREMENT)`
 unfoldable pub time_at : List ℕ → Read Tree
 time_at bytes = do
-  name ← word_at (codes "Time") bytes
-  inside ← spaced_at 40 name
+  inside ← opened_at (codes "Time") bytes
   seconds ← natural_at 4294967295 inside
   second ← spaced_at 44 seconds.1
   increment ← natural_at 4294967295 second
