@@ -21,16 +21,23 @@ Reads most value = (s rest : List ℕ) → Spells value s → GoesNoFurther valu
 
 -- ---- the first byte of what is read
 
-scalar_no_bracket : (text : List ℕ) (x : Tree × List ℕ) → scalar_at text ≡ Ok x → (begins_with 123 text ≡ false) × (begins_with 91 text ≡ false)
+brace_is_no_scalar : (rest : List ℕ) (x : Tree × List ℕ) → scalar_at (123 ∷ rest) ≡ Ok x → ⊥
 unfolding scalar_at number_at integer_at digits_at
+brace_is_no_scalar rest x read = cc read
+
+bracket_is_no_scalar : (rest : List ℕ) (x : Tree × List ℕ) → scalar_at (91 ∷ rest) ≡ Ok x → ⊥
+unfolding scalar_at number_at integer_at digits_at
+bracket_is_no_scalar rest x read = cc read
+
+scalar_no_bracket : (text : List ℕ) (x : Tree × List ℕ) → scalar_at text ≡ Ok x → (begins_with 123 text ≡ false) × (begins_with 91 text ≡ false)
 scalar_no_bracket [] x read = (refl, refl)
 scalar_no_bracket (c ∷ rest) x read = (
   elim (cases_eq c 123) [
-    | inl brace ↦ absurd (cc (rw brace at read))
+    | inl brace ↦ absurd (brace_is_no_scalar rest x (rw brace at read))
     | inr other ↦ grind arith
   ],
   elim (cases_eq c 91) [
-    | inl bracket ↦ absurd (cc (rw bracket at read))
+    | inl bracket ↦ absurd (bracket_is_no_scalar rest x (rw bracket at read))
     | inr other ↦ grind arith
   ],
 )

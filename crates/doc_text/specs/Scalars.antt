@@ -23,13 +23,19 @@ date_at bytes = do
   rest ← closing_at 41 milliseconds.1
   Ok (date milliseconds.0, rest)
 
+-- a word and an opening parenthesis, a number of at most `most`, and a comma
+unfoldable pub first_at : List ℕ → ℕ → List ℕ → Read ℕ
+first_at word most bytes = do
+  inside ← opened_at word bytes
+  number ← natural_at most inside
+  rest ← spaced_at 44 number.1
+  Ok (number.0, rest)
+
 -- `Bin(SUBTYPE, "HEX")`
 unfoldable pub binary_at : List ℕ → Read Tree
 binary_at bytes = do
-  inside ← opened_at (codes "Bin") bytes
-  subtype ← natural_at 255 inside
-  second ← spaced_at 44 subtype.1
-  digits ← mark_at 34 second
+  subtype ← first_at (codes "Bin") 255 bytes
+  digits ← mark_at 34 subtype.1
   content ← binary_hex_at digits
   rest ← closing_at 41 content.1
   Ok (binary subtype.0 content.0, rest)
@@ -46,10 +52,8 @@ id_at bytes = do
 -- `Time(SECONDS, INCREMENT)`
 unfoldable pub time_at : List ℕ → Read Tree
 time_at bytes = do
-  inside ← opened_at (codes "Time") bytes
-  seconds ← natural_at 4294967295 inside
-  second ← spaced_at 44 seconds.1
-  increment ← natural_at 4294967295 second
+  seconds ← first_at (codes "Time") 4294967295 bytes
+  increment ← natural_at 4294967295 seconds.1
   rest ← closing_at 41 increment.1
   Ok (timestamp (seconds.0 * 2 ^ 32 + increment.0), rest)
 

@@ -1,9 +1,9 @@
 // Values that hold no others.
-ghost use Rattle.std.specs.Prelude.{◌≡◌, ◌<◌, IfOk, IsAscii, codes, length};
+ghost use Rattle.std.specs.Prelude.{◌≡◌, ◌<◌, ◌≤◌, IfOk, IsAscii, codes, length};
 ghost use Rattle.bson_doc.specs.Tree as tree;
 ghost use Rattle.bson_doc.specs.View.{tree_of};
 ghost use Rattle.doc_text.specs.Fault.{Gives};
-ghost use Rattle.doc_text.specs.Scalars.{date_at, binary_at, id_at, time_at, string_at, constant_at, scalar_at};
+ghost use Rattle.doc_text.specs.Scalars.{date_at, first_at, binary_at, id_at, time_at, string_at, constant_at, scalar_at};
 
 use crate::fault::{Fault, Read, ReadError, Rule};
 use crate::hex_text::{binary_hex, id_hex};
@@ -32,13 +32,26 @@ fn date(text: &str) -> Read<'_, Value>
     Ok((Value::Date(milliseconds), rest))
 }
 
+/// The first of two arguments behind a word, and the text of the second.
+#[tactic(auto, unfolding(crate::specs::Scalars::first_at))]
+fn first<'a>(text: &'a str, letters: &[u8], most: u32) -> Read<'a, u32>
+    requires { IsAscii letters.now }
+    ensures gives { Gives (λ x. (x.0, x.1.now)) result (first_at letters.now most text.now) }
+    ensures shorter { IfOk result (λ x. length x.1.now < length text.now) }
+    ensures within { IfOk result (λ x. x.0 ≤ most) }
+{
+    let (number, rest) = natural(opened(text, letters)?, most)?;
+    let rest = spaced(rest, b',')?;
+    Ok((number, rest))
+}
+
 #[tactic(auto, unfolding(crate::specs::Scalars::binary_at))]
 fn binary<'a>(alloc: Global, text: &'a str) -> Read<'a, Value>
     ensures gives { Gives (λ x. (tree_of x.0, x.1.now)) result (binary_at text.now) }
     ensures shorter { IfOk result (λ x. length x.1.now < length text.now) }
 {
-    let (subtype, rest) = natural(opened(text, b"Bin")?, 255)?;
-    let (bytes, rest) = binary_hex(alloc, mark(spaced(rest, b',')?, b'"')?)?;
+    let (subtype, rest) = first(text, b"Bin", 255)?;
+    let (bytes, rest) = binary_hex(alloc, mark(rest, b'"')?)?;
     let rest = closing(rest, b')')?;
     Ok((Value::Binary(subtype as u8, bytes), rest))
 }
@@ -58,8 +71,8 @@ fn time(text: &str) -> Read<'_, Value>
     ensures gives { Gives (λ x. (tree_of x.0, x.1.now)) result (time_at text.now) }
     ensures shorter { IfOk result (λ x. length x.1.now < length text.now) }
 {
-    let (seconds, rest) = natural(opened(text, b"Time")?, u32::MAX)?;
-    let (increment, rest) = natural(spaced(rest, b',')?, u32::MAX)?;
+    let (seconds, rest) = first(text, b"Time", u32::MAX)?;
+    let (increment, rest) = natural(rest, u32::MAX)?;
     let timestamp = u64::from(seconds) * (1 << 32) + u64::from(increment);
     let rest = closing(rest, b')')?;
     Ok((Value::Timestamp(timestamp), rest))
