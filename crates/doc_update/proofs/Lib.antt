@@ -1,4 +1,5 @@
 pub mod IdLemmas
+pub mod LoggedLemmas
 pub mod NameRules
 pub mod OrderLemmas
 pub mod SameLemmas
