@@ -1,5 +1,9 @@
+pub mod ApartLemmas
+pub mod ChangeLemmas
 pub mod IdLemmas
+pub mod LengthLemmas
 pub mod NameRules
 pub mod OrderLemmas
 pub mod SameLemmas
 pub mod SoundLemmas
+pub mod StoredLemmas
