@@ -3,7 +3,7 @@ use Rattle.std.proofs.Common.{◌≡◌, ◌≤◌, ◌+◌, ◌*◌, ◌∙◌,
 use Rattle.std.specs.Prelude.{⊤, cond}
 use Rattle.std.specs.Str.{bytes_eq}
 use Rattle.bson_doc.specs.Tree.{Tree, null, text, Fields, no_fields, field, Trees, no_items, item, found, with_set, without, IsDocument}
-use Rattle.bson_codec.specs.Length.{fields_length, fields_levels}
+use Rattle.bson_doc.specs.Length.{fields_length, fields_levels}
 use Rattle.oplog_entry.specs.Lawful.{is_among, BeginsWithId, AreUnsets}
 use Rattle.oplog_entry.specs.Step.{with_sets, strings_of, changed}
 use Rattle.oplog_entry.specs.Walk.{join}

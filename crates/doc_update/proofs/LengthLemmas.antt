@@ -3,7 +3,7 @@ use Rattle.std.proofs.Common.{◌≡◌, ◌≤◌, ◌+◌, ◌*◌, ◌∙◌,
 use Rattle.std.specs.Prelude.{⊤, cond}
 use Rattle.std.specs.Str.{bytes_eq}
 use Rattle.bson_doc.specs.Tree.{Tree, null, boolean, Fields, no_fields, field, Trees, found, without, IsDocument}
-use Rattle.bson_codec.specs.Length.{value_length, fields_length, value_levels, fields_levels}
+use Rattle.bson_doc.specs.Length.{value_length, fields_length, value_levels, fields_levels}
 use Rattle.oplog_entry.proofs.FieldLemmas.{alike_front, alike_swapped, same_name, same_itself, AllSet}
 
 some_is : (one two : Tree) → Some one ≡ Some two → one ≡ two

@@ -10,7 +10,7 @@ use Rattle.bson_doc.specs.View.{tree_of}
 use Rattle.bson_doc.specs.declared.doc.Value.{Value}
 use Rattle.bson_doc.specs.declared.key.IdKey.{IdKey}
 use Rattle.bson_doc.specs.declared.key.IdKey.TheVariants as keys
-use Rattle.bson_codec.specs.Length.{value_length, fields_length, value_levels, fields_levels, document_length, document_levels}
+use Rattle.bson_doc.specs.Length.{value_length, fields_length, value_levels, fields_levels, document_length, document_levels}
 use Rattle.oplog_entry.specs.Lawful.{BeginsWithId, IsLawfulOp, AreUnsets}
 use Rattle.oplog_entry.specs.Step.{id_key, place_in, place_of, changed, document_after}
 use Rattle.oplog_entry.specs.declared.entry.Op.{Op}

@@ -5,7 +5,7 @@ use Rattle.bson_doc.specs.Key.{key_of}
 use Rattle.bson_doc.specs.Place.{Place}
 use Rattle.bson_doc.specs.Tree.{Tree, text, Fields, no_fields, field, Trees, no_items, item}
 use Rattle.bson_doc.specs.View.{tree_of}
-use Rattle.bson_codec.specs.Length.{value_length, fields_length, value_levels, fields_levels, document_length, document_levels}
+use Rattle.bson_doc.specs.Length.{value_length, fields_length, value_levels, fields_levels, document_length, document_levels}
 use Rattle.entry_bytes.specs.Layout.{letter_of, collection_of, only_id, marks, part, changes, body_of, target_of, last_member, members, document_of}
 use Rattle.oplog_entry.specs.Step.{id_key, place_of}
 use Rattle.oplog_entry.specs.declared.entry.Entry.{Entry}
