@@ -49,7 +49,13 @@ fn other_bytes_are_refused(rt: HostRuntime) -> Result<(), Fail> {
     let alloc = rt.alloc();
     assert_eq!(rt; refusal(alloc, b"\x05\0\0"), Some(DecodeError::Short));
     assert_eq!(rt; refusal(alloc, b"\x04\0\0\0\0"), Some(DecodeError::Length));
-    assert_eq!(rt; refusal(alloc, b"\x10\0\0\0\x01a\0\0\0\0\0\0\0\0\0\0"), Some(DecodeError::Kind(1)));
-    assert_eq!(rt; refusal(alloc, b"\x05\0\0\0\0\0"), Some(DecodeError::Trailing));
+    assert_eq!(rt;
+        refusal(alloc, b"\x10\0\0\0\x01a\0\0\0\0\0\0\0\0\0\0"),
+        Some(DecodeError::Kind(1))
+    );
+    assert_eq!(rt;
+        refusal(alloc, b"\x05\0\0\0\0\0"),
+        Some(DecodeError::Trailing)
+    );
     Ok(())
 }
