@@ -1,6 +1,6 @@
 // Records on a disk in memory.
 ghost use Rattle.rs_disk.specs.Memory.{state_of};
-ghost use Rattle.record_file.specs.Files.{IsOpen, IsRecordDisk};
+ghost use Rattle.record_file.specs.Files.{IsRecordDisk};
 
 use record_file::{FileError, RecordFile};
 use rs_disk::{Disk, MemDisk};
