@@ -26,7 +26,10 @@ fn a_failed_take_ends_the_reading(rt: HostRuntime) -> Result<(), Fail> {
 fn a_reader_and_a_writer_are_a_source_and_a_sink(rt: HostRuntime) -> Result<(), Fail> {
     let alloc = rt.alloc();
     let mut source = StdSource::new(b"abc".as_slice());
-    assert_eq!(rt; read_all(alloc, &mut source, 3)?.as_slice(), b"abc".as_slice());
+    assert_eq!(rt;
+        read_all(alloc, &mut source, 3)?.as_slice(),
+        b"abc".as_slice()
+    );
     let mut sink = StdSink::new(Vec::new(alloc));
     sink.put(b"abc")?;
     Ok(())
