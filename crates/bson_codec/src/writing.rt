@@ -111,7 +111,7 @@ pub fn write(alloc: Global, document: &Doc, out: &mut Vec<u8>) -> Mem<()>
     ensures bytes { OnOk result (out.new.items ≡ out.old.items ++ document_bytes document.now) }
     ensures sound { OnOk result (IsSound document.now) }
 {
-    document.names_are_apart();
+    document.is_sound();
     let start = out.len();
     out.extend_from_slice(&[0; 4])?;
     for place in 0..document.len() {

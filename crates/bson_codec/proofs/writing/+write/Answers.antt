@@ -75,7 +75,7 @@ pub write-returns-clause-sound : goal.write-returns-clause-sound
 write-returns-clause-sound t c =
     let past : count c.args.document.now ≤ c.loop-place.place = omega arith in
     let sound = rw (fields_from-end c.args.document.now c.loop-place.place past) at c.loop-place.invariant.3 in
-    on_ok c.close.result _ (c.names_are_apart.ensures, sound tt)
+    on_ok c.close.result _ c.is_sound.ensures
 
 pub write_items-returns-clause-sound : goal.write_items-returns-clause-sound
 write_items-returns-clause-sound t c =
