@@ -1,6 +1,6 @@
 -- No command raises a node's numbers by more than one step.
 use Rattle.std.proofs.Common.{◌≡◌, ◌≤◌, inl, inr, ◌+◌, ◌*◌, ◌^◌, ℕ, max, Bool, true, false, List, Option, None, Some, Result, Ok, Err, if◌then◌else◌, refl, sym, subst, arith}
-use Rattle.std.specs.List.{filter}
+use Rattle.member_config.specs.Config.{in_term}
 use Rattle.std.specs.FinMap as maps
 use Rattle.bson_doc.specs.Key.{key_of}
 use Rattle.bson_doc.specs.Tree.{Tree, Fields}
@@ -14,25 +14,28 @@ use Rattle.doc_update.specs.declared.write.WriteOp.TheVariants as ops
 use Rattle.doc_update.specs.declared.write.Prepared.{Prepared}
 use Rattle.doc_update.specs.declared.write.Prepared.TheVariants.{Entry, NoMatch, Unchanged}
 use Rattle.set_model.specs.declared.command.Command.{Command}
-use Rattle.set_model.specs.declared.command.Command.TheVariants.{Campaign, Drain, Insert, Replace, Update, Delete, Begin, Commit, Abort, Read, Dump, Log, State, Clock}
+use Rattle.set_model.specs.declared.command.Command.TheVariants.{Campaign, Drain, Insert, Replace, Update, Delete, Begin, Commit, Abort, Ack, Read, Dump, Log, State, Rolled, DryRun, StepDown, Heartbeat, Report, Common, Fetch, Deliver, DeliverLatest, Apply, Flush, Checkpoint, Reconfig, Crash, Restart, DiskFail, Clock}
 use Rattle.set_model.specs.declared.reply.Refusal.{Refusal}
-use Rattle.set_model.specs.declared.reply.Refusal.TheVariants.{NodeDown}
-use Rattle.set_model.specs.declared.reply.Reply.TheVariants.{Primary as NowPrimary}
+use Rattle.set_model.specs.declared.command.ReadLevel.{ReadLevel}
+use Rattle.set_model.specs.declared.reply.Refusal.TheVariants.{NodeDown, NotPrimary}
 use Rattle.set_model.specs.declared.role.Role.{Role}
 use Rattle.set_model.specs.declared.role.Role.TheVariants.{Secondary, Candidate, Draining, Primary}
 use Rattle.set_model.specs.declared.writer.Writer.{Writer}
 use Rattle.set_model.specs.declared.writer.Writer.TheVariants.{Open, Done, Lost}
 use Rattle.set_model.specs.Admitted.{admitted}
 use Rattle.set_model.specs.Changes.{logged}
-use Rattle.set_model.specs.Elections.{campaign, drain, drained, is_electable}
+use Rattle.set_model.specs.Elections.{campaign, campaigned, candidate, candidate_refusal, drain, drained, primary_begun}
 use Rattle.set_model.specs.Node.{Node}
 use Rattle.set_model.specs.Outcome.{Outcome, replied, refused}
-use Rattle.set_model.specs.Points.{if_primary, latest, has_majority, voted_points, evaluated, local_documents, next_optime}
-use Rattle.set_model.specs.Reads.{read}
-use Rattle.set_model.specs.Rows.{row, if_up}
+use Rattle.set_model.specs.Points.{if_primary}
+use Rattle.set_model.specs.Reads.{read, read_key}
+use Rattle.set_model.specs.Roles.{is_draining}
+use Rattle.set_model.specs.Stores.{Plan, finished, then_stored, unless_refused, vote_record, config_record, if_up}
+use Rattle.set_model.specs.Votes.{is_elected}
 use Rattle.set_model.specs.Write.{write, written}
 use Rattle.set_model.specs.Writers.{begin, begun, unless_open, commit, abort, with_open}
-use Rattle.node_core.specs.Grown.{IsGrown, IsTimed}
+use Rattle.node_core.specs.Alone.{unfailed, outcome_of, is_built}
+use Rattle.node_core.specs.Grown.{IsGrown}
 
 -- the numbers of a node after another, whose clock it has
 record IsNext (old new : Node) : Type 0 where
@@ -89,88 +92,70 @@ next_commit node writer = next_with_open node (maps.get node.writers writer) _ (
 next_abort : (node : Node) (writer : ℕ) → IsNext node (abort node writer).node
 next_abort node writer = next_with_open node (maps.get node.writers writer) _ (λ at op. record { term = omega arith; seen = omega arith; clock = refl })
 
-next_campaign : (node : Node) → IsNext node (campaign node).node
-next_campaign node = by_electable (is_electable node) refl
+next_campaign : (node : Node) → IsNext node (unfailed (campaign 0 node)).node
+next_campaign node = by_refusal (candidate_refusal node)
   where
-    by_role : (role : Role) → node.role ≡ role → is_electable node ≡ true → IsNext node (campaign node).node
-    by_role Secondary is able = rw (able, is) (record { term = omega arith; seen = omega arith; clock = refl })
-    by_role Candidate is able = rw (able, is) (record { term = omega arith; seen = omega arith; clock = refl })
-    by_role Draining is able = rw (able, is) (next_same _)
-    by_role Primary is able = rw (able, is) (next_same _)
+    by_win : (b : Bool) (one two : Outcome) → IsNext node one.node → IsNext node two.node → IsNext node (if b then one else two).node
+    by_win true one two a b = a
+    by_win false one two a b = b
 
-    by_electable : (able : Bool) → is_electable node ≡ able → IsNext node (campaign node).node
-    by_electable true able = by_role node.role refl able
-    by_electable false able = rw able (next_same _)
+    by_refusal : (why : Option Refusal) → IsNext node (unfailed (unless_refused why node (then_stored node (vote_record (node.term + 1) (Some node.number)) (λ n. finished (campaigned 0 (candidate n)))))).node
+    by_refusal (Some why) = next_same node
+    by_refusal None = by_win (is_elected (candidate node)) _ _ (record { term = omega arith; seen = omega arith; clock = refl }) (record { term = omega arith; seen = omega arith; clock = refl })
 
-next_evaluated : (old new : Node) → IsNext old new → IsNext old (evaluated new)
-next_evaluated old new next = by_point (latest (filter (has_majority new) (voted_points new))) refl
+next_drain : (node : Node) → IsNext node (unfailed (drain node)).node
+next_drain node = elim (is_draining node.role) as (λ b. IsNext node (unfailed (if b then then_stored node (config_record (in_term node.config node.term)) (λ n. finished (primary_begun (drained n))) else finished (refused NotPrimary node))).node) [
+  | true ↦ record { term = omega arith; seen = omega arith; clock = refl }
+  | false ↦ next_same node
+]
+
+next_read : (node : Node) (level : ReadLevel) (collection : List ℕ) (id : Tree) → IsNext node (read node level collection id).node
+next_read node level collection id = by_key (key_of id)
   where
-    by_point : (point : Option OpTime) → latest (filter (has_majority new) (voted_points new)) ≡ point → IsNext old (evaluated new)
-    by_point None is = rw is next
-    by_point (Some o) is = rw is (record { term = next.term; seen = next.seen; clock = next.clock })
+    by_key : (key : Option IdKey) → IsNext node (read_key node level collection key).node
+    by_key None = next_same node
+    by_key (Some key) = next_same node
 
-drain-draining : (node : Node) → node.role ≡ Draining → drain node ≡ replied (NowPrimary node.term (next_optime node)) (evaluated (logged (drained node) Noop))
-drain-draining node is = rw is refl
+next_up : (node : Node) (plan : Plan) → IsNext node (unfailed plan).node → IsNext node (unfailed (if_up node plan)).node
+next_up node plan next = elim node.up as (λ up. IsNext node (unfailed (if up then plan else finished (refused NodeDown node))).node) [ true ↦ next | false ↦ next_same node ]
 
-next_drain : (node : Node) → IsNext node (drain node).node
-next_drain node = by_role node.role refl
-  where
-    by_role : (role : Role) → node.role ≡ role → IsNext node (drain node).node
-    by_role Draining is =
-        subst (λ (o : Outcome). IsNext node o.node) (sym (drain-draining node is))
-        (next_evaluated node (logged (drained node) Noop) (record { term = omega arith; seen = omega arith; clock = refl }))
-    by_role Secondary is = rw is (next_same _)
-    by_role Candidate is = rw is (next_same _)
-    by_role Primary is = rw is (next_same _)
-
-next_read : (node : Node) (collection : List ℕ) (id : Tree) → IsNext node (read node collection id).node
-next_read node collection id = by_key (key_of id) refl
-  where
-    by_document : (key : IdKey) (document : Option Fields) → key_of id ≡ Some key → maps.get (local_documents node) (collection, key) ≡ document → IsNext node (read node collection id).node
-    by_document key None is stands = rw (is, stands) (next_same node)
-    by_document key (Some document) is stands = rw (is, stands) (next_same node)
-
-    by_key : (key : Option IdKey) → key_of id ≡ key → IsNext node (read node collection id).node
-    by_key None is = rw is (next_same node)
-    by_key (Some key) is = by_document key (maps.get (local_documents node) (collection, key)) is refl
-
-next_up : (node : Node) (outcome : Outcome) → IsNext node outcome.node → IsNext node (if_up node outcome).node
-next_up node outcome next = elim node.up as (λ up. IsNext node (if up then outcome else refused NodeDown node).node) [ true ↦ next | false ↦ next_same node ]
+grown : (old new : Node) (command : Command) → IsNext old new → IsGrown old new command
+grown old new command next = record { term = next.term; seen = next.seen; clock = inl next.clock }
 
 -- what a command comes to has grown by a step at most
-pub row-grown : (node : Node) (command : Command) → IsGrown node (row node command).node command
-row-grown node (Campaign number) = let next = next_up node _ (next_campaign node) in record { term = next.term; seen = next.seen; clock = next.clock }
-row-grown node (Drain number) = let next = next_up node _ (next_drain node) in record { term = next.term; seen = next.seen; clock = next.clock }
-row-grown node (Insert number collection document) = let next = next_up node _ (next_write node (ops.Insert collection document)) in record { term = next.term; seen = next.seen; clock = next.clock }
-row-grown node (Replace number collection id document) = let next = next_up node _ (next_write node (ops.Replace collection id document)) in record { term = next.term; seen = next.seen; clock = next.clock }
-row-grown node (Update number collection id operators) = let next = next_up node _ (next_write node (ops.Update collection id operators)) in record { term = next.term; seen = next.seen; clock = next.clock }
-row-grown node (Delete number collection id) = let next = next_up node _ (next_write node (ops.Delete collection id)) in record { term = next.term; seen = next.seen; clock = next.clock }
-row-grown node (Begin number writer op) = let next = next_up node _ (next_begin node writer op) in record { term = next.term; seen = next.seen; clock = next.clock }
-row-grown node (Commit number writer) = let next = next_up node _ (next_commit node writer) in record { term = next.term; seen = next.seen; clock = next.clock }
-row-grown node (Abort number writer) = let next = next_up node _ (next_abort node writer) in record { term = next.term; seen = next.seen; clock = next.clock }
-row-grown node (Read number level collection id) = let next = next_up node _ (next_read node collection (tree_of id)) in record { term = next.term; seen = next.seen; clock = next.clock }
-row-grown node (Dump number level) = let next = next_up node _ (next_same node) in record { term = next.term; seen = next.seen; clock = next.clock }
-row-grown node (Log number) = let next = next_up node _ (next_same node) in record { term = next.term; seen = next.seen; clock = next.clock }
-row-grown node (State number) = let next = next_up node _ (next_same node) in record { term = next.term; seen = next.seen; clock = next.clock }
-row-grown node (Clock number seconds) = record { term = omega arith; seen = omega arith; clock = inr refl }
-
--- a clock that stays
-timed_same : (clock : ℕ) (command : Command) → IsTimed clock clock command
-timed_same clock (Campaign n) = refl
-timed_same clock (Drain n) = refl
-timed_same clock (Insert n c d) = refl
-timed_same clock (Replace n c i d) = refl
-timed_same clock (Update n c i o) = refl
-timed_same clock (Delete n c i) = refl
-timed_same clock (Begin n w o) = refl
-timed_same clock (Commit n w) = refl
-timed_same clock (Abort n w) = refl
-timed_same clock (Read n l c i) = refl
-timed_same clock (Dump n l) = refl
-timed_same clock (Log n) = refl
-timed_same clock (State n) = refl
-timed_same clock (Clock n s) = inl refl
+pub outcome-grown : (node : Node) (command : Command) → is_built command ≡ true → IsGrown node (outcome_of node command).node command
+outcome-grown node (Campaign number) built = grown node _ _ (next_up node _ (next_campaign node))
+outcome-grown node (Drain number) built = grown node _ _ (next_up node _ (next_drain node))
+outcome-grown node (Insert number collection document) built = grown node _ _ (next_up node (finished _) (next_write node (ops.Insert collection document)))
+outcome-grown node (Replace number collection id document) built = grown node _ _ (next_up node (finished _) (next_write node (ops.Replace collection id document)))
+outcome-grown node (Update number collection id operators) built = grown node _ _ (next_up node (finished _) (next_write node (ops.Update collection id operators)))
+outcome-grown node (Delete number collection id) built = grown node _ _ (next_up node (finished _) (next_write node (ops.Delete collection id)))
+outcome-grown node (Begin number writer op) built = grown node _ _ (next_up node (finished _) (next_begin node writer op))
+outcome-grown node (Commit number writer) built = grown node _ _ (next_up node (finished _) (next_commit node writer))
+outcome-grown node (Abort number writer) built = grown node _ _ (next_up node (finished _) (next_abort node writer))
+outcome-grown node (Read number level collection id) built = grown node _ _ (next_up node (finished _) (next_read node level collection (tree_of id)))
+outcome-grown node (Dump number level) built = grown node _ _ (next_up node (finished _) (next_same node))
+outcome-grown node (Log number) built = grown node _ _ (next_up node (finished _) (next_same node))
+outcome-grown node (State number) built = grown node _ _ (next_up node (finished _) (next_same node))
+outcome-grown node (Clock number seconds) built = record { term = omega arith; seen = omega arith; clock = inr refl }
+outcome-grown node (Ack number target concern) built = cc built
+outcome-grown node (Rolled number) built = cc built
+outcome-grown node (DryRun number) built = cc built
+outcome-grown node (StepDown number) built = cc built
+outcome-grown node (Heartbeat number to) built = cc built
+outcome-grown node (Report number to) built = cc built
+outcome-grown node (Common number to) built = cc built
+outcome-grown node (Fetch number) built = cc built
+outcome-grown node (Deliver message) built = cc built
+outcome-grown node (DeliverLatest from to) built = cc built
+outcome-grown node (Apply number workers) built = cc built
+outcome-grown node (Flush number) built = cc built
+outcome-grown node (Checkpoint number) built = cc built
+outcome-grown node (Reconfig number config) built = cc built
+outcome-grown node (Crash number pick) built = cc built
+outcome-grown node (Restart number) built = cc built
+outcome-grown node (DiskFail number disk call pick) built = cc built
 
 -- and so has a node that stayed as it was
 pub same-grown : (node : Node) (command : Command) → IsGrown node node command
-same-grown node command = record { term = omega arith; seen = omega arith; clock = timed_same node.clock command }
+same-grown node command = grown node node command (next_same node)

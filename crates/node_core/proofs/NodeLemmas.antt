@@ -1,5 +1,6 @@
 -- What a node's rows come to.
-use Rattle.std.proofs.Common.{◌≡◌, ◌⊎◌, inl, inr, ◌≤◌, ◌<◌, ◌+◌, ◌∙◌, ℕ, zero, true, false, if◌then◌else◌, List, [], ◌∷◌, length, All, Option, None, Some, Result, Ok, Err, refl, sym, ap, arith}
+use Rattle.std.proofs.Common.{◌≡◌, ◌⊎◌, inl, inr, ◌≤◌, ◌<◌, ◌+◌, ◌∙◌, ℕ, zero, suc, true, false, if◌then◌else◌, List, [], ◌∷◌, length, All, Option, None, Some, Result, Ok, Err, refl, sym, ap, arith}
+use Rattle.std.proofs.lemmas.Bool.Decides.{nat_tests}
 use Rattle.std.specs.Ordering.{nat_cmp}
 use Rattle.std.specs.FinMap.{FinMap, get, get-empty, entries, empty, len-empty, len-entries}
 use Rattle.bson_doc.specs.Place.{Place}
@@ -24,15 +25,17 @@ use Rattle.set_model.specs.declared.role.Role.TheVariants.{Secondary, Candidate,
 use Rattle.set_model.specs.declared.writer.Writer.{Writer}
 use Rattle.set_model.specs.declared.writer.Writer.TheVariants.{Open, Done, Lost}
 use Rattle.set_model.specs.Admitted.{admitted, or_refused}
-use Rattle.set_model.specs.Elections.{campaign, is_electable}
+use Rattle.member_config.specs.Voters.{is_electable_in}
+use Rattle.set_model.specs.Elections.{campaign}
 use Rattle.set_model.specs.Holds.{holder}
 use Rattle.set_model.specs.Node.{Node}
 use Rattle.set_model.specs.Outcome.{Outcome, replied, refused}
-use Rattle.set_model.specs.Rows.{if_up}
+use Rattle.set_model.specs.Stores.{Plan, finished, if_up}
 use Rattle.set_model.specs.Writers.{unless_open}
 use Rattle.node_core.specs.Admits.{IsRefusal}
+use Rattle.node_core.specs.Alone.{unfailed}
 use Rattle.node_core.specs.Ledger.{Ledger, IsIdle, IsWriting, is_open, raised}
-use Rattle.node_core.specs.Seen.{seen_node, IsInRole}
+use Rattle.node_core.specs.Seen.{seen_node, config_in, IsInRole}
 
 -- ---- admission
 
@@ -80,7 +83,7 @@ no_writer writers writer none writing =
 -- only a primary has an open writer, and it stays one in its term
 pub still_in_role : (role : Role) (old new : Ledger) (writer : ℕ) → IsInRole role old → IsWriting old.writers writer → new.term ≡ old.term → IsInRole role new
 still_in_role Secondary old new writer in_role writing term = absurd (no_writer old.writers writer in_role.writers writing)
-still_in_role Candidate old new writer in_role writing term = absurd (no_writer old.writers writer in_role.1.writers writing)
+still_in_role Candidate old new writer in_role writing term = absurd in_role
 still_in_role Draining old new writer in_role writing term = absurd (no_writer old.writers writer in_role.1.writers writing)
 still_in_role Primary old new writer in_role writing term = omega arith
 
@@ -105,23 +108,28 @@ entries-empty = no_entries_of (entries (empty {X = Writer} {R = nat_cmp})) (sym 
 -- a node that may campaign is idle
 pub idle_before : (role : Role) (ledger : Ledger) → (role ≡ Secondary) ⊎ (role ≡ Candidate) → IsInRole role ledger → IsIdle ledger
 idle_before Secondary ledger is in_role = in_role
-idle_before Candidate ledger is in_role = in_role.1
+idle_before Candidate ledger is in_role = absurd in_role
 idle_before Draining ledger is in_role = in_role.1
 idle_before Primary ledger (inl is) in_role = cc
 idle_before Primary ledger (inr is) in_role = cc
 
--- and has won
-pub campaign-won : (number : ℕ) (vote : Option ℕ) (role : Role) (ledger : Ledger) (clock config_term : ℕ) → IsIdle ledger → is_electable (seen_node number vote role ledger clock config_term) ≡ true
-    → (role ≡ Secondary) ⊎ (role ≡ Candidate) → campaign (seen_node number vote role ledger clock config_term) ≡ replied (Won (ledger.term + 1)) (seen_node number (Some number) Draining (raised ledger) clock config_term)
-campaign-won number vote Secondary ledger clock config_term idle electable is = rw (electable, idle.slots, idle.writers, entries-empty) refl
-campaign-won number vote Candidate ledger clock config_term idle electable is = rw (electable, idle.slots, idle.writers, entries-empty) refl
-campaign-won number vote Draining ledger clock config_term idle electable (inl is) = cc
-campaign-won number vote Draining ledger clock config_term idle electable (inr is) = cc
-campaign-won number vote Primary ledger clock config_term idle electable (inl is) = cc
-campaign-won number vote Primary ledger clock config_term idle electable (inr is) = cc
+-- in a set of one node only the first may
+only_first : (config_term number : ℕ) → is_electable_in (config_in config_term) number ≡ true → number ≡ 0
+only_first config_term number electable = grind (arith, nat_tests)
+
+-- and has won, by its own vote
+pub campaign-won : (number : ℕ) (vote : Option ℕ) (role : Role) (ledger : Ledger) (clock config_term : ℕ) → IsInRole role ledger → IsIdle ledger → is_electable_in (config_in config_term) number ≡ true
+    → (role ≡ Secondary) ⊎ (role ≡ Candidate) → unfailed (campaign 0 (seen_node number vote role ledger clock config_term)) ≡ replied (Won (ledger.term + 1)) (seen_node number (Some number) Draining (raised ledger) clock config_term)
+campaign-won (suc number) vote role ledger clock config_term in_role idle electable is = absurd (omega (arith, only_first config_term (suc number) electable))
+campaign-won zero vote Secondary ledger clock config_term in_role idle electable is = rw (idle.slots, idle.writers, entries-empty) refl
+campaign-won zero vote Candidate ledger clock config_term in_role idle electable is = absurd in_role
+campaign-won zero vote Draining ledger clock config_term in_role idle electable (inl is) = cc
+campaign-won zero vote Draining ledger clock config_term in_role idle electable (inr is) = cc
+campaign-won zero vote Primary ledger clock config_term in_role idle electable (inl is) = cc
+campaign-won zero vote Primary ledger clock config_term in_role idle electable (inr is) = cc
 
 -- ---- rows
 
 -- what a command comes to on a node that is up
-pub while_up : (node : Node) (outcome : Outcome) → node.up ≡ true → if_up node outcome ≡ outcome
-while_up node outcome up = ap (λ b. if b then outcome else refused NodeDown node) up
+pub while_up : (node : Node) (plan : Plan) → node.up ≡ true → if_up node plan ≡ plan
+while_up node plan up = ap (λ b. if b then plan else finished (refused NodeDown node)) up

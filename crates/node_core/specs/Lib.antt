@@ -1,4 +1,5 @@
 pub mod Admits
+pub mod Alone
 pub mod Code
 pub mod Grown
 pub mod Kept

@@ -7,8 +7,6 @@ mod ledger;
 mod listing;
 mod node;
 mod reading;
-#[cfg(test)]
-mod tests;
 mod writer_map;
 mod writers;
 mod writing;

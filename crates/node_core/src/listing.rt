@@ -1,4 +1,4 @@
-// Copies of documents and of entries, which a reply shows.
+// Copies of documents, which a reply shows.
 ghost use Rattle.std.specs.Prelude.{◌≡◌, IfOk};
 ghost use Rattle.std.specs.FinMap.{get};
 ghost use Rattle.bson_doc.specs.Place.{Place};
@@ -8,22 +8,10 @@ ghost use Rattle.set_model.specs.Reads.{listed};
 ghost use Rattle.node_core.specs.Listing.{found_at};
 
 use bson_doc::{Doc, IdKey, Mem, Text};
-use oplog_entry::Entry;
 use rs_optime::OpTime;
 use set_model::DocumentList;
 use std::alloc::Global;
 use version_store::VersionStore;
-
-/// Copies of entries.
-pub(crate) fn copied(alloc: Global, entries: &[Entry]) -> Mem<Vec<Entry>>
-    ensures { IfOk result (λ copies. copies.items ≡ entries.now) }
-{
-    let mut copies = Vec::with_capacity(alloc, entries.len())?;
-    for entry in entries {
-        copies.push(entry.copy()?)?;
-    }
-    Ok(copies)
-}
 
 /// The documents as of an optime, each with its collection, in order of collection and key.
 pub(crate) fn listed(alloc: Global, store: &VersionStore, at: OpTime) -> Mem<DocumentList>

@@ -6,16 +6,17 @@ ghost use Rattle.oplog_entry.specs.Docs.{docs};
 ghost use Rattle.oplog_entry.specs.Visible.{log_up_to};
 ghost use Rattle.version_store.specs.Past.{latest_of};
 ghost use Rattle.version_store.specs.Store.{versions_at, shown_at};
+ghost use Rattle.member_config.specs.Config.{first_config};
 ghost use Rattle.set_model.specs.Clock.{set_clock};
 ghost use Rattle.set_model.specs.Node.{opening_node};
 ghost use Rattle.set_model.specs.Outcome.{replied};
-ghost use Rattle.set_model.specs.Rows.{row};
+ghost use Rattle.node_core.specs.Alone.{is_built, outcome_of};
 ghost use Rattle.node_core.specs.Grown.{IsGrown};
 
 use crate::ledger::Ledger;
 use bson_doc::Mem;
 use doc_update::WriteOp;
-use set_model::{Command, Reply, Role};
+use set_model::{Command, ReadLevel, Reply, Role};
 use std::alloc::Global;
 use std::marker::Model;
 use version_store::VersionStore;
@@ -39,11 +40,15 @@ impl Model for Node {
     ghost use Rattle.rs_optime.specs.Order.{optime_code};
     ghost use Rattle.oplog_entry.specs.contracts.entry.Entry as entry;
     ghost use Rattle.node_core.specs.Code.{writers_code};
-    ghost use Rattle.node_core.specs.NodeCode.{slots_code, progress_code, known_code};
+    ghost use Rattle.bson_doc.specs.contracts.key.IdKey as key;
+    ghost use Rattle.member_config.specs.contracts.config.Config as config;
+    ghost use Rattle.repl_msg.specs.contracts.record.Record as record_kept;
+    ghost use Rattle.set_model.specs.contracts.store.Store as store;
+    ghost use Rattle.node_core.specs.NodeCode.{slots_code, progress_code, known_code, tally_code};
 
     ghost Value = { Seen };
 
-    ghost coded = { Prim.hlevel (codes, fields_code, optime_code, entry.the_row.coded, writers_code, slots_code, progress_code, known_code) };
+    ghost coded = { Prim.hlevel (codes, fields_code, optime_code, key.the_row.coded, entry.the_row.coded, config.the_row.coded, record_kept.the_row.coded, store.the_row.coded, writers_code, slots_code, progress_code, known_code, tally_code) };
 
     ghost use Rattle.node_core.specs.Seen.{seen_node, IsInRole};
 
@@ -61,7 +66,7 @@ pub struct Done {
 impl Node {
     /// A node as the set begins.
     pub fn open(alloc: Global, number: u32) -> Mem<Node>
-        ensures { IfOk result (λ node. node ≡ opening_node 1 number) }
+        ensures { IfOk result (λ node. node ≡ opening_node (first_config 1) number) }
     {
         Ok(Node {
             alloc,
@@ -78,7 +83,8 @@ impl Node {
     pub fn act(&mut self, command: &Command) -> Mem<Done>
         requires room { self.old.seen < 2 ^ 64 - 1 }
         requires terms { self.old.term < 2 ^ 63 - 1 }
-        ensures ok { IfOk result (λ done. row self.old command.now ≡ replied done.reply self.new) }
+        requires built { is_built command.now ≡ true }
+        ensures ok { IfOk result (λ done. outcome_of self.old command.now ≡ replied done.reply self.new) }
         ensures err { OnErr result (self.new ≡ self.old) }
         ensures grown { IsGrown self.old self.new command.now }
     {
@@ -105,7 +111,8 @@ impl Node {
     fn reply_to(&mut self, command: &Command) -> Mem<Reply>
         requires room { self.old.seen < 2 ^ 64 - 1 }
         requires terms { self.old.term < 2 ^ 63 - 1 }
-        ensures ok { IfOk result (λ reply. row self.old command.now ≡ replied reply self.new) }
+        requires built { is_built command.now ≡ true }
+        ensures ok { IfOk result (λ reply. outcome_of self.old command.now ≡ replied reply self.new) }
         ensures err { OnErr result (self.new ≡ self.old) }
     {
         self.stays_up();
@@ -115,8 +122,16 @@ impl Node {
             Command::Begin { writer, op, .. } => self.begin(*writer, op),
             Command::Commit { writer, .. } => self.commit(*writer),
             Command::Abort { writer, .. } => self.abort(*writer),
-            Command::Read { collection, id, .. } => self.read(collection, id),
-            Command::Dump { .. } => self.dump(),
+            Command::Read {
+                level: ReadLevel::Local,
+                collection,
+                id,
+                ..
+            } => self.read(collection, id),
+            Command::Dump {
+                level: ReadLevel::Local,
+                ..
+            } => self.dump(),
             Command::Log { .. } => self.show_log(),
             Command::State { .. } => Ok(self.state()),
             Command::Clock { seconds, .. } => Ok(self.set_clock(*seconds)),
@@ -152,6 +167,7 @@ impl Node {
                 ns: collection.copy()?,
                 id: id.copy()?,
             }),
+            _ => unreachable!(),
         }
     }
 

@@ -6,14 +6,14 @@ ghost use Rattle.bson_doc.specs.View.{tree_of};
 ghost use Rattle.oplog_entry.specs.Docs.{docs};
 ghost use Rattle.oplog_entry.specs.Visible.{log_up_to};
 ghost use Rattle.set_model.specs.Outcome.{replied};
-ghost use Rattle.set_model.specs.Points.{applied_point, local_documents};
-ghost use Rattle.set_model.specs.Reads.{read, dump, listed, show_log, show_state};
+ghost use Rattle.set_model.specs.Points.{applied_point};
+ghost use Rattle.set_model.specs.Reads.{local_documents, read, dump, listed, show_log, show_state};
 
 use crate::Node;
-use crate::listing::{copied, listed};
+use crate::listing::listed;
 use bson_doc::{Doc, IdKey, KeyError, Mem, Text, Value};
 use rs_optime::OpTime;
-use set_model::{EntryList, Refusal, Reply, Role};
+use set_model::{EntryList, ReadLevel, Refusal, Reply, Role};
 use std::alloc::AllocError;
 
 impl Node {
@@ -28,9 +28,9 @@ impl Node {
         }
     }
 
-    /// The document of a key.
+    /// The document of a key, at `local`.
     pub(crate) fn read(&self, collection: &Text, id: &Value) -> Mem<Reply>
-        ensures { IfOk result (λ reply. read self.now collection.now (tree_of id.now) ≡ replied reply self.now) }
+        ensures { IfOk result (λ reply. read self.now ReadLevel.Local collection.now (tree_of id.now) ≡ replied reply self.now) }
     {
         let key = match IdKey::of(id) {
             Ok(key) => key,
@@ -49,9 +49,9 @@ impl Node {
         self.ledger.store().read_at(ns, id, self.shown_point())
     }
 
-    /// All documents.
+    /// All documents, at `local`.
     pub(crate) fn dump(&self) -> Mem<Reply>
-        ensures { IfOk result (λ reply. dump self.now ≡ replied reply self.now) }
+        ensures { IfOk result (λ reply. dump self.now ReadLevel.Local ≡ replied reply self.now) }
     {
         Ok(Reply::Documents(listed(self.alloc, self.ledger.store(), self.shown_point())?))
     }
@@ -60,7 +60,7 @@ impl Node {
     pub(crate) fn show_log(&self) -> Mem<Reply>
         ensures { IfOk result (λ reply. show_log self.now ≡ replied reply self.now) }
     {
-        Ok(Reply::Entries(EntryList::new(copied(self.alloc, self.ledger.entries())?)))
+        Ok(Reply::Entries(EntryList::of_slice(self.alloc, self.ledger.entries())?))
     }
 
     /// Role, term, vote, points and configuration.

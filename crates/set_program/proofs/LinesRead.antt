@@ -6,13 +6,13 @@ use Rattle.std.specs.Str.{bytes_eq}
 use Rattle.std.proofs.lemmas.List.{length-append, append-nil}
 use Rattle.std.proofs.lemmas.List.Elements.{All-push}
 use Rattle.set_model.specs.declared.command.Command.{Command}
-use Rattle.set_model.specs.Limits.{is_for}
+use Rattle.set_program.specs.Script.{is_taken}
 use Rattle.set_program.specs.declared.lines.LinesError.{LinesError}
 use Rattle.set_program.specs.declared.lines.LinesError.TheVariants.{Fault, Memory}
 use Rattle.set_program.specs.declared.rule.ScriptRule.{ScriptRule}
 use Rattle.set_program.specs.declared.rule.ScriptRule.TheVariants.{NoSetLine, UnknownCommand}
 use Rattle.set_program.specs.Commands.{command_of}
-use Rattle.set_program.specs.Script.{in_front, pieces, Commands, faulty, one_more, commands_from, behind_set, script, one_node, Stops}
+use Rattle.set_program.specs.Script.{in_front, pieces, Commands, faulty, one_more, commands_from, behind_set, script, Stops}
 
 -- a text has a first piece
 abbrev HasPiece : List (List ℕ) → Type 0
@@ -82,7 +82,7 @@ joined lines (Err fault) = Err fault
 -- so many lines are read, and these commands
 pub record ReadSoFar (bytes rest : List ℕ) (number : ℕ) (lines : List (ℕ × Command)) : Type 0 where
   pub whole : joined lines (commands_from (number + 1) (pieces 10 rest)) ≡ script bytes
-  pub within : All (λ (l : ℕ × Command). is_for one_node l.1 ≡ true) lines
+  pub within : All (λ (l : ℕ × Command). is_taken l.1 ≡ true) lines
   pub few : length lines + 1 ≡ number
   pub shorter : number + length rest ≤ length bytes
 
@@ -103,11 +103,11 @@ read_none bytes rest is shorter = record {
 }
 
 pub read_more : (bytes rest behind : List ℕ) (number : ℕ) (lines : List (ℕ × Command)) (command : Command) → ReadSoFar bytes rest number lines
-    → commands_from (number + 1) (pieces 10 rest) ≡ one_more (number + 1) (Ok command) (commands_from (number + 1 + 1) (pieces 10 behind)) → is_for one_node command ≡ true → length behind < length rest
+    → commands_from (number + 1) (pieces 10 rest) ≡ one_more (number + 1) (Ok command) (commands_from (number + 1 + 1) (pieces 10 behind)) → is_taken command ≡ true → length behind < length rest
     → ReadSoFar bytes behind (number + 1) (lines ++ (number + 1, command) ∷ [])
 read_more bytes rest behind number lines command so_far next ours shorter = record {
   whole = joined_more lines (number + 1) command (commands_from (number + 1 + 1) (pieces 10 behind)) ∙ ap (joined lines) (sym next) ∙ so_far.whole;
-  within = All-push (λ (l : ℕ × Command). is_for one_node l.1 ≡ true) lines (number + 1, command) so_far.within ours;
+  within = All-push (λ (l : ℕ × Command). is_taken l.1 ≡ true) lines (number + 1, command) so_far.within ours;
   few = omega (arith, so_far.few, length-append lines ((number + 1, command) ∷ []));
   shorter = omega (arith, so_far.shorter, shorter);
 }

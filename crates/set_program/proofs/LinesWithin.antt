@@ -9,7 +9,7 @@ use Rattle.std.proofs.lemmas.Str.{is_utf8-from_IsUtf8, IsUtf8-from_is_utf8}
 use Rattle.doc_update.specs.declared.write.WriteOp.{WriteOp}
 use Rattle.doc_update.specs.declared.write.WriteOp.TheVariants as ops
 use Rattle.set_model.specs.declared.command.Command.{Command}
-use Rattle.set_model.specs.Limits.{is_collection, collection_of, is_for}
+use Rattle.set_model.specs.Limits.{is_collection, collection_of}
 use Rattle.set_program.specs.declared.rule.LineError.{LineError}
 use Rattle.set_program.specs.declared.rule.ScriptRule.{ScriptRule}
 use Rattle.set_program.specs.declared.verb.Verb.{Verb}
@@ -20,7 +20,7 @@ use Rattle.set_program.specs.Words.{Left, ◌>>=◌, no_form, word_at, ended, nu
 use Rattle.set_program.specs.Values.{text_at, value_at, behind_space, last_value, last_document}
 use Rattle.set_program.specs.Gives.{Gives}
 use Rattle.set_program.specs.Commands.{write_kind, verb_of, insert_at, delete_at, replace_at, update_at, write_at, write_command, begin_kind, begin_at, read_at, dump_at, commit_at, abort_at, clock_at, of_node, of_verb, command_in, command_of}
-use Rattle.set_program.specs.Script.{one_node}
+use Rattle.set_program.specs.Script.{is_taken}
 
 -- a fact of what is read, if something is
 abbrev Gets : {A : Type 0} → Result A ScriptRule → (A → Type 0) → Type 0
@@ -96,7 +96,7 @@ write_within Delete left =
 -- ---- commands
 
 abbrev IsOurs : Command → Type 0
-IsOurs command = is_for one_node command ≡ true
+IsOurs command = is_taken command ≡ true
 
 both : (a b : Bool) → a ≡ true → b ≡ true → (a && b) ≡ true
 both a b one two = rw (one, two) refl
@@ -107,23 +107,27 @@ our_node node first = grind arith
 our_writer : (writer : ℕ) → writer ≤ 999 → nat_lt writer 1000 ≡ true
 our_writer writer small = grind arith
 
+-- a command of the one node, within its bounds
+taken_by : (node : ℕ) (within : Bool) → node ≤ 0 → within ≡ true → (((nat_lt node 1 && true) && within) && true) ≡ true
+taken_by node within first is = rw (our_node node first, is) refl
+
 our_write : (node : ℕ) (op : WriteOp) → node ≤ 0 → IsNamed op → IsOurs (write_command node op)
-our_write node (ops.Insert ns document) first named = both (nat_lt node 1) (is_collection ns) (our_node node first) named
-our_write node (ops.Replace ns id document) first named = both (nat_lt node 1) (is_collection ns) (our_node node first) named
-our_write node (ops.Update ns id operators) first named = both (nat_lt node 1) (is_collection ns) (our_node node first) named
-our_write node (ops.Delete ns id) first named = both (nat_lt node 1) (is_collection ns) (our_node node first) named
+our_write node (ops.Insert ns document) first named = taken_by node (is_collection ns) first named
+our_write node (ops.Replace ns id document) first named = taken_by node (is_collection ns) first named
+our_write node (ops.Update ns id operators) first named = taken_by node (is_collection ns) first named
+our_write node (ops.Delete ns id) first named = taken_by node (is_collection ns) first named
 
-node_alone : (node : ℕ) → node ≤ 0 → (nat_lt node 1 && true) ≡ true
-node_alone node first = both (nat_lt node 1) true (our_node node first) refl
+node_alone : (node : ℕ) → node ≤ 0 → (((nat_lt node 1 && true) && true) && true) ≡ true
+node_alone node first = taken_by node true first refl
 
-by_writer : (node writer : ℕ) → node ≤ 0 → writer ≤ 999 → (nat_lt node 1 && nat_lt writer 1000) ≡ true
-by_writer node writer first small = both (nat_lt node 1) (nat_lt writer 1000) (our_node node first) (our_writer writer small)
+by_writer : (node writer : ℕ) → node ≤ 0 → writer ≤ 999 → (((nat_lt node 1 && true) && nat_lt writer 1000) && true) ≡ true
+by_writer node writer first small = taken_by node (nat_lt writer 1000) first (our_writer writer small)
 
 kind_within : (node writer : ℕ) (kind : Option WriteKind) (left : Left) → node ≤ 0 → writer ≤ 999 → Gets (begin_kind node writer kind left) IsOurs
 kind_within node writer None left first small = tt
 kind_within node writer (Some kind) left first small =
     bind_gets (write_at kind left) _ IsNamed IsOurs (write_within kind left) (λ op named.
-    both (nat_lt node 1) (nat_lt writer 1000 && is_collection (collection_of op)) (our_node node first) (both (nat_lt writer 1000) (is_collection (collection_of op)) (our_writer writer small) named))
+    taken_by node (nat_lt writer 1000 && is_collection (collection_of op)) first (both (nat_lt writer 1000) (is_collection (collection_of op)) (our_writer writer small) named))
 
 begin_within : (node : ℕ) (left : Left) → node ≤ 0 → Gets (begin_at node left) IsOurs
 unfolding begin_at
@@ -145,7 +149,7 @@ read_within : (node : ℕ) (left : Left) → node ≤ 0 → Gets (read_at node l
 unfolding read_at
 read_within node left first =
     bind_any (keyword_at (codes "local") left) _ IsOurs (λ rest. bind_gets (collection_at rest) _ (λ x. is_collection x.0 ≡ true) IsOurs (collection_within rest) (λ ns named.
-    bind_any (text_at ns.1) _ IsOurs (λ text. bind_any (last_value text) _ IsOurs (λ id. both (nat_lt node 1) (is_collection ns.0) (our_node node first) named))))
+    bind_any (text_at ns.1) _ IsOurs (λ text. bind_any (last_value text) _ IsOurs (λ id. taken_by node (is_collection ns.0) first named))))
 
 dump_within : (node : ℕ) (left : Left) → node ≤ 0 → Gets (dump_at node left) IsOurs
 unfolding dump_at
@@ -155,7 +159,7 @@ clock_within : (node : ℕ) (left : Left) → node ≤ 0 → Gets (clock_at node
 unfolding clock_at
 clock_within node left first =
     bind_gets (number_at 2147483647 left) _ (λ x. x.0 ≤ 2147483647) IsOurs (number_within 2147483647 left) (λ seconds small.
-    ended_gets seconds.1 _ IsOurs (both (nat_lt node 1) (nat_lt seconds.0 2147483648) (our_node node first) (clock_small seconds.0 small)))
+    ended_gets seconds.1 _ IsOurs (taken_by node (nat_lt seconds.0 2147483648) first (clock_small seconds.0 small)))
   where
     clock_small : (seconds : ℕ) → seconds ≤ 2147483647 → nat_lt seconds 2147483648 ≡ true
     clock_small seconds small = grind arith
@@ -185,7 +189,7 @@ got : {A : Type 0} (r : Result A ScriptRule) (x : A) (P : A → Type 0) → Gets
 got r x P holds is = rw is at holds
 
 -- what a line's reader returns
-pub command_within : (line : List ℕ) (result : Result Command LineError) → Gives (λ (command : Command). command) result (command_of line) → IfOk result (λ command. is_for one_node command ≡ true)
+pub command_within : (line : List ℕ) (result : Result Command LineError) → Gives (λ (command : Command). command) result (command_of line) → IfOk result (λ command. is_taken command ≡ true)
 command_within line (Ok command) gives = got (command_of line) command IsOurs (line_within line) gives
 command_within line (Err error) gives = tt
 

@@ -6,7 +6,7 @@ use Rattle.oplog_entry.specs.Visible.{log_up_to}
 use Rattle.set_model.specs.declared.reply.Reply.TheVariants.{Documents as Listed}
 use Rattle.set_model.specs.Node.{Node}
 use Rattle.set_model.specs.Outcome.{replied}
-use Rattle.set_model.specs.Points.{local_documents}
+use Rattle.set_model.specs.Reads.{local_documents}
 use Rattle.node_core.proofs.node.Node.dump.Goals as goal
 
 pub returns : goal.returns

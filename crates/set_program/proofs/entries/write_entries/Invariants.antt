@@ -2,8 +2,8 @@ use Rattle.std.proofs.Common.{◌≡◌, ◌++◌, length, take, string_bytes}
 use Rattle.std.specs.Prelude.{codes}
 use Rattle.std.specs.Fmt.{decimal}
 use Rattle.std.specs.List.{flat_map}
-use Rattle.set_program.specs.Text.{entry_text}
-use Rattle.set_program.proofs.print.write_entries.Given as goal
+use Rattle.set_program.specs.Lists.{entry_text}
+use Rattle.set_program.proofs.entries.write_entries.Given as goal
 
 abbrev pub invariant-loop-entry : goal.invariant-loop-entry
 invariant-loop-entry l =
