@@ -1,4 +1,38 @@
--- A script: lines, of which the first command is `set`, and what the later ones come to.
+-- What a script is.
+--
+-- Its lines are those of `str::lines`: a line feed ends a line, a carriage return right before it belongs to that end, and
+-- the last line may go without. They are counted from 1. There are at most 200,000, of at most 1,048,576 bytes each without
+-- the end, and each is UTF-8. Empty lines, and lines whose first byte is `#`, say nothing.
+--
+-- Words are what stands between single spaces, so two spaces have an empty word between them. A line has as many words as
+-- its form below has; words in brackets may be left out from the right. A DOC, the ID at the end of a line, and a JSON go on to the
+-- line's end, with spaces of their own, and have at least one byte.
+--
+--     set NODES [MEMBERS]            the first line that says something, and no other
+--     insert N COLL DOC              replace N COLL ID DOC       update N COLL ID DOC      delete N COLL ID
+--     begin N W insert COLL DOC      (or `replace`, `update`, `delete` with their words)
+--     commit N W                     abort N W                   ack N TARGET CONCERN
+--     read N LEVEL COLL ID           dump N LEVEL                log N                     state N
+--     campaign N                     dryrun N                    drain N                   stepdown N
+--     heartbeat N N                  report N N                  common N N                fetch N
+--     deliver M                      deliver N N                 rolled N                  apply N [WORKERS]
+--     flush N                        checkpoint N                reconfig N JSON           crash N [PICK]
+--     restart N                      diskfail N DISK CALL [PICK] clock N SECONDS
+--     par                            thread                      end
+--
+-- A number is one or more decimal digits. N is `n` and the number of a node of the set, and two nodes on a line differ; W is
+-- `w` and a number up to 999; M is `m` and a number of 64 bits. NODES is at least 1, and MEMBERS is from 1 to NODES, or NODES
+-- where it isn't there. COLL is an ASCII letter and up to 63 letters, digits, `_` and `.`. TARGET is W or TERM/SECONDS/INCREMENT, of
+-- 64, 32 and 32 bits. CONCERN is `majority` or 1 to 50; LEVEL is `local` or `majority`; DISK is `journal` or `checkpoint`; WORKERS
+-- is 1 to 16, by default 4; PICK is of 64 bits, at `crash` by default 0; CALL is 1 to 1000; SECONDS is below 2^31. ID is a value and DOC a
+-- document in the notation of documents; an ID that a DOC follows has one space behind it. JSON is a configuration.
+--
+-- `par` begins a block and `end` ends it. In between each `thread` begins one of at most 16 threads, and the commands behind
+-- it are that thread's. What isn't built yet is named in one place, `Built`.
+--
+-- The first faulty line is told, with its first fault in this order: too many lines, too long, not UTF-8, an unknown first word (of
+-- the first command: not `set`), the number of words, a first word that may not stand there, and then the words from left to
+-- right. Behind the last line, and as its successor, are told that there was no `set`, and that a block is open.
 use Rattle.std.specs.Prelude.{ℕ, ◌≡◌, ◌+◌, Bool, nat_lt, List, [], ◌∷◌, ◌++◌, length, Option, None, Some, Result, Ok, Err, if◌then◌else◌}
 use Rattle.std.specs.List.{list_all}
 use Rattle.std.specs.Str.Lines.{lines}
