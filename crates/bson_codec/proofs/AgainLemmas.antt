@@ -17,7 +17,7 @@ use Rattle.bson_doc.proofs.DocLemmas.{not_first}
 use Rattle.bson_codec.specs.declared.kind.Kind as declared
 use Rattle.bson_codec.specs.declared.kind.Kind.TheVariants as kinds
 use Rattle.bson_codec.specs.declared.error.DecodeError.{DecodeError}
-use Rattle.bson_codec.specs.Length.{value_levels, fields_levels, items_levels, value_length, fields_length, items_length}
+use Rattle.bson_doc.specs.Length.{value_levels, fields_levels, items_levels, value_length, fields_length, items_length}
 use Rattle.bson_codec.specs.Numbers.{number_bytes, number_in}
 use Rattle.bson_codec.specs.Reading.{Inner, binary_at, boolean_at, kind_of, value_at, field_at, ends_at, fields_in, item_at, items_in, content_at, inner_at}
 use Rattle.bson_codec.specs.Sound.{IsSoundValue, AreSoundFields, AreSoundItems, IsSound}

@@ -10,7 +10,7 @@ use Rattle.bson_doc.specs.Key.{type_byte}
 use Rattle.bson_codec.specs.declared.kind.Kind as declared
 use Rattle.bson_codec.specs.declared.error.DecodeError.{DecodeError}
 use Rattle.bson_codec.specs.declared.error.DecodeError.TheVariants as rules
-use Rattle.bson_codec.specs.Length.{value_levels, fields_levels, items_levels, fields_length, items_length}
+use Rattle.bson_doc.specs.Length.{value_levels, fields_levels, items_levels, fields_length, items_length}
 use Rattle.bson_codec.specs.Numbers.{number_bytes, number_in}
 use Rattle.bson_codec.specs.Outcome.{◌>>=◌, Gives}
 use Rattle.bson_codec.specs.Reading.{Inner, number_at, bytes_at, byte_at, kind_of, value_at, ends_at, fields_in, item_at, items_in, content_at, members_in, inner_at, known_name_at, length_at}

@@ -1,5 +1,4 @@
 pub mod AgainLemmas
-pub mod DigitLemmas
 pub mod DocumentLemmas
 pub mod PartLemmas
 pub mod ReadingLemmas

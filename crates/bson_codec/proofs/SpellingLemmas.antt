@@ -6,7 +6,7 @@ use Rattle.std.proofs.lemmas.List.{length-append, take_at, drop_at}
 use Rattle.byteorder.specs.Numbers.{length-bytes_low_first}
 use Rattle.bson_doc.specs.Tree.{Tree, null, int32, int64, text, document, array, binary, object_id, boolean, date, timestamp, Fields, no_fields, field, Trees, no_items, item}
 use Rattle.bson_doc.specs.Key.{type_byte}
-use Rattle.bson_codec.specs.Length.{value_length, fields_length, items_length}
+use Rattle.bson_doc.specs.Length.{value_length, fields_length, items_length}
 use Rattle.bson_codec.specs.Numbers.{number_bytes}
 use Rattle.bson_codec.specs.Spelling.{element, value_bytes, fields_bytes, items_bytes}
 
@@ -52,7 +52,3 @@ closed old room body out four whole =
     let behind : drop (length old + 4) out ≡ body = rw whole (drop_at (old ++ room) body (length old + 4) (omega (arith, length-append old room))) in
     let count : length out + 1 - length old ≡ 5 + length body = omega (arith, ap length whole, length-append (old ++ room) body, length-append old room) in
     rw (front, behind, count) (simp append_assoc)
-
-pub on_ok : {T E : Type 0} (result : Result T E) (P : Type 0) → P → OnOk result P
-on_ok (Ok x) P p = p
-on_ok (Err e) P p = tt

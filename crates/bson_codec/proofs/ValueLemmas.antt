@@ -15,7 +15,7 @@ use Rattle.bson_codec.specs.declared.kind.Kind as declared
 use Rattle.bson_codec.specs.declared.kind.Kind.TheVariants as kinds
 use Rattle.bson_codec.specs.declared.error.DecodeError.{DecodeError}
 use Rattle.bson_codec.specs.declared.error.DecodeError.TheVariants as rules
-use Rattle.bson_codec.specs.Length.{value_levels, fields_levels}
+use Rattle.bson_doc.specs.Length.{value_levels, fields_levels}
 use Rattle.bson_codec.specs.Numbers.{number_bytes}
 use Rattle.bson_codec.specs.Outcome.{◌>>=◌}
 use Rattle.bson_codec.specs.Reading.{Inner, number_at, bytes_at, byte_at, text_at, binary_at, boolean_at, kind_of, value_at, new_name, field_at, ends_at, fields_in, name_at, length_at}

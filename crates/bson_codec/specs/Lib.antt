@@ -1,4 +1,4 @@
-pub mod Length
+pub use Rattle.bson_doc.specs.Length
 pub mod Numbers
 pub mod Outcome
 pub mod Reading

@@ -4,7 +4,7 @@ use Rattle.std.specs.Int.{w32, w64, cast_unsigned}
 use Rattle.std.specs.Fmt.{decimal}
 use Rattle.bson_doc.specs.Tree.{Tree, null, int32, int64, text, document, array, binary, object_id, boolean, date, timestamp, Fields, no_fields, field, Trees, no_items, item}
 use Rattle.bson_doc.specs.Key.{type_byte}
-use Rattle.bson_codec.specs.Length.{fields_length, items_length, document_levels}
+use Rattle.bson_doc.specs.Length.{fields_length, items_length, document_levels}
 use Rattle.bson_codec.specs.Numbers.{number_bytes}
 
 -- an element: its kind, its name with a zero byte behind it, and its value

@@ -1,12 +1,11 @@
 ghost use Rattle.std.specs.Prelude.{◌≡◌, ◌<◌, ◌≤◌, ◌^◌, ◌↔◌, IfOk, OnOk, IsErrOf};
-ghost use Rattle.bson_codec.specs.Length.{document_length, document_levels};
+ghost use Rattle.bson_doc.specs.Length.{document_length, document_levels};
 ghost use Rattle.bson_codec.specs.Sound.{IsSound};
-ghost use Rattle.bson_codec.specs.Spelling.{document_bytes, IsSpelling};
+ghost use Rattle.bson_codec.specs.Spelling.{IsSpelling};
 
-use crate::depth::levels;
 use crate::writing::write;
-use crate::{Bounds, EncodeError, size};
-use bson_doc::Doc;
+use crate::{Bounds, EncodeError};
+use bson_doc::{Doc, levels};
 use std::alloc::Global;
 
 /// The bytes of a document (BSON 1.1), its one spelling. It is `TooDeep` with more levels than the
@@ -19,13 +18,16 @@ pub fn encode(alloc: Global, doc: &Doc, bounds: Bounds) -> Result<Vec<u8>, Encod
     ensures too_large { IsErrOf result EncodeError.TooLarge
         ↔ ((document_levels doc.now ≤ bounds.levels) × (bounds.bytes < document_length doc.now)) }
 {
-    let most = u64::from(bounds.levels);
-    if levels(doc, most + 1) > most {
-        return Err(EncodeError::TooDeep);
+    if !doc.fits(bounds) {
+        let most = u64::from(bounds.levels);
+        let is_too_deep = levels(doc, most + 1) > most;
+        return Err(if is_too_deep {
+            EncodeError::TooDeep
+        } else {
+            EncodeError::TooLarge
+        });
     }
-    if size(doc) > u64::from(bounds.bytes) {
-        return Err(EncodeError::TooLarge);
-    }
+    doc.is_sound();
     let mut bytes = Vec::new(alloc);
     write(alloc, doc, &mut bytes)?;
     Ok(bytes)

@@ -1,13 +1,11 @@
 // The bytes of a document, appended to others. A length is filled in once its document is written.
-ghost use Rattle.std.specs.Prelude.{true, ◌≡◌, ◌++◌, ◌∷◌, [], ◌<◌, ◌≤◌, ◌+◌, ◌-◌, ◌^◌, OnOk, length, take, drop};
+ghost use Rattle.std.specs.Prelude.{◌≡◌, ◌++◌, ◌∷◌, [], ◌<◌, ◌≤◌, ◌+◌, ◌-◌, ◌^◌, OnOk, length, take, drop};
 ghost use Rattle.std.specs.Fmt.{decimal};
-ghost use Rattle.std.specs.Str.{is_utf8};
 ghost use Rattle.bson_doc.specs.View.{tree_of};
 ghost use Rattle.bson_doc.specs.Key.{type_byte};
-ghost use Rattle.bson_doc.specs.Tree.{document, array};
-ghost use Rattle.bson_codec.specs.Length.{value_length, document_length, items_length};
+ghost use Rattle.bson_doc.specs.Tree.{array};
+ghost use Rattle.bson_doc.specs.Length.{value_length, document_length, items_length};
 ghost use Rattle.bson_codec.specs.Numbers.{number_bytes};
-ghost use Rattle.bson_codec.specs.Sound.{IsSoundValue, AreSoundItems, IsSound};
 ghost use Rattle.bson_codec.specs.Spelling.{value_bytes, document_bytes};
 
 use crate::numbers::{put_i32, put_i64, put_u32, put_u64, set_u32};
@@ -15,8 +13,7 @@ use bson_doc::{Doc, Items, Mem, Value};
 use std::alloc::Global;
 
 fn put_name(out: &mut Vec<u8>, kind: u8, name: &str) -> Mem<()>
-    ensures bytes { OnOk result (out.new.items ≡ out.old.items ++ kind ∷ (name.now ++ 0 ∷ [])) }
-    ensures valid { OnOk result (is_utf8 name.now ≡ true) }
+    ensures { OnOk result (out.new.items ≡ out.old.items ++ kind ∷ (name.now ++ 0 ∷ [])) }
 {
     out.push(kind)?;
     out.extend_from_slice(name.as_bytes())?;
@@ -33,9 +30,8 @@ fn put_place(alloc: Global, out: &mut Vec<u8>, kind: u8, place: usize) -> Mem<()
 
 fn put_text(out: &mut Vec<u8>, text: &str) -> Mem<()>
     requires { length text.now + 1 < 2 ^ 31 }
-    ensures bytes { OnOk result (out.new.items ≡ out.old.items
+    ensures { OnOk result (out.new.items ≡ out.old.items
         ++ (number_bytes 4 (length text.now + 1) ++ text.now ++ 0 ∷ [])) }
-    ensures valid { OnOk result (is_utf8 text.now ≡ true) }
 {
     put_u32(out, text.len() as u32 + 1)?;
     out.extend_from_slice(text.as_bytes())?;
@@ -69,8 +65,7 @@ fn close(out: &mut Vec<u8>, start: usize) -> Mem<()>
 #[cycle(write)]
 fn write_value(alloc: Global, value: &Value, out: &mut Vec<u8>) -> Mem<()>
     requires { value_length (tree_of value.now) < 2 ^ 31 }
-    ensures bytes { OnOk result (out.new.items ≡ out.old.items ++ value_bytes (tree_of value.now)) }
-    ensures sound { OnOk result (IsSoundValue (tree_of value.now)) }
+    ensures { OnOk result (out.new.items ≡ out.old.items ++ value_bytes (tree_of value.now)) }
 {
     match value {
         Value::Null => Ok(()),
@@ -89,8 +84,7 @@ fn write_value(alloc: Global, value: &Value, out: &mut Vec<u8>) -> Mem<()>
 #[cycle(write)]
 fn write_items(alloc: Global, items: &Items, out: &mut Vec<u8>) -> Mem<()>
     requires { 5 + items_length 0 items.now < 2 ^ 31 }
-    ensures bytes { OnOk result (out.new.items ≡ out.old.items ++ value_bytes (array items.now)) }
-    ensures sound { OnOk result (AreSoundItems items.now) }
+    ensures { OnOk result (out.new.items ≡ out.old.items ++ value_bytes (array items.now)) }
 {
     let start = out.len();
     out.extend_from_slice(&[0; 4])?;
@@ -108,10 +102,8 @@ fn write_items(alloc: Global, items: &Items, out: &mut Vec<u8>) -> Mem<()>
 #[cycle(write)]
 pub fn write(alloc: Global, document: &Doc, out: &mut Vec<u8>) -> Mem<()>
     requires { document_length document.now < 2 ^ 31 }
-    ensures bytes { OnOk result (out.new.items ≡ out.old.items ++ document_bytes document.now) }
-    ensures sound { OnOk result (IsSound document.now) }
+    ensures { OnOk result (out.new.items ≡ out.old.items ++ document_bytes document.now) }
 {
-    document.names_are_apart();
     let start = out.len();
     out.extend_from_slice(&[0; 4])?;
     for place in 0..document.len() {

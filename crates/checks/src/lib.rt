@@ -1,5 +1,15 @@
-//! What no clause says of the crates below: memory that suffices, and texts with what they stand for.
+//! What no clause says of the crates below: memory that suffices, values from outside, and one fault in mid-stream.
 #![tactic(auto)]
 
 #[cfg(test)]
+mod disks;
+#[cfg(test)]
+mod entries;
+#[cfg(test)]
+mod records;
+#[cfg(test)]
 mod scripts;
+#[cfg(test)]
+mod slots;
+#[cfg(test)]
+mod streams;

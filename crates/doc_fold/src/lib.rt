@@ -2,7 +2,5 @@
 #![tactic(auto)]
 
 mod fold;
-#[cfg(test)]
-mod tests;
 
 pub use fold::{apply_entry, document_after};

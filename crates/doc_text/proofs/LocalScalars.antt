@@ -11,7 +11,7 @@ use Rattle.doc_text.specs.declared.fault.Rule.TheVariants.{Unexpected, Number, H
 use Rattle.doc_text.specs.Bytes.{is_space}
 use Rattle.doc_text.specs.Class.{behind_spaces}
 use Rattle.doc_text.specs.Fault.{Read, ◌>>=◌, fails}
-use Rattle.doc_text.specs.Marks.{mark_at, spaced_at, closing_at, word_at}
+use Rattle.doc_text.specs.Marks.{mark_at, spaced_at, closing_at, word_at, opened_at}
 use Rattle.doc_text.specs.Integers.{fits, digits_at, integer_at, natural_at, long_at, kind_at, number_at}
 use Rattle.doc_text.specs.HexText.{bytes_of, closed_at, hex_fault, binary_hex_at, id_hex_at}
 use Rattle.doc_text.proofs.Locality.{mark, read, Within, Alike, Local, within_more, alike_within, cond_within, cond_alike, bind_within, bind_alike, bind_local, front_alike, refused, ok_alike, marked_alike, map_local, cut, run_same, run_past, run_alike, behind_alike, drop_within}
@@ -47,6 +47,10 @@ pub word_local : (word : List ℕ) → Local mark (word_at word)
 unfolding word_at
 word_local [] = record { within = λ text. omega arith; alike = λ c front after other. marked_alike (c ∷ front) after other }
 word_local (letter ∷ letters) = bind_local mark mark (mark_at letter) (λ rest. word_at letters rest) (mark_local letter) (λ _. word_local letters)
+
+pub opened_local : (word : List ℕ) → Local mark (opened_at word)
+unfolding opened_at
+opened_local word = bind_local mark mark (word_at word) (λ rest. spaced_at 40 rest) (word_local word) (λ _. spaced_local 40)
 
 -- ---- numbers
 

@@ -10,14 +10,14 @@ use Rattle.doc_text.specs.declared.fault.Rule.{Rule}
 use Rattle.doc_text.specs.declared.fault.Rule.TheVariants.{Unexpected, Escape, NameZero}
 use Rattle.doc_text.specs.Bytes.{is_plain, is_name_byte, is_name_start}
 use Rattle.doc_text.specs.Fault.{Read, ◌>>=◌, fails}
-use Rattle.doc_text.specs.Marks.{mark_at, spaced_at, closing_at, word_at}
+use Rattle.doc_text.specs.Marks.{mark_at, spaced_at, closing_at, word_at, opened_at}
 use Rattle.doc_text.specs.Integers.{natural_at, long_at}
 use Rattle.doc_text.specs.HexText.{binary_hex_at, id_hex_at}
 use Rattle.doc_text.specs.Strings.{or_escape, hex_digit_at, unicode_at, named_character, escape_at, letters_at}
 use Rattle.doc_text.specs.Names.{name_at}
-use Rattle.doc_text.specs.Scalars.{string_at, date_at, binary_at, id_at, time_at, constant_at, scalar_at}
+use Rattle.doc_text.specs.Scalars.{string_at, date_at, first_at, binary_at, id_at, time_at, constant_at, scalar_at}
 use Rattle.doc_text.proofs.Locality.{mark, read, Within, Alike, Local, within_more, alike_within, cond_within, cond_alike, bind_within, bind_alike, bind_local, front_alike, refused, ok_alike, ok_local, map_local, run_alike, drop_within}
-use Rattle.doc_text.proofs.LocalScalars.{mark_local, closing_local, spaced_local, word_local, natural_local, long_local, number_local, binary_hex_local, id_hex_local}
+use Rattle.doc_text.proofs.LocalScalars.{mark_local, closing_local, spaced_local, word_local, opened_local, natural_local, long_local, number_local, binary_hex_local, id_hex_local}
 
 -- ---- escapes
 
@@ -162,36 +162,35 @@ closed_local value = bind_local mark read (closing_at 41) (λ end. Ok (value, en
 date_local : Local read date_at
 unfolding date_at
 date_local =
-    bind_local mark read (word_at (codes "Date")) _ (word_local (codes "Date")) (λ _.
-    bind_local mark read (spaced_at 40) _ (spaced_local 40) (λ _.
-    bind_local read read long_at _ long_local (λ milliseconds. closed_local (date milliseconds.0))))
+    bind_local mark read (opened_at (codes "Date")) _ (opened_local (codes "Date")) (λ _.
+    bind_local read read long_at _ long_local (λ milliseconds. closed_local (date milliseconds.0)))
 
 id_local : Local read id_at
 unfolding id_at
 id_local =
-    bind_local mark read (word_at (codes "Id")) _ (word_local (codes "Id")) (λ _.
-    bind_local mark read (spaced_at 40) _ (spaced_local 40) (λ _.
+    bind_local mark read (opened_at (codes "Id")) _ (opened_local (codes "Id")) (λ _.
     bind_local mark read (mark_at 34) _ (mark_local 34) (λ _.
-    bind_local read read id_hex_at _ id_hex_local (λ content. closed_local (object_id content.0)))))
+    bind_local read read id_hex_at _ id_hex_local (λ content. closed_local (object_id content.0))))
+
+first_local : (word : List ℕ) (most : ℕ) → Local read (first_at word most)
+unfolding first_at
+first_local word most =
+    bind_local mark read (opened_at word) _ (opened_local word) (λ _.
+    bind_local read read (natural_at most) _ (natural_local most) (λ number.
+    bind_local mark read (spaced_at 44) (λ rest. Ok (number.0, rest)) (spaced_local 44) (λ _. ok_local number.0)))
 
 binary_local : Local read binary_at
 unfolding binary_at
 binary_local =
-    bind_local mark read (word_at (codes "Bin")) _ (word_local (codes "Bin")) (λ _.
-    bind_local mark read (spaced_at 40) _ (spaced_local 40) (λ _.
-    bind_local read read (natural_at 255) _ (natural_local 255) (λ subtype.
-    bind_local mark read (spaced_at 44) _ (spaced_local 44) (λ _.
+    bind_local read read (first_at (codes "Bin") 255) _ (first_local (codes "Bin") 255) (λ subtype.
     bind_local mark read (mark_at 34) _ (mark_local 34) (λ _.
-    bind_local read read binary_hex_at _ binary_hex_local (λ content. closed_local (binary subtype.0 content.0)))))))
+    bind_local read read binary_hex_at _ binary_hex_local (λ content. closed_local (binary subtype.0 content.0))))
 
 time_local : Local read time_at
 unfolding time_at
 time_local =
-    bind_local mark read (word_at (codes "Time")) _ (word_local (codes "Time")) (λ _.
-    bind_local mark read (spaced_at 40) _ (spaced_local 40) (λ _.
-    bind_local read read (natural_at 4294967295) _ (natural_local 4294967295) (λ seconds.
-    bind_local mark read (spaced_at 44) _ (spaced_local 44) (λ _.
-    bind_local read read (natural_at 4294967295) _ (natural_local 4294967295) (λ increment. closed_local (timestamp (seconds.0 * 2 ^ 32 + increment.0)))))))
+    bind_local read read (first_at (codes "Time") 4294967295) _ (first_local (codes "Time") 4294967295) (λ seconds.
+    bind_local read read (natural_at 4294967295) _ (natural_local 4294967295) (λ increment. closed_local (timestamp (seconds.0 * 2 ^ 32 + increment.0))))
 
 constant_local : (word : List ℕ) (value : Tree) → Local read (constant_at word value)
 unfolding constant_at

@@ -1,16 +1,14 @@
 -- The members of a document or an array are read one after the other.
-use Rattle.std.proofs.Common.{◌≡◌, ◌≢◌, ℕ, zero, suc, ◌-◌, ◌<◌, true, false, List, [], ◌∷◌, length, Ok, Err, refl, sym, ap, ◌∙◌, arith, inl, inr}
+use Rattle.std.proofs.Common.{◌≡◌, ◌≢◌, ℕ, zero, suc, ◌-◌, ◌<◌, true, false, List, [], ◌∷◌, length, Option, Some, None, Ok, refl, sym, ap, ◌∙◌, arith, inl, inr}
 use Rattle.std.specs.Prelude.{is_some}
 use Rattle.std.proofs.lemmas.Bool.{cases_eq}
-use Rattle.bson_doc.specs.Tree.{Tree, array, document, Fields, no_fields, Trees, no_items, found, with_field, with_item}
+use Rattle.bson_doc.specs.Tree.{Tree, Fields, Trees, with_field, with_item}
 use Rattle.doc_text.specs.declared.fault.ReadError.{ReadError}
 use Rattle.doc_text.specs.declared.fault.ReadError.TheVariants as stops
-use Rattle.doc_text.specs.declared.fault.Rule.TheVariants.{DuplicateName}
 use Rattle.doc_text.specs.Class.{behind_spaces}
-use Rattle.doc_text.specs.Fault.{Read, ◌>>=◌, fault_at, Fails}
-use Rattle.doc_text.specs.Marks.{mark_at, spaced_at}
-use Rattle.doc_text.specs.Names.{name_at}
-use Rattle.doc_text.specs.Values.{begins_with, field_at, fields_at, items_at, document_at, array_at}
+use Rattle.doc_text.specs.Fault.{Read, Fails}
+use Rattle.doc_text.specs.Marks.{begins_with, mark_at, spaced_at}
+use Rattle.doc_text.specs.Values.{key_at, field_at, item_at, members_at, inside_at, listed_at}
 
 pub not_begun : (mark : ℕ) (text : List ℕ) → ((rest : List ℕ) → text ≢ mark ∷ rest) → begins_with mark text ≡ false
 not_begun mark [] other = refl
@@ -20,116 +18,75 @@ not_begun mark (c ∷ rest) other =
       | inr wrong ↦ grind arith
     ]
 
--- ---- arrays
+pub not_found : (o : Option Tree) → is_some o ≡ false → o ≡ None
+not_found None h = refl
+not_found (Some x) h = absurd cc
 
-abbrev pub as_array : Read Trees → Read Tree
-as_array read = read >>= λ items. Ok (array items.0, items.1)
+pub opened : {A : Type 0} (more : A → List ℕ → Read A) (opening close : ℕ) (none : A) (text inside rest : List ℕ) → mark_at opening text ≡ Ok inside → begins_with close (behind_spaces inside) ≡ false → rest ≡ behind_spaces inside
+    → members_at more close (suc (length rest)) none rest ≡ listed_at more opening close none text
+unfolding listed_at inside_at
+opened more opening close none text inside rest begun other is = rw (begun, other, is) refl
 
-pub array_opened : (member : List ℕ → Read Tree) (text inside rest : List ℕ) → mark_at 91 text ≡ Ok inside → rest ≡ behind_spaces inside → ((r : List ℕ) → rest ≢ 93 ∷ r)
-    → as_array (items_at member (suc (length rest)) no_items rest) ≡ array_at member text
-unfolding array_at
-array_opened member text inside rest opened is other =
-    rw (opened, ← is, not_begun 93 rest other) refl
+pub nothing : {A : Type 0} (more : A → List ℕ → Read A) (opening close : ℕ) (none : A) (text inside rest : List ℕ) → mark_at opening text ≡ Ok inside → behind_spaces inside ≡ close ∷ rest
+    → listed_at more opening close none text ≡ Ok (none, rest)
+unfolding listed_at inside_at
+nothing more opening close none text inside rest begun closed =
+    let ends : begins_with close (close ∷ rest) ≡ true = grind arith in
+    rw (begun, closed, ends) refl
 
-pub items_failed : (member : List ℕ → Read Tree) (most : ℕ) (so_far : Trees) (text : List ℕ) (error : ReadError) (total : Read Tree) → length text < most
-    → Fails error (member text) → as_array (items_at member most so_far text) ≡ total → Fails error total
-unfolding items_at
-items_failed member zero so_far text error total within refused is = absurd (omega arith)
-items_failed member (suc most) so_far text stops.Memory total within refused is = tt
-items_failed member (suc most) so_far text (stops.Fault fault) total within refused is = sym is ∙ rw refused refl
+pub failed : {A : Type 0} (more : A → List ℕ → Read A) (close most : ℕ) (so_far : A) (text : List ℕ) (error : ReadError) (total : Read A) → length text < most
+    → members_at more close most so_far text ≡ total → Fails error (more so_far text) → Fails error total
+unfolding members_at
+failed more close zero so_far text error total within is refused = absurd (omega arith)
+failed more close (suc most) so_far text stops.Memory total within is refused = tt
+failed more close (suc most) so_far text (stops.Fault fault) total within is refused = sym is ∙ rw refused refl
 
-pub items_ended : (member : List ℕ → Read Tree) (most : ℕ) (so_far : Trees) (text : List ℕ) (value : Tree) (after stop end : List ℕ) (total : Read Tree) → length text < most
-    → member text ≡ Ok (value, after) → stop ≡ behind_spaces after → stop ≡ 93 ∷ end → as_array (items_at member most so_far text) ≡ total
-    → total ≡ Ok (array (with_item so_far value), end)
-unfolding items_at
-items_ended member zero so_far text value after stop end total within read behind closed is = absurd (omega arith)
-items_ended member (suc most) so_far text value after stop end total within read behind closed is =
-    sym is ∙ rw (read, ← behind, closed) refl
+pub ended : {A : Type 0} (more : A → List ℕ → Read A) (close most : ℕ) (so_far grown : A) (text after end : List ℕ) (total : Read A) → length text < most
+    → members_at more close most so_far text ≡ total → more so_far text ≡ Ok (grown, after) → behind_spaces after ≡ close ∷ end → total ≡ Ok (grown, end)
+unfolding members_at
+ended more close zero so_far grown text after end total within is read closed = absurd (omega arith)
+ended more close (suc most) so_far grown text after end total within is read closed =
+    let begun : begins_with close (close ∷ end) ≡ true = grind arith in
+    sym is ∙ rw (read, closed, begun) refl
 
-pub items_unmarked : (member : List ℕ → Read Tree) (most : ℕ) (so_far : Trees) (text : List ℕ) (value : Tree) (after stop : List ℕ) (error : ReadError) (total : Read Tree) → length text < most
-    → member text ≡ Ok (value, after) → stop ≡ behind_spaces after → ((r : List ℕ) → stop ≢ 93 ∷ r) → Fails error (mark_at 44 stop) → as_array (items_at member most so_far text) ≡ total
-    → Fails error total
-unfolding items_at
-items_unmarked member zero so_far text value after stop error total within read behind other refused is = absurd (omega arith)
-items_unmarked member (suc most) so_far text value after stop stops.Memory total within read behind other refused is = tt
-items_unmarked member (suc most) so_far text value after stop (stops.Fault fault) total within read behind other refused is =
-    sym is ∙ rw (read, ← behind, not_begun 93 stop other, refused) refl
+pub uncommaed : {A : Type 0} (more : A → List ℕ → Read A) (close most : ℕ) (so_far grown : A) (text after : List ℕ) (error : ReadError) (total : Read A) → length text < most
+    → members_at more close most so_far text ≡ total → more so_far text ≡ Ok (grown, after) → begins_with close (behind_spaces after) ≡ false → Fails error (spaced_at 44 after) → Fails error total
+unfolding members_at
+uncommaed more close zero so_far grown text after error total within is read other refused = absurd (omega arith)
+uncommaed more close (suc most) so_far grown text after stops.Memory total within is read other refused = tt
+uncommaed more close (suc most) so_far grown text after (stops.Fault fault) total within is read other refused = sym is ∙ rw (read, other, refused) refl
 
-pub items_more : (member : List ℕ → Read Tree) (most : ℕ) (so_far : Trees) (text : List ℕ) (value : Tree) (after stop next : List ℕ) (total : Read Tree) → length text < most
-    → member text ≡ Ok (value, after) → stop ≡ behind_spaces after → ((r : List ℕ) → stop ≢ 93 ∷ r) → mark_at 44 stop ≡ Ok next → as_array (items_at member most so_far text) ≡ total
-    → as_array (items_at member (most - 1) (with_item so_far value) (behind_spaces next)) ≡ total
-unfolding items_at
-items_more member zero so_far text value after stop next total within read behind other marked is = absurd (omega arith)
-items_more member (suc most) so_far text value after stop next total within read behind other marked is =
+pub further : {A : Type 0} (more : A → List ℕ → Read A) (close most : ℕ) (so_far grown : A) (text after next : List ℕ) (total : Read A) → length text < most
+    → members_at more close most so_far text ≡ total → more so_far text ≡ Ok (grown, after) → begins_with close (behind_spaces after) ≡ false → spaced_at 44 after ≡ Ok next
+    → members_at more close (most - 1) grown next ≡ total
+unfolding members_at
+further more close zero so_far grown text after next total within is read other commaed = absurd (omega arith)
+further more close (suc most) so_far grown text after next total within is read other commaed =
     let left : suc most - 1 ≡ most = omega arith in
-    rw left (sym (rw (read, ← behind, not_begun 93 stop other, marked) refl) ∙ is)
+    rw left (sym (rw (read, other, commaed) refl) ∙ is)
 
--- ---- documents
+-- ---- one member more
 
-abbrev pub as_document : Read Fields → Read Tree
-as_document read = read >>= λ fields. Ok (document fields.0, fields.1)
+pub item_failed : (member : List ℕ → Read Tree) (so_far : Trees) (text : List ℕ) (error : ReadError) → Fails error (member text) → Fails error (item_at member so_far text)
+unfolding item_at
+item_failed member so_far text stops.Memory refused = tt
+item_failed member so_far text (stops.Fault fault) refused = rw refused refl
 
-pub document_opened : (member : List ℕ → Read Tree) (text inside rest : List ℕ) → mark_at 123 text ≡ Ok inside → rest ≡ behind_spaces inside → ((r : List ℕ) → rest ≢ 125 ∷ r)
-    → as_document (fields_at member (suc (length rest)) no_fields rest) ≡ document_at member text
-unfolding document_at
-document_opened member text inside rest opened is other =
-    rw (opened, ← is, not_begun 125 rest other) refl
+pub item_read : (member : List ℕ → Read Tree) (so_far : Trees) (text : List ℕ) (value : Tree) (after : List ℕ) → member text ≡ Ok (value, after) → item_at member so_far text ≡ Ok (with_item so_far value, after)
+unfolding item_at
+item_read member so_far text value after read = rw read refl
 
-pub field_unnamed : (member : List ℕ → Read Tree) (so_far : Fields) (text : List ℕ) (error : ReadError) → Fails error (name_at text) → Fails error (field_at member so_far text)
+pub field_unnamed : (member : List ℕ → Read Tree) (so_far : Fields) (text : List ℕ) (error : ReadError) → Fails error (key_at so_far text) → Fails error (field_at member so_far text)
 unfolding field_at
 field_unnamed member so_far text stops.Memory refused = tt
 field_unnamed member so_far text (stops.Fault fault) refused = rw refused refl
 
-pub field_twice : (member : List ℕ → Read Tree) (so_far : Fields) (text name after : List ℕ) → name_at text ≡ Ok (name, after) → is_some (found name so_far) ≡ true
-    → field_at member so_far text ≡ Err (fault_at DuplicateName text)
+pub field_unvalued : (member : List ℕ → Read Tree) (so_far : Fields) (text name inside : List ℕ) (error : ReadError) → key_at so_far text ≡ Ok (name, inside) → Fails error (member inside) → Fails error (field_at member so_far text)
 unfolding field_at
-field_twice member so_far text name after named twice = rw (named, twice) refl
+field_unvalued member so_far text name inside stops.Memory named refused = tt
+field_unvalued member so_far text name inside (stops.Fault fault) named refused = rw (named, refused) refl
 
-pub field_uncoloned : (member : List ℕ → Read Tree) (so_far : Fields) (text name after : List ℕ) (error : ReadError) → name_at text ≡ Ok (name, after) → is_some (found name so_far) ≡ false
-    → Fails error (spaced_at 58 after) → Fails error (field_at member so_far text)
+pub field_read : (member : List ℕ → Read Tree) (so_far : Fields) (text name inside : List ℕ) (value : Tree) (after : List ℕ) → key_at so_far text ≡ Ok (name, inside) → member inside ≡ Ok (value, after)
+    → field_at member so_far text ≡ Ok (with_field so_far name value, after)
 unfolding field_at
-field_uncoloned member so_far text name after stops.Memory named once refused = tt
-field_uncoloned member so_far text name after (stops.Fault fault) named once refused = rw (named, once, refused) refl
-
-pub field_unvalued : (member : List ℕ → Read Tree) (so_far : Fields) (text name after inside : List ℕ) (error : ReadError) → name_at text ≡ Ok (name, after) → is_some (found name so_far) ≡ false
-    → spaced_at 58 after ≡ Ok inside → Fails error (member inside) → Fails error (field_at member so_far text)
-unfolding field_at
-field_unvalued member so_far text name after inside stops.Memory named once coloned refused = tt
-field_unvalued member so_far text name after inside (stops.Fault fault) named once coloned refused = rw (named, once, coloned, refused) refl
-
-pub field_read : (member : List ℕ → Read Tree) (so_far : Fields) (text name after inside : List ℕ) (value : Tree) (rest stop : List ℕ) → name_at text ≡ Ok (name, after) → is_some (found name so_far) ≡ false
-    → spaced_at 58 after ≡ Ok inside → member inside ≡ Ok (value, rest) → stop ≡ behind_spaces rest → field_at member so_far text ≡ Ok (with_field so_far name value, stop)
-unfolding field_at
-field_read member so_far text name after inside value rest stop named once coloned valued is = rw (named, once, coloned, valued, is) refl
-
-pub fields_failed : (member : List ℕ → Read Tree) (most : ℕ) (so_far : Fields) (text : List ℕ) (error : ReadError) (total : Read Tree) → length text < most
-    → as_document (fields_at member most so_far text) ≡ total → Fails error (field_at member so_far text) → Fails error total
-unfolding fields_at
-fields_failed member zero so_far text error total within is refused = absurd (omega arith)
-fields_failed member (suc most) so_far text stops.Memory total within is refused = tt
-fields_failed member (suc most) so_far text (stops.Fault fault) total within is refused = sym is ∙ rw refused refl
-
-pub fields_ended : (member : List ℕ → Read Tree) (most : ℕ) (so_far grown : Fields) (text stop end : List ℕ) (total : Read Tree) → length text < most
-    → as_document (fields_at member most so_far text) ≡ total → field_at member so_far text ≡ Ok (grown, stop) → stop ≡ 125 ∷ end
-    → total ≡ Ok (document grown, end)
-unfolding fields_at
-fields_ended member zero so_far grown text stop end total within is read closed = absurd (omega arith)
-fields_ended member (suc most) so_far grown text stop end total within is read closed = sym is ∙ rw (read, closed) refl
-
-pub fields_unmarked : (member : List ℕ → Read Tree) (most : ℕ) (so_far grown : Fields) (text stop : List ℕ) (error : ReadError) (total : Read Tree) → length text < most
-    → as_document (fields_at member most so_far text) ≡ total → field_at member so_far text ≡ Ok (grown, stop) → ((r : List ℕ) → stop ≢ 125 ∷ r) → Fails error (mark_at 44 stop)
-    → Fails error total
-unfolding fields_at
-fields_unmarked member zero so_far grown text stop error total within is read other refused = absurd (omega arith)
-fields_unmarked member (suc most) so_far grown text stop stops.Memory total within is read other refused = tt
-fields_unmarked member (suc most) so_far grown text stop (stops.Fault fault) total within is read other refused =
-    sym is ∙ rw (read, not_begun 125 stop other, refused) refl
-
-pub fields_more : (member : List ℕ → Read Tree) (most : ℕ) (so_far grown : Fields) (text stop next : List ℕ) (total : Read Tree) → length text < most
-    → as_document (fields_at member most so_far text) ≡ total → field_at member so_far text ≡ Ok (grown, stop) → ((r : List ℕ) → stop ≢ 125 ∷ r) → mark_at 44 stop ≡ Ok next
-    → as_document (fields_at member (most - 1) grown (behind_spaces next)) ≡ total
-unfolding fields_at
-fields_more member zero so_far grown text stop next total within is read other marked = absurd (omega arith)
-fields_more member (suc most) so_far grown text stop next total within is read other marked =
-    let left : suc most - 1 ≡ most = omega arith in
-    rw left (sym (rw (read, not_begun 125 stop other, marked) refl) ∙ is)
+field_read member so_far text name inside value after named valued = rw (named, valued) refl

@@ -3,14 +3,9 @@ use Rattle.std.proofs.Common.{◌≡◌, ℕ, zero, suc, ◌+◌, ◌/◌, ◌%�
 use Rattle.std.specs.Prelude.{Contains, encode_utf8}
 use Rattle.std.specs.List.{prefix_len, take_while}
 use lib.Utf8.{encode}
-use denote.Ref.{Bor}
-use Rattle.std.specs.Result.{IfOk}
-use Rattle.bson_doc.specs.declared.text.Text.{Text}
-use Rattle.doc_text.specs.declared.fault.ReadError.{ReadError}
 use Rattle.doc_text.specs.Bytes.{is_name_byte, is_plain}
-use Rattle.doc_text.specs.Fault.{Read, ◌>>=◌, Gives}
-use Rattle.doc_text.specs.Strings.{unicode_at, named_character, or_escape, escape_at, letters_at}
-use Rattle.doc_text.proofs.Results.{Gets, bind_gets, bind_any, cond_gets}
+use Rattle.doc_text.specs.Strings.{named_character}
+use Rattle.doc_text.specs.Spelling.{Letter, itself, named, coded, Means, SpellsLetters}
 
 -- no byte is zero
 abbrev pub IsClean : List ℕ → Type 0
@@ -39,53 +34,25 @@ clean_encode code some =
     let four : IsClean ((240 + code / 262144) ∷ (128 + code / 4096 % 64) ∷ (128 + code / 64 % 64) ∷ (128 + code % 64) ∷ []) = (omega arith, (omega arith, (omega arith, (omega arith, tt)))) in
     either (ltb code 128) _ _ one (either (ltb code 2048) _ _ two (either (ltb code 65536) _ _ three four))
 
-abbrev NotZero : ℕ × List ℕ → Type 0
-NotZero x = 0 < x.0
+named_some : (letter character : ℕ) → named_character letter ≡ Some character → 0 < character
+named_some letter character is = grind arith
 
 not_zero : (n : ℕ) → (n == 0) ≡ false → 0 < n
 not_zero n h = grind arith
 
-unicode_clean : (text : List ℕ) → Gets (unicode_at true text) NotZero
-unfolding unicode_at
-unicode_clean text = search (bind_any, cond_gets, not_zero) depth 12
-
-named_clean : (letter : ℕ) (found : Option ℕ) (text rest : List ℕ) → named_character letter ≡ found → Gets (or_escape found text rest) NotZero
-named_clean letter None text rest is = tt
-named_clean letter (Some character) text rest is = grind arith
-
-escape_clean : (text : List ℕ) → Gets (escape_at true text) NotZero
-unfolding escape_at
-escape_clean [] = tt
-escape_clean (c ∷ after) =
-    cond_gets (c == 117) (unicode_at true after) (or_escape (named_character c) (c ∷ after) after) NotZero (λ _. unicode_clean after) (λ _. named_clean c (named_character c) (c ∷ after) after refl)
-
 plain_byte : (c : ℕ) → is_plain c ≡ true → 0 < c
 plain_byte c plain = grind arith
 
-abbrev pub CleanFront : List ℕ × List ℕ → Type 0
-CleanFront x = IsClean x.0
+letter_clean : (letter : Letter) (bytes : List ℕ) → Means true letter bytes → IsClean bytes
+letter_clean (itself byte) bytes means = rw means.1 (plain_byte byte means.0, tt)
+letter_clean (named letter) bytes means = rw means.2 (clean_encode means.0 (named_some letter means.0 means.1))
+letter_clean (coded a b c d) bytes means = rw means.2 (clean_encode means.0 (not_zero means.0 means.1.no_zero))
 
-escape_case : (read : Read ℕ) (later : ℕ × List ℕ → Read (List ℕ)) → Gets read NotZero → ((character : ℕ × List ℕ) → Gets (later character) CleanFront)
-    → Gets (read >>= λ character. later character >>= λ others. Ok (encode_utf8 character.0 ++ others.0, others.1)) CleanFront
-escape_case read later one two =
-    bind_gets read (λ character. later character >>= λ others. Ok (encode_utf8 character.0 ++ others.0, others.1)) NotZero CleanFront one (λ character some.
-    bind_gets (later character) (λ others. Ok (encode_utf8 character.0 ++ others.0, others.1)) CleanFront CleanFront (two character) (λ others rest. clean_append (encode_utf8 character.0) others.0 (clean_encode character.0 some) rest))
-
-plain_case : (c : ℕ) (read : Read (List ℕ)) → is_plain c ≡ true → Gets read CleanFront → Gets (read >>= λ others. Ok (c ∷ others.0, others.1)) CleanFront
-plain_case c read plain one =
-    bind_gets read (λ others. Ok (c ∷ others.0, others.1)) CleanFront CleanFront one (λ others rest. (plain_byte c plain, rest))
-
--- a string that is read as a name
-pub letters_clean : (most : ℕ) (text : List ℕ) → Gets (letters_at true most text) CleanFront
-unfolding letters_at
-letters_clean most [] = tt
-letters_clean zero (c ∷ after) = tt
-letters_clean (suc most) (c ∷ after) =
-    search (cond_gets, escape_case (escape_at true after) (λ character. letters_at true most character.1) (escape_clean after) (λ character. letters_clean most character.1), plain_case c (letters_at true most after), letters_clean most after) depth 12
-
-pub clean_string : (text : List ℕ) (r : Result (Text × Bor (List ℕ)) ReadError) → Gives (λ x. (x.0, x.1.now)) r (letters_at true (length text) text) → IfOk r (λ x. ¬ Contains x.0 0)
-clean_string text (Ok x) read = no_zero x.0 (rw read at (letters_clean (length text) text))
-clean_string text (Err e) read = tt
+-- a string that is a name
+pub letters_clean : (letters : List Letter) (bytes s : List ℕ) → SpellsLetters true letters bytes s → IsClean bytes
+letters_clean [] bytes s spelled = rw spelled.0 tt
+letters_clean (letter ∷ letters) bytes s spelled =
+    rw spelled.5 (clean_append spelled.0 spelled.1 (letter_clean letter spelled.0 spelled.3) (letters_clean letters spelled.1 spelled.2 spelled.4))
 
 name_byte : (c : ℕ) → is_name_byte c ≡ true → 0 < c
 name_byte c inside = grind arith

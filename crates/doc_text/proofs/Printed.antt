@@ -3,7 +3,7 @@ use Rattle.std.proofs.Common.{◌≡◌, ℕ, zero, suc, ◌+◌, ◌*◌, ◌<�
 use Rattle.std.specs.Prelude.{codes}
 use Rattle.std.proofs.lemmas.List.{append-nil}
 use Rattle.bson_doc.specs.Tree.{Tree, document, array, Fields, no_fields, field, Trees, no_items, item, fields_from, trees_from, tree_size, fields_size, trees_size}
-use Rattle.doc_text.specs.Printing.{printed, printed_name, printed_fields, later_fields, printed_items, later_items}
+use Rattle.doc_text.specs.Printing.{separator, printed, printed_name, printed_fields, later_fields, printed_items, later_items}
 
 -- what is still to be printed of an array, behind its first place or at it
 abbrev pub items_left : ℕ → Trees → List ℕ
@@ -23,11 +23,6 @@ pub fields_from-size : (place : ℕ) (fields : Fields) → fields_size (fields_f
 fields_from-size place no_fields = omega arith
 fields_from-size zero (field name value rest) = omega arith
 fields_from-size (suc place) (field name value rest) = omega (arith, fields_from-size place rest)
-
--- what stands before a member
-abbrev pub separator : ℕ → List ℕ
-separator zero = []
-separator (suc place) = codes ", "
 
 items_left-item : (place : ℕ) (value : Tree) (rest : Trees) → items_left place (item value rest) ≡ separator place ++ (printed value ++ later_items rest)
 unfolding printed
@@ -54,9 +49,9 @@ item_written place items rest value front whole is so_far =
 
 -- one field more
 pub field_written : (place : ℕ) (fields rest : Fields) (name : List ℕ) (value : Tree) (front whole : List ℕ) → fields_from place fields ≡ field name value rest
-    → front ++ fields_left place (fields_from place fields) ≡ whole → ((((front ++ separator place) ++ printed_name name) ++ codes ": ") ++ printed value) ++ fields_left (place + 1) rest ≡ whole
+    → front ++ fields_left place (fields_from place fields) ≡ whole → (((front ++ separator place) ++ (printed_name name ++ codes ": ")) ++ printed value) ++ fields_left (place + 1) rest ≡ whole
 field_written place _ rest name value front whole is so_far =
-    let one : ((((front ++ separator place) ++ printed_name name) ++ codes ": ") ++ printed value) ++ later_fields rest ≡ front ++ (separator place ++ (printed_name name ++ (codes ": " ++ (printed value ++ later_fields rest)))) = simp append_assoc in
+    let one : (((front ++ separator place) ++ (printed_name name ++ codes ": ")) ++ printed value) ++ later_fields rest ≡ front ++ (separator place ++ (printed_name name ++ (codes ": " ++ (printed value ++ later_fields rest)))) = simp append_assoc in
     rw (fields_left-next place rest) (one ∙ ap (λ (x : List ℕ). front ++ x) (sym (fields_left-field place name value rest)) ∙ ap (λ (fs : Fields). front ++ fields_left place fs) (sym is) ∙ so_far)
 
 items_left-end : (place : ℕ) → items_left place no_items ≡ []
@@ -90,11 +85,11 @@ item_smaller place items rest value is = omega (arith, trees_from-size place ite
 pub field_smaller : (place : ℕ) (fields rest : Fields) (name : List ℕ) (value : Tree) → fields_from place fields ≡ field name value rest → 2 * tree_size value + 1 < 2 * fields_size fields
 field_smaller place fields rest name value is = omega (arith, fields_from-size place fields, ap fields_size is)
 
--- a separator was written where there was something before
-pub with_separator : (place : ℕ) (old new : List ℕ) → 0 < place → new ≡ old ++ codes ", " → new ≡ old ++ separator place
-with_separator zero old new some is = absurd (omega arith)
-with_separator (suc place) old new some is = is
+-- a separator is written where there is something before
+pub some_separator : (place : ℕ) → 0 < place → separator place ≡ codes ", "
+some_separator zero some = absurd (omega arith)
+some_separator (suc place) some = refl
 
-pub with_no_separator : (place : ℕ) (old new : List ℕ) → place ≤ 0 → new ≡ old → new ≡ old ++ separator place
-with_no_separator zero old new none is = is ∙ sym (append-nil old)
-with_no_separator (suc place) old new none is = absurd (omega arith)
+pub no_separator : (place : ℕ) → place ≤ 0 → separator place ≡ []
+no_separator zero none = refl
+no_separator (suc place) none = absurd (omega arith)

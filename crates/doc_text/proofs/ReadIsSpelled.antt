@@ -15,7 +15,7 @@ use Rattle.doc_text.specs.declared.fault.Rule.TheVariants.{Unexpected, Number}
 use Rattle.doc_text.specs.Bytes.{is_space}
 use Rattle.doc_text.specs.Class.{behind_spaces}
 use Rattle.doc_text.specs.Fault.{◌>>=◌, fails}
-use Rattle.doc_text.specs.Marks.{mark_at, spaced_at, closing_at, word_at}
+use Rattle.doc_text.specs.Marks.{mark_at, spaced_at, closing_at, word_at, opened_at}
 use Rattle.doc_text.specs.Integers.{fits, ranged, digits_at, integer_at, natural_at, long_at, kind_at, number_at}
 use Rattle.doc_text.specs.HexText.{bytes_of, closed_at, hex_fault, binary_hex_at, id_hex_at}
 use Rattle.doc_text.specs.Spelling.{IsSpaces, IsSpaced, IsClosing, SpellsInteger, SpellsNatural, Spells, levels, GoesNoFurther}
@@ -87,6 +87,16 @@ word_gets (c ∷ word) text =
     go : (r : Result (List ℕ) Fault) (rest : List ℕ) → text ≡ c ∷ rest → Gets r (λ after. rest ≡ word ++ after) → Gets r (λ after. text ≡ c ∷ (word ++ after))
     go (Err e) rest is got = tt
     go (Ok after) rest is got = is ∙ ap (λ (x : List ℕ). c ∷ x) got
+
+-- what stands behind a word and an opening parenthesis
+abbrev pub Opening : List ℕ → List ℕ → List ℕ → Type 0
+Opening word text rest = (s : List ℕ) × IsSpaced 40 s × (text ≡ word ++ (s ++ rest))
+
+pub opened_gets : (word text : List ℕ) → Gets (opened_at word text) (Opening word text)
+unfolding opened_at
+opened_gets word text =
+    bind_gets (word_at word text) (λ name. spaced_at 40 name) (λ rest. text ≡ word ++ rest) (Opening word text) (word_gets word text) (λ name a.
+    gets_more (spaced_at 40 name) (Behind (IsSpaced 40) name) (Opening word text) (spaced_gets 40 name) (λ rest b. (b.0, b.1, a ∙ ap (λ (x : List ℕ). word ++ x) b.2)))
 
 -- ---- numbers
 

@@ -4,15 +4,19 @@ use Rattle.std.specs.Prelude.{encode_utf8, Contains, nat_le}
 use Rattle.std.specs.List.{prefix_len, list_all}
 use Rattle.std.proofs.lemmas.List.{take-append-drop}
 use Rattle.hex.specs.Hex.{hex_digit_value}
-use Rattle.doc_text.specs.declared.fault.Fault.{Fault}
+use denote.Ref.{Bor}
+use Rattle.std.specs.Result.{IfOk}
+use Rattle.bson_doc.specs.declared.text.Text.{Text}
+use Rattle.doc_text.specs.declared.fault.ReadError.{ReadError}
+use Rattle.doc_text.specs.Fault.{Gives}
 use Rattle.doc_text.specs.Bytes.{is_plain, is_name_byte, is_name_start}
 use Rattle.doc_text.specs.Strings.{hex_digit_at, unicode_at, named_character, or_escape, escape_at, letters_at}
 use Rattle.doc_text.specs.Names.{name_at}
 use Rattle.doc_text.specs.Printing.{is_bare}
 use Rattle.doc_text.specs.Spelling.{Letter, itself, named, coded, written, IsCode, Means, SpellsLetters, SpellsString, SpellsName}
-use Rattle.doc_text.proofs.NamesAreClean.{no_zero, letters_clean, bare_clean, CleanFront}
+use Rattle.doc_text.proofs.NamesAreClean.{no_zero, letters_clean, bare_clean}
 use Rattle.doc_text.proofs.ReadIsSpelled.{same}
-use Rattle.doc_text.proofs.Results.{Gets, bind_gets, cond_gets}
+use Rattle.doc_text.proofs.Results.{Gets, bind_gets, gets_more, cond_gets}
 
 -- ---- escapes
 
@@ -92,6 +96,13 @@ letters_gets in_name (suc most) (c ∷ rest) =
     bind_gets (letters_at in_name most rest) _ (LettersRead in_name rest) (LettersRead in_name (c ∷ rest)) (letters_gets in_name most rest) (λ others later.
     (itself c ∷ later.0, c ∷ later.1, (c ∷ [], others.0, later.1, (plain, refl), later.2, refl, refl), ap (λ (x : List ℕ). c ∷ x) later.3))) (λ _. tt)))
 
+-- a name that was read as a string has no zero byte
+pub clean_string : (text : List ℕ) (r : Result (Text × Bor (List ℕ)) ReadError) → Gives (λ x. (x.0, x.1.now)) r (letters_at true (length text) text) → IfOk r (λ x. ¬ Contains x.0 0)
+clean_string text (Ok x) read =
+    let got : LettersRead true text (x.0, x.1.now) = rw read at (letters_gets true (length text) text) in
+    no_zero x.0 (letters_clean got.0 x.0 got.1 got.2)
+clean_string text (Err e) read = tt
+
 -- ---- names
 
 all_names : (b : Bool) (c n : ℕ) (rest : List ℕ) → is_name_byte c ≡ b → list_all is_name_byte (take n rest) ≡ true → list_all is_name_byte (take (cond b (1 + n) 0) (c ∷ rest)) ≡ true
@@ -120,18 +131,14 @@ bare_run c rest starts = bare_step (is_name_byte c) c (prefix_len is_name_byte r
 abbrev pub NameRead : List ℕ → List ℕ × List ℕ → Type 0
 NameRead input x = (s : List ℕ) × SpellsName x.0 s × (input ≡ s ++ x.1) × (¬ Contains x.0 0)
 
-both : {A : Type 0} (r : Result A Fault) (P Q R : A → Type 0) → Gets r P → Gets r Q → ((x : A) → P x → Q x → R x) → Gets r R
-both (Ok x) P Q R one two more = more x one two
-both (Err e) P Q R one two more = tt
-
 pub name_gets : (input : List ℕ) → Gets (name_at input) (NameRead input)
 unfolding name_at
 name_gets [] = tt
 name_gets (c ∷ rest) =
     cond_gets (c == 34) _ _ (NameRead (c ∷ rest))
-    (λ mark. both (letters_at true (length rest) rest) (LettersRead true rest) CleanFront (NameRead (c ∷ rest)) (letters_gets true (length rest) rest) (letters_clean (length rest) rest) (λ x got clean.
+    (λ mark. gets_more (letters_at true (length rest) rest) (LettersRead true rest) (NameRead (c ∷ rest)) (letters_gets true (length rest) rest) (λ x got.
     let quoted : SpellsString true x.0 (34 ∷ got.1) = record { letters = got.0; behind = got.1; spelled = got.2; whole = refl } in
-    (34 ∷ got.1, inr quoted, ap (λ (k : ℕ). k ∷ rest) (same c 34 mark) ∙ ap (λ (t : List ℕ). 34 ∷ t) got.3, no_zero x.0 clean)))
+    (34 ∷ got.1, inr quoted, ap (λ (k : ℕ). k ∷ rest) (same c 34 mark) ∙ ap (λ (t : List ℕ). 34 ∷ t) got.3, no_zero x.0 (letters_clean got.0 x.0 got.1 got.2))))
     (λ _. cond_gets (is_name_start c) _ _ (NameRead (c ∷ rest))
     (λ starts. (take (prefix_len is_name_byte (c ∷ rest)) (c ∷ rest), inl (bare_run c rest starts, refl), sym (take-append-drop (prefix_len is_name_byte (c ∷ rest)) (c ∷ rest)), no_zero (take (prefix_len is_name_byte (c ∷ rest)) (c ∷ rest)) (bare_clean (c ∷ rest))))
     (λ _. tt))

@@ -1,5 +1,5 @@
 -- What is read is a spelling of what is given: documents, arrays and whole values.
-use Rattle.std.proofs.Common.{◌≡◌, ℕ, zero, suc, ◌-◌, ◌≤◌, true, false, List, [], ◌∷◌, ◌++◌, ◌||◌, length, drop, Option, Some, None, Ok, refl, sym, ap, subst, ◌∙◌, append_assoc, arith}
+use Rattle.std.proofs.Common.{◌≡◌, ℕ, zero, suc, ◌-◌, ◌≤◌, true, List, [], ◌∷◌, ◌++◌, ◌||◌, length, drop, None, Ok, refl, sym, ap, subst, ◌∙◌, append_assoc, arith}
 use Rattle.std.specs.Prelude.{is_some, Contains}
 use Rattle.std.proofs.lemmas.List.{length-drop, length-append}
 use Rattle.bson_doc.specs.Tree.{Tree, document, array, Fields, no_fields, field, Trees, no_items, item, IsDocument, found, with_field, with_item}
@@ -7,11 +7,12 @@ use Rattle.bson_doc.proofs.NameLemmas.{with_set-new, IsDocument-with_set}
 use Rattle.doc_text.specs.declared.fault.Rule.TheVariants.{TooDeep}
 use Rattle.doc_text.specs.Class.{behind_spaces}
 use Rattle.doc_text.specs.Fault.{Read, fails}
-use Rattle.doc_text.specs.Marks.{mark_at, spaced_at}
+use Rattle.doc_text.specs.Marks.{begins_with, mark_at, spaced_at}
 use Rattle.doc_text.specs.Names.{name_at}
 use Rattle.doc_text.specs.Scalars.{scalar_at}
-use Rattle.doc_text.specs.Values.{begins_with, field_at, fields_at, items_at, document_at, array_at, value_at}
-use Rattle.doc_text.specs.Spelling.{IsSpaces, IsSpaced, IsClosing, SpellsField, Spells, SpellsFields, SpellsItems, SpellsLaterFields, SpellsLaterItems, levels, field_levels, item_levels, Stands}
+use Rattle.doc_text.specs.Values.{key_at, field_at, item_at, members_at, inside_at, listed_at, document_at, array_at, value_at}
+use Rattle.doc_text.specs.Spelling.{IsSpaced, IsClosing, SpellsName, SpellsField, Spells, SpellsFields, SpellsItems, SpellsLaterFields, SpellsLaterItems, levels, field_levels, item_levels, Stands}
+use Rattle.doc_text.proofs.Members.{not_found}
 use Rattle.doc_text.proofs.SpelledIsRead.{joined, joined-is, joined_items, joined_items-is}
 use Rattle.doc_text.proofs.ReadIsSpelled.{same, Behind, StandsAs, mark_gets, spaced_gets, spaces_front}
 use Rattle.doc_text.proofs.ReadStrings.{NameRead, name_gets}
@@ -26,13 +27,18 @@ Sound most member = (input : List ℕ) → Gets (member input) (StandsAs most in
 IsDocument-with_field : (fs : Fields) (name : List ℕ) (value : Tree) → IsDocument fs → ¬ Contains name 0 → found name fs ≡ None → IsDocument (with_field fs name value)
 IsDocument-with_field fs name value apart clean new = subst IsDocument (with_set-new fs name value new) (IsDocument-with_set fs name value apart clean)
 
-not_found : (o : Option Tree) → is_some o ≡ false → o ≡ None
-not_found None h = refl
-not_found (Some x) h = absurd cc
-
 begun : (mark : ℕ) (input : List ℕ) → begins_with mark input ≡ true → input ≡ mark ∷ drop 1 input
 begun mark [] h = absurd cc
 begun mark (c ∷ rest) h = ap (λ (x : ℕ). x ∷ rest) (same c mark h)
+
+-- the closing mark with spaces before it
+closed_front : (close : ℕ) (text : List ℕ) → begins_with close (behind_spaces text) ≡ true → Behind (IsClosing close) text (drop 1 (behind_spaces text))
+closed_front close text closed =
+    let before = spaces_front text in (
+      before.0 ++ close ∷ [],
+      record { before = before.0; spaces_before = before.1; whole = refl },
+      before.2 ∙ ap (λ (x : List ℕ). before.0 ++ x) (begun close (behind_spaces text) closed) ∙ sym (append_assoc before.0 (close ∷ []) (drop 1 (behind_spaces text))),
+    )
 
 -- ---- fields
 
@@ -40,38 +46,43 @@ pub record FieldRead (most : ℕ) (so_far : Fields) (input : List ℕ) (x : Fiel
   pub name : List ℕ
   pub value : Tree
   pub one : List ℕ
-  pub spaces : List ℕ
   pub grown : x.0 ≡ with_field so_far name value
   pub new : found name so_far ≡ None
   pub clean : ¬ Contains name 0
   pub spelled : SpellsField name (Spells value) one
-  pub blank : IsSpaces spaces
-  pub whole : input ≡ one ++ (spaces ++ x.1)
+  pub whole : input ≡ one ++ x.1
   pub shallow : levels value ≤ most
+
+-- a name with its colon
+abbrev KeyRead : Fields → List ℕ → List ℕ × List ℕ → Type 0
+KeyRead so_far input x = (front colon : List ℕ) × SpellsName x.0 front × IsSpaced 58 colon × (input ≡ front ++ (colon ++ x.1)) × (¬ Contains x.0 0) × (found x.0 so_far ≡ None)
+
+key_gets : (so_far : Fields) (input : List ℕ) → Gets (key_at so_far input) (KeyRead so_far input)
+unfolding key_at
+key_gets so_far input =
+    bind_gets (name_at input) _ (NameRead input) (KeyRead so_far input) (name_gets input) (λ name a.
+    cond_gets (is_some (found name.0 so_far)) _ _ (KeyRead so_far input) (λ _. tt) (λ new.
+    bind_gets (spaced_at 58 name.1) _ (Behind (IsSpaced 58) name.1) (KeyRead so_far input) (spaced_gets 58 name.1) (λ inside b.
+    (a.0, b.0, a.1, b.1, a.2 ∙ ap (λ (x : List ℕ). a.0 ++ x) b.2, a.3, not_found (found name.0 so_far) new))))
 
 field_gets : (most : ℕ) (member : List ℕ → Read Tree) → Sound most member → (so_far : Fields) (input : List ℕ) → Gets (field_at member so_far input) (FieldRead most so_far input)
 unfolding field_at
 field_gets most member sound so_far input =
-    bind_gets (name_at input) _ (NameRead input) (FieldRead most so_far input) (name_gets input) (λ name a.
-    cond_gets (is_some (found name.0 so_far)) _ _ (FieldRead most so_far input) (λ _. tt) (λ new.
-    bind_gets (spaced_at 58 name.1) _ (Behind (IsSpaced 58) name.1) (FieldRead most so_far input) (spaced_gets 58 name.1) (λ inside b.
-    bind_gets (member inside) _ (StandsAs most inside) (FieldRead most so_far input) (sound inside) (λ value c.
-    let after = spaces_front value.1 in
-    let parts : input ≡ (a.0 ++ (b.0 ++ c.0)) ++ (after.0 ++ behind_spaces value.1) =
-    a.2 ∙ ap (λ (x : List ℕ). a.0 ++ x) (b.2 ∙ ap (λ (x : List ℕ). b.0 ++ x) (c.2 ∙ ap (λ (x : List ℕ). c.0 ++ x) after.2)) ∙ sym (simp append_assoc) in
+    bind_gets (key_at so_far input) _ (KeyRead so_far input) (FieldRead most so_far input) (key_gets so_far input) (λ name a.
+    bind_gets (member name.1) _ (StandsAs most name.1) (FieldRead most so_far input) (sound name.1) (λ value c.
+    let parts : input ≡ (a.0 ++ (a.1 ++ c.0)) ++ value.1 =
+    a.4 ∙ ap (λ (x : List ℕ). a.0 ++ x) (ap (λ (x : List ℕ). a.1 ++ x) c.2) ∙ sym (simp append_assoc) in
     record {
       name = name.0;
       value = value.0;
-      one = a.0 ++ (b.0 ++ c.0);
-      spaces = after.0;
+      one = a.0 ++ (a.1 ++ c.0);
       grown = refl;
-      new = not_found (found name.0 so_far) new;
-      clean = a.3;
-      spelled = (a.0, b.0, c.0, a.1, b.1, c.1, refl);
-      blank = after.1;
+      new = a.6;
+      clean = a.5;
+      spelled = (a.0, a.1, c.0, a.2, a.3, c.1, refl);
       whole = parts;
       shallow = c.4;
-    }))))
+    }))
 
 -- a first field, those behind it, and the closing brace
 pub record FieldsRead (most : ℕ) (so_far : Fields) (input : List ℕ) (x : Fields × List ℕ) : Type 0 where
@@ -88,44 +99,41 @@ pub record FieldsRead (most : ℕ) (so_far : Fields) (input : List ℕ) (x : Fie
   pub shallow : levels value ≤ most
   pub others_shallow : field_levels others ≤ most
 
-pub fields_gets : (most : ℕ) (member : List ℕ → Read Tree) → Sound most member → (fuel : ℕ) (so_far : Fields) (input : List ℕ) → Gets (fields_at member fuel so_far input) (FieldsRead most so_far input)
-unfolding fields_at
+fields_gets : (most : ℕ) (member : List ℕ → Read Tree) → Sound most member → (fuel : ℕ) (so_far : Fields) (input : List ℕ) → Gets (members_at (field_at member) 125 fuel so_far input) (FieldsRead most so_far input)
+unfolding members_at
 fields_gets most member sound zero so_far input = tt
 fields_gets most member sound (suc fuel) so_far input =
     bind_gets (field_at member so_far input) _ (FieldRead most so_far input) (FieldsRead most so_far input) (field_gets most member sound so_far input) (λ got a.
-    cond_gets (begins_with 125 got.1) _ _ (FieldsRead most so_far input) (λ closed.
-    let mark = begun 125 got.1 closed in
-    let closing : IsClosing 125 (a.spaces ++ 125 ∷ []) = record { before = a.spaces; spaces_before = a.blank; whole = refl } in
+    let apart = λ (before : IsDocument so_far). subst IsDocument (sym a.grown) (IsDocument-with_field so_far a.name a.value before a.clean a.new) in
+    cond_gets (begins_with 125 (behind_spaces got.1)) _ _ (FieldsRead most so_far input) (λ closed.
+    let end = closed_front 125 got.1 closed in
     record {
       name = a.name;
       value = a.value;
       others = no_fields;
       one = a.one;
-      later = a.spaces ++ 125 ∷ [];
+      later = end.0;
       grown = a.grown;
-      apart = λ before. subst IsDocument (sym a.grown) (IsDocument-with_field so_far a.name a.value before a.clean a.new);
+      apart = apart;
       spelled = a.spelled;
-      behind = closing;
-      whole = a.whole ∙ ap (λ (x : List ℕ). a.one ++ x) (ap (λ (x : List ℕ). a.spaces ++ x) mark ∙ sym (append_assoc a.spaces (125 ∷ []) (drop 1 got.1)));
+      behind = end.1;
+      whole = a.whole ∙ ap (λ (x : List ℕ). a.one ++ x) end.2;
       shallow = a.shallow;
       others_shallow = omega arith;
     }) (λ _.
-    bind_gets (mark_at 44 got.1) _ (λ rest. got.1 ≡ 44 ∷ rest) (FieldsRead most so_far input) (mark_gets 44 got.1) (λ rest comma.
-    gets_more (fields_at member fuel got.0 (behind_spaces rest)) (FieldsRead most got.0 (behind_spaces rest)) (FieldsRead most so_far input) (fields_gets most member sound fuel got.0 (behind_spaces rest)) (λ x b.
-    let after = spaces_front rest in
-    let spaced : IsSpaced 44 (a.spaces ++ 44 ∷ after.0) = record { before = a.spaces; after = after.0; spaces_before = a.blank; spaces_after = after.1; whole = refl } in
-    let parts : a.spaces ++ got.1 ≡ ((a.spaces ++ 44 ∷ after.0) ++ (b.one ++ b.later)) ++ x.1 =
-    ap (λ (y : List ℕ). a.spaces ++ y) (comma ∙ ap (λ (y : List ℕ). 44 ∷ y) (after.2 ∙ ap (λ (y : List ℕ). after.0 ++ y) b.whole)) ∙ sym (simp append_assoc) in
+    bind_gets (spaced_at 44 got.1) _ (Behind (IsSpaced 44) got.1) (FieldsRead most so_far input) (spaced_gets 44 got.1) (λ rest comma.
+    gets_more (members_at (field_at member) 125 fuel got.0 rest) (FieldsRead most got.0 rest) (FieldsRead most so_far input) (fields_gets most member sound fuel got.0 rest) (λ x b.
+    let parts : got.1 ≡ (comma.0 ++ (b.one ++ b.later)) ++ x.1 = comma.2 ∙ ap (λ (y : List ℕ). comma.0 ++ y) b.whole ∙ sym (simp append_assoc) in
     record {
       name = a.name;
       value = a.value;
       others = field b.name b.value b.others;
       one = a.one;
-      later = (a.spaces ++ 44 ∷ after.0) ++ (b.one ++ b.later);
+      later = comma.0 ++ (b.one ++ b.later);
       grown = b.grown ∙ ap (λ (fs : Fields). joined (with_field fs b.name b.value) b.others) a.grown;
-      apart = λ before. b.apart (subst IsDocument (sym a.grown) (IsDocument-with_field so_far a.name a.value before a.clean a.new));
+      apart = λ before. b.apart (apart before);
       spelled = a.spelled;
-      behind = (a.spaces ++ 44 ∷ after.0, b.one, b.later, spaced, b.spelled, b.behind, refl);
+      behind = (comma.0, b.one, b.later, comma.1, b.spelled, b.behind, refl);
       whole = a.whole ∙ ap (λ (y : List ℕ). a.one ++ y) parts;
       shallow = a.shallow;
       others_shallow = omega (arith, b.shallow, b.others_shallow);
@@ -145,60 +153,62 @@ pub record ItemsRead (most : ℕ) (so_far : Trees) (input : List ℕ) (x : Trees
   pub shallow : levels value ≤ most
   pub others_shallow : item_levels others ≤ most
 
-pub items_gets : (most : ℕ) (member : List ℕ → Read Tree) → Sound most member → (fuel : ℕ) (so_far : Trees) (input : List ℕ) → Gets (items_at member fuel so_far input) (ItemsRead most so_far input)
-unfolding items_at
+-- an item, with the items that there are then
+abbrev ItemRead : ℕ → Trees → List ℕ → Trees × List ℕ → Type 0
+ItemRead most so_far input x = (value : Tree) × (x.0 ≡ with_item so_far value) × StandsAs most input (value, x.1)
+
+item_gets : (most : ℕ) (member : List ℕ → Read Tree) → Sound most member → (so_far : Trees) (input : List ℕ) → Gets (item_at member so_far input) (ItemRead most so_far input)
+unfolding item_at
+item_gets most member sound so_far input =
+    bind_gets (member input) _ (StandsAs most input) (ItemRead most so_far input) (sound input) (λ value a. (value.0, refl, a))
+
+items_gets : (most : ℕ) (member : List ℕ → Read Tree) → Sound most member → (fuel : ℕ) (so_far : Trees) (input : List ℕ) → Gets (members_at (item_at member) 93 fuel so_far input) (ItemsRead most so_far input)
+unfolding members_at
 items_gets most member sound zero so_far input = tt
 items_gets most member sound (suc fuel) so_far input =
-    bind_gets (member input) _ (StandsAs most input) (ItemsRead most so_far input) (sound input) (λ got a.
-    let before = spaces_front got.1 in
+    bind_gets (item_at member so_far input) _ (ItemRead most so_far input) (ItemsRead most so_far input) (item_gets most member sound so_far input) (λ got a.
+    let stands = a.2 in
     cond_gets (begins_with 93 (behind_spaces got.1)) _ _ (ItemsRead most so_far input) (λ closed.
-    let mark = begun 93 (behind_spaces got.1) closed in
-    let closing : IsClosing 93 (before.0 ++ 93 ∷ []) = record { before = before.0; spaces_before = before.1; whole = refl } in
+    let end = closed_front 93 got.1 closed in
     record {
-      value = got.0;
+      value = a.0;
       others = no_items;
-      one = a.0;
-      later = before.0 ++ 93 ∷ [];
-      grown = refl;
-      spelled = a.1;
-      behind = closing;
-      whole = a.2 ∙ ap (λ (x : List ℕ). a.0 ++ x) (before.2 ∙ ap (λ (x : List ℕ). before.0 ++ x) mark ∙ sym (append_assoc before.0 (93 ∷ []) (drop 1 (behind_spaces got.1))));
-      shallow = a.4;
+      one = stands.0;
+      later = end.0;
+      grown = a.1;
+      spelled = stands.1;
+      behind = end.1;
+      whole = stands.2 ∙ ap (λ (x : List ℕ). stands.0 ++ x) end.2;
+      shallow = stands.4;
       others_shallow = omega arith;
     }) (λ _.
-    bind_gets (mark_at 44 (behind_spaces got.1)) _ (λ rest. behind_spaces got.1 ≡ 44 ∷ rest) (ItemsRead most so_far input) (mark_gets 44 (behind_spaces got.1)) (λ rest comma.
-    gets_more (items_at member fuel (with_item so_far got.0) (behind_spaces rest)) (ItemsRead most (with_item so_far got.0) (behind_spaces rest)) (ItemsRead most so_far input) (items_gets most member sound fuel (with_item so_far got.0) (behind_spaces rest)) (λ x b.
-    let after = spaces_front rest in
-    let spaced : IsSpaced 44 (before.0 ++ 44 ∷ after.0) = record { before = before.0; after = after.0; spaces_before = before.1; spaces_after = after.1; whole = refl } in
-    let parts : got.1 ≡ ((before.0 ++ 44 ∷ after.0) ++ (b.one ++ b.later)) ++ x.1 =
-    before.2 ∙ ap (λ (y : List ℕ). before.0 ++ y) (comma ∙ ap (λ (y : List ℕ). 44 ∷ y) (after.2 ∙ ap (λ (y : List ℕ). after.0 ++ y) b.whole)) ∙ sym (simp append_assoc) in
+    bind_gets (spaced_at 44 got.1) _ (Behind (IsSpaced 44) got.1) (ItemsRead most so_far input) (spaced_gets 44 got.1) (λ rest comma.
+    gets_more (members_at (item_at member) 93 fuel got.0 rest) (ItemsRead most got.0 rest) (ItemsRead most so_far input) (items_gets most member sound fuel got.0 rest) (λ x b.
+    let parts : got.1 ≡ (comma.0 ++ (b.one ++ b.later)) ++ x.1 = comma.2 ∙ ap (λ (y : List ℕ). comma.0 ++ y) b.whole ∙ sym (simp append_assoc) in
     record {
-      value = got.0;
+      value = a.0;
       others = item b.value b.others;
-      one = a.0;
-      later = (before.0 ++ 44 ∷ after.0) ++ (b.one ++ b.later);
-      grown = b.grown;
-      spelled = a.1;
-      behind = (before.0 ++ 44 ∷ after.0, b.one, b.later, spaced, b.spelled, b.behind, refl);
-      whole = a.2 ∙ ap (λ (y : List ℕ). a.0 ++ y) parts;
-      shallow = a.4;
+      one = stands.0;
+      later = comma.0 ++ (b.one ++ b.later);
+      grown = b.grown ∙ ap (λ (ts : Trees). joined_items (with_item ts b.value) b.others) a.1;
+      spelled = stands.1;
+      behind = (comma.0, b.one, b.later, comma.1, b.spelled, b.behind, refl);
+      whole = stands.2 ∙ ap (λ (y : List ℕ). stands.0 ++ y) parts;
+      shallow = stands.4;
       others_shallow = omega (arith, b.shallow, b.others_shallow);
     }))))
 
 -- ---- values
 
-document_gets : (most : ℕ) (member : List ℕ → Read Tree) → Sound most member → (input : List ℕ) → Gets (document_at member input) (StandsAs (suc most) input)
-unfolding document_at
+document_gets : (most : ℕ) (member : List ℕ → Read Tree) → Sound most member → (input : List ℕ) → Gets (document_at member input) (λ x. StandsAs (suc most) input (document x.0, x.1))
+unfolding listed_at inside_at
 document_gets most member sound input =
-    bind_gets (mark_at 123 input) _ (λ rest. input ≡ 123 ∷ rest) (StandsAs (suc most) input) (mark_gets 123 input) (λ rest opened.
+    bind_gets (mark_at 123 input) _ (λ rest. input ≡ 123 ∷ rest) (λ x. StandsAs (suc most) input (document x.0, x.1)) (mark_gets 123 input) (λ rest opened.
     let spaces = spaces_front rest in
-    cond_gets (begins_with 125 (behind_spaces rest)) _ _ (StandsAs (suc most) input) (λ closed.
-    let mark = begun 125 (behind_spaces rest) closed in
-    let closing : IsClosing 125 (spaces.0 ++ 125 ∷ []) = record { before = spaces.0; spaces_before = spaces.1; whole = refl } in
-    let whole : input ≡ (123 ∷ (spaces.0 ++ 125 ∷ [])) ++ drop 1 (behind_spaces rest) =
-    opened ∙ ap (λ (x : List ℕ). 123 ∷ x) (spaces.2 ∙ ap (λ (x : List ℕ). spaces.0 ++ x) mark ∙ sym (append_assoc spaces.0 (125 ∷ []) (drop 1 (behind_spaces rest)))) in
-    (123 ∷ (spaces.0 ++ 125 ∷ []), (tt, spaces.0 ++ 125 ∷ [], closing, refl), whole, tt, omega arith)) (λ _.
-    bind_gets (fields_at member (suc (length (behind_spaces rest))) no_fields (behind_spaces rest)) _ (FieldsRead most no_fields (behind_spaces rest)) (StandsAs (suc most) input) (fields_gets most member sound (suc (length (behind_spaces rest))) no_fields (behind_spaces rest)) (λ x a.
+    cond_gets (begins_with 125 (behind_spaces rest)) _ _ (λ x. StandsAs (suc most) input (document x.0, x.1)) (λ closed.
+    let end = closed_front 125 rest closed in
+    (123 ∷ end.0, (tt, end.0, end.1, refl), opened ∙ ap (λ (x : List ℕ). 123 ∷ x) end.2, tt, omega arith)) (λ _.
+    gets_more (members_at (field_at member) 125 (suc (length (behind_spaces rest))) no_fields (behind_spaces rest)) (FieldsRead most no_fields (behind_spaces rest)) (λ x. StandsAs (suc most) input (document x.0, x.1)) (fields_gets most member sound (suc (length (behind_spaces rest))) no_fields (behind_spaces rest)) (λ x a.
     let made : x.0 ≡ field a.name a.value a.others = a.grown ∙ joined-is (with_field no_fields a.name a.value) a.others in
     let apart : IsDocument (field a.name a.value a.others) = subst IsDocument made (a.apart tt) in
     let inside : SpellsFields (field a.name a.value a.others) (spaces.0 ++ (a.one ++ a.later)) = (spaces.0, a.one, a.later, spaces.1, a.spelled, a.behind, refl) in
@@ -207,18 +217,15 @@ document_gets most member sound input =
     let stands : StandsAs (suc most) input (document (field a.name a.value a.others), x.1) = (123 ∷ (spaces.0 ++ (a.one ++ a.later)), (apart, spaces.0 ++ (a.one ++ a.later), inside, refl), whole, tt, omega (arith, a.shallow, a.others_shallow)) in
     subst (λ (fs : Fields). StandsAs (suc most) input (document fs, x.1)) (sym made) stands)))
 
-array_gets : (most : ℕ) (member : List ℕ → Read Tree) → Sound most member → (input : List ℕ) → Gets (array_at member input) (StandsAs (suc most) input)
-unfolding array_at
+array_gets : (most : ℕ) (member : List ℕ → Read Tree) → Sound most member → (input : List ℕ) → Gets (array_at member input) (λ x. StandsAs (suc most) input (array x.0, x.1))
+unfolding listed_at inside_at
 array_gets most member sound input =
-    bind_gets (mark_at 91 input) _ (λ rest. input ≡ 91 ∷ rest) (StandsAs (suc most) input) (mark_gets 91 input) (λ rest opened.
+    bind_gets (mark_at 91 input) _ (λ rest. input ≡ 91 ∷ rest) (λ x. StandsAs (suc most) input (array x.0, x.1)) (mark_gets 91 input) (λ rest opened.
     let spaces = spaces_front rest in
-    cond_gets (begins_with 93 (behind_spaces rest)) _ _ (StandsAs (suc most) input) (λ closed.
-    let mark = begun 93 (behind_spaces rest) closed in
-    let closing : IsClosing 93 (spaces.0 ++ 93 ∷ []) = record { before = spaces.0; spaces_before = spaces.1; whole = refl } in
-    let whole : input ≡ (91 ∷ (spaces.0 ++ 93 ∷ [])) ++ drop 1 (behind_spaces rest) =
-    opened ∙ ap (λ (x : List ℕ). 91 ∷ x) (spaces.2 ∙ ap (λ (x : List ℕ). spaces.0 ++ x) mark ∙ sym (append_assoc spaces.0 (93 ∷ []) (drop 1 (behind_spaces rest)))) in
-    (91 ∷ (spaces.0 ++ 93 ∷ []), (spaces.0 ++ 93 ∷ [], closing, refl), whole, tt, omega arith)) (λ _.
-    bind_gets (items_at member (suc (length (behind_spaces rest))) no_items (behind_spaces rest)) _ (ItemsRead most no_items (behind_spaces rest)) (StandsAs (suc most) input) (items_gets most member sound (suc (length (behind_spaces rest))) no_items (behind_spaces rest)) (λ x a.
+    cond_gets (begins_with 93 (behind_spaces rest)) _ _ (λ x. StandsAs (suc most) input (array x.0, x.1)) (λ closed.
+    let end = closed_front 93 rest closed in
+    (91 ∷ end.0, (end.0, end.1, refl), opened ∙ ap (λ (x : List ℕ). 91 ∷ x) end.2, tt, omega arith)) (λ _.
+    gets_more (members_at (item_at member) 93 (suc (length (behind_spaces rest))) no_items (behind_spaces rest)) (ItemsRead most no_items (behind_spaces rest)) (λ x. StandsAs (suc most) input (array x.0, x.1)) (items_gets most member sound (suc (length (behind_spaces rest))) no_items (behind_spaces rest)) (λ x a.
     let made : x.0 ≡ item a.value a.others = a.grown ∙ joined_items-is (with_item no_items a.value) a.others in
     let inside : SpellsItems (item a.value a.others) (spaces.0 ++ (a.one ++ a.later)) = (spaces.0, a.one, a.later, spaces.1, a.spelled, a.behind, refl) in
     let whole : input ≡ (91 ∷ (spaces.0 ++ (a.one ++ a.later))) ++ x.1 =
@@ -230,8 +237,8 @@ pub value_gets : (most : ℕ) → Sound most (value_at most)
 unfolding value_at
 value_gets zero = λ input. cond_gets (begins_with 123 input || begins_with 91 input) (fails TooDeep input) (scalar_at input) (StandsAs zero input) (λ _. tt) (λ _. scalar_gets zero input)
 value_gets (suc most) = λ input.
-    cond_gets (begins_with 123 input) _ _ (StandsAs (suc most) input) (λ _. document_gets most (value_at most) (value_gets most) input) (λ _.
-    cond_gets (begins_with 91 input) _ _ (StandsAs (suc most) input) (λ _. array_gets most (value_at most) (value_gets most) input) (λ _. scalar_gets (suc most) input))
+    cond_gets (begins_with 123 input) _ _ (StandsAs (suc most) input) (λ _. bind_gets (document_at (value_at most) input) _ (λ x. StandsAs (suc most) input (document x.0, x.1)) (StandsAs (suc most) input) (document_gets most (value_at most) (value_gets most) input) (λ x got. got)) (λ _.
+    cond_gets (begins_with 91 input) _ _ (StandsAs (suc most) input) (λ _. bind_gets (array_at (value_at most) input) _ (λ x. StandsAs (suc most) input (array x.0, x.1)) (StandsAs (suc most) input) (array_gets most (value_at most) (value_gets most) input) (λ x got. got)) (λ _. scalar_gets (suc most) input))
 
 pub read_stands : (bytes front : List ℕ) (at : ℕ) (tree : Tree) (rest : List ℕ) → at ≤ length bytes → front ≡ drop at bytes → value_at 100 front ≡ Ok (tree, rest) → Stands bytes at tree (length bytes - length rest)
 read_stands bytes front at tree rest within is read =

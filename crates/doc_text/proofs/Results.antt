@@ -9,17 +9,9 @@ abbrev pub Gets : {A : Type 0} → Result A Fault → (A → Type 0) → Type 0
 Gets (Ok x) P = P x
 Gets (Err e) P = Unit {0}
 
-pub anything : {A : Type 0} (r : Result A Fault) → Gets r (λ _. Unit {0})
-anything (Ok x) = tt
-anything (Err e) = tt
-
 pub bind_gets : {A B : Type 0} (r : Result A Fault) (f : A → Result B Fault) (P : A → Type 0) (Q : B → Type 0) → Gets r P → ((x : A) → P x → Gets (f x) Q) → Gets (r >>= f) Q
 bind_gets (Ok x) f P Q one later = later x one
 bind_gets (Err e) f P Q one later = tt
-
-pub bind_any : {A B : Type 0} (r : Result A Fault) (f : A → Result B Fault) (Q : B → Type 0) → ((x : A) → Gets (f x) Q) → Gets (r >>= f) Q
-bind_any (Ok x) f Q later = later x
-bind_any (Err e) f Q later = tt
 
 pub gets_more : {A : Type 0} (r : Result A Fault) (P Q : A → Type 0) → Gets r P → ((x : A) → P x → Q x) → Gets r Q
 gets_more (Ok x) P Q one more = more x one

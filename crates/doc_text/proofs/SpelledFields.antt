@@ -5,11 +5,11 @@ use Rattle.std.specs.List.{prefix_len}
 use Rattle.std.proofs.lemmas.Bool.{cases_eq}
 use Rattle.bson_doc.specs.Tree.{Tree, null, boolean, Fields, found, with_field}
 use Rattle.doc_text.specs.Bytes.{is_name_byte}
-use Rattle.doc_text.specs.Class.{behind_spaces}
 use Rattle.doc_text.specs.Integers.{digits_at, integer_at, number_at}
+use Rattle.doc_text.specs.Marks.{begins_with}
 use Rattle.doc_text.specs.Names.{name_at}
 use Rattle.doc_text.specs.Scalars.{scalar_at}
-use Rattle.doc_text.specs.Values.{begins_with, field_at, value_at}
+use Rattle.doc_text.specs.Values.{key_at, field_at, value_at}
 use Rattle.doc_text.specs.Spelling.{SpellsField, Spells, GoesNoFurther}
 use Rattle.doc_text.proofs.SpelledMarks.{NoSpace, no_space, spaced_over, spaced_stops, goes_on, goes_no_further}
 use Rattle.doc_text.proofs.SpelledScalars.{constant_read}
@@ -21,16 +21,23 @@ Reads most value = (s rest : List ℕ) → Spells value s → GoesNoFurther valu
 
 -- ---- the first byte of what is read
 
-scalar_no_bracket : (text : List ℕ) (x : Tree × List ℕ) → scalar_at text ≡ Ok x → (begins_with 123 text ≡ false) × (begins_with 91 text ≡ false)
+brace_is_no_scalar : (rest : List ℕ) (x : Tree × List ℕ) → scalar_at (123 ∷ rest) ≡ Ok x → ⊥
 unfolding scalar_at number_at integer_at digits_at
+brace_is_no_scalar rest x read = cc read
+
+bracket_is_no_scalar : (rest : List ℕ) (x : Tree × List ℕ) → scalar_at (91 ∷ rest) ≡ Ok x → ⊥
+unfolding scalar_at number_at integer_at digits_at
+bracket_is_no_scalar rest x read = cc read
+
+scalar_no_bracket : (text : List ℕ) (x : Tree × List ℕ) → scalar_at text ≡ Ok x → (begins_with 123 text ≡ false) × (begins_with 91 text ≡ false)
 scalar_no_bracket [] x read = (refl, refl)
 scalar_no_bracket (c ∷ rest) x read = (
   elim (cases_eq c 123) [
-    | inl brace ↦ absurd (cc (rw brace at read))
+    | inl brace ↦ absurd (brace_is_no_scalar rest x (rw brace at read))
     | inr other ↦ grind arith
   ],
   elim (cases_eq c 91) [
-    | inl bracket ↦ absurd (cc (rw bracket at read))
+    | inl bracket ↦ absurd (bracket_is_no_scalar rest x (rw bracket at read))
     | inr other ↦ grind arith
   ],
 )
@@ -77,8 +84,8 @@ pub field_no_space : (name : List ℕ) (P : List ℕ → Type 0) (one rest : Lis
 field_no_space name P one rest spelled = name_no_space (one ++ rest) (name, spelled.1 ++ (spelled.2 ++ rest)) (field_named name P one rest spelled)
 
 pub field_over : (most : ℕ) (so_far : Fields) (name : List ℕ) (value : Tree) (one rest : List ℕ) → found name so_far ≡ None → SpellsField name (Spells value) one → Reads most value → prefix_len goes_on rest ≡ 0
-    → field_at (value_at most) so_far (one ++ rest) ≡ Ok (with_field so_far name value, behind_spaces rest)
-unfolding field_at
+    → field_at (value_at most) so_far (one ++ rest) ≡ Ok (with_field so_far name value, rest)
+unfolding field_at key_at
 field_over most so_far name value one rest new spelled reads stop =
     let valued = reads spelled.2 rest spelled.5 (goes_no_further value rest stop) in
     let coloned = spaced_over 58 spelled.1 (spelled.2 ++ rest) refl spelled.4 (value_no_space most (spelled.2 ++ rest) (value, rest) valued) in

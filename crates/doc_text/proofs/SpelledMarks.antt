@@ -7,7 +7,7 @@ use Rattle.bson_doc.specs.Tree.{Tree, null, int32, int64, text, document, array,
 use Rattle.doc_text.specs.Bytes.{is_space}
 use Rattle.doc_text.specs.Class.{behind_spaces}
 use Rattle.doc_text.specs.Fault.{◌>>=◌}
-use Rattle.doc_text.specs.Marks.{mark_at, spaced_at, closing_at, word_at}
+use Rattle.doc_text.specs.Marks.{mark_at, spaced_at, closing_at, word_at, opened_at}
 use Rattle.doc_text.specs.Spelling.{IsSpaces, IsSpaced, IsClosing, continues_number, GoesNoFurther}
 
 -- a run of a class ends where the class does
@@ -65,6 +65,10 @@ pub word_over : (word rest : List ℕ) → word_at word (word ++ rest) ≡ Ok re
 unfolding word_at
 word_over [] rest = refl
 word_over (c ∷ word) rest = rw (mark_over c (word ++ rest)) (word_over word rest)
+
+pub opened_over : (word s rest : List ℕ) → IsSpaced 40 s → NoSpace rest → opened_at word (word ++ (s ++ rest)) ≡ Ok rest
+unfolding opened_at
+opened_over word s rest spaced none = rw (word_over word (s ++ rest)) (spaced_over 40 s rest refl spaced none)
 
 -- ---- what stands behind a value is a space or a mark
 

@@ -6,9 +6,9 @@ use Rattle.std.specs.Str.Parse.{IsNumeral}
 use Rattle.std.proofs.lemmas.Str.Parse.{digit_from_value}
 use Rattle.bson_doc.specs.Tree.{Tree, int32, int64, text, binary, object_id, date, timestamp}
 use Rattle.doc_text.specs.Integers.{fits, number_at}
-use Rattle.doc_text.specs.Scalars.{string_at, date_at, binary_at, id_at, time_at, constant_at, scalar_at}
+use Rattle.doc_text.specs.Scalars.{string_at, date_at, first_at, binary_at, id_at, time_at, constant_at, scalar_at}
 use Rattle.doc_text.specs.Spelling.{IsSpaced, IsClosing, SpellsString, SpellsInteger, SpellsNatural, SpellsHex, continues_number}
-use Rattle.doc_text.proofs.SpelledMarks.{NoSpace, no_space, mark_over, spaced_over, closing_over, word_over, spaced_stops, closing_stops}
+use Rattle.doc_text.proofs.SpelledMarks.{NoSpace, no_space, mark_over, spaced_over, closing_over, word_over, opened_over, spaced_stops, closing_stops}
 use Rattle.doc_text.proofs.SpelledNumbers.{int32_over, int64_over, long_over, natural_over, hex_over, id_over}
 use Rattle.doc_text.proofs.SpelledStrings.{letters_over}
 
@@ -77,9 +77,9 @@ pub date_read : (z : ℤ) (opening numeral closing s rest : List ℕ) → IsSpac
 unfolding scalar_at date_at
 date_read z opening numeral closing s rest spaced spelled range closed whole =
     let regroup : s ++ rest ≡ codes "Date" ++ (opening ++ (numeral ++ (closing ++ rest))) = ap (λ (x : List ℕ). x ++ rest) whole ∙ simp append_assoc in
-    let inside = spaced_over 40 opening (numeral ++ (closing ++ rest)) refl spaced (integer_no_space z numeral (closing ++ rest) spelled) in
+    let inside = opened_over (codes "Date") opening (numeral ++ (closing ++ rest)) spaced (integer_no_space z numeral (closing ++ rest) spelled) in
     let number = long_over z numeral (closing ++ rest) spelled range (closing_stops is_ascii_digit 41 closing rest refl refl closed) in
-    rw (regroup, word_over (codes "Date") (opening ++ (numeral ++ (closing ++ rest))), inside, number, closing_over 41 closing rest refl closed) refl
+    rw (regroup, inside, number, closing_over 41 closing rest refl closed) refl
 
 -- digits between quotation marks, and what stands behind them
 hex_parts : (digits bytes s rest : List ℕ) → s ≡ 34 ∷ digits ++ 34 ∷ [] → s ++ rest ≡ 34 ∷ (digits ++ (34 ∷ rest))
@@ -92,8 +92,16 @@ id_read bytes opening digits closing s rest spaced spelled twelve closed whole =
     let after = closing ++ rest in
     let regroup : s ++ rest ≡ codes "Id" ++ (opening ++ (34 ∷ (spelled.0 ++ (34 ∷ after)))) =
     ap (λ (x : List ℕ). x ++ rest) whole ∙ simp append_assoc (ap (λ (x : List ℕ). codes "Id" ++ (opening ++ x)) (hex_parts spelled.0 bytes digits after spelled.2)) in
-    let inside = spaced_over 40 opening (34 ∷ (spelled.0 ++ (34 ∷ after))) refl spaced refl in
-    rw (regroup, word_over (codes "Id") (opening ++ (34 ∷ (spelled.0 ++ (34 ∷ after)))), inside, mark_over 34 (spelled.0 ++ (34 ∷ after)), id_over spelled.0 bytes after spelled.1 twelve, closing_over 41 closing rest refl closed) refl
+    let inside = opened_over (codes "Id") opening (34 ∷ (spelled.0 ++ (34 ∷ after))) spaced refl in
+    rw (regroup, inside, mark_over 34 (spelled.0 ++ (34 ∷ after)), id_over spelled.0 bytes after spelled.1 twelve, closing_over 41 closing rest refl closed) refl
+
+first_over : (most n : ℕ) (word opening numeral comma rest : List ℕ) → IsSpaced 40 opening → SpellsNatural most n numeral → IsSpaced 44 comma → NoSpace rest
+    → first_at word most (word ++ (opening ++ (numeral ++ (comma ++ rest)))) ≡ Ok (n, rest)
+unfolding first_at
+first_over most n word opening numeral comma rest spaced number parted none =
+    let inside = opened_over word opening (numeral ++ (comma ++ rest)) spaced (numeral_no_space numeral (comma ++ rest) number.0) in
+    let one = natural_over most n numeral (comma ++ rest) number (spaced_stops is_ascii_digit 44 comma rest refl refl parted) in
+    rw (inside, one, spaced_over 44 comma rest refl parted none) refl
 
 pub binary_read : (subtype : ℕ) (bytes opening numeral comma digits closing s rest : List ℕ) → IsSpaced 40 opening → SpellsNatural 255 subtype numeral → IsSpaced 44 comma → SpellsHex bytes digits → IsClosing 41 closing
     → s ≡ codes "Bin" ++ (opening ++ (numeral ++ (comma ++ (digits ++ closing)))) → scalar_at (s ++ rest) ≡ Ok (binary subtype bytes, rest)
@@ -103,18 +111,14 @@ binary_read subtype bytes opening numeral comma digits closing s rest spaced num
     let marked = 34 ∷ (spelled.0 ++ (34 ∷ after)) in
     let regroup : s ++ rest ≡ codes "Bin" ++ (opening ++ (numeral ++ (comma ++ (34 ∷ (spelled.0 ++ (34 ∷ (closing ++ rest))))))) =
     ap (λ (x : List ℕ). x ++ rest) whole ∙ simp append_assoc (ap (λ (x : List ℕ). codes "Bin" ++ (opening ++ (numeral ++ (comma ++ x)))) (hex_parts spelled.0 bytes digits (closing ++ rest) spelled.2)) in
-    let inside = spaced_over 40 opening (numeral ++ (comma ++ marked)) refl spaced (numeral_no_space numeral (comma ++ marked) number.0) in
-    let first = natural_over 255 subtype numeral (comma ++ marked) number (spaced_stops is_ascii_digit 44 comma marked refl refl parted) in
-    let second = spaced_over 44 comma marked refl parted refl in
-    rw (regroup, word_over (codes "Bin") (opening ++ (numeral ++ (comma ++ marked))), inside, first, second, mark_over 34 (spelled.0 ++ (34 ∷ after)), hex_over spelled.0 bytes after spelled.1, closing_over 41 closing rest refl closed) refl
+    let first = first_over 255 subtype (codes "Bin") opening numeral comma marked spaced number parted refl in
+    rw (regroup, first, mark_over 34 (spelled.0 ++ (34 ∷ after)), hex_over spelled.0 bytes after spelled.1, closing_over 41 closing rest refl closed) refl
 
 pub time_read : (seconds increment ts : ℕ) (opening one comma two closing s rest : List ℕ) → IsSpaced 40 opening → SpellsNatural 4294967295 seconds one → IsSpaced 44 comma → SpellsNatural 4294967295 increment two → IsClosing 41 closing
     → ts ≡ seconds * 2 ^ 32 + increment → s ≡ codes "Time" ++ (opening ++ (one ++ (comma ++ (two ++ closing)))) → scalar_at (s ++ rest) ≡ Ok (timestamp ts, rest)
 unfolding scalar_at time_at
 time_read seconds increment ts opening one comma two closing s rest spaced number parted other closed is whole =
     let regroup : s ++ rest ≡ codes "Time" ++ (opening ++ (one ++ (comma ++ (two ++ (closing ++ rest))))) = ap (λ (x : List ℕ). x ++ rest) whole ∙ simp append_assoc in
-    let inside = spaced_over 40 opening (one ++ (comma ++ (two ++ (closing ++ rest)))) refl spaced (numeral_no_space one (comma ++ (two ++ (closing ++ rest))) number.0) in
-    let first = natural_over 4294967295 seconds one (comma ++ (two ++ (closing ++ rest))) number (spaced_stops is_ascii_digit 44 comma (two ++ (closing ++ rest)) refl refl parted) in
-    let second = spaced_over 44 comma (two ++ (closing ++ rest)) refl parted (numeral_no_space two (closing ++ rest) other.0) in
+    let first = first_over 4294967295 seconds (codes "Time") opening one comma (two ++ (closing ++ rest)) spaced number parted (numeral_no_space two (closing ++ rest) other.0) in
     let third = natural_over 4294967295 increment two (closing ++ rest) other (closing_stops is_ascii_digit 41 closing rest refl refl closed) in
-    rw (regroup, word_over (codes "Time") (opening ++ (one ++ (comma ++ (two ++ (closing ++ rest))))), inside, first, second, third, closing_over 41 closing rest refl closed) (ap (λ (n : ℕ). Ok (timestamp n, rest)) (sym is))
+    rw (regroup, first, third, closing_over 41 closing rest refl closed) (ap (λ (n : ℕ). Ok (timestamp n, rest)) (sym is))

@@ -1,9 +1,13 @@
 -- Single marks and words, and the spaces round them.
-use Rattle.std.specs.Prelude.{ℕ, List, [], ◌∷◌, Result, Ok, ◌==◌, if◌then◌else◌}
+use Rattle.std.specs.Prelude.{ℕ, Bool, false, List, [], ◌∷◌, Result, Ok, ◌==◌, if◌then◌else◌}
 use Rattle.doc_text.specs.declared.fault.Rule.TheVariants.{Unexpected}
 use Rattle.doc_text.specs.declared.fault.Fault.{Fault}
 use Rattle.doc_text.specs.Class.{behind_spaces}
 use Rattle.doc_text.specs.Fault.{◌>>=◌, fails}
+
+abbrev pub begins_with : ℕ → List ℕ → Bool
+begins_with mark [] = false
+begins_with mark (c ∷ rest) = c == mark
 
 -- what stands behind a mark
 unfoldable pub mark_at : ℕ → List ℕ → Result (List ℕ) Fault
@@ -26,3 +30,9 @@ word_at [] text = Ok text
 word_at (letter ∷ letters) text = do
   rest ← mark_at letter text
   word_at letters rest
+
+-- what stands behind a word and an opening parenthesis with spaces round it
+unfoldable pub opened_at : List ℕ → List ℕ → Result (List ℕ) Fault
+opened_at word text = do
+  name ← word_at word text
+  spaced_at 40 name

@@ -1,5 +1,5 @@
 -- The one printed text of each value.
-use Rattle.std.specs.Prelude.{ℕ, ◌/◌, ◌%◌, ◌^◌, Bool, true, false, ◌&&◌, ◌==◌, List, [], ◌∷◌, ◌++◌, codes, if◌then◌else◌}
+use Rattle.std.specs.Prelude.{ℕ, zero, suc, ◌/◌, ◌%◌, ◌^◌, Bool, true, false, ◌&&◌, ◌==◌, List, [], ◌∷◌, ◌++◌, codes, if◌then◌else◌}
 use Rattle.std.specs.List.{flat_map, list_all}
 use Rattle.std.specs.Fmt.{decimal, signed_decimal}
 use Rattle.hex.specs.Hex.{encode_lower}
@@ -27,6 +27,11 @@ is_bare (c ∷ rest) = is_name_start c && list_all is_name_byte rest
 
 abbrev pub printed_name : List ℕ → List ℕ
 printed_name name = if is_bare name then name else quoted name
+
+-- what stands before the member at a place
+abbrev pub separator : ℕ → List ℕ
+separator zero = []
+separator (suc place) = codes ", "
 
 -- a value; the members of a document or an array; and those behind a first one, each with `, ` before it
 unfoldable mutual

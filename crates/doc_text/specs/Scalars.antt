@@ -3,7 +3,7 @@ use Rattle.std.specs.Prelude.{ℕ, ◌+◌, ◌*◌, ◌^◌, true, false, List,
 use Rattle.bson_doc.specs.Tree.{Tree, null, text, binary, object_id, boolean, date, timestamp}
 use Rattle.doc_text.specs.declared.fault.Rule.TheVariants.{Unexpected}
 use Rattle.doc_text.specs.Fault.{Read, ◌>>=◌, fails}
-use Rattle.doc_text.specs.Marks.{mark_at, spaced_at, closing_at, word_at}
+use Rattle.doc_text.specs.Marks.{mark_at, spaced_at, closing_at, word_at, opened_at}
 use Rattle.doc_text.specs.Integers.{natural_at, long_at, number_at}
 use Rattle.doc_text.specs.Strings.{letters_at}
 use Rattle.doc_text.specs.HexText.{binary_hex_at, id_hex_at}
@@ -18,20 +18,24 @@ string_at bytes = do
 -- `Date(MS)`
 unfoldable pub date_at : List ℕ → Read Tree
 date_at bytes = do
-  name ← word_at (codes "Date") bytes
-  inside ← spaced_at 40 name
+  inside ← opened_at (codes "Date") bytes
   milliseconds ← long_at inside
   rest ← closing_at 41 milliseconds.1
   Ok (date milliseconds.0, rest)
 
+-- a word and an opening parenthesis, a number of at most `most`, and a comma
+unfoldable pub first_at : List ℕ → ℕ → List ℕ → Read ℕ
+first_at word most bytes = do
+  inside ← opened_at word bytes
+  number ← natural_at most inside
+  rest ← spaced_at 44 number.1
+  Ok (number.0, rest)
+
 -- `Bin(SUBTYPE, "HEX")`
 unfoldable pub binary_at : List ℕ → Read Tree
 binary_at bytes = do
-  name ← word_at (codes "Bin") bytes
-  inside ← spaced_at 40 name
-  subtype ← natural_at 255 inside
-  second ← spaced_at 44 subtype.1
-  digits ← mark_at 34 second
+  subtype ← first_at (codes "Bin") 255 bytes
+  digits ← mark_at 34 subtype.1
   content ← binary_hex_at digits
   rest ← closing_at 41 content.1
   Ok (binary subtype.0 content.0, rest)
@@ -39,8 +43,7 @@ binary_at bytes = do
 -- `Id("HEX")`
 unfoldable pub id_at : List ℕ → Read Tree
 id_at bytes = do
-  name ← word_at (codes "Id") bytes
-  inside ← spaced_at 40 name
+  inside ← opened_at (codes "Id") bytes
   digits ← mark_at 34 inside
   content ← id_hex_at digits
   rest ← closing_at 41 content.1
@@ -49,11 +52,8 @@ id_at bytes = do
 -- `Time(SECONDS, INCREMENT)`
 unfoldable pub time_at : List ℕ → Read Tree
 time_at bytes = do
-  name ← word_at (codes "Time") bytes
-  inside ← spaced_at 40 name
-  seconds ← natural_at 4294967295 inside
-  second ← spaced_at 44 seconds.1
-  increment ← natural_at 4294967295 second
+  seconds ← first_at (codes "Time") 4294967295 bytes
+  increment ← natural_at 4294967295 seconds.1
   rest ← closing_at 41 increment.1
   Ok (timestamp (seconds.0 * 2 ^ 32 + increment.0), rest)
 

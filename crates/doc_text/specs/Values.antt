@@ -1,5 +1,5 @@
 -- Values, with the documents and arrays among them.
-use Rattle.std.specs.Prelude.{◌≡◌, ℕ, zero, suc, ◌-◌, Bool, false, ◌||◌, List, [], ◌∷◌, length, drop, Result, Ok, Err, ◌==◌, if◌then◌else◌, is_some}
+use Rattle.std.specs.Prelude.{◌≡◌, ℕ, zero, suc, ◌-◌, ◌||◌, List, length, drop, Result, Ok, Err, if◌then◌else◌, is_some}
 use Rattle.bson_doc.specs.declared.doc.Value.{Value}
 use Rattle.bson_doc.specs.Tree.{Tree, document, array, Fields, no_fields, Trees, no_items, found, with_field, with_item}
 use Rattle.bson_doc.specs.View.{tree_of}
@@ -8,68 +8,68 @@ use Rattle.doc_text.specs.declared.errors.TextError.TheVariants as errors
 use Rattle.doc_text.specs.declared.fault.Rule.TheVariants.{Unexpected, DuplicateName, TooDeep}
 use Rattle.doc_text.specs.Class.{behind_spaces}
 use Rattle.doc_text.specs.Fault.{Read, ◌>>=◌, fails, placed}
-use Rattle.doc_text.specs.Marks.{mark_at, spaced_at}
+use Rattle.doc_text.specs.Marks.{begins_with, mark_at, spaced_at}
 use Rattle.doc_text.specs.Names.{name_at}
 use Rattle.doc_text.specs.Scalars.{scalar_at}
 
-abbrev pub begins_with : ℕ → List ℕ → Bool
-begins_with mark [] = false
-begins_with mark (c ∷ rest) = c == mark
-
--- One field, behind those that were read: `name: value`. A name that they have is refused where it
--- begins, once it is whole.
-unfoldable pub field_at : (List ℕ → Read Tree) → Fields → List ℕ → Read Fields
-field_at member so_far text = do
+-- The name of a field behind those that were read, up to what its colon stands before. A name that
+-- they have is refused where it begins, once it is whole.
+unfoldable pub key_at : Fields → List ℕ → Read (List ℕ)
+key_at so_far text = do
   name ← name_at text
   if is_some (found name.0 so_far) then fails DuplicateName text else (do
     inside ← spaced_at 58 name.1
-    value ← member inside
-    Ok (with_field so_far name.0 value.0, behind_spaces value.1))
+    Ok (name.0, inside))
 
--- one or more fields up to the closing brace, behind those that were read, and at most so many
-unfoldable pub fields_at : (List ℕ → Read Tree) → ℕ → Fields → List ℕ → Read Fields
-fields_at member zero so_far text = fails Unexpected text
-fields_at member (suc most) so_far text = do
-  one ← field_at member so_far text
-  if begins_with 125 one.1 then Ok (one.0, drop 1 one.1) else (do
-    rest ← mark_at 44 one.1
-    fields_at member most one.0 (behind_spaces rest))
+-- one field more, whose value `member` reads
+unfoldable pub field_at : (List ℕ → Read Tree) → Fields → List ℕ → Read Fields
+field_at member so_far text = do
+  name ← key_at so_far text
+  value ← member name.1
+  Ok (with_field so_far name.0 value.0, value.1)
 
--- one or more items up to the closing bracket, behind those that were read, and at most so many
-unfoldable pub items_at : (List ℕ → Read Tree) → ℕ → Trees → List ℕ → Read Trees
-items_at member zero so_far text = fails Unexpected text
-items_at member (suc most) so_far text = do
-  one ← member text
-  if begins_with 93 (behind_spaces one.1) then Ok (with_item so_far one.0, drop 1 (behind_spaces one.1)) else (do
-    rest ← mark_at 44 (behind_spaces one.1)
-    items_at member most (with_item so_far one.0) (behind_spaces rest))
+-- one item more
+unfoldable pub item_at : (List ℕ → Read Tree) → Trees → List ℕ → Read Trees
+item_at member so_far text = do
+  value ← member text
+  Ok (with_item so_far value.0, value.1)
 
--- behind the opening mark; there are fewer members than bytes
-abbrev pub inside_document : (List ℕ → Read Tree) → List ℕ → Read Tree
-inside_document member text =
-    if begins_with 125 text then Ok (document no_fields, drop 1 text)
-    else fields_at member (suc (length text)) no_fields text >>= λ fields. Ok (document fields.0, fields.1)
+-- one or more members up to the closing mark, behind those that were read, and at most so many
+unfoldable pub members_at : {A : Type 0} → (A → List ℕ → Read A) → ℕ → ℕ → A → List ℕ → Read A
+members_at more close zero so_far text = fails Unexpected text
+members_at more close (suc most) so_far text = do
+  grown ← more so_far text
+  if begins_with close (behind_spaces grown.1) then Ok (grown.0, drop 1 (behind_spaces grown.1)) else (do
+    rest ← spaced_at 44 grown.1
+    members_at more close most grown.0 rest)
 
-abbrev pub inside_array : (List ℕ → Read Tree) → List ℕ → Read Tree
-inside_array member text =
-    if begins_with 93 text then Ok (array no_items, drop 1 text)
-    else items_at member (suc (length text)) no_items text >>= λ items. Ok (array items.0, items.1)
+-- members behind their opening mark, of which there are fewer than bytes
+unfoldable pub inside_at : {A : Type 0} → (A → List ℕ → Read A) → ℕ → A → List ℕ → Read A
+inside_at more close none text =
+    if begins_with close text then Ok (none, drop 1 text)
+    else members_at more close (suc (length text)) none text
+
+-- members between their marks
+unfoldable pub listed_at : {A : Type 0} → (A → List ℕ → Read A) → ℕ → ℕ → A → List ℕ → Read A
+listed_at more opening close none text = do
+  inside ← mark_at opening text
+  inside_at more close none (behind_spaces inside)
 
 -- `{name: value, ..}`, where `member` reads the values
-unfoldable pub document_at : (List ℕ → Read Tree) → List ℕ → Read Tree
-document_at member text = mark_at 123 text >>= λ inside. inside_document member (behind_spaces inside)
+abbrev pub document_at : (List ℕ → Read Tree) → List ℕ → Read Fields
+document_at member = listed_at (field_at member) 123 125 no_fields
 
 -- `[value, ..]`, where `member` reads the values
-unfoldable pub array_at : (List ℕ → Read Tree) → List ℕ → Read Tree
-array_at member text = mark_at 91 text >>= λ inside. inside_array member (behind_spaces inside)
+abbrev pub array_at : (List ℕ → Read Tree) → List ℕ → Read Trees
+array_at member = listed_at (item_at member) 91 93 no_items
 
 -- a value of at most so many levels of documents and arrays
 unfoldable pub value_at : ℕ → List ℕ → Read Tree
 value_at zero text =
     if begins_with 123 text || begins_with 91 text then fails TooDeep text else scalar_at text
 value_at (suc levels) text =
-    if begins_with 123 text then document_at (value_at levels) text
-    else if begins_with 91 text then array_at (value_at levels) text
+    if begins_with 123 text then (document_at (value_at levels) text >>= λ fields. Ok (document fields.0, fields.1))
+    else if begins_with 91 text then (array_at (value_at levels) text >>= λ items. Ok (array items.0, items.1))
     else scalar_at text
 
 -- the value with the place behind it, or the error with its place, in a text of so many bytes

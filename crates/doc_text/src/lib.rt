@@ -13,8 +13,6 @@ mod marks;
 mod names;
 mod scalars;
 mod strings;
-#[cfg(test)]
-mod tests;
 mod values;
 mod writing;
 

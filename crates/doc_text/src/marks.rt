@@ -1,8 +1,8 @@
 // Single marks and words, and the spaces round them.
-ghost use Rattle.std.specs.Prelude.{◌≡◌, ◌≢◌, ◌<◌, ◌≤◌, ◌+◌, ◌∷◌, List, ℕ, MatchOption, IfOk, length, slice_index, drop, IsAscii};
+ghost use Rattle.std.specs.Prelude.{◌≡◌, ◌≢◌, false, ◌<◌, ◌≤◌, ◌+◌, ◌∷◌, List, ℕ, MatchOption, IfOk, IfSome, length, slice_index, drop, IsAscii};
 ghost use Rattle.doc_text.specs.Fault.{Gives};
 ghost use Rattle.doc_text.specs.Class.{behind_spaces};
-ghost use Rattle.doc_text.specs.Marks.{mark_at, spaced_at, closing_at, word_at};
+ghost use Rattle.doc_text.specs.Marks.{begins_with, mark_at, spaced_at, closing_at, word_at, opened_at};
 
 use crate::class::Class;
 use crate::fault::{Fault, ReadError, Rule};
@@ -45,6 +45,16 @@ pub fn spaces(text: &str) -> &str
     rest
 }
 
+/// The text behind a closing mark with spaces before it, where one stands there.
+#[tactic(auto, using(crate::proofs::Members::not_begun))]
+pub fn end(text: &str, byte: u8) -> Option<&str>
+    requires { byte < 128 }
+    ensures gives { MatchOption result (begins_with byte (behind_spaces text.now) ≡ false) (λ rest. behind_spaces text.now ≡ byte ∷ rest.now) }
+    ensures shorter { IfSome result (λ rest. length rest.now < length text.now) }
+{
+    behind(spaces(text), byte)
+}
+
 /// A mark with spaces round it.
 #[tactic(auto, unfolding(crate::specs::Marks::spaced_at))]
 pub fn spaced(text: &str, byte: u8) -> Result<&str, ReadError>
@@ -77,4 +87,14 @@ pub fn word<'a>(text: &'a str, letters: &[u8]) -> Result<&'a str, ReadError>
         rest = mark(rest, *letter)?;
     }
     Ok(rest)
+}
+
+/// The text behind a word and an opening parenthesis with spaces round it.
+#[tactic(auto, unfolding(crate::specs::Marks::opened_at))]
+pub fn opened<'a>(text: &'a str, letters: &[u8]) -> Result<&'a str, ReadError>
+    requires { IsAscii letters.now }
+    ensures gives { Gives (λ rest. rest.now) result (opened_at letters.now text.now) }
+    ensures shorter { IfOk result (λ rest. length rest.now < length text.now) }
+{
+    spaced(word(text, letters)?, b'(')
 }

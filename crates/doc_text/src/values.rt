@@ -1,70 +1,83 @@
 // Values, with the documents and arrays among them.
-ghost use Rattle.std.specs.Prelude.{◌≡◌, ◌<◌, ◌≤◌, ℕ, IfOk, IfErr, Ok, length, IsCharBoundary};
-ghost use Rattle.bson_doc.specs.Tree.{Tree, document, array};
+ghost use Rattle.std.specs.Prelude.{◌≡◌, ◌<◌, ◌≤◌, ℕ, IfOk, IfErr, Ok, None, length, Contains, IsCharBoundary};
+ghost use Rattle.bson_doc.specs.Tree.{Tree, found};
 ghost use Rattle.bson_doc.specs.View.{tree_of};
 ghost use Rattle.doc_text.specs.Fault.{Gives};
 ghost use Rattle.doc_text.specs.Refusal.{RulesOut};
 ghost use Rattle.doc_text.specs.Spelling.{Stands};
-ghost use Rattle.doc_text.specs.Values.{document_at, array_at, value_at, answer_at, Answers};
+ghost use Rattle.doc_text.specs.Values.{key_at, document_at, array_at, value_at, answer_at, Answers};
 
 use crate::TextError;
 use crate::fault::{Fault, Read, ReadError, Rule};
-use crate::marks::{behind, mark, spaced, spaces};
+use crate::marks::{end, mark, spaced, spaces};
 use crate::names::name;
 use crate::scalars::scalar;
-use bson_doc::{Doc, DocBuilder, Items, Value};
+use bson_doc::{Doc, DocBuilder, Items, Text, Value};
 use std::alloc::Global;
 
 /// How many levels of documents and arrays a value may have.
 pub const LEVELS: u32 = 100;
 
+/// The name of a field behind those that were read, and the text of its value.
+#[tactic(auto, using(crate::proofs::Members::not_found), unfolding(crate::specs::Values::key_at))]
+fn key<'a>(alloc: Global, fields: &DocBuilder, text: &'a str) -> Read<'a, Text>
+    ensures gives { Gives (λ x. (x.0, x.1.now)) result (key_at fields.now text.now) }
+    ensures shorter { IfOk result (λ x. length x.1.now < length text.now) }
+    ensures clean { IfOk result (λ x. ¬ Contains x.0 0) }
+    ensures new { IfOk result (λ x. found x.0 fields.now ≡ None) }
+{
+    let (name, rest) = name(alloc, text)?;
+    if fields.has(name.as_str()) {
+        return Err(ReadError::Fault(Fault::at(Rule::DuplicateName, text)));
+    }
+    let rest = spaced(rest, b':')?;
+    Ok((name, rest))
+}
+
 /// The fields of a document whose values have at most so many levels.
 #[cycle(value)]
-#[tactic(auto, unfolding(crate::specs::Values::document_at))]
+#[tactic(auto, unfolding(crate::specs::Values::listed_at))]
 fn document<'a>(alloc: Global, text: &'a str, levels: u32) -> Read<'a, Doc>
-    ensures gives { Gives (λ x. (document x.0, x.1.now)) result (document_at (value_at levels) text.now) }
+    ensures gives { Gives (λ x. (x.0, x.1.now)) result (document_at (value_at levels) text.now) }
     ensures shorter { IfOk result (λ x. length x.1.now < length text.now) }
 {
+    let inside = mark(text, b'{')?;
     let mut fields = DocBuilder::new(alloc);
-    let mut rest = spaces(mark(text, b'{')?);
-    if let Some(end) = behind(rest, b'}') {
-        return Ok((fields.finish(), end));
+    if let Some(rest) = end(inside, b'}') {
+        return Ok((fields.finish(), rest));
     }
+    let mut rest = spaces(inside);
     loop {
-        let (name, behind_name) = name(alloc, rest)?;
-        if fields.has(name.as_str()) {
-            return Err(ReadError::Fault(Fault::at(Rule::DuplicateName, rest)));
-        }
-        let (value, after) = value(alloc, spaced(behind_name, b':')?, levels)?;
+        let (name, of_value) = key(alloc, &fields, rest)?;
+        let (value, after) = value(alloc, of_value, levels)?;
         fields = fields.with(name, value)?;
-        let stop = spaces(after);
-        if let Some(end) = behind(stop, b'}') {
-            return Ok((fields.finish(), end));
+        if let Some(rest) = end(after, b'}') {
+            return Ok((fields.finish(), rest));
         }
-        rest = spaces(mark(stop, b',')?);
+        rest = spaced(after, b',')?;
     }
 }
 
 /// The items of an array whose values have at most so many levels.
 #[cycle(value)]
-#[tactic(auto, unfolding(crate::specs::Values::array_at))]
+#[tactic(auto, unfolding(crate::specs::Values::listed_at))]
 fn array<'a>(alloc: Global, text: &'a str, levels: u32) -> Read<'a, Items>
-    ensures gives { Gives (λ x. (array x.0, x.1.now)) result (array_at (value_at levels) text.now) }
+    ensures gives { Gives (λ x. (x.0, x.1.now)) result (array_at (value_at levels) text.now) }
     ensures shorter { IfOk result (λ x. length x.1.now < length text.now) }
 {
+    let inside = mark(text, b'[')?;
     let mut items = Items::new(alloc);
-    let mut rest = spaces(mark(text, b'[')?);
-    if let Some(end) = behind(rest, b']') {
-        return Ok((items, end));
+    if let Some(rest) = end(inside, b']') {
+        return Ok((items, rest));
     }
+    let mut rest = spaces(inside);
     loop {
         let (value, after) = value(alloc, rest, levels)?;
         items.push(value)?;
-        let stop = spaces(after);
-        if let Some(end) = behind(stop, b']') {
-            return Ok((items, end));
+        if let Some(rest) = end(after, b']') {
+            return Ok((items, rest));
         }
-        rest = spaces(mark(stop, b',')?);
+        rest = spaced(after, b',')?;
     }
 }
 

@@ -1,12 +1,12 @@
 // The one text of each value.
-ghost use Rattle.std.specs.Prelude.{◌≡◌, ◌++◌, IfOk, OnOk, OnErr, string_bytes, false};
+ghost use Rattle.std.specs.Prelude.{◌≡◌, ◌++◌, OnOk, OnErr, codes, string_bytes, false};
 ghost use Rattle.bson_doc.specs.View.{tree_of};
 ghost use Rattle.bson_doc.specs.Tree.{int32, int64, document, array, binary, object_id, date};
 ghost use Rattle.bson_doc.specs.Tree as tree;
 ghost use Rattle.doc_text.specs.Bytes.{is_plain};
 ghost use Rattle.doc_text.specs.Spelling.{IsLawful, Spells};
 ghost use Rattle.doc_text.specs.Again.{IsReadAgain};
-ghost use Rattle.doc_text.specs.Printing.{printed, printed_name, is_bare, quoted, printed_byte};
+ghost use Rattle.doc_text.specs.Printing.{separator, printed, printed_name, is_bare, quoted, printed_byte};
 
 use crate::class::{Class, starts_name};
 use crate::marks::skip;
@@ -124,6 +124,23 @@ fn write_timestamp(timestamp: u64, out: &mut String) -> Mem<()>
     write!(out, "Time({seconds}, {increment})")
 }
 
+/// What stands before the member at a place.
+fn write_separator(place: usize, out: &mut String) -> Mem<()>
+    ensures { OnOk result (string_bytes out.new ≡ string_bytes out.old ++ separator place) }
+{
+    if place == 0 {
+        return Ok(());
+    }
+    out.push_str(", ")
+}
+
+fn write_key(name: &str, out: &mut String) -> Mem<()>
+    ensures { OnOk result (string_bytes out.new ≡ string_bytes out.old ++ (printed_name name.now ++ codes ": ")) }
+{
+    write_name(name, out)?;
+    out.push_str(": ")
+}
+
 #[cycle(write)]
 #[tactic(auto, unfolding(crate::specs::Printing::printed))]
 fn write_fields(fields: &Doc, out: &mut String) -> Mem<()>
@@ -135,11 +152,8 @@ fn write_fields(fields: &Doc, out: &mut String) -> Mem<()>
         let Some((name, value)) = fields.at(place) else {
             unreachable!();
         };
-        if place > 0 {
-            out.push_str(", ")?;
-        }
-        write_name(name, out)?;
-        out.push_str(": ")?;
+        write_separator(place, out)?;
+        write_key(name, out)?;
         write(value, out)?;
     }
     out.push_str("}")
@@ -156,9 +170,7 @@ fn write_items(items: &Items, out: &mut String) -> Mem<()>
         let Some(value) = items.at(place) else {
             unreachable!();
         };
-        if place > 0 {
-            out.push_str(", ")?;
-        }
+        write_separator(place, out)?;
         write(value, out)?;
     }
     out.push_str("]")

@@ -3,7 +3,7 @@ use Rattle.std.specs.Prelude.{ℕ, Bool, true, false, not, ◌&&◌, ◌||◌, n
 use Rattle.bson_doc.specs.Tree.{Tree, null, document, Fields, no_fields, field, found, without, Trees}
 use Rattle.bson_doc.specs.View.{tree_of}
 use Rattle.bson_doc.specs.declared.doc.Value.{Value}
-use Rattle.bson_codec.specs.Length.{document_length, document_levels}
+use Rattle.bson_doc.specs.Length.{document_length, document_levels}
 use Rattle.oplog_entry.specs.Step.{changed}
 use Rattle.oplog_entry.specs.Walk.{join}
 use Rattle.oplog_entry.specs.declared.entry.Op.{Op}

@@ -6,3 +6,4 @@ pub mod Ordered
 pub mod Refusal
 pub mod Same
 pub mod Sound
+pub mod Write

@@ -7,8 +7,6 @@ mod increment;
 mod ordered;
 mod preparing;
 mod same;
-#[cfg(test)]
-mod tests;
 mod write;
 
 pub use checks::check;

@@ -16,10 +16,9 @@ use crate::increment::add_sums;
 use crate::ordered::Ordered;
 use crate::same::same_document;
 use crate::{Prepared, WriteOp, WriteRefusal};
-use bson_codec::{DOCUMENT, EncodeError, encode};
-use bson_doc::{Doc, Mem, Text, Value};
+use bson_doc::{DOCUMENT, Doc, Mem, Text, Value};
 use oplog_entry::{FieldIndex, Op, with_changes};
-use std::alloc::{AllocError, Global};
+use std::alloc::Global;
 
 /// Writes one field, unless it is the `_id`.
 fn append_other(whole: &mut Doc, name: Text, value: &Value) -> Mem<()>
@@ -50,21 +49,17 @@ fn with_id_first(alloc: Global, id: &Value, doc: &Doc) -> Mem<Doc>
 }
 
 /// Whether a document is longer or deeper than one that is stored may be.
-fn is_too_large(alloc: Global, doc: &Doc) -> Mem<bool>
-    ensures { IfOk result (λ large. large ≡ is_too_large doc.now) }
+fn is_too_large(doc: &Doc) -> bool
+    ensures { result ≡ is_too_large doc.now }
 {
-    match encode(alloc, doc, DOCUMENT) {
-        Ok(_) => Ok(false),
-        Err(EncodeError::TooDeep | EncodeError::TooLarge) => Ok(true),
-        Err(EncodeError::Memory) => Err(AllocError),
-    }
+    !doc.fits(DOCUMENT)
 }
 
 /// An op that leaves a document, unless that is too large.
-fn stored(alloc: Global, op: Op, after: Doc) -> Result<Prepared, WriteRefusal>
+fn stored(op: Op, after: Doc) -> Result<Prepared, WriteRefusal>
     ensures { Answers result (stored op after) }
 {
-    if is_too_large(alloc, &after)? {
+    if is_too_large(&after) {
         return Err(WriteRefusal::DocTooLarge);
     }
     Ok(Prepared::Entry {
@@ -74,13 +69,13 @@ fn stored(alloc: Global, op: Op, after: Doc) -> Result<Prepared, WriteRefusal>
 }
 
 /// The same, unless the document stays as it is.
-fn written(alloc: Global, op: Op, before: &Doc, after: Doc) -> Result<Prepared, WriteRefusal>
+fn written(op: Op, before: &Doc, after: Doc) -> Result<Prepared, WriteRefusal>
     ensures { Answers result (written op before.now after) }
 {
     if same_document(&after, before) {
         return Ok(Prepared::Unchanged);
     }
-    stored(alloc, op, after)
+    stored(op, after)
 }
 
 /// The fields that an operator is given.
@@ -197,7 +192,7 @@ fn prepare_insert(alloc: Global, ns: &Text, doc: &Doc) -> Result<Prepared, Write
         ns: ns.copy()?,
         o: after.copy()?,
     };
-    stored(alloc, op, after)
+    stored(op, after)
 }
 
 fn prepare_replace(
@@ -219,7 +214,7 @@ fn prepare_replace(
         id: id.copy()?,
         o: after.copy()?,
     };
-    written(alloc, op, before, after)
+    written(op, before, after)
 }
 
 fn prepare_update(
@@ -243,7 +238,7 @@ fn prepare_update(
         sets,
         unsets,
     };
-    written(alloc, op, before, after)
+    written(op, before, after)
 }
 
 /// What a write comes to that `check` let through, where `before` is the document of its key. It is refused as

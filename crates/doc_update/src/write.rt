@@ -1,4 +1,5 @@
 ghost use Rattle.std.specs.Prelude.{◌≡◌, IfOk};
+ghost use Rattle.doc_update.specs.Write.{IsSoundWrite};
 
 use bson_doc::{Doc, KeyError, Mem, Text, Value};
 use oplog_entry::Op;
@@ -19,6 +20,25 @@ pub enum WriteOp {
 }
 
 impl WriteOp {
+    /// What the write brings is sound at every level: a fact for callers' proofs, which costs
+    /// nothing.
+    pub fn is_sound(&self)
+        ensures { IsSoundWrite self.now }
+    {
+        match self {
+            WriteOp::Insert { doc, .. } => doc.is_sound(),
+            WriteOp::Replace { id, doc, .. } => {
+                id.is_sound();
+                doc.is_sound();
+            }
+            WriteOp::Update { id, operators, .. } => {
+                id.is_sound();
+                operators.is_sound();
+            }
+            WriteOp::Delete { id, .. } => id.is_sound(),
+        }
+    }
+
     /// The same write once more.
     pub fn copy(&self) -> Mem<WriteOp>
         ensures { IfOk result (λ op. op ≡ self.now) }

@@ -1,5 +1,5 @@
 ghost use Rattle.std.specs.Prelude.{◌≡◌, ◌≢◌, ◌+◌, ◌<◌, ◌≤◌, ◌^◌, ℕ, List, Contains, None, codes, IfOk, OnOk, IsErrOf, MatchOption};
-ghost use Rattle.bson_codec.specs.Length.{document_length, document_levels};
+ghost use Rattle.bson_doc.specs.Length.{document_length, document_levels};
 ghost use Rattle.bson_codec.specs.Sound.{IsSound};
 ghost use Rattle.bson_codec.specs.Spelling.{IsSpelling};
 ghost use Rattle.bson_doc.specs.Tree.{text, found, field, no_fields, with_field, Trees, item, trees_from};

@@ -1,9 +1,9 @@
 -- Who votes (MongoDB manual, replica set members; MongoRaftReconfig).
-use Rattle.std.specs.Prelude.{◌≡◌, ◌≤◌, ℕ, ◌+◌, ◌/◌, ◌==◌, Bool, false, not, ◌&&◌, nat_lt, nat_le, List, ◌∷◌, filter, length, map, if◌then◌else◌}
+use Rattle.std.specs.Prelude.{◌≡◌, ◌≤◌, ℕ, ◌+◌, ◌/◌, ◌==◌, Bool, false, not, ◌&&◌, nat_lt, nat_le, List, ◌∷◌, Option, filter, length, map, if◌then◌else◌}
 use Rattle.std.specs.List.{list_any}
 use Rattle.member_config.specs.declared.config.Member.{Member}
 use Rattle.member_config.specs.declared.config.Config.{Config}
-use Rattle.member_config.specs.Numbers.{is_among, has_twice, outside}
+use Rattle.member_config.specs.Numbers.{is_among, has_twice, outside, first_of}
 
 -- the numbers of the members
 abbrev pub numbers : Config → List ℕ
@@ -26,6 +26,10 @@ is_voter config number = is_among number (voters config)
 -- a member whose priority is above 0
 abbrev pub is_electable_in : Config → ℕ → Bool
 is_electable_in config number = list_any (λ m. m.number == number && nat_lt 0 m.priority) config.members
+
+-- the first member that is no node of a set of so many nodes
+abbrev pub unknown_member : (nodes : ℕ) → Config → Option ℕ
+unknown_member nodes config = first_of (filter (λ number. not (nat_lt number nodes)) (numbers config))
 
 -- half of so many voters, rounded down, and one more
 abbrev pub most_of : ℕ → ℕ

@@ -3,13 +3,13 @@
 #![tactic(auto)]
 
 mod config;
-mod json;
 mod laws;
+mod read_json;
 mod rule;
-mod text;
 mod voters;
+mod write_json;
 
 pub use config::{Config, Mem, Member, MemberList};
-pub use json::ConfigTextError;
 pub use laws::majorities_meet;
+pub use read_json::ConfigTextError;
 pub use voters::is_older;

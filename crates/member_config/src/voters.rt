@@ -1,9 +1,10 @@
-ghost use Rattle.std.specs.Prelude.{◌≡◌, ◌≤◌, length};
+ghost use Rattle.std.specs.Prelude.{◌≡◌, ◌≤◌, length, IfOk};
 ghost use Rattle.member_config.specs.Config as ids;
 ghost use Rattle.member_config.specs.Voters as votes;
 ghost use Rattle.member_config.specs.Numbers.{is_among, outside};
 
-use crate::{Config, Member};
+use crate::{Config, Mem, Member};
+use std::alloc::Global;
 
 impl Config {
     /// Whether this configuration is newer: by term, and then by version.
@@ -19,6 +20,18 @@ impl Config {
         ensures { result ≡ votes.majority self.now }
     {
         voter_count(self.members.as_slice()) as u32 / 2 + 1
+    }
+
+    /// The numbers of the members that vote, in the order of the members.
+    pub fn voters(&self, alloc: Global) -> Mem<Vec<u32>>
+        ensures { IfOk result (λ v. v.items ≡ votes.voters self.now) }
+    {
+        let members = self.members.as_slice();
+        members
+            .iter()
+            .filter(|m| m.votes)
+            .map(|m| m.number)
+            .collect(alloc)
     }
 
     /// Whether a member with this number votes.

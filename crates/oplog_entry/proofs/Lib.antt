@@ -1,4 +1,5 @@
 pub mod DocsLemmas
 pub mod FieldLemmas
 pub mod IndexLemmas
+pub mod Optimes
 pub mod WalkLemmas

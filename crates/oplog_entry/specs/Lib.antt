@@ -1,6 +1,7 @@
 pub mod Docs
 pub mod Index
 pub mod Lawful
+pub mod Log
 pub mod Step
 pub mod Visible
 pub mod Walk

@@ -41,6 +41,7 @@ impl<'a> FieldIndex<'a> {
         ensures index { IfOk result (λ index. index ≡ document.now) }
         ensures names { IsDocument document.now }
     {
+        document.is_sound();
         let mut places = BTreeMap::new(alloc);
         for place in (0..document.len()).rev() {
             let Some((name, _)) = document.at(place) else {

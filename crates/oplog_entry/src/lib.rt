@@ -1,15 +1,13 @@
 //! Entries of an oplog: what each does to which document, and the documents that a log of them leaves.
 //!
 //! The definitions stand in `specs/`: what an entry owes (`Lawful`), which document it touches and what it makes of
-//! it (`Step`), the documents of a log (`Docs`), and how far a log can be read (`Visible`).
+//! it (`Step`), the order of a log (`Log`), its documents (`Docs`), and how far it can be read (`Visible`).
 #![tactic(auto)]
 
 mod change;
 mod entry;
 mod index;
 mod names;
-#[cfg(test)]
-mod tests;
 
 pub use change::with_changes;
 pub use entry::{Entry, Op};

@@ -1,19 +1,20 @@
 -- What a crash leaves in each step of an append.
 use Rattle.std.proofs.Common.{⊎_elim, ◌≡◌, inl, inr, ℕ, ◌+◌, ◌-◌, ◌^◌, ◌<◌, ◌≤◌, List, [], ◌∷◌, ◌++◌, suc, false, length, get_or, drop, refl, sym, ◌∙◌, ap, subst, arith, length-append, length-drop}
-use Rattle.std.specs.Prelude.{◌⊎◌, Result, Ok}
-use Rattle.rs_disk.specs.declared.disk.DiskError.{DiskError}
-use Rattle.rs_disk.specs.declared.disk.Failed.{Failed}
+use Rattle.std.specs.Prelude.{◌⊎◌, Result}
+use Rattle.record_file.specs.declared.error.FileError.{FileError}
 use Rattle.std.proofs.lemmas.List.{append_assoc, append-nil, drop_all, take_all, take_at, drop_at, drop_more, get_or_append_left, get_or-append_right, get_or-drop, ext_get_or}
 use Rattle.std.proofs.lemmas.Bool.{cases_eq}
 use Rattle.std.proofs.lemmas.Bool.Decides.{nat_tests}
 use Rattle.rs_disk.specs.File.{File, IsImage, LeavesOnly, changed, write, settled, contents, is_written, overwritten}
 use Rattle.rs_disk.specs.Images.{length-overwritten}
 use Rattle.rs_disk.specs.Moments.{EachMoment, starts}
-use Rattle.rs_disk.specs.State.{State, IsDone, Ends, Writes}
+use Rattle.rs_disk.specs.State.{State}
+use Rattle.rs_disk.specs.Steps.{Makes, after_steps}
+use Rattle.rs_disk.proofs.MomentLemmas.{EachLeaves, settled_leaves, synced_leaves}
 use Rattle.record_file.specs.Records.{AreOpen, HasRecords, body}
-use Rattle.record_file.specs.Files.{IsAtRest, IsOpen, IsBeforeOrAfter, IsRecordDisk}
+use Rattle.record_file.specs.Files.{IsAtRest, IsOpen, IsBeforeOrAfter, IsRecordDisk, EndsBy, append_steps}
 use Rattle.record_file.proofs.ListLemmas.{begins_with, open_push}
-use Rattle.record_file.proofs.MomentLemmas.{settled_leaves, after_write, after_sync}
+use Rattle.record_file.proofs.StepLemmas.{ended_moments}
 
 -- bytes behind the end
 pub appended : (old bytes : List ℕ) (at : ℕ) → at ≡ length old → overwritten at bytes old ≡ old ++ bytes
@@ -103,43 +104,45 @@ module _ (records : List (List ℕ)) (front : List ℕ) (opened : AreOpen record
       file = file ∙ ap settled (gate_opened at at_is);
     }
 
-    -- the moments of an append, call by call
-    module _ (old : State) (file : old.file ≡ settled (front ++ 0 ∷ [])) (at : ℕ) (at_is : at ≡ length (contents old.file)) (bytes : List ℕ) (is_tail : bytes ≡ tail) where
+    module _ (at : ℕ) (at_is : at ≡ length (front ++ 0 ∷ [])) (bytes : List ℕ) (is_tail : bytes ≡ tail) where
       abbrev P : List ℕ → Type 0
       P = IsBeforeOrAfter records piece
 
-      end_is : at ≡ length (front ++ 0 ∷ [])
-      end_is = at_is ∙ ap (λ (f : File). length (contents f)) file
+      gate_is : at - 1 ≡ length front
+      gate_is = omega (arith, at_is, length-append front (0 ∷ []))
 
-      at_start : EachMoment P old old
-      at_start = starts P old (subst (LeavesOnly P) (sym file) (settled_leaves P (front ++ 0 ∷ []) (inl (closed_has (front ++ 0 ∷ []) [] refl))))
+      -- the record is on the disk, behind a closed gate
+      staged : overwritten at bytes (front ++ 0 ∷ []) ≡ front ++ 0 ∷ tail
+      staged = appended (front ++ 0 ∷ []) bytes at at_is ∙ ap (λ (l : List ℕ). (front ++ 0 ∷ []) ++ l) is_tail ∙ append_assoc front (0 ∷ []) tail
 
-      pub behind : (mid : State) (result : Result (Unit {0}) DiskError) → Writes at bytes result old mid → EachMoment P old mid
-      behind mid result is = after_write P old old mid at_start at bytes result
-          (subst (λ (f : File). LeavesOnly P (changed (write at bytes) f)) (sym file) (λ image left. inl (tail_leaves at bytes image end_is left))) is
+      behind : LeavesOnly P (changed (write at bytes) (settled (front ++ 0 ∷ [])))
+      behind image left = inl (tail_leaves at bytes image at_is left)
 
-      module _ (mid : State) (wrote : IsDone (changed (write at bytes) old.file) (changed (write at bytes) old.file) old mid) where
-        pub kept : (new : State) (result : Result (Unit {0}) Failed) → Ends mid.file (settled (contents mid.file)) result mid new → EachMoment P old new
-        kept new result is = after_sync P old mid new (behind mid (Ok tt) wrote) result is
+      opens : LeavesOnly P (changed (write (at - 1) (1 ∷ [])) (settled (overwritten at bytes (front ++ 0 ∷ []))))
+      opens = subst (λ (l : List ℕ). LeavesOnly P (changed (write (at - 1) (1 ∷ [])) (settled l))) (sym staged) (λ image left. gate_leaves (at - 1) image gate_is left)
 
-        -- the record is on the disk, behind a closed gate
-        staged : (mid' : State) → IsDone mid.file (settled (contents mid.file)) mid mid' → mid'.file ≡ settled (front ++ 0 ∷ tail)
-        staged mid' synced = synced.file ∙ ap (λ (f : File). settled (contents f)) wrote.file
-            ∙ ap (λ (f : File). settled (overwritten at bytes (contents f))) file
-            ∙ ap settled (appended (front ++ 0 ∷ []) bytes at end_is ∙ ap (λ (l : List ℕ). (front ++ 0 ∷ []) ++ l) is_tail ∙ append_assoc front (0 ∷ []) tail)
+      each_leaves : EachLeaves P (append_steps at bytes) (settled (front ++ 0 ∷ []))
+      each_leaves =
+          let start = settled_leaves P (front ++ 0 ∷ []) (inl (closed_has (front ++ 0 ∷ []) [] refl)) in
+          let staged_leaves = synced_leaves P (changed (write at bytes) (settled (front ++ 0 ∷ []))) behind in
+          let last = synced_leaves P (changed (write (at - 1) (1 ∷ [])) (settled (overwritten at bytes (front ++ 0 ∷ [])))) opens in
+          (start, behind, (behind, behind, (staged_leaves, opens, (opens, opens, last))))
 
-        gate_is : at - 1 ≡ length front
-        gate_is = omega (arith, end_is, length-append front (0 ∷ []))
+      made_rests : (old new : State) → old.file ≡ settled (front ++ 0 ∷ []) → Makes (append_steps at bytes) old new → IsAtRest new (records ++ piece ∷ [])
+      made_rests old new file made = at_rest (at - 1) new gate_is
+          (made.file ∙ ap (after_steps (append_steps at bytes)) file ∙ ap (λ (l : List ℕ). settled (overwritten (at - 1) (1 ∷ []) l)) staged)
 
-        module _ (mid' : State) (synced : IsDone mid.file (settled (contents mid.file)) mid mid') where
-          pub opens : (new : State) (result : Result (Unit {0}) DiskError) → Writes (at - 1) (1 ∷ []) result mid' new → EachMoment P old new
-          opens new result is = after_write P old mid' new (kept mid' (Ok tt) synced) (at - 1) (1 ∷ []) result
-              (subst (λ (f : File). LeavesOnly P (changed (write (at - 1) (1 ∷ [])) f)) (sym (staged mid' synced)) (λ image left. gate_leaves (at - 1) image gate_is left)) is
+-- an append to a file at rest
+module _ (records : List (List ℕ)) (piece : List ℕ) (small : length piece < 2 ^ 32) (old : State) (rest : IsAtRest old records) (bytes : List ℕ) (is_tail : bytes ≡ body piece ++ 0 ∷ []) where
+  ends_at : length (contents old.file) ≡ length (rest.front ++ 0 ∷ [])
+  ends_at = ap (λ (f : File). length (contents f)) rest.file
 
-          module _ (last : State) (opened_gate : IsDone (changed (write (at - 1) (1 ∷ [])) mid'.file) (changed (write (at - 1) (1 ∷ [])) mid'.file) mid' last) where
-            pub ends : (new : State) (result : Result (Unit {0}) Failed) → Ends last.file (settled (contents last.file)) result last new → EachMoment P old new
-            ends new result is = after_sync P old last new (opens last (Ok tt) opened_gate) result is
+  -- a crash at any moment of it
+  pub appends : (result : Result (Unit {0}) FileError) (new : State) → EndsBy result (append_steps (length (contents old.file)) bytes) old new
+      → EachMoment (IsBeforeOrAfter records piece) old new
+  appends result new ends = ended_moments (IsBeforeOrAfter records piece) result (append_steps (length (contents old.file)) bytes) old new
+      (subst (EachLeaves (IsBeforeOrAfter records piece) (append_steps (length (contents old.file)) bytes)) (sym rest.file)
+      (each_leaves records rest.front rest.open_records piece small (length (contents old.file)) ends_at bytes is_tail)) ends
 
-            pub rests : (new : State) → IsDone last.file (settled (contents last.file)) last new → IsAtRest new (records ++ piece ∷ [])
-            rests new is = at_rest (at - 1) new gate_is
-                (is.file ∙ ap (λ (f : File). settled (contents f)) opened_gate.file ∙ ap (λ (f : File). settled (overwritten (at - 1) (1 ∷ []) (contents f))) (staged mid' synced))
+  pub rests : (new : State) → Makes (append_steps (length (contents old.file)) bytes) old new → IsAtRest new (records ++ piece ∷ [])
+  rests new made = made_rests records rest.front rest.open_records piece small (length (contents old.file)) ends_at bytes is_tail old new rest.file made

@@ -1,6 +1,5 @@
-mod ListLemmas
-mod MomentLemmas
-mod AppendLemmas
-mod ParseLemmas
+pub mod ListLemmas
+pub mod AppendLemmas
+pub mod ParseLemmas
 mod OpenLemmas
 mod StepLemmas

@@ -1,22 +1,54 @@
--- Calls that were made one after another.
-use Rattle.std.specs.Prelude.{Result, Ok, Err, OnOk}
-use Rattle.std.proofs.Common.{◌≡◌, ◌<◌, List, [], ◌∷◌, length, arith, ◌∙◌, ap}
-use Rattle.rs_disk.specs.State.{State, IsDone}
-use Rattle.rs_disk.specs.Steps.{Step, in_step, after_step, after_steps, past_of, Makes, reads, changes, syncs}
-use Rattle.rs_disk.specs.File.{File, contents, settled, cut}
-use Rattle.record_file.specs.Files.{OpensBy}
+-- How far the calls of an opening came, by how each of them ends.
+use Rattle.std.proofs.Common.{◌≡◌, inl, inr, List, [], ◌∷◌, ◌++◌, ℕ, refl, sym, ap, subst, ◌∙◌, append_assoc}
+use Rattle.std.specs.Prelude.{Result, Ok, Err}
+use Rattle.rs_disk.specs.File.{write}
+use Rattle.rs_disk.specs.Moments.{EachMoment}
+use Rattle.rs_disk.specs.State.{State, IsDone, Writes, SameButRoom}
+use Rattle.rs_disk.specs.Steps.{Step, in_step, after_step, Makes, MakesFirst, Breaks, changes, reads}
+use Rattle.rs_disk.proofs.MomentLemmas.{EachLeaves, makes_more, made_moments, broken_moments, first_moments}
+use Rattle.rs_disk.specs.declared.disk.DiskError.{DiskError}
+use Rattle.rs_disk.specs.declared.disk.DiskError.TheVariants.{Failed, Memory as NoRoom}
+use Rattle.record_file.specs.Causes.{file_error}
+use Rattle.record_file.specs.Files.{StopsBy, EndsBy}
+use Rattle.record_file.specs.declared.error.FileError.{FileError}
+use Rattle.record_file.specs.declared.error.FileError.TheVariants.{Disk, Memory}
+
+-- no call was made
+pub none_made : (steps : List Step) (state : State) → MakesFirst steps state state
+none_made steps state = ([], steps, refl, record { file = refl; past = refl })
+
+-- a write that is answered with an error
+pub write_stops : (at : ℕ) (bytes : List ℕ) (error : DiskError) (steps : List Step) (old new : State) → Writes at bytes (Err error) old new
+    → StopsBy (file_error error) (changes (write at bytes) ∷ steps) old new
+write_stops at bytes Failed steps old new is = inl is
+write_stops at bytes NoRoom steps old new is = ([], changes (write at bytes) ∷ steps, refl, record { file = ap (λ (s : State). s.file) is; past = ap (λ (s : State). s.past) is })
 
 -- one call before the others
-pub step_first : (step : Step) (steps : List Step) (old mid new : State) → IsDone (in_step step old.file) (after_step step old.file) old mid → Makes steps mid new
-    → Makes (step ∷ steps) old new
-step_first step steps old mid new is made = record {
-  file = made.file ∙ ap (after_steps steps) is.file;
-  past = made.past ∙ (λ i. past_of steps (is.file i) (is.past i));
-}
+pub stops_more : (error : FileError) (step : Step) (steps : List Step) (old mid new : State) → IsDone (in_step step old.file) (after_step step old.file) old mid
+    → StopsBy error steps mid new → StopsBy error (step ∷ steps) old new
+stops_more Disk step steps old mid new is stops = inr (mid, is, stops)
+stops_more Memory step steps old mid new is (made, rest, same, makes) =
+    (step ∷ made, rest, ap (λ (l : List Step). step ∷ l) same, makes_more step made old mid new is makes)
 
-pub repaired_after : {T E : Type 0} (result : Result T E) (old mid new : State) → IsDone old.file (settled (contents old.file)) old mid → 1 < length (contents mid.file)
-    → OnOk result (Makes (reads ∷ changes (cut (length (contents new.file))) ∷ syncs ∷ []) mid new) → OnOk result (OpensBy old new)
-repaired_after (Ok value) old mid new synced long made =
-    let same : length (contents mid.file) ≡ length (contents old.file) = ap (λ (f : File). length (contents f)) synced.file in
-    (λ short. absurd (omega (arith, same)), λ _. step_first syncs (reads ∷ changes (cut (length (contents new.file))) ∷ syncs ∷ []) old mid new synced made)
-repaired_after (Err error) old mid new synced long made = tt
+pub ends_more : {T : Type 0} (result : Result T FileError) (step : Step) (steps : List Step) (old mid new : State) → IsDone (in_step step old.file) (after_step step old.file) old mid
+    → EndsBy result steps mid new → EndsBy result (step ∷ steps) old new
+ends_more (Ok value) step steps old mid new is ends = makes_more step steps old mid new is ends
+ends_more (Err error) step steps old mid new is ends = stops_more error step steps old mid new is ends
+
+-- an answer that is an error
+pub stops_ends : {T : Type 0} (result : Result T FileError) (error : FileError) (steps : List Step) (old new : State) → result ≡ Err error → StopsBy error steps old new
+    → EndsBy result steps old new
+stops_ends {T = T} result error steps old new is stops = subst (λ (r : Result T FileError). EndsBy r steps old new) (sym is) stops
+
+-- calls that were not reached
+pub stops_before : (error : FileError) (step : Step) (steps : List Step) (old new : State) → StopsBy error (step ∷ []) old new → StopsBy error (step ∷ steps) old new
+stops_before Disk step steps old new (inl crashed) = inl crashed
+stops_before Disk step steps old new (inr later) = absurd later.2
+stops_before Memory step steps old new (made, rest, same, makes) = (made, rest ++ steps, ap (λ (l : List Step). l ++ steps) same ∙ append_assoc made rest steps, makes)
+
+-- what a crash leaves at each moment of the calls that were made
+pub ended_moments : {T : Type 0} (P : List ℕ → Type 0) (result : Result T FileError) (steps : List Step) (old new : State) → EachLeaves P steps old.file → EndsBy result steps old new
+    → EachMoment P old new
+ended_moments P (Ok value) steps old new leaves ends = made_moments P steps old new leaves ends
+ended_moments P (Err Disk) steps old new leaves ends = broken_moments P steps old new leaves ends
+ended_moments P (Err Memory) steps old new leaves ends = first_moments P steps old new leaves ends

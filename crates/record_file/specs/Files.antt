@@ -4,10 +4,11 @@ use Rattle.std.specs.declared.alloc.Global.{Global}
 use Rattle.std.proofs.Common.{inl, refl, ap, arith}
 use Rattle.rs_disk.specs.File.{IsEmpty, IsImage, LeavesOnly, write, cut, settled, contents}
 use Rattle.rs_disk.specs.State.{State}
-use Rattle.rs_disk.specs.Steps.{Step, reads, changes, syncs, Makes}
+use Rattle.rs_disk.specs.Steps.{Step, reads, changes, syncs, Makes, MakesFirst, Breaks}
+use Rattle.record_file.specs.Parsed.{IsParsed}
 use Rattle.record_file.specs.Records.{AreOpen, HasRecords}
 use Rattle.record_file.specs.declared.error.FileError.{FileError}
-use Rattle.record_file.specs.declared.error.FileError.TheVariants.{Disk}
+use Rattle.record_file.specs.declared.error.FileError.TheVariants.{Disk, Memory}
 
 -- The file is these records and one closed gate, all of it synced. So every crash leaves them.
 pub record IsAtRest (state : State) (records : List (List ℕ)) : Type 0 where
@@ -49,10 +50,20 @@ abbrev pub disk_after : {D : Type 0} → Result ((D × ℕ) × Vec (Vec ℕ Glob
 disk_after (Ok opened) = opened.0.0
 disk_after (Err refused) = refused.0
 
--- the opening was refused for a fault of the disk
-abbrev pub IsDiskFault : {D : Type 0} → Result ((D × ℕ) × Vec (Vec ℕ Global) Global) (D × FileError) → Type 0
-IsDiskFault (Ok opened) = ⊥
-IsDiskFault (Err refused) = refused.1 ≡ Disk
+-- what an opening answers, but for the disk that it hands back
+abbrev pub answer_of : {D : Type 0} → Result ((D × ℕ) × Vec (Vec ℕ Global) Global) (D × FileError) → Result ((D × ℕ) × Vec (Vec ℕ Global) Global) FileError
+answer_of (Ok opened) = Ok opened
+answer_of (Err refused) = Err refused.1
+
+-- which of these calls were made where the answer is an error: a fault ends them, and want of memory comes between two
+abbrev pub StopsBy : FileError → List Step → State → State → Type 0
+StopsBy Disk steps old new = Breaks steps old new
+StopsBy Memory steps old new = MakesFirst steps old new
+
+-- all of these calls were made and done, or with an error the first ones
+abbrev pub EndsBy : {T : Type 0} → Result T FileError → List Step → State → State → Type 0
+EndsBy (Ok value) steps old new = Makes steps old new
+EndsBy (Err error) steps old new = StopsBy error steps old new
 
 -- the calls of an append: behind the last gate the record with the next gate, a sync, the last gate itself, a sync
 abbrev pub append_steps : ℕ → List ℕ → List Step
@@ -65,7 +76,11 @@ first_steps = syncs ∷ changes (write 0 (0 ∷ [])) ∷ syncs ∷ []
 abbrev pub repair_steps : ℕ → List Step
 repair_steps end = syncs ∷ reads ∷ changes (cut end) ∷ syncs ∷ []
 
--- an opening made these calls and no others
-abbrev pub OpensBy : State → State → Type 0
-OpensBy old new = (length (contents old.file) ≤ 1 → Makes first_steps old new)
-    × (1 < length (contents old.file) → Makes (repair_steps (length (contents new.file))) old new)
+-- The calls of an opening, by what its first sync keeps: a file with records is cut behind the first closed gate.
+abbrev pub AreOpeningSteps : List ℕ → List Step → Type 0
+AreOpeningSteps bytes steps = ((length bytes ≤ 1) × (steps ≡ first_steps))
+    ⊎ ((1 < length bytes) × (records : List (List ℕ)) × (end : ℕ) × IsParsed bytes records end × (steps ≡ repair_steps end))
+
+-- an opening made its calls, or with an error the first of them, and no others
+abbrev pub OpensBy : {T : Type 0} → Result T FileError → State → State → Type 0
+OpensBy result old new = (steps : List Step) × AreOpeningSteps (contents old.file) steps × EndsBy result steps old new

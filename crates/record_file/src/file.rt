@@ -6,8 +6,7 @@ ghost use Rattle.std.specs.Prelude.{◌≡◌, ◌≢◌, ◌+◌, ◌^◌, ◌<
 ghost use Rattle.rs_disk.specs.File.{contents};
 ghost use Rattle.rs_disk.specs.Moments.{EachMoment};
 ghost use Rattle.rs_disk.specs.State.{Keeps, IsArmed, SameButRoom};
-ghost use Rattle.rs_disk.specs.Steps.{Makes};
-ghost use Rattle.record_file.specs.Files.{IsOpen, IsAtRest, IsBeforeOrAfter, IsOneOf, IsRecordDisk, OpensBy, append_steps, disk_after, IsDiskFault, spare};
+ghost use Rattle.record_file.specs.Files.{IsOpen, IsAtRest, IsBeforeOrAfter, IsOneOf, IsRecordDisk, EndsBy, OpensBy, append_steps, answer_of, disk_after, spare};
 ghost use Rattle.record_file.specs.Records.{HasRecords, body, lists};
 
 use crate::FileError;
@@ -46,11 +45,11 @@ impl<D: Disk> RecordFile<D> {
         ensures at_rest { IfOk result (λ opened. IsAtRest (D.state opened.0.0) (lists opened.1.items)) }
         ensures open { IfOk result (λ opened. IsOpen (D.state opened.0.0)) }
         ensures handed_back { IfErr result (λ refused. IsRecordDisk (D.state refused.0)) }
-        ensures calls { OnOk result (OpensBy (D.state disk) (D.state (disk_after result))) }
+        ensures calls { OpensBy (answer_of result) (D.state disk) (D.state (disk_after result)) }
 
         // A crash at any moment leaves one of the lists that a crash before the call might have left.
         ensures any_moment { EachMoment (IsOneOf (D.state disk)) (D.state disk) (D.state (disk_after result)) }
-        ensures keeps { Keeps (IsDiskFault result) (D.state disk) (D.state (disk_after result)) }
+        ensures keeps { Keeps (IsErrOf (answer_of result) FileError.Disk) (D.state disk) (D.state (disk_after result)) }
     {
         let mut disk = disk;
         match prepare(alloc, &mut disk) {
@@ -76,8 +75,8 @@ impl<D: Disk> RecordFile<D> {
         ensures open { OnOk result (IsOpen (D.state self.new.0)) }
         ensures still_open { result ≡ Err FileError.Memory → IsOpen (D.state self.new.0) }
         ensures left { IsRecordDisk (D.state self.new.0) }
-        ensures calls { OnOk result (Makes (append_steps (length (contents (D.state self.old.0).file)) (body piece.now ++ 0 ∷ []))
-            (D.state self.old.0) (D.state self.new.0)) }
+        ensures calls { EndsBy result (append_steps (length (contents (D.state self.old.0).file)) (body piece.now ++ 0 ∷ []))
+            (D.state self.old.0) (D.state self.new.0) }
 
         // A crash at any moment of the call leaves the records from before it, with the new one or without.
         ensures any_moment { (records : List (List ℕ)) → IsAtRest (D.state self.old.0) records

@@ -10,6 +10,3 @@ mod store;
 
 pub use error::FileError;
 pub use file::RecordFile;
-
-#[cfg(test)]
-mod tests;

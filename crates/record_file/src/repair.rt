@@ -1,10 +1,10 @@
 // The disk calls behind the first sync of an opening.
-ghost use Rattle.std.specs.Prelude.{◌≡◌, ◌<◌, ◌≤◌, IfOk, OnOk, IsErrOf, [], ◌∷◌, length};
-ghost use Rattle.rs_disk.specs.File.{IsImage, contents, cut, settled, write};
-ghost use Rattle.rs_disk.specs.Moments.{EachMoment};
-ghost use Rattle.rs_disk.specs.State.{IsDone, Keeps};
-ghost use Rattle.rs_disk.specs.Steps.{Makes, reads, changes, syncs};
-ghost use Rattle.record_file.specs.Files.{IsAtRest, IsOneOf, IsRecordDisk};
+ghost use Rattle.std.specs.Prelude.{◌≡◌, ◌<◌, ◌≤◌, List, ℕ, IfOk, OnOk, IsErrOf, [], ◌∷◌, length};
+ghost use Rattle.rs_disk.specs.File.{contents, cut, settled, write};
+ghost use Rattle.rs_disk.specs.State.{Keeps};
+ghost use Rattle.rs_disk.specs.Steps.{reads, changes, syncs};
+ghost use Rattle.record_file.specs.Files.{EndsBy, IsAtRest, IsRecordDisk};
+ghost use Rattle.record_file.specs.Parsed.{IsParsed};
 ghost use Rattle.record_file.specs.Records.{HasRecords, lists};
 
 use crate::FileError;
@@ -17,8 +17,7 @@ pub(crate) fn begin<D: Disk>(disk: &mut D) -> Result<(), FileError>
     requires synced { (D.state disk.old).file ≡ settled (contents (D.state disk.old).file) }
     requires short { length (contents (D.state disk.old).file) ≤ 1 }
     ensures at_rest { OnOk result (IsAtRest (D.state disk.new) []) }
-    ensures calls { OnOk result (Makes (changes (write 0 (0 ∷ [])) ∷ syncs ∷ []) (D.state disk.old) (D.state disk.new)) }
-    ensures any_moment { EachMoment (λ image. HasRecords image []) (D.state disk.old) (D.state disk.new) }
+    ensures calls { EndsBy result (changes (write 0 (0 ∷ [])) ∷ syncs ∷ []) (D.state disk.old) (D.state disk.new) }
     ensures keeps { Keeps (IsErrOf result FileError.Disk) (D.state disk.old) (D.state disk.new) }
 {
     disk.write_at(0, &[0])?;
@@ -33,9 +32,8 @@ pub(crate) fn repair<D: Disk>(alloc: Global, disk: &mut D) -> Result<Vec<Vec<u8>
     requires has { IsRecordDisk (D.state disk.old) }
     ensures records { IfOk result (λ records. HasRecords (contents (D.state disk.old).file) (lists records.items)) }
     ensures at_rest { IfOk result (λ records. IsAtRest (D.state disk.new) (lists records.items)) }
-    ensures calls { OnOk result (Makes (reads ∷ changes (cut (length (contents (D.state disk.new).file))) ∷ syncs ∷ [])
-        (D.state disk.old) (D.state disk.new)) }
-    ensures any_moment { EachMoment (IsOneOf (D.state disk.old)) (D.state disk.old) (D.state disk.new) }
+    ensures calls { (records : List (List ℕ)) × (end : ℕ) × IsParsed (contents (D.state disk.old).file) records end
+        × EndsBy result (reads ∷ changes (cut end) ∷ syncs ∷ []) (D.state disk.old) (D.state disk.new) }
     ensures keeps { Keeps (IsErrOf result FileError.Disk) (D.state disk.old) (D.state disk.new) }
 {
     let bytes = read_whole(alloc, disk)?;
@@ -48,8 +46,7 @@ pub(crate) fn repair<D: Disk>(alloc: Global, disk: &mut D) -> Result<Vec<Vec<u8>
 // The bytes of the whole file.
 fn read_whole<D: Disk>(alloc: Global, disk: &mut D) -> Result<Vec<u8>, FileError>
     ensures bytes { IfOk result (λ bytes. bytes.items ≡ contents (D.state disk.old).file) }
-    ensures read { OnOk result (IsDone (D.state disk.old).file (D.state disk.old).file (D.state disk.old) (D.state disk.new)) }
-    ensures any_moment { EachMoment (IsImage (D.state disk.old).file) (D.state disk.old) (D.state disk.new) }
+    ensures calls { EndsBy result (reads ∷ []) (D.state disk.old) (D.state disk.new) }
     ensures keeps { Keeps (IsErrOf result FileError.Disk) (D.state disk.old) (D.state disk.new) }
 {
     let mut bytes = Vec::from_elem(alloc, 0, disk.len() as usize)?;

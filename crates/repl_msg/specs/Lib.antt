@@ -1,3 +1,5 @@
+pub mod Configs
+pub mod Fetching
 pub mod Kept
 pub mod Logs
 pub mod Points

@@ -1,2 +1,3 @@
+pub mod MomentLemmas
 mod PageLemmas
 mod PickLemmas

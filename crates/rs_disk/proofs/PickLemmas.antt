@@ -2,8 +2,8 @@
 use Rattle.std.proofs.Common.{◌≡◌, ℕ, zero, suc, ◌+◌, ◌%◌, ◌<◌, ◌≤◌, Bool, true, false, List, [], ◌∷◌, length, refl, sym, ◌∙◌, ap, subst, arith}
 use Rattle.std.specs.Prelude.{◌||◌, slice_index, if◌then◌else◌, Option, Some, None}
 use Rattle.std.proofs.lemmas.Bool.Decides.{nat_tests}
-use Rattle.rs_disk.specs.File.{Change, write, cut, File, IsImage, contents, changed, settled, LeavesOnly, least_of, greatest_of, is_written}
-use Rattle.rs_disk.specs.Images.{unwritten, least_is_least, read_is_image, only_image}
+use Rattle.rs_disk.specs.File.{Change, write, cut, File, AreBytes, IsImage, contents, changed, settled, LeavesOnly, least_of, greatest_of, is_written}
+use Rattle.rs_disk.specs.Images.{unwritten, contents_bytes, least_is_least, read_is_image, only_image}
 use Rattle.rs_disk.specs.Picks.{picked, filled, is_open}
 use Rattle.rs_disk.specs.Orders.{ordered, power_cut}
 use Rattle.rs_disk.specs.Past.{during, failed_past}
@@ -22,6 +22,15 @@ greatest_within synced (change ∷ changes) = omega (arith, greatest_within sync
 closed : (file : File) (place : ℕ) → place < least_of file.synced file.changes → is_written place file.changes ≡ false → is_open file place ≡ false
 closed file place inside none = grind (arith, nat_tests)
 
+filled_bytes : (pick : ℕ) (file : File) (place : ℕ) (bytes : List ℕ) → AreBytes bytes → AreBytes (filled pick file place bytes)
+filled_bytes pick file place [] are k = are k
+filled_bytes pick file place (byte ∷ bytes) are zero = go (is_open file place)
+  where
+    go : (test : Bool) → (if test then (pick + place) % 256 else byte) < 256
+    go true = omega arith
+    go false = are zero
+filled_bytes pick file place (byte ∷ bytes) are (suc k) = filled_bytes pick file (place + 1) bytes (λ n. are (suc n)) k
+
 filled_is_image : (pick : ℕ) (file : File) → IsImage file (filled pick file 0 (contents file))
 filled_is_image pick file = record {
   no_shorter = omega (arith, length-filled pick file 0 (contents file), (read_is_image file).no_shorter);
@@ -31,11 +40,12 @@ filled_is_image pick file = record {
       ∙ ap (λ (n : ℕ). if is_open file n then (pick + n) % 256 else slice_index (contents file) place) (omega arith)
       ∙ ap (λ (b : Bool). if b then (pick + place) % 256 else slice_index (contents file) place) (closed file place inside none)
       ∙ unwritten file.synced file.changes place inside none;
+  bytes = λ of. filled_bytes pick file 0 (contents file) (contents_bytes file of);
 }
 
 -- each pick leaves an image
 pub picked_is_image : (pick : ℕ) (file : File) → IsImage file (picked pick file)
-picked_is_image zero file = record { no_shorter = least_within file.synced file.changes; no_longer = greatest_within file.synced file.changes; kept = λ place inside none. refl }
+picked_is_image zero file = record { no_shorter = least_within file.synced file.changes; no_longer = greatest_within file.synced file.changes; kept = λ place inside none. refl; bytes = λ of. of.synced }
 picked_is_image (suc zero) file = read_is_image file
 picked_is_image (suc (suc pick)) file = filled_is_image (suc (suc pick)) file
 
@@ -48,11 +58,13 @@ changed_keeps (write at bytes) file image is = record {
   no_shorter = omega (arith, is.no_shorter);
   no_longer = omega (arith, is.no_longer);
   kept = λ place inside none. is.kept place (omega arith) (rest_false _ (is_written place file.changes) none);
+  bytes = λ of. is.bytes (record { synced = of.synced; written = of.written.1 });
 }
 changed_keeps (cut to) file image is = record {
   no_shorter = omega (arith, is.no_shorter);
   no_longer = omega (arith, is.no_longer);
   kept = λ place inside none. is.kept place (omega arith) none;
+  bytes = λ of. is.bytes (record { synced = of.synced; written = of.written });
 }
 
 pub during_keeps : (call : Call) (file : File) (image : List ℕ) → IsImage file image → IsImage (during call file) image

@@ -4,7 +4,7 @@
 -- behind the least end that the file has had, may hold any bytes after a crash: old, new or neither. The file may then
 -- end anywhere from the least to the greatest end that it has had. All other bytes stay. A sync that succeeds leaves one
 -- outcome. Bytes are numbers below 256, and a file is a list of them.
-use Rattle.std.specs.Prelude.{◌≡◌, ℕ, ◌+◌, ◌<◌, ◌≤◌, min, max, Bool, false, ◌&&◌, ◌||◌, nat_le, nat_lt, List, [], ◌∷◌, ◌++◌, length, take, drop, slice_index}
+use Rattle.std.specs.Prelude.{◌≡◌, ℕ, ◌+◌, ◌<◌, ◌≤◌, min, max, Bool, false, ◌&&◌, ◌||◌, nat_le, nat_lt, List, [], ◌∷◌, ◌++◌, length, take, drop, slice_index, ⊤}
 
 -- a change since the last sync
 pub data Change : Type 0 where
@@ -55,12 +55,27 @@ is_written place [] = false
 is_written place (write at bytes ∷ changes) = nat_le at place && nat_lt place (at + length bytes) || is_written place changes
 is_written place (cut to ∷ changes) = is_written place changes
 
+-- numbers below 256; a place behind the end counts as 0
+abbrev pub AreBytes : List ℕ → Type 0
+AreBytes list = (place : ℕ) → slice_index list place < 256
+
+abbrev pub AreWritesOfBytes : List Change → Type 0
+AreWritesOfBytes [] = ⊤
+AreWritesOfBytes (write at bytes ∷ changes) = AreBytes bytes × AreWritesOfBytes changes
+AreWritesOfBytes (cut to ∷ changes) = AreWritesOfBytes changes
+
+-- only bytes were synced, and only bytes were written
+pub record IsOfBytes (file : File) : Type 0 where
+  pub synced : AreBytes file.synced
+  pub written : AreWritesOfBytes file.changes
+
 -- a crash may leave these bytes
 pub record IsImage (file : File) (image : List ℕ) : Type 0 where
   pub no_shorter : least_of file.synced file.changes ≤ length image
   pub no_longer : length image ≤ greatest_of file.synced file.changes
   pub kept : (place : ℕ) → place < least_of file.synced file.changes → is_written place file.changes ≡ false
       → slice_index image place ≡ slice_index file.synced place
+  pub bytes : IsOfBytes file → AreBytes image
 
 -- each outcome of a crash has this property
 abbrev pub LeavesOnly : (List ℕ → Type 0) → File → Type 0

@@ -1,9 +1,9 @@
 -- A file as it reads is one of its images, and where nothing has changed since the last sync it is the only one.
 use Rattle.std.specs.Prelude.{◌≡◌, ◌⊎◌, ℕ, ◌+◌, ◌-◌, ◌<◌, ◌≤◌, Bool, false, ◌&&◌, ◌||◌, nat_le, nat_lt, List, [], ◌∷◌, ◌++◌, length, take, drop, slice_index}
-use Rattle.std.proofs.Common.{max, get_or, refl, ◌∙◌, ap, ⊎_elim, arith, length-take, length-append, length-drop}
+use Rattle.std.proofs.Common.{zero, suc, max, get_or, refl, ◌∙◌, ap, ⊎_elim, arith, length-take, length-append, length-drop}
 use Rattle.std.proofs.lemmas.List.{get_or-take, get_or-drop, get_or_append_left, get_or-append_right, ext_get_or}
 use Rattle.std.proofs.lemmas.Bool.Decides.{nat_tests}
-use Rattle.rs_disk.specs.File.{Change, write, cut, File, IsImage, contents, settled, read_of, overwritten, least_of, greatest_of, is_written}
+use Rattle.rs_disk.specs.File.{Change, write, cut, File, AreBytes, AreWritesOfBytes, IsOfBytes, IsImage, contents, settled, read_of, overwritten, least_of, greatest_of, is_written}
 
 -- a write changes no other place
 pub overwritten_below : {A : Type 0} (at : ℕ) (items old : List A) (d : A) (place : ℕ) → place < at → place < length old
@@ -56,11 +56,41 @@ unwritten synced (cut to ∷ changes) place inside none =
     get_or-take to (read_of synced changes) place 0 (omega (arith, length-take to (read_of synced changes)))
     ∙ unwritten synced changes place (omega arith) none
 
+bytes_append : (xs ys : List ℕ) → AreBytes xs → AreBytes ys → AreBytes (xs ++ ys)
+bytes_append [] ys first second place = second place
+bytes_append (x ∷ xs) ys first second zero = first zero
+bytes_append (x ∷ xs) ys first second (suc place) = bytes_append xs ys (λ k. first (suc k)) second place
+
+bytes_take : (n : ℕ) (xs : List ℕ) → AreBytes xs → AreBytes (take n xs)
+bytes_take zero xs are place = omega arith
+bytes_take (suc n) [] are place = omega arith
+bytes_take (suc n) (x ∷ xs) are zero = are zero
+bytes_take (suc n) (x ∷ xs) are (suc place) = bytes_take n xs (λ k. are (suc k)) place
+
+bytes_drop : (n : ℕ) (xs : List ℕ) → AreBytes xs → AreBytes (drop n xs)
+bytes_drop zero xs are place = are place
+bytes_drop (suc n) [] are place = omega arith
+bytes_drop (suc n) (x ∷ xs) are place = bytes_drop n xs (λ k. are (suc k)) place
+
+read_bytes : (synced : List ℕ) (changes : List Change) → AreBytes synced → AreWritesOfBytes changes → AreBytes (read_of synced changes)
+read_bytes synced [] are written = are
+read_bytes synced (write at bytes ∷ changes) are written =
+    let old = read_of synced changes in
+    let before : AreBytes old = read_bytes synced changes are written.1 in
+    bytes_append (take at old ++ bytes) (drop (at + length bytes) old) (bytes_append (take at old) bytes (bytes_take at old before) written.0)
+    (bytes_drop (at + length bytes) old before)
+read_bytes synced (cut to ∷ changes) are written = bytes_take to (read_of synced changes) (read_bytes synced changes are written)
+
+-- what is read of bytes is bytes
+pub contents_bytes : (file : File) → IsOfBytes file → AreBytes (contents file)
+contents_bytes file of = read_bytes file.synced file.changes of.synced of.written
+
 pub read_is_image : (file : File) → IsImage file (contents file)
 read_is_image file = record {
   no_shorter = least_is_least file.synced file.changes;
   no_longer = greatest_is_greatest file.synced file.changes;
   kept = unwritten file.synced file.changes;
+  bytes = contents_bytes file;
 }
 
 pub only_image : (bytes image : List ℕ) → IsImage (settled bytes) image → image ≡ bytes

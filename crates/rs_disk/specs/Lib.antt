@@ -1,3 +1,4 @@
+pub use Rattle.rs_io.specs.Fault
 pub mod File
 pub mod Images
 pub mod Orders

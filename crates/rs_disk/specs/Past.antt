@@ -1,8 +1,9 @@
 -- What a call adds to the past of a file in memory.
 use Rattle.std.specs.Prelude.{ℕ, [], ◌∷◌, Option, Some, None}
-use Rattle.rs_disk.specs.File.{File, write, cut, changed, settled, contents}
+use Rattle.rs_disk.specs.File.{File, write, cut, settled}
 use Rattle.rs_disk.specs.Orders.{Orders, no_orders, ordered, arm, power_cut}
 use Rattle.rs_disk.specs.Picks.{picked}
+use Rattle.rs_disk.specs.Steps.{Step, reads, changes, syncs, in_step, after_step}
 use Rattle.rs_disk.specs.declared.past.Call.{Call}
 use Rattle.rs_disk.specs.declared.past.Call.TheVariants.{Write, Cut, Sync, Arm, PowerCut}
 use Rattle.rs_disk.specs.declared.past.End.{End}
@@ -14,16 +15,20 @@ use Rattle.rs_disk.specs.declared.past.Past.{Past}
 abbrev pub no_past : Past
 no_past = record { file = settled []; before = []; orders = no_orders }
 
+-- what a call asks of the file; an order asks nothing of it
+abbrev pub step_of : Call → Step
+step_of (Write at bytes) = changes (write at bytes.now)
+step_of (Cut to) = changes (cut to)
+step_of Sync = syncs
+step_of call = reads
+
 -- the file while the call goes on
 abbrev pub during : Call → File → File
-during (Write at bytes) file = changed (write at bytes.now) file
-during (Cut to) file = changed (cut to) file
-during call file = file
+during call file = in_step (step_of call) file
 
 -- the file after a call that was done
 abbrev pub done : Call → File → File
-done Sync file = settled (contents file)
-done call file = during call file
+done call file = after_step (step_of call) file
 
 -- the file when the call has ended
 abbrev pub ended : Call → End → File → File
@@ -46,12 +51,12 @@ called call end past = record {
 
 -- the past after a call that was done
 abbrev pub done_past : Call → Past → Past
-done_past call past = record { file = done call past.file; before = during call past.file ∷ past.file ∷ past.before; orders = orders_after call past.orders }
+done_past call past = called call Done past
 
 -- the past after a call that failed: without a pick nothing was done
 abbrev pub failed_past : Call → Option ℕ → Past → Past
-failed_past call None past = record { file = past.file; before = during call past.file ∷ past.file ∷ past.before; orders = orders_after call past.orders }
-failed_past call (Some pick) past = record { file = settled (picked pick (during call past.file)); before = during call past.file ∷ past.file ∷ past.before; orders = orders_after call past.orders }
+failed_past call None past = called call Undone past
+failed_past call (Some pick) past = record (called call Undone past) { file = settled (picked pick (during call past.file)) }
 
 -- an order to fail at some call takes no time
 abbrev pub past_after : Event → Past → Past

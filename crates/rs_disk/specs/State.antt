@@ -1,5 +1,6 @@
 -- What there is to know of a disk, and what its calls do to it.
-use Rattle.std.specs.Prelude.{◌≡◌, ℕ, ◌+◌, ◌-◌, ◌^◌, ◌≤◌, min, Bool, IsTrue, List, ◌∷◌, Result, Ok, Err, Option}
+use Rattle.std.specs.Prelude.{◌≡◌, ℕ, ◌≤◌, Bool, IsTrue, List, ◌∷◌, Result, Ok, Err, Option}
+use Rattle.rs_io.specs.Fault.{Rose}
 use Rattle.rs_disk.specs.File.{File, write, changed, contents, settled, IsImage, LeavesOnly}
 use Rattle.rs_disk.specs.Orders.{Orders, ordered, arm, power_cut}
 use Rattle.rs_disk.specs.declared.disk.DiskError.{DiskError}
@@ -48,10 +49,6 @@ abbrev pub Writes : ℕ → List ℕ → Result (Unit {0}) DiskError → State �
 Writes at bytes (Ok _) old new = IsDone (changed (write at bytes) old.file) (changed (write at bytes) old.file) old new
 Writes at bytes (Err Failed) old new = IsCrashed (changed (write at bytes) old.file) old new
 Writes at bytes (Err Memory) old new = SameButRoom old new
-
--- the count rose, or stands at its last value
-abbrev pub Rose : ℕ → ℕ → Type 0
-Rose before now = min (before + 1) (2 ^ 64 - 1) ≤ now
 
 -- What each of `read_at`, `write_at`, `cut` and `sync` keeps. A fault comes only where the count rose, and on a steady
 -- disk only where it was armed.

@@ -1,7 +1,7 @@
--- Which calls of a disk were made between two of its states, where all of them were done.
-use Rattle.std.specs.Prelude.{◌≡◌, List, [], ◌∷◌}
+-- Which calls of a disk were made between two of its states, and how they ended.
+use Rattle.std.specs.Prelude.{◌≡◌, ◌⊎◌, List, [], ◌∷◌, ◌++◌}
 use Rattle.rs_disk.specs.File.{File, Change, changed, settled, contents}
-use Rattle.rs_disk.specs.State.{State}
+use Rattle.rs_disk.specs.State.{State, IsDone, IsCrashed}
 
 -- one call
 pub data Step : Type 0 where
@@ -34,3 +34,13 @@ past_of (step ∷ steps) file past = past_of steps (after_step step file) (in_st
 pub record Makes (steps : List Step) (old new : State) : Type 0 where
   pub file : new.file ≡ after_steps steps old.file
   pub past : new.past ≡ past_of steps old.file old.past
+
+-- Of these calls the first ones were made, in this order. The last that was made failed, and those before it were done.
+abbrev pub Breaks : List Step → State → State → Type 0
+Breaks [] old new = ⊥
+Breaks (step ∷ steps) old new = IsCrashed (in_step step old.file) old new
+    ⊎ ((mid : State) × IsDone (in_step step old.file) (after_step step old.file) old mid × Breaks steps mid new)
+
+-- Of these calls the first ones were made, in this order, and done.
+abbrev pub MakesFirst : List Step → State → State → Type 0
+MakesFirst steps old new = (made : List Step) × (rest : List Step) × (steps ≡ made ++ rest) × Makes made old new

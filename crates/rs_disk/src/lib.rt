@@ -13,6 +13,3 @@ mod past;
 
 pub use disk::{Disk, DiskError, Failed};
 pub use memory::MemDisk;
-
-#[cfg(test)]
-mod tests;

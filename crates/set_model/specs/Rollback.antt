@@ -8,6 +8,7 @@ use Rattle.bson_doc.specs.Tree.{Fields}
 use Rattle.oplog_entry.specs.declared.entry.Entry.{Entry}
 use Rattle.oplog_entry.specs.Docs.{Documents}
 use Rattle.oplog_entry.specs.Visible.{last_of, log_up_to}
+use Rattle.repl_msg.specs.Rollback as known
 pub use Rattle.repl_msg.specs.Rollback.{is_common, common_point, touched_documents}
 use Rattle.repl_msg.specs.declared.message.Body.{Body}
 use Rattle.repl_msg.specs.declared.message.Body.TheVariants as bodies
@@ -55,7 +56,7 @@ common_asked next node from after = sending (Replied next) node from (common_rep
 
 -- the source's log ends in the node's term, and the node's own in an earlier one
 abbrev pub is_of_later_branch : Node → OpTime → Bool
-is_of_later_branch node visible = visible.term == node.term && nat_lt (last_point node).term visible.term
+is_of_later_branch node visible = known.is_of_later_branch node.term (last_point node) visible
 
 -- why the node doesn't roll back: the first reason that holds
 abbrev pub rollback_reason : Node → ℕ → OpTime → List OpTime → OpTime → Option Ignored

@@ -3,12 +3,14 @@
 #![tactic(auto)]
 
 mod collection;
+mod cut;
 mod history;
+mod laws;
 mod place;
 mod shard;
 mod store;
-#[cfg(test)]
-mod tests;
 
+pub use laws::{a_prune_is_not_seen, going_back_shows_the_earlier};
 pub use place::shard_of;
+pub use shard::Shard;
 pub use store::{HoldError, VersionStore};

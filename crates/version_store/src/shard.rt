@@ -1,21 +1,25 @@
 // The part of the documents whose places have one number by their hash.
 ghost use Rattle.std.specs.Prelude.{◌≡◌, [], All, Some, None, true, false, MatchOption, OnOk, OnErr};
 ghost use Rattle.std.specs.Option.{option_copied};
-ghost use Rattle.version_store.specs.Past.{no_past, is_before, latest_of, shown, with_version, held_by, back_to, pruned, IsRising};
+ghost use Rattle.version_store.specs.Past.{no_past, is_before, latest_of, shown, with_version, held_by, back_to, IsRising};
+ghost use Rattle.version_store.specs.Cuts.{left_by};
 ghost use Rattle.version_store.specs.Places.{AddsPlaces, is_shown};
 ghost use Rattle.version_store.specs.Documents.{ChangesEachIn};
 ghost use Rattle.version_store.specs.Shards.{documents_of, past_of, BelongsTo, HasItsOwn, OwnsAll, ChangesCollection, ChangesOf, ChangesEachOf};
 
 use crate::collection::Collection;
+use crate::cut::Cut;
+use crate::history::History;
 use bson_doc::{Doc, IdKey, Text};
 use rs_optime::{Mem, OpTime};
 use std::alloc::Global;
 use std::collections::{BTreeMap, BTreeSet};
 use std::marker::Model;
 
-/// The documents of one shard, by collection and then by key, so that no look-up makes a key.
+/// The documents of one shard, by collection and then by key, so that no look-up makes a key. A shard has a number, and
+/// knows how many shards there are: a document belongs to it where `shard_of` gives that number.
 #[derive(Drop)]
-pub(crate) struct Shard {
+pub struct Shard {
     alloc: Global,
     number: u32,
     count: u32,
@@ -48,24 +52,26 @@ impl Shard {
         }
     }
 
-    pub(crate) fn latest(&self, ns: &str, id: &IdKey) -> Option<&Doc>
+    /// The newest version of a document. None where it was deleted or never was, or belongs to another shard.
+    pub fn latest(&self, ns: &str, id: &IdKey) -> Option<&Doc>
         ensures latest { option_copied result ≡ latest_of (past_of self.now (ns.now, id.now)).versions }
         ensures rising { IsRising (past_of self.now (ns.now, id.now)).versions }
     {
-        self.collection(ns)?.latest(id)
+        self.history(ns, id)?.latest()
     }
 
-    pub(crate) fn read_at(&self, ns: &str, id: &IdKey, at: OpTime) -> Option<&Doc>
+    /// The newest version of a document at or before an optime. None where that is a deletion, or there is none.
+    pub fn read_at(&self, ns: &str, id: &IdKey, at: OpTime) -> Option<&Doc>
         ensures shown { option_copied result ≡ shown at (past_of self.now (ns.now, id.now)).versions }
         ensures rising { IsRising (past_of self.now (ns.now, id.now)).versions }
     {
-        self.collection(ns)?.read_at(id, at)
+        self.history(ns, id)?.read_at(at)
     }
 
-    pub(crate) fn holder(&self, ns: &str, id: &IdKey) -> Option<u32>
-        ensures { result ≡ (past_of self.now (ns.now, id.now)).holder }
+    pub(crate) fn history(&self, ns: &str, id: &IdKey) -> Option<&History>
+        ensures { MatchOption result (past_of self.now (ns.now, id.now) ≡ no_past) (λ history. past_of self.now (ns.now, id.now) ≡ history.now) }
     {
-        self.collection(ns)?.holder(id)
+        self.collection(ns)?.history(id)
     }
 
     pub(crate) fn hold(&mut self, ns: &str, id: &IdKey, writer: u32) -> Mem<()>
@@ -93,7 +99,17 @@ impl Shard {
         collection.release(id);
     }
 
-    pub(crate) fn put(&mut self, ns: &str, id: IdKey, at: OpTime, doc: Option<Doc>) -> Mem<()>
+    /// Adds a version of a document of the shard's, newer than each that it has. None is a deletion.
+    pub fn put(&mut self, ns: Text, id: IdKey, at: OpTime, doc: Option<Doc>) -> Mem<()>
+        requires own { BelongsTo self.old.number self.old.count (ns, id) }
+        requires later { All (λ version. is_before version.at at ≡ true) (past_of self.old (ns, id)).versions }
+        ensures ok { OnOk result (ChangesOf self.old self.new (ns, id) (with_version (past_of self.old (ns, id)) (record { at = at; doc = doc }))) }
+        ensures err { OnErr result (self.new ≡ self.old) }
+    {
+        self.put_in(ns.as_str(), id, at, doc)
+    }
+
+    pub(crate) fn put_in(&mut self, ns: &str, id: IdKey, at: OpTime, doc: Option<Doc>) -> Mem<()>
         requires own { BelongsTo self.old.number self.old.count (ns.now, id) }
         requires later { All (λ version. is_before version.at at ≡ true) (past_of self.old (ns.now, id)).versions }
         ensures ok { OnOk result (ChangesOf self.old self.new (ns.now, id) (with_version (past_of self.old (ns.now, id)) (record { at = at; doc = doc }))) }
@@ -109,29 +125,22 @@ impl Shard {
         Ok(())
     }
 
-    pub(crate) fn back_to(&mut self, at: OpTime)
+    /// Drops every version behind an optime.
+    pub fn back_to(&mut self, at: OpTime)
         ensures { ChangesEachOf self.old self.new (back_to at) }
     {
-        self.collections.retain(
-            |_name, collection| -> bool
-                ensures each { ChangesEachIn collection.old collection.new (back_to at) }
-                ensures dropped { result ≡ false → collection.new ≡ [] }
-            {
-                collection.back_to(at);
-                !collection.is_empty()
-            },
-        );
+        self.cut(Cut::After(at));
     }
 
-    pub(crate) fn prune(&mut self, at: OpTime)
-        ensures { ChangesEachOf self.old self.new (pruned at) }
+    pub(crate) fn cut(&mut self, cut: Cut)
+        ensures { ChangesEachOf self.old self.new (left_by cut) }
     {
         self.collections.retain(
             |_name, collection| -> bool
-                ensures each { ChangesEachIn collection.old collection.new (pruned at) }
+                ensures each { ChangesEachIn collection.old collection.new (left_by cut) }
                 ensures dropped { result ≡ false → collection.new ≡ [] }
             {
-                collection.prune(at);
+                collection.cut(cut);
                 !collection.is_empty()
             },
         );

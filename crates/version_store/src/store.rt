@@ -1,12 +1,15 @@
-ghost use Rattle.std.specs.Prelude.{◌≡◌, ◌≢◌, ◌↔◌, ◌<◌, ◌≤◌, ◌∷◌, ◌++◌, ℕ, All, Contains, Some, None, is_some, IsSome, true, IfOk, IsErrOf, OnOk, OnErr};
+ghost use Rattle.std.specs.Prelude.{◌≡◌, ◌≢◌, ◌↔◌, [], ◌<◌, ◌≤◌, ◌∷◌, ◌++◌, ℕ, All, Contains, Some, None, is_some, IsSome, true, IfOk, IsErrOf, MatchOption, OnOk, OnErr};
 ghost use Rattle.std.specs.Option.{option_copied};
 ghost use Rattle.bson_doc.specs.Place.{Place, place_cmp};
 ghost use Rattle.std.specs.BTreeSet.{contains};
 ghost use Rattle.std.specs.List.Sorted.{IsStrictlySortedBy};
-ghost use Rattle.version_store.specs.Past.{no_past, is_before, latest_of, shown, with_version, held_by, back_to, pruned, IsRising};
+ghost use Rattle.version_store.specs.Past.{no_past, is_before, latest_of, shown, with_version, held_by, back_to, back_before, pruned, IsRising};
+ghost use Rattle.version_store.specs.Cuts.{left_by};
 ghost use Rattle.version_store.specs.Shards.{past_of};
-ghost use Rattle.version_store.specs.Store.{past_at, versions_at, holder_at, shown_at, Changes, ChangesEach};
+ghost use Rattle.version_store.specs.Store.{past_at, versions_at, holder_at, shown_at, AreShards, AreAllOrNone, Changes, ChangesEach};
 
+use crate::cut::Cut;
+use crate::history::History;
 use crate::place::shard_of;
 use crate::shard::Shard;
 use bson_doc::{Doc, IdKey, Text};
@@ -14,6 +17,7 @@ use rs_optime::{Mem, OpTime};
 use std::alloc::{AllocError, Global};
 use std::collections::BTreeSet;
 use std::marker::Model;
+use std::mem::replace;
 use thiserror::Error;
 
 /// Why a document wasn't held.
@@ -37,7 +41,8 @@ impl From<AllocError> for HoldError {
     }
 }
 
-/// Documents with their versions by optime, and the writers that hold them, in shards.
+/// Documents with their versions by optime, and the writers that hold them, in shards. From `take_shards` to
+/// `put_shards` it has no shards: nothing is found there, and what would be put or held wants memory.
 #[derive(Drop)]
 pub struct VersionStore {
     count: u32,
@@ -52,11 +57,11 @@ impl Model for VersionStore {
 
     ghost coded = { store_code };
 
-    ghost use Rattle.version_store.specs.Store.{AreShards};
+    ghost use Rattle.version_store.specs.Store.{AreAllOrNone};
 
     ghost view = { λ s. record { count = s.count; shards = s.shards.items } };
 
-    ghost invariant = { λ s. AreShards s.count s.shards.items };
+    ghost invariant = { λ s. AreAllOrNone s.count s.shards.items };
 }
 
 impl VersionStore {
@@ -81,7 +86,7 @@ impl VersionStore {
         ensures latest { option_copied result ≡ latest_of (versions_at self.now (ns.now, id.now)) }
         ensures rising { IsRising (versions_at self.now (ns.now, id.now)) }
     {
-        self.shard(ns, id).latest(ns, id)
+        self.history(ns, id)?.latest()
     }
 
     /// The newest version of a document at or before an optime. None where that is a deletion, or there is none.
@@ -89,14 +94,14 @@ impl VersionStore {
         ensures shown { option_copied result ≡ shown_at self.now (ns.now, id.now) at }
         ensures rising { IsRising (versions_at self.now (ns.now, id.now)) }
     {
-        self.shard(ns, id).read_at(ns, id, at)
+        self.history(ns, id)?.read_at(at)
     }
 
     /// The writer that holds a document.
     pub fn holder(&self, ns: &str, id: &IdKey) -> Option<u32>
         ensures { result ≡ holder_at self.now (ns.now, id.now) }
     {
-        self.shard(ns, id).holder(ns, id)
+        self.history(ns, id)?.holder()
     }
 
     /// Lets a writer hold a document. `Held` where another writer holds it.
@@ -111,7 +116,9 @@ impl VersionStore {
             return Err(HoldError::Held(other));
         }
         let place = shard_of(ns, id, self.count) as usize;
-        let shard = &mut self.shards[place];
+        let Some(shard) = self.shards.get_mut(place) else {
+            return Err(HoldError::Memory);
+        };
         shard.hold(ns, id, writer)?;
         Ok(())
     }
@@ -121,7 +128,9 @@ impl VersionStore {
         ensures { Changes self.old self.new (ns.now, id.now) (held_by (past_at self.old (ns.now, id.now)) None) }
     {
         let place = shard_of(ns, id, self.count) as usize;
-        let shard = &mut self.shards[place];
+        let Some(shard) = self.shards.get_mut(place) else {
+            return;
+        };
         shard.release(ns, id);
     }
 
@@ -147,9 +156,14 @@ impl VersionStore {
     pub fn back_to(&mut self, at: OpTime)
         ensures { ChangesEach self.old self.new (back_to at) }
     {
-        for shard in self.shards.iter_mut() {
-            shard.back_to(at);
-        }
+        self.cut(Cut::After(at));
+    }
+
+    /// Drops every version at an optime or behind it.
+    pub fn back_before(&mut self, at: OpTime)
+        ensures { ChangesEach self.old self.new (back_before at) }
+    {
+        self.cut(Cut::From(at));
     }
 
     /// Drops the versions that no read at or after an optime can tell from none: those before the newest one at or
@@ -157,8 +171,40 @@ impl VersionStore {
     pub fn prune(&mut self, at: OpTime)
         ensures dropped { ChangesEach self.old self.new (pruned at) }
     {
+        self.cut(Cut::Unseen(at));
+    }
+
+    /// How many shards the documents are spread over.
+    pub fn shard_count(&self) -> u32
+        ensures count { result ≡ self.now.count }
+        ensures some { 0 < result }
+    {
+        self.count
+    }
+
+    /// Takes the shards out, by their numbers. None, where they are out.
+    pub fn take_shards(&mut self) -> Vec<Shard>
+        ensures taken { result.items ≡ self.old.shards }
+        ensures whole { AreAllOrNone self.old.count result.items }
+        ensures left { self.new ≡ record { count = self.old.count; shards = [] } }
+    {
+        let none = Vec::new(*self.shards.allocator());
+        replace(&mut self.shards, none)
+    }
+
+    /// Puts shards there: as many as were taken, each at the place of its number.
+    pub fn put_shards(&mut self, shards: Vec<Shard>)
+        requires { AreShards self.old.count shards.items }
+        ensures { self.new ≡ record { count = self.old.count; shards = shards.items } }
+    {
+        self.shards = shards;
+    }
+
+    fn cut(&mut self, cut: Cut)
+        ensures { ChangesEach self.old self.new (left_by cut) }
+    {
         for shard in self.shards.iter_mut() {
-            shard.prune(at);
+            shard.cut(cut);
         }
     }
 
@@ -168,8 +214,10 @@ impl VersionStore {
         ensures err { OnErr result (self.new ≡ self.old) }
     {
         let place = shard_of(ns, &id, self.count) as usize;
-        let shard = &mut self.shards[place];
-        shard.put(ns, id, at, doc)?;
+        let Some(shard) = self.shards.get_mut(place) else {
+            return Err(AllocError);
+        };
+        shard.put_in(ns, id, at, doc)?;
         Ok(())
     }
 
@@ -183,10 +231,16 @@ impl VersionStore {
         Ok(places)
     }
 
-    fn shard(&self, ns: &str, id: &IdKey) -> &Shard
-        ensures { past_of result.now (ns.now, id.now) ≡ past_at self.now (ns.now, id.now) }
+    fn history(&self, ns: &str, id: &IdKey) -> Option<&History>
+        ensures { MatchOption result (past_at self.now (ns.now, id.now) ≡ no_past) (λ history. past_at self.now (ns.now, id.now) ≡ history.now) }
     {
-        &self.shards[shard_of(ns, id, self.count) as usize]
+        self.shard(ns, id)?.history(ns, id)
+    }
+
+    fn shard(&self, ns: &str, id: &IdKey) -> Option<&Shard>
+        ensures { MatchOption result (past_at self.now (ns.now, id.now) ≡ no_past) (λ shard. past_of shard.now (ns.now, id.now) ≡ past_at self.now (ns.now, id.now)) }
+    {
+        self.shards.get(shard_of(ns, id, self.count) as usize)
     }
 }
 

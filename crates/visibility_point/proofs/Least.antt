@@ -144,3 +144,11 @@ visible_whole log reserved xs none same = ap (λ ys. visible log ys) (sym (none_
 pub visible_before : (log : List Entry) (reserved : Reserved) (at : OpTime) (xs : List OpTime) → IsLeast reserved at → from_list xs ≡ reserved.slots
     → last_of (filter (λ entry. is_before entry.optime at) log) ≡ visible log xs
 visible_before log reserved at xs is same = ap (λ slot. last_of (entries_before slot log)) (sym (least_of_listed reserved at xs is same))
+
+-- what is answered is visible, whatever the list of the slots
+pub whole_is_visible : (result : OpTime) (log : List Entry) (slots : FinSet optime_cmp) (xs : List OpTime) → result ≡ last_of log → slots ≡ empty → from_list xs ≡ slots → result ≡ visible log xs
+whole_is_visible result log slots xs is none same = is ∙ visible_whole log slots xs none same
+
+pub front_is_visible : (result : OpTime) (log front : List Entry) (reserved : Reserved) (at : OpTime) (xs : List OpTime) → result ≡ last_of front
+    → front ≡ filter (λ entry. is_before entry.optime at) log → IsLeast reserved at → from_list xs ≡ reserved.slots → result ≡ visible log xs
+front_is_visible result log front reserved at xs is behind first same = is ∙ ap last_of behind ∙ visible_before log reserved at xs first same

@@ -4,8 +4,6 @@
 
 mod laws;
 mod point;
-#[cfg(test)]
-mod tests;
 
 pub use laws::nothing_appears_behind;
 pub use point::visible;

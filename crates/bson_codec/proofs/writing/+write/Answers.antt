@@ -4,9 +4,9 @@ use Rattle.std.proofs.lemmas.Result.{IfOk-equal}
 use Rattle.bson_codec.specs.Numbers.{number_bytes}
 use Rattle.bson_doc.specs.Tree.{count, items_count}
 use Rattle.bson_doc.proofs.DocLemmas.{fields_from-end, trees_from-end}
-use Rattle.bson_codec.specs.Length.{fields_length, items_length}
+use Rattle.bson_doc.specs.Length.{fields_length, items_length}
 use Rattle.bson_codec.specs.Spelling.{fields_bytes, items_bytes}
-use Rattle.bson_codec.proofs.SpellingLemmas.{on_ok, closed, length-fields_bytes, length-items_bytes}
+use Rattle.bson_codec.proofs.SpellingLemmas.{closed, length-fields_bytes, length-items_bytes}
 use Rattle.bson_codec.proofs.writing.+write.Goals as goal
 
 pub write-close-requires-clause-room : goal.write-close-requires-clause-room
@@ -29,8 +29,8 @@ write-close-requires-clause-short t c =
     omega (arith, ap length whole, length-append (c.args.out.now.items ++ 0 ∷ 0 ∷ 0 ∷ 0 ∷ []) (fields_bytes c.args.document.now), length-append c.args.out.now.items (0 ∷ 0 ∷ 0 ∷ 0 ∷ []), length-fields_bytes c.args.document.now) in
     omega arith
 
-pub write-returns-clause-bytes : goal.write-returns-clause-bytes
-write-returns-clause-bytes t c =
+pub write-returns : goal.write-returns
+write-returns t c =
     let past : count c.args.document.now ≤ c.loop-place.place = omega arith in
     let known = rw (fields_from-end c.args.document.now c.loop-place.place past) at c.loop-place.invariant.0 in
     let whole : c.loop-place.out.items ≡ (c.args.out.now.items ++ 0 ∷ 0 ∷ 0 ∷ 0 ∷ []) ++ fields_bytes c.args.document.now =
@@ -60,8 +60,8 @@ write_items-close-requires-clause-short t c =
     omega (arith, ap length whole, length-append (c.args.out.now.items ++ 0 ∷ 0 ∷ 0 ∷ 0 ∷ []) (items_bytes 0 c.args.items.now), length-append c.args.out.now.items (0 ∷ 0 ∷ 0 ∷ 0 ∷ []), length-items_bytes 0 c.args.items.now) in
     omega arith
 
-pub write_items-returns-clause-bytes : goal.write_items-returns-clause-bytes
-write_items-returns-clause-bytes t c =
+pub write_items-returns : goal.write_items-returns
+write_items-returns t c =
     let past : items_count c.args.items.now ≤ c.loop-place.place = omega arith in
     let known = rw (trees_from-end c.args.items.now c.loop-place.place past) at c.loop-place.invariant.0 in
     let whole : c.loop-place.out.items ≡ (c.args.out.now.items ++ 0 ∷ 0 ∷ 0 ∷ 0 ∷ []) ++ items_bytes 0 c.args.items.now =
@@ -70,15 +70,3 @@ write_items-returns-clause-bytes t c =
     let sealed = closed c.args.out.now.items (0 ∷ 0 ∷ 0 ∷ 0 ∷ []) (items_bytes 0 c.args.items.now) c.loop-place.out.items refl whole in
     let counted = ap (λ (n : ℕ). c.args.out.now.items ++ (number_bytes 4 (5 + n) ++ items_bytes 0 c.args.items.now ++ 0 ∷ [])) (length-items_bytes 0 c.args.items.now) in
     IfOk-equal c.close.result c.close.new.out.items _ _ c.close.ensures (rw start (sealed ∙ counted))
-
-pub write-returns-clause-sound : goal.write-returns-clause-sound
-write-returns-clause-sound t c =
-    let past : count c.args.document.now ≤ c.loop-place.place = omega arith in
-    let sound = rw (fields_from-end c.args.document.now c.loop-place.place past) at c.loop-place.invariant.3 in
-    on_ok c.close.result _ (c.names_are_apart.ensures, sound tt)
-
-pub write_items-returns-clause-sound : goal.write_items-returns-clause-sound
-write_items-returns-clause-sound t c =
-    let past : items_count c.args.items.now ≤ c.loop-place.place = omega arith in
-    let sound = rw (trees_from-end c.args.items.now c.loop-place.place past) at c.loop-place.invariant.3 in
-    on_ok c.close.result _ (sound tt)

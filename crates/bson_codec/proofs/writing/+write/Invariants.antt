@@ -1,8 +1,7 @@
 use Rattle.std.proofs.Common.{◌≡◌, ◌+◌, ◌*◌, ◌≤◌, ◌++◌}
 use Rattle.bson_doc.specs.Tree.{fields_from, fields_size, trees_from, trees_size, tree_size}
 use Rattle.bson_doc.specs.View.{tree_of}
-use Rattle.bson_codec.specs.Length.{fields_length, items_length}
-use Rattle.bson_codec.specs.Sound.{AreSoundFields, AreSoundItems}
+use Rattle.bson_doc.specs.Length.{fields_length, items_length}
 use Rattle.bson_codec.specs.Spelling.{fields_bytes, items_bytes}
 use Rattle.bson_codec.proofs.writing.+write.Given as goal
 
@@ -20,11 +19,9 @@ invariant-write-loop-place l =
     (l.out.items ++ fields_bytes (fields_from l.place l.document) ≡ l.initial.out.items ++ fields_bytes l.document)
     × (fields_size (fields_from l.place l.document) ≤ fields_size l.document)
     × (fields_length (fields_from l.place l.document) ≤ fields_length l.document)
-    × (AreSoundFields (fields_from l.place l.document) → AreSoundFields l.document)
 
 abbrev pub invariant-write_items-loop-place : goal.invariant-write_items-loop-place
 invariant-write_items-loop-place l =
     (l.out.items ++ items_bytes l.place (trees_from l.place l.items) ≡ l.initial.out.items ++ items_bytes 0 l.items)
     × (trees_size (trees_from l.place l.items) ≤ trees_size l.items)
     × (items_length l.place (trees_from l.place l.items) ≤ items_length 0 l.items)
-    × (AreSoundItems (trees_from l.place l.items) → AreSoundItems l.items)

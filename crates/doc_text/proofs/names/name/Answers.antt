@@ -1,4 +1,5 @@
-use Rattle.doc_text.proofs.NamesAreClean.{no_zero, clean_string, bare_clean}
+use Rattle.doc_text.proofs.NamesAreClean.{no_zero, bare_clean}
+use Rattle.doc_text.proofs.ReadStrings.{clean_string}
 use Rattle.doc_text.proofs.names.name.Goals as goal
 
 pub returns-in-34-clause-clean : goal.returns-in-34-clause-clean

@@ -1,8 +1,7 @@
 use Rattle.std.proofs.Common.{◌≡◌, ℕ, ◌+◌, ◌*◌, ◌<◌, length}
 use denote.Shadow.{shadow}
 use denote.Text.{Utf8}
-use Rattle.doc_text.specs.Values.{fields_at, items_at, document_at, array_at, value_at}
-use Rattle.doc_text.proofs.Members.{as_array, as_document}
+use Rattle.doc_text.specs.Values.{field_at, item_at, members_at, document_at, array_at, value_at}
 use Rattle.doc_text.proofs.values.+value.Given as goal
 
 abbrev pub decreases-array : goal.decreases-array
@@ -18,7 +17,7 @@ decreases-value l = 2 * l.levels + 1
 abbrev pub invariant-array-loop-items : goal.invariant-array-loop-items
 invariant-array-loop-items l =
     shadow (Utf8 l.rest) × (length l.rest < length l.text)
-    × ((most : ℕ) × (length l.rest < most) × (as_array (items_at (value_at l.levels) most l.items l.rest) ≡ array_at (value_at l.levels) l.text))
+    × ((most : ℕ) × (length l.rest < most) × (members_at (item_at (value_at l.levels)) 93 most l.items l.rest ≡ array_at (value_at l.levels) l.text))
 
 abbrev pub decreases-array-loop-items : goal.decreases-array-loop-items
 decreases-array-loop-items l = length l.rest
@@ -27,7 +26,7 @@ decreases-array-loop-items l = length l.rest
 abbrev pub invariant-document-loop-fields : goal.invariant-document-loop-fields
 invariant-document-loop-fields l =
     shadow (Utf8 l.rest) × (length l.rest < length l.text)
-    × ((most : ℕ) × (length l.rest < most) × (as_document (fields_at (value_at l.levels) most l.fields l.rest) ≡ document_at (value_at l.levels) l.text))
+    × ((most : ℕ) × (length l.rest < most) × (members_at (field_at (value_at l.levels)) 125 most l.fields l.rest ≡ document_at (value_at l.levels) l.text))
 
 abbrev pub decreases-document-loop-fields : goal.decreases-document-loop-fields
 decreases-document-loop-fields l = length l.rest

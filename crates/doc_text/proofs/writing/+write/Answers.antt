@@ -6,10 +6,9 @@ use Rattle.bson_doc.specs.View.{tree_of}
 use Rattle.bson_doc.proofs.DocLemmas.{fields_from-end, trees_from-end}
 use Rattle.doc_text.specs.Printing.{printed_fields, printed_items}
 use Rattle.doc_text.specs.Spelling.{IsLawful, AreAllLawful}
-use Rattle.doc_text.proofs.Printed.{separator, with_separator, with_no_separator, item_written, field_written, array_written, document_written, item_smaller, field_smaller}
+use Rattle.doc_text.proofs.Printed.{item_written, field_written, array_written, document_written, item_smaller, field_smaller}
 use Rattle.doc_text.proofs.Results.{always}
 use Rattle.doc_text.proofs.writing.+write.Goals as goal
-use Rattle.doc_text.proofs.writing.+write.Goals.{write_items-then-place-gt0+in_ok-push_str-2, write_items-else-place-gt0, write_fields-then-place-gt0+in_ok-push_str-2, write_fields-else-place-gt0}
 
 pub write_items-write-requires : goal.write_items-write-requires
 write_items-write-requires t c =
@@ -17,13 +16,8 @@ write_items-write-requires t c =
 
 pub write_items-loop-place-preserved : goal.write_items-loop-place-preserved
 write_items-loop-place-preserved t c =
-    let between : string_bytes c.if-place-gt0.out ≡ string_bytes c.loop-place.out ++ separator c.loop-place.place =
-    elim c.if-place-gt0.branch [
-      | write_items-then-place-gt0+in_ok-push_str-2 w ↦ with_separator c.loop-place.place _ _ w.if-place-gt0.true (ap string_bytes w.out-is ∙ w.in_ok-push_str-2.ensures.bytes)
-      | write_items-else-place-gt0 w ↦ with_no_separator c.loop-place.place _ _ w.if-place-gt0.false (ap string_bytes w.out-is)
-    ] in
     record {
-      written = rw (c.in_ok-write.ensures.written, between) (item_written c.loop-place.place c.args.items.now (trees_from (c.loop-place.place + 1) c.args.items.now) (tree_of c.in-Some.value.now) (string_bytes c.loop-place.out) ((string_bytes c.args.out.now ++ codes "[") ++ printed_items c.args.items.now) c.in-Some.ensures c.loop-place.invariant.written);
+      written = rw (c.in_ok-write.ensures.written, c.in_ok-write_separator.ensures) (item_written c.loop-place.place c.args.items.now (trees_from (c.loop-place.place + 1) c.args.items.now) (tree_of c.in-Some.value.now) (string_bytes c.loop-place.out) ((string_bytes c.args.out.now ++ codes "[") ++ printed_items c.args.items.now) c.in-Some.ensures c.loop-place.invariant.written);
       lawful = λ later. c.loop-place.invariant.lawful (rw c.in-Some.ensures (c.in_ok-write.ensures.lawful, later));
     }
 
@@ -44,13 +38,8 @@ write_fields-write-requires t c =
 
 pub write_fields-loop-place-preserved : goal.write_fields-loop-place-preserved
 write_fields-loop-place-preserved t c =
-    let between : string_bytes c.if-place-gt0.out ≡ string_bytes c.loop-place.out ++ separator c.loop-place.place =
-    elim c.if-place-gt0.branch [
-      | write_fields-then-place-gt0+in_ok-push_str-2 w ↦ with_separator c.loop-place.place _ _ w.if-place-gt0.true (ap string_bytes w.out-is ∙ w.in_ok-push_str-2.ensures.bytes)
-      | write_fields-else-place-gt0 w ↦ with_no_separator c.loop-place.place _ _ w.if-place-gt0.false (ap string_bytes w.out-is)
-    ] in
     record {
-      written = rw (c.in_ok-write.ensures.written, c.in_ok-push_str-3.ensures.bytes, c.in_ok-write_name.ensures, between) (field_written c.loop-place.place c.args.fields.now (fields_from (c.loop-place.place + 1) c.args.fields.now) c.in-Some.name.now (tree_of c.in-Some.value.now) (string_bytes c.loop-place.out) ((string_bytes c.args.out.now ++ codes "{") ++ printed_fields c.args.fields.now) c.in-Some.ensures c.loop-place.invariant.written);
+      written = rw (c.in_ok-write.ensures.written, c.in_ok-write_key.ensures, c.in_ok-write_separator.ensures) (field_written c.loop-place.place c.args.fields.now (fields_from (c.loop-place.place + 1) c.args.fields.now) c.in-Some.name.now (tree_of c.in-Some.value.now) (string_bytes c.loop-place.out) ((string_bytes c.args.out.now ++ codes "{") ++ printed_fields c.args.fields.now) c.in-Some.ensures c.loop-place.invariant.written);
       lawful = λ later. c.loop-place.invariant.lawful (rw c.in-Some.ensures (c.in_ok-write.ensures.lawful, later));
     }
 

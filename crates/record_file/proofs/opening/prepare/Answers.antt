@@ -1,24 +1,24 @@
-use Rattle.record_file.proofs.OpenLemmas.{opens, gate_from, repaired_from}
-use Rattle.record_file.proofs.MomentLemmas.{after_sync}
-use Rattle.std.proofs.Common.{length, ap, arith}
-use Rattle.rs_disk.specs.File.{File, contents}
-use Rattle.record_file.proofs.StepLemmas.{step_first, repaired_after}
+use Rattle.std.proofs.Common.{◌≡◌, rules, arith}
+use Rattle.std.specs.Prelude.{Ok, Err}
+use Rattle.record_file.proofs.OpenLemmas.{stops_at_once, synced_has, begins, repairs}
+use Rattle.record_file.proofs.StepLemmas.{stops_ends}
 use Rattle.record_file.proofs.opening.prepare.Goals as goal
 
-pub returns-in_err-sync-clause-any_moment : goal.returns-in_err-sync-clause-any_moment
-returns-in_err-sync-clause-any_moment g c = after_sync _ _ _ _ (opens _ c.requires) _ c.sync.ensures.outcome
+pub returns-in_err-len-clause-calls : goal.returns-in_err-len-clause-calls
+returns-in_err-len-clause-calls g c =
+    let is : c.from_residual.result ≡ Err c.in_err-len.field-0.0 = search rules in
+    stops_at_once _ _ _ _ c.requires is c.in_err-len.ensures.calls
 
-pub returns-in_err-begin-clause-any_moment : goal.returns-in_err-begin-clause-any_moment
-returns-in_err-begin-clause-any_moment g c = gate_from _ c.requires _ c.in_ok-sync.ensures.outcome (omega arith) _ c.begin.ensures.any_moment
-
-pub returns-then-len-le1-clause-any_moment : goal.returns-then-len-le1-clause-any_moment
-returns-then-len-le1-clause-any_moment g c = gate_from _ c.requires _ c.in_ok-sync.ensures.outcome (omega arith) _ c.begin.ensures.any_moment
-
-pub returns-clause-any_moment : goal.returns-clause-any_moment
-returns-clause-any_moment g c = repaired_from _ c.requires _ c.in_ok-sync.ensures.outcome _ c.repair.ensures.any_moment
+pub returns-in_err-begin-clause-calls : goal.returns-in_err-begin-clause-calls
+returns-in_err-begin-clause-calls g c =
+    let is : c.from_residual-in_err-begin.result ≡ Err c.in_err-begin.field-0.0 = search rules in
+    begins _ _ _ _ c.in_ok-len.ensures.calls (omega (arith, c.in_ok-len.ensures.length)) (stops_ends _ _ _ _ _ is c.in_err-begin.ensures.calls)
 
 pub returns-then-len-le1-clause-calls : goal.returns-then-len-le1-clause-calls
-returns-then-len-le1-clause-calls g c = (λ short. step_first _ _ _ _ _ c.in_ok-sync.ensures.outcome c.in_ok-begin.ensures.calls, λ long. absurd (omega (arith, ap (λ (f : File). length (contents f)) c.in_ok-sync.ensures.outcome.file)))
+returns-then-len-le1-clause-calls g c = begins {T = Unit {0}} (Ok tt) _ _ _ c.in_ok-len.ensures.calls (omega (arith, c.in_ok-len.ensures.length)) c.in_ok-begin.ensures.calls
 
 pub returns-clause-calls : goal.returns-clause-calls
-returns-clause-calls g c = repaired_after _ _ _ _ c.in_ok-sync.ensures.outcome (omega arith) c.repair.ensures.calls
+returns-clause-calls g c = repairs _ _ _ _ c.in_ok-len.ensures.calls (omega (arith, c.in_ok-len.ensures.length)) c.repair.ensures.calls
+
+pub repair-requires-clause-has : goal.repair-requires-clause-has
+repair-requires-clause-has g c = synced_has _ _ c.requires c.in_ok-len.ensures.calls

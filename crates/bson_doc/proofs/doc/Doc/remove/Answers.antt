@@ -1,11 +1,12 @@
 use Rattle.std.proofs.Common.{sym, ◌∙◌, refl, rules}
-use Rattle.bson_doc.proofs.NameLemmas.{first_place, without-at, without-new, found-at, found-none, IsDocument-without}
+use Rattle.bson_doc.proofs.NameLemmas.{first_place, without-at, without-new, found-at, found-none}
+use Rattle.bson_doc.proofs.SoundLemmas.{IsSound-without}
 use Rattle.bson_doc.proofs.doc.Doc.remove.Goals as goal
 
 pub invariant_of-self : goal.invariant_of-self
 invariant_of-self c =
     let first = first_place c.args.name.now c.self.inside.fields.items c.in-Some.place c.remove.result (sym (rw c.deref.ensures.value at c.place_of.ensures) ∙ c.in-Some.is) in
-    rw (c.remove.ensures.items, without-at _ _ _ _ first) (IsDocument-without _ _ c.self.invariant)
+    rw (c.remove.ensures.items, without-at _ _ _ _ first) (IsSound-without _ _ c.self.invariant)
 
 pub returns-in-Some-clause-new : goal.returns-in-Some-clause-new
 returns-in-Some-clause-new c =

@@ -1,7 +1,8 @@
 use Rattle.std.proofs.Common.{Contains, sym, ◌∙◌, ap, arith}
 use Rattle.std.proofs.lemmas.Grind.{common_steps}
 use Rattle.bson_doc.specs.declared.doc.Field.{Field}
-use Rattle.bson_doc.proofs.NameLemmas.{first_place, with_set-at, with_set-new, found-none, IsDocument-with_set}
+use Rattle.bson_doc.proofs.NameLemmas.{first_place, with_set-at, with_set-new, found-none}
+use Rattle.bson_doc.proofs.SoundLemmas.{IsSound-with_set}
 use Rattle.bson_doc.proofs.doc.Doc.set.Goals as goal
 
 pub invariant_of-self : goal.invariant_of-self
@@ -11,7 +12,7 @@ invariant_of-self c =
     let first = first_place c.args.name c.self.inside.fields.items c.in-Some.place c.index_mut.result.now place in
     let kept : Field = record { name = c.index_mut.result.now.name; value = c.args.value } in
     let new = with_set-at c.args.name c.self.inside.fields.items c.in-Some.place c.index_mut.result.now kept first (ap (λ (f : Field). f.name) c.index_mut.ensures.value) in
-    rw new (IsDocument-with_set _ _ _ c.self.invariant clean)
+    rw new (IsSound-with_set _ _ _ c.self.invariant clean c.is_utf8.ensures c.is_sound.ensures)
 
 pub append-requires-clause-new : goal.append-requires-clause-new
 append-requires-clause-new c =

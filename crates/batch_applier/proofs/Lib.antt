@@ -1,0 +1,5 @@
+pub mod FreshLemmas
+pub mod PastLemmas
+mod PartLemmas
+mod WorkerLemmas
+mod BatchLemmas

@@ -1,0 +1,71 @@
+ghost use Rattle.std.specs.Prelude.{◌≡◌, ◌<◌, ◌≤◌, ◌-◌, [], All, length, OnOk, OnErr};
+ghost use Rattle.oplog_entry.specs.Lawful.{IsLawful};
+ghost use Rattle.batch_applier.specs.Applied.{IsBatch, HasApplied};
+ghost use Rattle.batch_applier.specs.Parts.{IsApplied, IsBegun, IsEachReady, EachOf};
+
+use crate::gate::Gate;
+use crate::part::parted;
+use crate::workers::run_workers;
+use oplog_entry::Entry;
+use rs_optime::{Mem, OpTime};
+use std::alloc::{AllocError, Global};
+use std::thread::Threads;
+use version_store::{Shard, VersionStore};
+
+/// Applies a batch of at most 5,000 entries to a store, in 1 to 16 workers. Each worker has a range of the shards and
+/// applies the entries on documents of these, in order, so entries on one document stay in order. Each document then has
+/// the versions that the entries leave, one after another. Want of memory leaves each as it was.
+///
+/// The entries are lawful, with rising optimes past every version in the store.
+pub fn apply_batch<R: Threads + Sync, G: Gate + Sync>(
+    rt: &R,
+    store: &mut VersionStore,
+    entries: &[Entry],
+    workers: u32,
+    gate: &G,
+) -> Mem<()>
+    requires batch { IsBatch store.old entries.now }
+    requires most { length entries.now ≤ 5000 }
+    requires workers { (0 < workers) × (workers ≤ 16) }
+    ensures ok { OnOk result (HasApplied store.old store.new entries.now) }
+    ensures err { OnErr result (HasApplied store.old store.new []) }
+{
+    let Some(first) = entries.first() else {
+        return Ok(());
+    };
+    let count = store.shard_count();
+    let mut shards = store.take_shards();
+    if shards.is_empty() {
+        return Err(AllocError);
+    }
+    let alloc = *shards.allocator();
+    let done = apply_to(rt, &mut shards, count, alloc, entries, workers, gate);
+    store.put_shards(shards);
+    if done.is_err() {
+        store.back_before(first.optime);
+    }
+    done
+}
+
+/// Parts the entries over the shards, and has them applied. Where memory is wanting, each shard has had some of its entries
+/// applied, from the first on.
+fn apply_to<R: Threads + Sync, G: Gate + Sync>(
+    rt: &R,
+    shards: &mut [Shard],
+    count: u32,
+    alloc: Global,
+    entries: &[Entry],
+    workers: u32,
+    gate: &G,
+) -> Mem<()>
+    requires lawful { All IsLawful entries.now }
+    requires workers { (0 < workers) × (workers ≤ 16) }
+    requires count { (0 < count) × (length shards.old ≡ count) }
+    requires ready { IsEachReady shards.old entries.now }
+    ensures ok { OnOk result (EachOf IsApplied shards.old shards.new entries.now) }
+    ensures begun { EachOf IsBegun shards.old shards.new entries.now }
+{
+    let parts = parted(alloc, entries, count)?;
+    let size = count.div_ceil(workers) as usize;
+    run_workers(rt, gate, alloc, 1, size, &parts, shards)
+}

@@ -1,0 +1,11 @@
+//! Batches of oplog entries, applied to a store by several threads. What the store shows afterwards is what applying
+//! the entries one after another shows.
+#![tactic(auto)]
+
+mod batch;
+mod gate;
+mod part;
+mod workers;
+
+pub use batch::apply_batch;
+pub use gate::{Gate, NoGate};

@@ -1,0 +1,165 @@
+// The entries of a batch, by the shards that their documents belong to.
+ghost use Rattle.std.specs.Prelude.{◌≡◌, ◌<◌, ◌++◌, ◌∷◌, ◌↔◌, [], All, IsTrue, Some, None, length, IfOk, MatchOption, OnOk, OnErr, true};
+ghost use Rattle.bson_doc.specs.Place.{Place};
+ghost use Rattle.oplog_entry.specs.Lawful.{IsLawful};
+ghost use Rattle.oplog_entry.specs.Step.{place_of};
+ghost use Rattle.version_store.specs.Past.{is_before};
+ghost use Rattle.version_store.specs.Shards.{past_of, BelongsTo};
+ghost use Rattle.batch_applier.specs.Parts.{is_in, AreParts, IsAdded, IsReady, IsApplied, IsBegun};
+
+use bson_doc::{IdKey, Text};
+use doc_fold::document_after;
+use oplog_entry::Entry;
+use rs_optime::Mem;
+use std::alloc::Global;
+use std::marker::Model;
+use version_store::{Shard, shard_of};
+
+/// An entry, and the document that it touches.
+#[derive(Drop)]
+struct Touch<'a> {
+    ns: Text,
+    id: IdKey,
+    entry: &'a Entry,
+}
+
+impl<'a> Model for Touch<'a> {
+    ghost use Rattle.std.specs.Prelude.{◌≡◌, Some};
+    ghost use Rattle.oplog_entry.specs.declared.entry.Entry.{Entry as Seen};
+    ghost use Rattle.oplog_entry.specs.contracts.entry.Entry.{the_row};
+    ghost use Rattle.oplog_entry.specs.Step.{place_of};
+
+    ghost Value = { Seen };
+
+    ghost coded = { the_row.coded };
+
+    ghost view = { λ t. t.entry.now };
+
+    ghost invariant = { λ t. place_of t.entry.now.op ≡ Some (t.ns, t.id) };
+}
+
+impl<'a> Touch<'a> {
+    /// What an entry touches. None for a no-op.
+    fn of(entry: &'a Entry) -> Mem<Option<Self>>
+        requires { IsLawful entry.now }
+        ensures { IfOk result (λ touch. MatchOption touch (place_of entry.now.op ≡ None) (λ t. t ≡ entry.now)) }
+    {
+        let Some((ns, id)) = entry.key()? else {
+            return Ok(None);
+        };
+        Ok(Some(Touch { ns, id, entry }))
+    }
+
+    /// The number of the document's shard, counted from 0, among so many.
+    fn shard(&self, count: u32) -> u32
+        requires { 0 < count }
+        ensures { is_in count result (place_of self.now.op) ≡ true }
+    {
+        shard_of(self.ns.as_str(), &self.id, count)
+    }
+
+    fn apply(&self, alloc: Global, shard: &mut Shard) -> Mem<()>
+        requires own { (place : Place) → place_of self.now.op ≡ Some place → BelongsTo shard.old.number shard.old.count place }
+        requires later { (place : Place) → place_of self.now.op ≡ Some place → All (λ version. is_before version.at self.now.optime ≡ true) (past_of shard.old place).versions }
+        ensures ok { OnOk result (IsApplied shard.old shard.new (self.now ∷ [])) }
+        ensures err { OnErr result (shard.new ≡ shard.old) }
+    {
+        let before = shard.latest(self.ns.as_str(), &self.id);
+        let after = document_after(alloc, &self.entry.op, before)?;
+        let ns = self.ns.copy()?;
+        let id = self.id.copy()?;
+        shard.put(ns, id, self.entry.optime, after)
+    }
+}
+
+/// The entries on documents of one shard, in order.
+#[derive(Drop)]
+pub(crate) struct Part<'a> {
+    touches: Vec<Touch<'a>>,
+}
+
+impl<'a> Model for Part<'a> {
+    ghost use Rattle.std.specs.Prelude.{List};
+    ghost use Rattle.std.specs.Coded.{coded_list};
+    ghost use Rattle.oplog_entry.specs.declared.entry.Entry.{Entry as Seen};
+    ghost use Rattle.oplog_entry.specs.contracts.entry.Entry.{the_row};
+
+    ghost Value = { List Seen };
+
+    ghost coded = { coded_list the_row.coded };
+
+    ghost view = { λ p. p.touches.items };
+}
+
+impl<'a> Part<'a> {
+    fn new(alloc: Global) -> Self
+        ensures { result ≡ [] }
+    {
+        Part {
+            touches: Vec::new(alloc),
+        }
+    }
+
+    pub(crate) fn is_empty(&self) -> bool
+        ensures { IsTrue result ↔ (self.now ≡ []) }
+    {
+        self.touches.is_empty()
+    }
+
+    fn push(&mut self, touch: Touch<'a>) -> Mem<()>
+        ensures ok { OnOk result (self.new ≡ self.old ++ touch.entry ∷ []) }
+        ensures err { OnErr result (self.new ≡ self.old) }
+    {
+        Ok(self.touches.push(touch)?)
+    }
+
+    /// Applies the entries to their shard, in order. Where memory is wanting, the first of them have been applied.
+    pub(crate) fn apply(&self, alloc: Global, shard: &mut Shard) -> Mem<()>
+        requires { IsReady shard.old self.now }
+        ensures ok { OnOk result (IsApplied shard.old shard.new self.now) }
+        ensures begun { IsBegun shard.old shard.new self.now }
+    {
+        for touch in &self.touches {
+            touch.apply(alloc, shard)?;
+        }
+        Ok(())
+    }
+}
+
+/// Parts a batch over so many shards.
+pub(crate) fn parted<'a>(alloc: Global, entries: &'a [Entry], count: u32) -> Mem<Vec<Part<'a>>>
+    requires some { 0 < count }
+    requires lawful { All IsLawful entries.now }
+    ensures { IfOk result (λ parts. AreParts entries.now count parts.items) }
+{
+    let mut parts = empty_parts(alloc, count)?;
+    for entry in entries {
+        add(&mut parts, count, entry)?;
+    }
+    Ok(parts)
+}
+
+/// Adds an entry behind those on documents of its shard.
+fn add<'a>(parts: &mut [Part<'a>], count: u32, entry: &'a Entry) -> Mem<()>
+    requires some { (0 < count) × (length parts.old ≡ count) }
+    requires lawful { IsLawful entry.now }
+    ensures long { length parts.new ≡ length parts.old }
+    ensures added { OnOk result (IsAdded parts.old parts.new count entry.now) }
+{
+    let Some(touch) = Touch::of(entry)? else {
+        return Ok(());
+    };
+    let place = touch.shard(count) as usize;
+    let part = &mut parts[place];
+    part.push(touch)
+}
+
+fn empty_parts<'a>(alloc: Global, count: u32) -> Mem<Vec<Part<'a>>>
+    ensures { IfOk result (λ parts. AreParts [] count parts.items) }
+{
+    let mut parts = Vec::with_capacity(alloc, count as usize)?;
+    for _ in 0..count {
+        parts.push(Part::new(alloc))?;
+    }
+    Ok(parts)
+}

@@ -1,0 +1,27 @@
+// What each kind of part is by its type: facts for proofs, which cost nothing.
+ghost use Rattle.std.specs.Prelude.{◌≡◌, ◌<◌, ◌^◌, FitsSigned, length};
+ghost use Rattle.std.specs.Int.{w32, w64};
+
+pub fn fits_32(number: i32)
+    ensures { FitsSigned w32 number }
+{
+    let _ = number;
+}
+
+pub fn fits_64(number: i64)
+    ensures { FitsSigned w64 number }
+{
+    let _ = number;
+}
+
+pub fn fits_unsigned(number: u64)
+    ensures { number < 2 ^ 64 }
+{
+    let _ = number;
+}
+
+pub fn has_12_bytes(id: &[u8; 12])
+    ensures { length id.now ≡ 12 }
+{
+    let _ = id;
+}

@@ -1,0 +1,40 @@
+// Slots, and how far a log with them can be read.
+ghost use Rattle.std.specs.Prelude.{◌≡◌};
+ghost use Rattle.oplog_entry.specs.declared.entry.Op.TheVariants.{Noop};
+
+use oplog_entry::{Entry, Op};
+use oplog_store::Oplog;
+use optime_slots::{NoSuchSlot, Slots};
+use rs_optime::OpTime;
+use std::test::Fail;
+use visibility_point::visible;
+
+fn noop(optime: OpTime) -> Entry
+    ensures { result ≡ record { optime = optime; op = Noop } }
+{
+    Entry {
+        optime,
+        op: Op::Noop,
+    }
+}
+
+#[test]
+fn an_open_slot_hides_what_is_behind_it(rt: HostRuntime) -> Result<(), Fail> {
+    let alloc = rt.alloc();
+    let first = OpTime { term: 1, ts: 1 };
+    let third = OpTime { term: 1, ts: 3 };
+    let mut slots = Slots::new(alloc);
+    let mut oplog = Oplog::new(alloc);
+    oplog.reserve(2)?;
+    oplog.insert(noop(third));
+    oplog.insert(noop(first));
+    assert_eq!(rt; oplog.find(third), Some(1));
+    slots.seen(1);
+    assert!(rt; slots.mark() < u64::MAX);
+    let second = slots.reserve(1, 0)?;
+    assert_eq!(rt; visible(&slots, &oplog), first);
+    assert_eq!(rt; slots.settle(second), Ok(()));
+    assert_eq!(rt; slots.settle(second), Err(NoSuchSlot));
+    assert_eq!(rt; visible(&slots, &oplog), third);
+    Ok(())
+}

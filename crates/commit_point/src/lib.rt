@@ -1,0 +1,9 @@
+//! What members report of themselves, and the commit point that follows (MongoDB's replication architecture guide;
+//! RaftMongo).
+#![tactic(auto)]
+
+mod point;
+mod progress;
+
+pub use point::learn;
+pub use progress::Progress;

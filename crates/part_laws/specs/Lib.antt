@@ -1,0 +1,4 @@
+pub mod Concerns
+pub mod Elections
+pub mod Logs
+pub mod Points

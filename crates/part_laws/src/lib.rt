@@ -1,0 +1,15 @@
+//! The protocol's parts are the rows of the model: what each answers at a node's values is what the node's row says, where
+//! the two don't cite one definition already. A part has words of its own where its answers have a type of its own
+//! (`ConcernAnswer`, `ReadAt`, `RollbackRefusal`, `ConfigRefusal`), or where it is handed less than a node (a log and the
+//! optime up to which it is visible, a list of what was heard).
+#![tactic(auto)]
+
+mod laws;
+
+pub use laws::{
+    answers_are_taken_as_a_node_does, commit_points_move_as_a_node_s,
+    concerns_are_answered_as_a_node_does, configurations_are_refused_as_a_node_does,
+    entries_are_told_as_a_node_does, reads_show_what_a_node_does,
+    rollbacks_are_planned_as_a_node_does, sources_are_chosen_as_a_node_does,
+    tallies_grow_as_a_node_s, votes_are_decided_as_a_node_does,
+};

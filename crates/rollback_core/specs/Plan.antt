@@ -1,0 +1,26 @@
+-- Up to where a node rolls back (MongoDB's replication architecture guide, rollback).
+use Rattle.std.specs.Prelude.{ℕ, Bool, not, ◌&&◌, List, Result, Ok, Err, if◌then◌else◌}
+use Rattle.std.specs.List.{list_any}
+use Rattle.rs_optime.specs.Order.{is_before}
+use Rattle.rs_optime.specs.declared.optime.OpTime.{OpTime}
+use Rattle.oplog_entry.specs.declared.entry.Entry.{Entry}
+use Rattle.repl_msg.specs.Logs.{same_optime, has_entry}
+use Rattle.repl_msg.specs.Rollback.{is_common, is_of_later_branch, common_point}
+use Rattle.rollback_core.specs.declared.point.RollbackRefusal.{RollbackRefusal}
+use Rattle.rollback_core.specs.declared.point.RollbackRefusal.TheVariants.{NotOlder, SameBranch}
+
+-- why a node doesn't roll back, and up to where it does
+abbrev pub plan : ℕ → List Entry → (own_last source_last after : OpTime) → List OpTime → Result OpTime RollbackRefusal
+plan term log own_last source_last after optimes =
+    if not (is_of_later_branch term own_last source_last) then Err NotOlder
+    else if is_common after optimes own_last then Err SameBranch
+    else Ok (common_point log after optimes)
+
+-- ---- the code's steps
+
+abbrev pub is_listed : List OpTime → OpTime → Bool
+is_listed optimes at = list_any (same_optime at) optimes
+
+-- an optime, where it is past a point and in the log
+abbrev pub later_entry : List Entry → (point optime : OpTime) → OpTime
+later_entry log point optime = if is_before point optime && has_entry log optime then optime else point

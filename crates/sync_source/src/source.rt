@@ -1,0 +1,62 @@
+ghost use Rattle.std.specs.Prelude.{◌≡◌};
+ghost use Rattle.std.specs.Result.{result_ok};
+ghost use Rattle.member_config.specs.Numbers.{lowest};
+ghost use Rattle.repl_msg.specs.Sources as words;
+ghost use Rattle.sync_source.specs.Known.{first_of_member, heard_of, or_lower};
+
+use member_config::Config;
+use rs_optime::OpTime;
+use thiserror::Error;
+
+/// What was heard of a member: its last optime, and whether it is primary.
+#[derive(Clone, Copy, Debug, PartialEq, Eq)]
+pub struct Known {
+    pub member: u32,
+    pub last: OpTime,
+    pub primary: bool,
+}
+
+/// No member goes further than the node.
+#[derive(Clone, Copy, Debug, PartialEq, Eq, Error)]
+#[error("no member goes further")]
+pub struct NoSource;
+
+/// The lowest number among the other members that go further than an optime. Where chaining isn't allowed, only a
+/// primary counts. What stands first in `known` holds of a member.
+pub fn choose(config: &Config, own: u32, last: OpTime, known: &[Known]) -> Result<u32, NoSource>
+    ensures { result_ok result ≡ lowest (words.sources_of config.now own last (heard_of known.now)) }
+{
+    let members = config.members.as_slice();
+    let sources = members
+        .iter()
+        .map(|m| m.number)
+        .filter(|n| *n != own && goes_further(config, last, known, *n));
+    sources
+        .fold(None, |lowest, n| lower(lowest, n))
+        .ok_or(NoSource)
+}
+
+/// The lower of a number and another, if there is one.
+fn lower(lowest: Option<u32>, number: u32) -> Option<u32>
+    ensures { result ≡ or_lower number lowest }
+{
+    match lowest {
+        None => Some(number),
+        Some(other) => Some(number.min(other)),
+    }
+}
+
+fn goes_further(config: &Config, last: OpTime, known: &[Known], member: u32) -> bool
+    ensures { result ≡ words.goes_further config.now last (heard_of known.now member) }
+{
+    match known_of(known, member) {
+        None => false,
+        Some(heard) => last < heard.last && (config.chaining || heard.primary),
+    }
+}
+
+fn known_of(known: &[Known], member: u32) -> Option<Known>
+    ensures { result ≡ first_of_member known.now member }
+{
+    known.iter().find(|k| k.member == member).copied()
+}

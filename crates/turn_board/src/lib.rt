@@ -1,0 +1,13 @@
+//! Turns: threads take turns on one value that keeps a history, in the order of their tickets.
+//! What was seen of the history, and which calls are whose, is known without a lock.
+#![tactic(auto)]
+
+mod board;
+mod passes;
+mod rule;
+mod turned;
+mod turns;
+mod view;
+
+pub use board::{Board, Pass};
+pub use turned::Turned;

@@ -1,0 +1,12 @@
+use rs_optime::OpTime;
+
+/// Which versions of each document are dropped.
+#[derive(Clone, Copy)]
+pub(crate) enum Cut {
+    /// Those after an optime.
+    After(OpTime),
+    /// Those at an optime, and those after it.
+    From(OpTime),
+    /// Those that no read at or after an optime tells from none.
+    Unseen(OpTime),
+}
