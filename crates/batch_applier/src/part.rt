@@ -92,12 +92,13 @@ impl<'a> Model for Part<'a> {
 }
 
 impl<'a> Part<'a> {
-    fn new(alloc: Global) -> Self
-        ensures { result ≡ [] }
+    /// No entry, with room for so many.
+    fn with_capacity(alloc: Global, room: usize) -> Mem<Self>
+        ensures { IfOk result (λ part. part ≡ []) }
     {
-        Part {
-            touches: Vec::new(alloc),
-        }
+        Ok(Part {
+            touches: Vec::with_capacity(alloc, room)?,
+        })
     }
 
     pub(crate) fn is_empty(&self) -> bool
@@ -132,7 +133,7 @@ pub(crate) fn parted<'a>(alloc: Global, entries: &'a [Entry], count: u32) -> Mem
     requires lawful { All IsLawful entries.now }
     ensures { IfOk result (λ parts. AreParts entries.now count parts.items) }
 {
-    let mut parts = empty_parts(alloc, count)?;
+    let mut parts = empty_parts(alloc, count, entries.len() / count as usize * 2)?;
     for entry in entries {
         add(&mut parts, count, entry)?;
     }
@@ -154,12 +155,13 @@ fn add<'a>(parts: &mut [Part<'a>], count: u32, entry: &'a Entry) -> Mem<()>
     part.push(touch)
 }
 
-fn empty_parts<'a>(alloc: Global, count: u32) -> Mem<Vec<Part<'a>>>
+/// Parts without entries, each with room for so many.
+fn empty_parts<'a>(alloc: Global, count: u32, room: usize) -> Mem<Vec<Part<'a>>>
     ensures { IfOk result (λ parts. AreParts [] count parts.items) }
 {
     let mut parts = Vec::with_capacity(alloc, count as usize)?;
     for _ in 0..count {
-        parts.push(Part::new(alloc))?;
+        parts.push(Part::with_capacity(alloc, room)?)?;
     }
     Ok(parts)
 }

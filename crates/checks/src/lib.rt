@@ -2,9 +2,17 @@
 #![tactic(auto)]
 
 #[cfg(test)]
+mod codec;
+#[cfg(test)]
 mod disks;
 #[cfg(test)]
+mod effects;
+#[cfg(test)]
 mod entries;
+#[cfg(test)]
+mod entries_as_bytes;
+#[cfg(test)]
+mod notation;
 #[cfg(test)]
 mod records;
 #[cfg(test)]

@@ -1,5 +1,5 @@
 -- A name that is read has no zero byte.
-use Rattle.std.proofs.Common.{◌≡◌, ℕ, zero, suc, ◌+◌, ◌/◌, ◌%◌, ◌<◌, Bool, true, false, cond, ltb, List, [], ◌∷◌, ◌++◌, ◌==◌, length, take, Option, Some, None, Result, Ok, Err, refl, arith}
+use Rattle.std.proofs.Common.{◌≡◌, ℕ, zero, suc, ◌+◌, ◌/◌, ◌%◌, ◌<◌, Bool, true, false, cond, ltb, List, [], ◌∷◌, ◌++◌, ◌==◌, take, Some, refl, arith}
 use Rattle.std.specs.Prelude.{Contains, encode_utf8}
 use Rattle.std.specs.List.{prefix_len, take_while}
 use lib.Utf8.{encode}

@@ -1,5 +1,0 @@
-pub mod IdLemmas
-pub mod NameRules
-pub mod OrderLemmas
-pub mod SameLemmas
-pub mod SoundLemmas

@@ -1,7 +1,9 @@
 -- What is logged of a write is lawful.
-use Rattle.std.proofs.Common.{◌≡◌, ◌≢◌, ℕ, Bool, true, false, not, ◌&&◌, ◌||◌, if◌then◌else◌, List, [], ◌∷◌, ◌++◌, Contains, Option, None, Some, IsSome, is_some, option_and_then, Result, Ok, Err, IfOk, OnOk, codes, refl, sym, ap, ◌∙◌, arith, rules, subst, option_map}
+use Rattle.std.proofs.Common.{◌≡◌, ◌≢◌, ◌<◌, ℕ, Bool, true, false, not, ◌&&◌, ◌||◌, if◌then◌else◌, List, [], ◌∷◌, ◌++◌, Contains, Option, None, Some, IsSome, is_some, option_and_then, Result, Ok, Err, IfOk, OnOk, codes, refl, sym, ap, ◌∙◌, arith, rules, subst, option_map}
 use Rattle.std.specs.Str.{bytes_eq}
-use Rattle.bson_doc.specs.Tree.{Tree, null, Fields, no_fields, field, found, without, IsDocument}
+use Rattle.std.proofs.lemmas.List.{append-nil}
+use Rattle.bson_doc.specs.Tree.{Tree, null, Fields, no_fields, field, found, without, count, IsDocument}
+use Rattle.bson_doc.specs.Sound.{IsSound as IsSoundDocument, IsSoundValue, AreSoundFields}
 use Rattle.bson_doc.specs.Key.{key_of, same_key}
 use Rattle.bson_doc.specs.Place.{Place}
 use Rattle.bson_doc.specs.View.{tree_of}
@@ -46,10 +48,27 @@ IsSome-from (Some y) x is = search rules
 none_some : {A : Type 0} (x : A) → None ≡ Some x → ⊥
 none_some x e = cc
 
--- the same, where an answer tells a fact besides
-pub sound-answer-told : (P : Prepared → Type 0) (D : Type 0) (result wanted : Result Prepared WriteRefusal) → Answers result wanted → OnOk result D → (D → IfOk wanted P) → IfOk result P
-sound-answer-told P D (Ok x) wanted is told holds = subst (λ r. IfOk r P) is (holds told)
-sound-answer-told P D (Err e) wanted is told holds = tt
+-- what an operator is given has its names apart
+pub IsDocument-given : (tree : Tree) → IsSoundValue tree → IsDocument (given tree)
+IsDocument-given (Tree.document content) sound = sound.0
+IsDocument-given Tree.null sound = tt
+IsDocument-given (Tree.int32 n) sound = tt
+IsDocument-given (Tree.int64 n) sound = tt
+IsDocument-given (Tree.text t) sound = tt
+IsDocument-given (Tree.array items) sound = tt
+IsDocument-given (Tree.binary s b) sound = tt
+IsDocument-given (Tree.object_id b) sound = tt
+IsDocument-given (Tree.boolean b) sound = tt
+IsDocument-given (Tree.date d) sound = tt
+IsDocument-given (Tree.timestamp t) sound = tt
+
+pub IsDocument-under : (operator : List ℕ) (operators : Fields) → AreSoundFields operators → IsDocument (under operator operators)
+IsDocument-under operator no_fields sound = tt
+IsDocument-under operator (field name value rest) sound =
+    elim (bytes_eq name operator) as (λ b. IsDocument (fields_under (if b then Some value else found operator rest))) [
+      | true ↦ IsDocument-given value sound.1
+      | false ↦ IsDocument-under operator rest sound.2
+    ]
 
 -- ---- a replacement
 replace-entry : (ns : List ℕ) (id : Value) (doc before : Fields) (key : IdKey) (own : Option Tree) → found (codes "_id") before ≡ own → key_of (tree_of id) ≡ Some key → option_and_then key_of own ≡ Some key → IsSound (Ok (ns, key)) (Some before) (Entry (ops.Replace ns id (id_first own doc)) (Some (id_first own doc)))
@@ -259,3 +278,16 @@ update-sound ns id operators before place is named unset =
     by_key : (k : Option IdKey) → key_of (tree_of id) ≡ k → IsNamed (update_checked ns k operators) before → IfOk (update_prepared ns id operators before) (λ p. IsSound (update_checked ns k operators) (Some before) p)
     by_key None is named = absurd named
     by_key (Some key) is named = by_broken key is (broken_rule operators) named
+
+-- the names of one document are apart, and so are those of one operator
+once-names_of : (fields : Fields) → IsDocument fields → has_twice (names_of fields ++ []) ≡ false
+once-names_of no_fields names = refl
+once-names_of (field name value rest) names =
+    ap (λ b. b || has_twice (names_of rest ++ [])) (ap (is_among name) (append-nil (names_of rest)) ∙ sym (found-names_of name rest) ∙ ap is_some names.1) ∙ once-names_of rest names.2
+
+pub once-alone : (operators : Fields) → IsSoundDocument operators → count operators < 2 → has_twice (all_names operators) ≡ false
+once-alone no_fields sound few = refl
+once-alone (field name value no_fields) sound few = once-names_of (given value) (IsDocument-given value sound.1.1)
+once-alone (field name value (field second other rest)) sound few = absurd (omega arith)
+
+pub ruleset alone = (once-alone)

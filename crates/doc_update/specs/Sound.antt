@@ -1,7 +1,10 @@
 -- What a write needs of the document that is there, and what its op owes.
-use Rattle.std.specs.Prelude.{◌≡◌, ℕ, ⊤, Bool, true, false, List, Option, None, Some, Result, Ok, Err, codes}
-use Rattle.bson_doc.specs.Tree.{Fields, IsDocument}
+use Rattle.std.specs.Prelude.{◌≡◌, ⊤, [], ◌∷◌, ◌++◌, true, false, List, Option, None, Some, Result, Ok, Err, codes}
+use Rattle.std.specs.FinMap as maps
+use Rattle.bson_doc.specs.Tree.{Fields}
 use Rattle.bson_doc.specs.Place.{Place}
+use Rattle.oplog_entry.specs.declared.entry.Entry as entries
+use Rattle.oplog_entry.specs.Docs.{docs}
 use Rattle.oplog_entry.specs.Lawful.{BeginsWithId, IsLawfulOp}
 use Rattle.oplog_entry.specs.Step.{id_key, place_of, document_after}
 use Rattle.oplog_entry.specs.Walk.{join}
@@ -28,6 +31,15 @@ IsSound place before (Entry op after) =
     IsLawfulOp op × (place_of op ≡ named_place place) × (after ≡ document_after op before)
 IsSound place before NoMatch = ⊤
 IsSound place before Unchanged = ⊤
+
+-- once it is logged behind entries that leave this document at the place, the document that is given with it is there
+abbrev pub IsStored : Result Place WriteRefusal → Option Fields → Prepared → Type 0
+IsStored (Ok place) before (Entry op after) =
+    (log : List entries.Entry) (entry : entries.Entry) → entry.op ≡ op → maps.get (docs log) place ≡ before
+    → maps.get (docs (log ++ entry ∷ [])) place ≡ after
+IsStored (Ok place) before NoMatch = ⊤
+IsStored (Ok place) before Unchanged = ⊤
+IsStored (Err why) before p = ⊤
 
 -- what is set by an update, or why it can't be
 abbrev pub SetsAre : Fields → Fields → Result Fields WriteRefusal → Type 0

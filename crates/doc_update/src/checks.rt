@@ -105,6 +105,18 @@ fn has_twice(alloc: Global, operators: &Doc) -> Mem<bool>
     Ok(false)
 }
 
+/// The same, without a look at the names of one operator alone, which are apart.
+#[tactic(auto, using(crate::proofs::SoundLemmas::alone))]
+fn names_twice(alloc: Global, operators: &Doc) -> Mem<bool>
+    ensures { IfOk result (λ twice. twice ≡ has_twice (all_names operators.now)) }
+{
+    operators.is_sound();
+    if operators.len() < 2 {
+        return Ok(false);
+    }
+    has_twice(alloc, operators)
+}
+
 /// The first rule that an update breaks.
 fn broken_rule(alloc: Global, operators: &Doc) -> Mem<Option<u32>>
     ensures { IfOk result (λ rule. rule ≡ broken_rule operators.now) }
@@ -118,7 +130,7 @@ fn broken_rule(alloc: Global, operators: &Doc) -> Mem<Option<u32>>
     if !all_good(operators) {
         return Ok(Some(3));
     }
-    Ok(has_twice(alloc, operators)?.then_some(4))
+    Ok(names_twice(alloc, operators)?.then_some(4))
 }
 
 #[tactic(auto, using(crate::proofs::NameRules::names))]

@@ -1,6 +1,5 @@
 // The sums of `$inc`.
 ghost use Rattle.std.specs.Prelude.{◌≡◌, Option, option_map};
-ghost use Rattle.bson_doc.specs.Tree.{IsDocument};
 ghost use Rattle.bson_doc.specs.View.{tree_of};
 ghost use Rattle.doc_update.specs.Increment.{integer_of, IsSum, AddsSums};
 
@@ -61,8 +60,7 @@ pub(crate) fn add_sums(
     operands: &Doc,
     document: &FieldIndex<'_>,
 ) -> Result<(), WriteRefusal>
-    ensures sums { AddsSums document.now operands.now sets.old sets.new result }
-    ensures names { IsDocument operands.now }
+    ensures { AddsSums document.now operands.now sets.old sets.new result }
 {
     let mut overflow = false;
     for place in (0..operands.len()).rev() {

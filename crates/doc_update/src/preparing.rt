@@ -1,16 +1,16 @@
 // What a write that was checked comes to.
-ghost use Rattle.std.specs.Prelude.{◌≡◌, [], ◌∷◌, false, Contains, if◌then◌else◌, IfOk, IfSome, IsOk, IsSome, OnOk, None, Some, codes, unwrap_or};
+ghost use Rattle.std.specs.Prelude.{◌≡◌, [], ◌∷◌, false, Contains, if◌then◌else◌, IfOk, IfSome, IsOk, IsSome, IsTrue, OnOk, None, Some, codes, unwrap_or};
 ghost use Rattle.std.specs.Option.{option_copied};
 ghost use Rattle.bson_doc.specs.Key.{key_of};
-ghost use Rattle.bson_doc.specs.Tree.{found, field, without, with_field, no_fields, IsDocument};
+ghost use Rattle.bson_doc.specs.Tree.{found, field, without, with_field, no_fields};
 ghost use Rattle.bson_doc.specs.View.{tree_of};
 ghost use Rattle.oplog_entry.specs.Lawful.{is_among};
 ghost use Rattle.doc_update.specs.Increment.{AddsSums};
 ghost use Rattle.doc_update.specs.Check.{all_names, checked, has_twice};
-ghost use Rattle.doc_update.specs.Effect.{is_too_large, stored, written, under, present, insert_prepared, prepared, replace_prepared, update_prepared};
+ghost use Rattle.doc_update.specs.Effect.{id_first, is_too_large, stored, written, under, present, insert_prepared, prepared, replace_prepared, update_prepared};
 ghost use Rattle.doc_update.specs.Ordered.{placed_all, in_byte_order};
 ghost use Rattle.doc_update.specs.Refusal.{Answers};
-ghost use Rattle.doc_update.specs.Sound.{IsNamed, IsSound, SetsAre};
+ghost use Rattle.doc_update.specs.Sound.{IsNamed, IsSound, IsStored, SetsAre};
 
 use crate::increment::add_sums;
 use crate::ordered::Ordered;
@@ -37,6 +37,7 @@ fn append_other(whole: &mut Doc, name: Text, value: &Value) -> Mem<()>
 fn with_id_first(alloc: Global, id: &Value, doc: &Doc) -> Mem<Doc>
     ensures { IfOk result (λ d. d ≡ field (codes "_id") (tree_of id.now) (without doc.now (codes "_id"))) }
 {
+    doc.is_sound();
     let mut whole = Doc::new(alloc);
     whole.append(Text::from_str(alloc, "_id")?, id.copy()?)?;
     for place in 0..doc.len() {
@@ -46,6 +47,31 @@ fn with_id_first(alloc: Global, id: &Value, doc: &Doc) -> Mem<Doc>
         append_other(&mut whole, Text::from_str(alloc, name)?, value)?;
     }
     Ok(whole)
+}
+
+/// Whether the `_id` is the first field already.
+#[tactic(auto, using(crate::proofs::IdLemmas::first_id))]
+fn begins_with_id(doc: &Doc) -> bool
+    ensures { IsTrue result → id_first (found (codes "_id") doc.now) doc.now ≡ doc.now }
+{
+    match doc.at(0) {
+        Some((name, _)) => name == "_id",
+        None => false,
+    }
+}
+
+/// A document with its own `_id` in front.
+fn with_own_id_first(alloc: Global, doc: &Doc) -> Mem<Doc>
+    requires { IsSome (found (codes "_id") doc.now) }
+    ensures { IfOk result (λ d. d ≡ id_first (found (codes "_id") doc.now) doc.now) }
+{
+    if begins_with_id(doc) {
+        return doc.copy();
+    }
+    let Some(id) = doc.get("_id") else {
+        unreachable!()
+    };
+    with_id_first(alloc, id, doc)
 }
 
 /// Whether a document is longer or deeper than one that is stored may be.
@@ -91,8 +117,7 @@ fn under<'a>(operators: &'a Doc, name: &str) -> Option<&'a Doc>
 /// Puts each field in its place.
 #[tactic(auto, using(crate::proofs::NameRules::places))]
 fn put_all(alloc: Global, sets: &mut Ordered, fields: &Doc) -> Mem<()>
-    ensures all { OnOk result (sets.new ≡ placed_all fields.now sets.old) }
-    ensures names { IsDocument fields.now }
+    ensures { OnOk result (sets.new ≡ placed_all fields.now sets.old) }
 {
     for place in (0..fields.len()).rev() {
         let Some((name, value)) = fields.at(place) else {
@@ -109,8 +134,7 @@ fn put_sums(
     operators: &Doc,
     document: &FieldIndex<'_>,
 ) -> Result<(), WriteRefusal>
-    ensures sums { AddsSums document.now (under (codes "$inc") operators.now) sets.old sets.new result }
-    ensures names { IsDocument (under (codes "$inc") operators.now) }
+    ensures { AddsSums document.now (under (codes "$inc") operators.now) sets.old sets.new result }
 {
     match under(operators, "$inc") {
         Some(operands) => add_sums(alloc, sets, operands, document),
@@ -119,8 +143,7 @@ fn put_sums(
 }
 
 fn put_sets(alloc: Global, sets: &mut Ordered, operators: &Doc) -> Mem<()>
-    ensures all { OnOk result (sets.new ≡ placed_all (under (codes "$set") operators.now) sets.old) }
-    ensures names { IsDocument (under (codes "$set") operators.now) }
+    ensures { OnOk result (sets.new ≡ placed_all (under (codes "$set") operators.now) sets.old) }
 {
     match under(operators, "$set") {
         Some(fields) => put_all(alloc, sets, fields),
@@ -135,9 +158,7 @@ fn sets_of(
     operators: &Doc,
     document: &FieldIndex<'_>,
 ) -> Result<Ordered, WriteRefusal>
-    ensures sets { SetsAre operators.now document.now result }
-    ensures added { IsDocument (under (codes "$inc") operators.now) }
-    ensures set { OnOk result (IsDocument (under (codes "$set") operators.now)) }
+    ensures { SetsAre operators.now document.now result }
 {
     let mut sets = Ordered::new(alloc);
     put_sums(alloc, &mut sets, operators, document)?;
@@ -153,8 +174,7 @@ fn put_present(
     fields: &Doc,
     document: &FieldIndex<'_>,
 ) -> Mem<()>
-    ensures all { OnOk result (unsets.new ≡ placed_all (present document.now fields.now) unsets.old) }
-    ensures names { IsDocument fields.now }
+    ensures { OnOk result (unsets.new ≡ placed_all (present document.now fields.now) unsets.old) }
 {
     for place in (0..fields.len()).rev() {
         let Some((name, _)) = fields.at(place) else {
@@ -170,8 +190,7 @@ fn put_present(
 
 /// The names of `$unset` that are there, in byte order.
 fn unsets_of(alloc: Global, operators: &Doc, document: &FieldIndex<'_>) -> Mem<Ordered>
-    ensures unsets { IfOk result (λ unsets. unsets ≡ in_byte_order (present document.now (under (codes "$unset") operators.now))) }
-    ensures names { IsDocument (under (codes "$unset") operators.now) }
+    ensures { IfOk result (λ unsets. unsets ≡ in_byte_order (present document.now (under (codes "$unset") operators.now))) }
 {
     let mut unsets = Ordered::new(alloc);
     if let Some(fields) = under(operators, "$unset") {
@@ -184,10 +203,7 @@ fn prepare_insert(alloc: Global, ns: &Text, doc: &Doc) -> Result<Prepared, Write
     requires { IsSome (found (codes "_id") doc.now) }
     ensures { Answers result (insert_prepared ns.now doc.now) }
 {
-    let Some(id) = doc.get("_id") else {
-        unreachable!()
-    };
-    let after = with_id_first(alloc, id, doc)?;
+    let after = with_own_id_first(alloc, doc)?;
     let op = Op::Insert {
         ns: ns.copy()?,
         o: after.copy()?,
@@ -225,9 +241,9 @@ fn prepare_update(
     before: &Doc,
 ) -> Result<Prepared, WriteRefusal>
     requires { has_twice (all_names operators.now) ≡ false }
-    ensures answer { Answers result (update_prepared ns.now id.now operators.now before.now) }
-    ensures names { OnOk result (IsDocument (under (codes "$unset") operators.now)) }
+    ensures { Answers result (update_prepared ns.now id.now operators.now before.now) }
 {
+    operators.is_sound();
     let document = FieldIndex::new(alloc, before)?;
     let sets = sets_of(alloc, operators, &document)?.document(alloc)?;
     let unsets = unsets_of(alloc, operators, &document)?.names(alloc)?;
@@ -241,10 +257,11 @@ fn prepare_update(
     written(op, before, after)
 }
 
-/// What a write comes to that `check` let through, where `before` is the document of its key. It is refused as
-/// `DuplicateKey`, `IncType`, `IncOverflow` or `DocTooLarge`, in this order. The op of an entry is lawful, and applied
-/// to `before` it leaves `after`.
-pub fn prepare(alloc: Global, op: &WriteOp, before: Option<&Doc>) -> Result<Prepared, WriteRefusal>
+fn prepare_checked(
+    alloc: Global,
+    op: &WriteOp,
+    before: Option<&Doc>,
+) -> Result<Prepared, WriteRefusal>
     requires checked { IsOk (checked op.now) }
     requires own { IfSome (option_copied before) (λ d. IsNamed (checked op.now) d) }
     ensures answer { Answers result (prepared op.now (option_copied before.entry)) }
@@ -258,6 +275,7 @@ pub fn prepare(alloc: Global, op: &WriteOp, before: Option<&Doc>) -> Result<Prep
             alloc, ns, id, doc, before,
         ),
         (WriteOp::Update { ns, id, operators }, Some(before)) => {
+            operators.is_sound();
             prepare_update(alloc, ns, id, operators, before)
         }
         (WriteOp::Delete { ns, id }, Some(_)) => {
@@ -268,4 +286,17 @@ pub fn prepare(alloc: Global, op: &WriteOp, before: Option<&Doc>) -> Result<Prep
             Ok(Prepared::Entry { op, after: None })
         }
     }
+}
+
+/// What a write comes to that `check` let through, where `before` is the document of its key. It is refused as
+/// `DuplicateKey`, `IncType`, `IncOverflow` or `DocTooLarge`, in this order. The op of an entry is lawful, and applied
+/// to `before` it leaves `after`: once it is logged, `after` stands at its place.
+pub fn prepare(alloc: Global, op: &WriteOp, before: Option<&Doc>) -> Result<Prepared, WriteRefusal>
+    requires checked { IsOk (checked op.now) }
+    requires own { IfSome (option_copied before) (λ d. IsNamed (checked op.now) d) }
+    ensures answer { Answers result (prepared op.now (option_copied before.entry)) }
+    ensures sound { IfOk result (λ p. IsSound (checked op.now) (option_copied before.entry) p) }
+    ensures stored { IfOk result (λ p. IsStored (checked op.now) (option_copied before.entry) p) }
+{
+    prepare_checked(alloc, op, before)
 }

@@ -7,8 +7,6 @@ mod laws;
 mod ops;
 mod places;
 mod reading;
-#[cfg(test)]
-mod tests;
 mod writing;
 
 pub use error::EntryError;

@@ -1,7 +1,7 @@
 // Ops from the members of their entries.
 ghost use Rattle.std.specs.Prelude.{◌≡◌, ◌≢◌, ◌<◌, ◌↔◌, Some, None, IsSome, IsTrue, IfOk, codes, option_map};
 ghost use Rattle.std.specs.Option.{option_copied};
-ghost use Rattle.bson_doc.specs.Tree.{Trees, count, IsDocument};
+ghost use Rattle.bson_doc.specs.Tree.{Trees, count};
 ghost use Rattle.bson_doc.specs.View.{tree_of};
 ghost use Rattle.oplog_entry.specs.Lawful.{AreUnsets, BeginsWithId};
 ghost use Rattle.oplog_entry.specs.Step.{id_key};
@@ -85,8 +85,7 @@ fn are_marks(unsets: &Doc) -> bool
 
 /// The names as strings.
 fn names_in(alloc: Global, unsets: &Doc) -> Mem<Items>
-    ensures names { IfOk result (λ names. names ≡ names_in unsets.now) }
-    ensures apart { IsDocument unsets.now }
+    ensures { IfOk result (λ names. names ≡ names_in unsets.now) }
 {
     let mut names = Items::new(alloc);
     for place in 0..unsets.len() {
@@ -162,6 +161,7 @@ fn unsets_of(alloc: Global, unsets: &Doc) -> Result<Items, EntryError>
     ensures { Reads (λ names. AreUnsets names × (marks names ≡ unsets.now))
         ((names : Trees) → AreUnsets names → marks names ≢ unsets.now) result }
 {
+    unsets.is_sound();
     if !are_marks(unsets) {
         return Err(EntryError::Shape);
     }

@@ -113,7 +113,7 @@ found-with_sets no_fields d q none = refl
 found-with_sets (field name value rest) d q none = grind (arith, found-with_sets rest (with_set d name value) q, found-with_set d name q value)
 
 -- each of these fields is there with its value
-abbrev AllSet : Fields → Fields → Type 0
+abbrev pub AllSet : Fields → Fields → Type 0
 AllSet no_fields d = Unit {0}
 AllSet (field name value rest) d = (found name d ≡ Some value) × AllSet rest d
 
@@ -121,7 +121,7 @@ with_sets-same : (sets d : Fields) → AllSet sets d → with_sets d sets ≡ d
 with_sets-same no_fields d all = refl
 with_sets-same (field name value rest) d all = ap (λ f. with_sets f rest) (with_set-same d name value all.0) ∙ with_sets-same rest d all.1
 
-AllSet-with_sets : (sets d : Fields) → IsDocument sets → AllSet sets (with_sets d sets)
+pub AllSet-with_sets : (sets d : Fields) → IsDocument sets → AllSet sets (with_sets d sets)
 AllSet-with_sets no_fields d distinct = tt
 AllSet-with_sets (field name value rest) d distinct = (
   found-with_sets rest (with_set d name value) name distinct.1 ∙ found-with_set d name name value ∙ ap (λ b. if b then Some value else found name d) (same_itself name),

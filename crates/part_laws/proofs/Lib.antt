@@ -1,2 +1,3 @@
+pub mod CommonLemmas
 pub mod RowLemmas
 pub mod VisibleLemmas

@@ -1,15 +1,17 @@
 -- Sources, fetching and rollback: what the parts answer at a node's values, and what the node's rows say.
-use Rattle.std.specs.Prelude.{◌≡◌, ℕ, true, not, nat_lt, List, length, Result, Ok, Err, if◌then◌else◌}
+use Rattle.std.specs.Prelude.{◌≡◌, ℕ, true, not, nat_lt, List, filter, length, Result, Ok, Err, if◌then◌else◌}
 use Rattle.std.specs.List.{All}
 use Rattle.std.specs.FinMap as maps
 use Rattle.rs_optime.specs.Order.{is_before}
 use Rattle.rs_optime.specs.declared.optime.OpTime.{OpTime}
 use Rattle.oplog_entry.specs.declared.entry.Entry.{Entry}
-use Rattle.oplog_entry.specs.Visible.{ZERO}
+use Rattle.oplog_entry.specs.Visible.{ZERO, last_of, log_up_to}
 use Rattle.oplog_store.specs.Log.{IsOplog}
 use Rattle.member_config.specs.Numbers.{lowest}
 use Rattle.repl_msg.specs.declared.message.FetchReply.{FetchReply}
 use Rattle.repl_msg.specs.Fetching.{continues}
+use Rattle.repl_msg.specs.Logs.{has_entry, log_behind}
+use Rattle.repl_msg.specs.Rollback.{common_point}
 use Rattle.repl_msg.specs.Sources.{sources_of}
 use Rattle.sync_source.specs.declared.source.Known.{Known}
 use Rattle.sync_source.specs.Known.{heard_of}
@@ -76,3 +78,10 @@ RollbacksAgree =
     else if nat_lt term node.term then finished (ignored row.OldTerm node)
     else planned node (plan node.term node.log (last_point node) visible after optimes))
     ≡ rollback.common_told node term after optimes visible
+
+-- Where a source shows, up to the optime that was asked for, what the node's log has up to there, the common point is the
+-- last entry that both have.
+abbrev pub CommonPointsAreLast : Type 0
+CommonPointsAreLast =
+    (log shown : List Entry) (after : OpTime) → log_up_to after log ≡ log_up_to after shown
+    → common_point log after (rollback.optimes_of (log_behind after shown)) ≡ last_of (filter (λ entry. has_entry shown entry.optime) log)

@@ -1,6 +1,6 @@
 ghost use Rattle.part_laws.specs.Concerns.{ConcernsAgree, ReadsAgree};
 ghost use Rattle.part_laws.specs.Elections.{TalliesAgree, VotesAgree};
-ghost use Rattle.part_laws.specs.Logs.{AcceptsAgree, FetchesAgree, RollbacksAgree, SourcesAgree};
+ghost use Rattle.part_laws.specs.Logs.{AcceptsAgree, CommonPointsAreLast, FetchesAgree, RollbacksAgree, SourcesAgree};
 ghost use Rattle.part_laws.specs.Points.{PointsAgree, ReconfigsAgree};
 
 /// `decide` refuses with the reason with which a node answers, and else gives the vote for the one who asks.
@@ -46,6 +46,11 @@ pub fn answers_are_taken_as_a_node_does()
 /// A secondary rolls back as `plan` says.
 pub fn rollbacks_are_planned_as_a_node_does()
     ensures { RollbacksAgree }
+{}
+
+/// Of two logs that are one up to the asked optime, the common point is the last entry that both have.
+pub fn common_points_are_the_last_in_common()
+    ensures { CommonPointsAreLast }
 {}
 
 /// A primary refuses a configuration as `check` does.

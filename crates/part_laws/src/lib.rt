@@ -8,8 +8,8 @@ mod laws;
 
 pub use laws::{
     answers_are_taken_as_a_node_does, commit_points_move_as_a_node_s,
-    concerns_are_answered_as_a_node_does, configurations_are_refused_as_a_node_does,
-    entries_are_told_as_a_node_does, reads_show_what_a_node_does,
-    rollbacks_are_planned_as_a_node_does, sources_are_chosen_as_a_node_does,
-    tallies_grow_as_a_node_s, votes_are_decided_as_a_node_does,
+    common_points_are_the_last_in_common, concerns_are_answered_as_a_node_does,
+    configurations_are_refused_as_a_node_does, entries_are_told_as_a_node_does,
+    reads_show_what_a_node_does, rollbacks_are_planned_as_a_node_does,
+    sources_are_chosen_as_a_node_does, tallies_grow_as_a_node_s, votes_are_decided_as_a_node_does,
 };

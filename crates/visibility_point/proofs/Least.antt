@@ -148,7 +148,3 @@ visible_before log reserved at xs is same = ap (λ slot. last_of (entries_before
 -- what is answered is visible, whatever the list of the slots
 pub whole_is_visible : (result : OpTime) (log : List Entry) (slots : FinSet optime_cmp) (xs : List OpTime) → result ≡ last_of log → slots ≡ empty → from_list xs ≡ slots → result ≡ visible log xs
 whole_is_visible result log slots xs is none same = is ∙ visible_whole log slots xs none same
-
-pub front_is_visible : (result : OpTime) (log front : List Entry) (reserved : Reserved) (at : OpTime) (xs : List OpTime) → result ≡ last_of front
-    → front ≡ filter (λ entry. is_before entry.optime at) log → IsLeast reserved at → from_list xs ≡ reserved.slots → result ≡ visible log xs
-front_is_visible result log front reserved at xs is behind first same = is ∙ ap last_of behind ∙ visible_before log reserved at xs first same

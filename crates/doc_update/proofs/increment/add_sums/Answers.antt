@@ -5,8 +5,8 @@ use Rattle.doc_update.specs.Increment.{can_add, has_wrong_side}
 use Rattle.doc_update.proofs.NameRules.{has_wrong_side-from}
 use Rattle.doc_update.proofs.increment.add_sums.Goals as goal
 
-pub returns-in-WrongSide-clause-sums : goal.returns-in-WrongSide-clause-sums
-returns-in-WrongSide-clause-sums c =
+pub returns-in-WrongSide : goal.returns-in-WrongSide
+returns-in-WrongSide c =
     let document = c.args.document.now in
     let operands = c.args.operands.now in
     let later = has_wrong_side document (fields_from (c.loop-place.place - 1 + 1) operands) in

@@ -1,25 +1,7 @@
-use Rattle.std.proofs.Common.{◌≡◌, IfOk, IfSome, subst, ap, sym, ◌∙◌}
 use Rattle.std.specs.Option.{option_copied}
 use Rattle.doc_update.specs.Check.{checked}
-use Rattle.doc_update.specs.Effect.{replace_prepared, update_prepared}
-use Rattle.doc_update.specs.Sound.{IsNamed, IsSound}
-use Rattle.doc_update.proofs.SoundLemmas.{sound-answer, sound-answer-told, replace-sound, update-sound}
+use Rattle.doc_update.proofs.LoggedLemmas.{is_logged}
 use Rattle.doc_update.proofs.preparing.prepare.Goals as goal
 
-pub returns-in-Replace-Some-clause-sound : goal.returns-in-Replace-Some-clause-sound
-returns-in-Replace-Some-clause-sound c =
-    let w = c.in-Replace-Some in
-    let place = checked c.args.op.now in
-    let named = subst (λ o. IfSome (option_copied o) (λ d. IsNamed place d)) w.is-1 c.requires.own in
-    sound-answer (λ p. IsSound place (option_copied c.args.before) p) _ _ c.prepare_replace.ensures
-    (subst (λ o. IfOk (replace_prepared w.ns w.id w.doc w.before.now) (λ p. IsSound place (option_copied o) p)) (sym w.is-1)
-    (replace-sound w.ns w.id w.doc w.before.now place (ap checked w.is-0) named))
-
-pub returns-in-Update-Some-clause-sound : goal.returns-in-Update-Some-clause-sound
-returns-in-Update-Some-clause-sound c =
-    let w = c.in-Update-Some in
-    let place = checked c.args.op.now in
-    let named = subst (λ o. IfSome (option_copied o) (λ d. IsNamed place d)) w.is-1 c.requires.own in
-    sound-answer-told (λ p. IsSound place (option_copied c.args.before) p) _ _ _ c.prepare_update.ensures.answer c.prepare_update.ensures.names
-    (λ unset. subst (λ o. IfOk (update_prepared w.ns w.id w.operators w.before.now) (λ p. IsSound place (option_copied o) p)) (sym w.is-1)
-    (update-sound w.ns w.id w.operators w.before.now place (ap checked w.is-0) named unset))
+pub returns-clause-stored : goal.returns-clause-stored
+returns-clause-stored c = is_logged (checked c.args.op.now) (option_copied c.args.before) _ c.prepare_checked.ensures.sound

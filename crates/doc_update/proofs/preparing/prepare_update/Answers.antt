@@ -1,9 +1,9 @@
-use Rattle.std.proofs.Common.{◌≡◌, sym, subst}
+use Rattle.std.proofs.Common.{◌≡◌, sym, subst, codes}
 use Rattle.bson_doc.specs.Tree.{IsDocument}
-use Rattle.doc_update.proofs.SoundLemmas.{IsDocument-sets}
+use Rattle.doc_update.proofs.SoundLemmas.{IsDocument-sets, IsDocument-under}
 use Rattle.doc_update.proofs.preparing.prepare_update.Goals as goal
 
 pub document-requires : goal.document-requires
 document-requires c =
-    subst IsDocument (sym c.in_ok-sets_of.ensures.sets.2)
-    (IsDocument-sets c.args.operators.now c.in_ok-document.document c.requires c.in_ok-sets_of.ensures.set c.in_ok-sets_of.ensures.added)
+    subst IsDocument (sym c.in_ok-sets_of.ensures.2)
+    (IsDocument-sets c.args.operators.now c.in_ok-document.document c.requires (IsDocument-under (codes "$set") c.args.operators.now c.is_sound.ensures.1) (IsDocument-under (codes "$inc") c.args.operators.now c.is_sound.ensures.1))

@@ -16,7 +16,7 @@ loop-place-preserved c =
     ∙ ap (λ d. both_items c.loop-place.names (names_in d)) (sym c.in-Some.ensures)
     ∙ c.loop-place.invariant
 
-pub returns-clause-names : goal.returns-clause-names
-returns-clause-names c =
+pub returns : goal.returns
+returns c =
     let past = fields_from-end c.args.unsets.now c.loop-place.place (omega (arith, c.len-place-end.ensures.count)) in
     sym (both_items-nothing c.loop-place.names) ∙ ap (λ d. both_items c.loop-place.names (names_in d)) (sym past) ∙ c.loop-place.invariant

@@ -2,7 +2,7 @@ use Rattle.std.proofs.Common.{◌∙◌, ◌+◌, ap, sym}
 use Rattle.std.proofs.lemmas.List.{length_push}
 use Rattle.oplog_entry.specs.declared.entry.Entry.{Entry}
 use Rattle.batch_applier.proofs.FreshLemmas.{numbered_more}
-use Rattle.batches.proofs.main.entries.Goals as goal
+use Rattle.batches.proofs.entries.Goals as goal
 
 pub loop-number-preserved : goal.loop-number-preserved
 loop-number-preserved c =

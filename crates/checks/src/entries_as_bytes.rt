@@ -1,0 +1,51 @@
+// Entries as another library spells them (BSON 1.1).
+use bson_doc::{Text, Value};
+use entry_bytes::{EntryError, of_bytes, to_bytes};
+use oplog_entry::{Entry, Op};
+use rs_optime::OpTime;
+use std::alloc::Global;
+use std::test::Fail;
+
+const FIELDS: &[u8] =
+    b"\x80\0\0\0\x11ts\0\x02\0\0\0\0\0\0\0\x12t\0\x01\0\0\0\0\0\0\0\x10v\0\x02\0\0\0\x02op\0\x02\0\0\0u\0\x02ns\0\x02\0\0\0t\0\x03o\x004\0\0\0\x10$v\0\x01\0\0\0\x03$set\0\x0c\0\0\0\x10a\0\x02\0\0\0\0\x03$unset\0\x0d\0\0\0\x08b\0\x01\x08c\0\x01\0\0\x03o2\0\x0e\0\0\0\x10_id\0\x05\0\0\0\0\0";
+
+const DELETE: &[u8] =
+    b"H\0\0\0\x11ts\0\x02\0\0\0\0\0\0\0\x12t\0\x01\0\0\0\0\0\0\0\x10v\0\x02\0\0\0\x02op\0\x02\0\0\0d\0\x02ns\0\x02\0\0\0t\0\x03o\0\x0e\0\0\0\x10_id\0\x05\0\0\0\0\0";
+
+// An insert of a document that does not begin with an `_id`.
+const NO_ID: &[u8] =
+    b"F\0\0\0\x11ts\0\x02\0\0\0\0\0\0\0\x12t\0\x01\0\0\0\0\0\0\0\x10v\0\x02\0\0\0\x02op\0\x02\0\0\0i\0\x02ns\0\x02\0\0\0t\0\x03o\0\x0c\0\0\0\x10a\0\x01\0\0\0\0\0";
+
+// The bytes of the entry that is read of some.
+fn again(alloc: Global, bytes: &[u8]) -> Result<Vec<u8>, Fail> {
+    let entry = of_bytes(alloc, bytes)?;
+    Ok(to_bytes(alloc, &entry)?)
+}
+
+#[test]
+fn a_deletion_is_written(rt: HostRuntime) -> Result<(), Fail> {
+    let alloc = rt.alloc();
+    let op = Op::Delete {
+        ns: Text::from_str(alloc, "t")?,
+        id: Value::Int32(5),
+    };
+    let entry = Entry {
+        optime: OpTime { term: 1, ts: 2 },
+        op,
+    };
+    assert!(rt; to_bytes(alloc, &entry)?.as_slice() == DELETE);
+    Ok(())
+}
+
+#[test]
+fn changed_fields_are_read_and_written(rt: HostRuntime) -> Result<(), Fail> {
+    let written = again(rt.alloc(), FIELDS)?;
+    assert!(rt; written.as_slice() == FIELDS);
+    Ok(())
+}
+
+#[test]
+fn an_insert_without_an_id_is_refused(rt: HostRuntime) -> Result<(), Fail> {
+    assert_eq!(rt; of_bytes(rt.alloc(), NO_ID).err(), Some(EntryError::Shape));
+    Ok(())
+}
