@@ -1,5 +1,5 @@
 -- Reading bytes from front to back. Each word gives what it reads and the bytes behind that, or the rule
--- that the first bad byte place breaks. The bytes are those up to the end of the document that is read.
+-- that it meets first. The bytes are those up to the end of the document that is read.
 use Rattle.std.specs.Prelude.{ℕ, zero, suc, ◌+◌, ◌-◌, ◌^◌, Bool, true, false, List, [], ◌∷◌, ◌++◌, length, take, drop, slice_index, Option, Some, None, Result, Ok, Err, nat_lt, nat_le, ◌==◌, ◌||◌, ◌&&◌, is_some, position, if◌then◌else◌}
 use Rattle.std.specs.Int.{w32, w64, cast_signed}
 use Rattle.std.specs.Fmt.{decimal}

@@ -54,8 +54,8 @@ fn read(alloc: Global, bytes: &[u8], bounds: Bounds) -> Result<Doc, DecodeError>
     fields_within_levels(alloc, &bytes[4..], bounds.levels)
 }
 
-/// The document that the bytes spell (BSON 1.1) within the bounds; else the rule that the first bad
-/// byte place breaks. The outer length is tested first: `Short`, `Length`, `TooLarge`, `Short`,
+/// The document that the bytes spell (BSON 1.1) within the bounds; else the rule that a reading from
+/// left to right meets first. The outer length is tested before all else: `Short`, `Length`, `TooLarge`, `Short`,
 /// `Trailing`.
 pub fn decode(alloc: Global, bytes: &[u8], bounds: Bounds) -> Result<Doc, DecodeError>
     requires { bounds.bytes < 2 ^ 31 }
@@ -64,7 +64,7 @@ pub fn decode(alloc: Global, bytes: &[u8], bounds: Bounds) -> Result<Doc, Decode
     // What is spelled so within the bounds is read, unless memory runs out.
     ensures only { (d : Fields) → IsSound d → IsSpelling bounds.bytes bounds.levels d bytes.now
         → Gives (λ x. x) result (Ok d) }
-    // Else it is the rule that the first bad byte place breaks.
+    // Else it is the rule that a reading from left to right meets first.
     ensures exact { Gives (λ d. d) result (read_document bounds.bytes bounds.levels bytes.now) }
 {
     read(alloc, bytes, bounds)

@@ -18,14 +18,14 @@ fn refusal(alloc: Global, bytes: &[u8]) -> Option<DecodeError> {
 #[test]
 fn an_int32_is_spelled(rt: HostRuntime) -> Result<(), Fail> {
     let bytes = spelled(rt.alloc(), "_id", Value::Int32(1))?;
-    assert!(rt; bytes.as_slice() == b"\x0e\0\0\0\x10_id\0\x01\0\0\0\0");
+    assert!(rt; bytes.as_slice() == b"\x0e\0\0\0\x10_id\0\x01\0\0\0\0".as_slice());
     Ok(())
 }
 
 #[test]
 fn an_int64_is_spelled(rt: HostRuntime) -> Result<(), Fail> {
     let bytes = spelled(rt.alloc(), "n", Value::Int64(5))?;
-    assert!(rt; bytes.as_slice() == b"\x10\0\0\0\x12n\0\x05\0\0\0\0\0\0\0\0");
+    assert!(rt; bytes.as_slice() == b"\x10\0\0\0\x12n\0\x05\0\0\0\0\0\0\0\0".as_slice());
     Ok(())
 }
 
@@ -33,7 +33,7 @@ fn an_int64_is_spelled(rt: HostRuntime) -> Result<(), Fail> {
 fn a_string_is_spelled(rt: HostRuntime) -> Result<(), Fail> {
     let alloc = rt.alloc();
     let bytes = spelled(alloc, "s", Value::Text(Text::from_str(alloc, "hi")?))?;
-    assert!(rt; bytes.as_slice() == b"\x0f\0\0\0\x02s\0\x03\0\0\0hi\0\0");
+    assert!(rt; bytes.as_slice() == b"\x0f\0\0\0\x02s\0\x03\0\0\0hi\0\0".as_slice());
     Ok(())
 }
 
@@ -49,7 +49,13 @@ fn other_bytes_are_refused(rt: HostRuntime) -> Result<(), Fail> {
     let alloc = rt.alloc();
     assert_eq!(rt; refusal(alloc, b"\x05\0\0"), Some(DecodeError::Short));
     assert_eq!(rt; refusal(alloc, b"\x04\0\0\0\0"), Some(DecodeError::Length));
-    assert_eq!(rt; refusal(alloc, b"\x10\0\0\0\x01a\0\0\0\0\0\0\0\0\0\0"), Some(DecodeError::Kind(1)));
-    assert_eq!(rt; refusal(alloc, b"\x05\0\0\0\0\0"), Some(DecodeError::Trailing));
+    assert_eq!(rt;
+        refusal(alloc, b"\x10\0\0\0\x01a\0\0\0\0\0\0\0\0\0\0"),
+        Some(DecodeError::Kind(1))
+    );
+    assert_eq!(rt;
+        refusal(alloc, b"\x05\0\0\0\0\0"),
+        Some(DecodeError::Trailing)
+    );
     Ok(())
 }

@@ -26,7 +26,10 @@ fn a_call_fails_in_a_power_cut(rt: HostRuntime) -> Result<(), Fail> {
     write(&mut disk, 1, &[91])?;
     disk.arm(1, Some(2));
     assert_eq!(rt; write(&mut disk, 4, &[94, 95]), Err(DiskError::Failed));
-    assert_eq!(rt; read(alloc, &mut disk)?.as_slice(), [10, 3, 12, 13, 6, 7].as_slice());
+    assert_eq!(rt;
+        read(alloc, &mut disk)?.as_slice(),
+        [10, 3, 12, 13, 6, 7].as_slice()
+    );
     Ok(())
 }
 

@@ -1,6 +1,6 @@
 // Records on a disk in memory.
 ghost use Rattle.rs_disk.specs.Memory.{state_of};
-ghost use Rattle.record_file.specs.Files.{IsOpen, IsRecordDisk};
+ghost use Rattle.record_file.specs.Files.{IsRecordDisk};
 
 use record_file::{FileError, RecordFile};
 use rs_disk::{Disk, MemDisk};
@@ -20,8 +20,8 @@ fn a_record_is_lost_with_its_gate(rt: HostRuntime) -> Result<(), Fail> {
         return Err(Fail::from(FileError::Disk));
     };
     file.reserve(9)?;
+    file.arm(7, Some(0));
     file.append(&[7, 8])?;
-    file.arm(3, Some(0));
     assert_eq!(rt; file.append(&[9]), Err(FileError::Disk));
     let Ok((again, found)) = RecordFile::open(alloc, file.close()) else {
         return Err(Fail::from(FileError::Disk));

@@ -9,7 +9,7 @@ fn a_failed_put_is_left_out(rt: HostRuntime) -> Result<(), Fail> {
     sink.put(b"ab")?;
     assert_eq!(rt; sink.put(b"c"), Err(SinkError::Failed));
     sink.put(b"d")?;
-    assert_eq!(rt; sink.bytes(), b"abd");
+    assert_eq!(rt; sink.bytes(), b"abd".as_slice());
     Ok(())
 }
 
@@ -26,7 +26,10 @@ fn a_failed_take_ends_the_reading(rt: HostRuntime) -> Result<(), Fail> {
 fn a_reader_and_a_writer_are_a_source_and_a_sink(rt: HostRuntime) -> Result<(), Fail> {
     let alloc = rt.alloc();
     let mut source = StdSource::new(b"abc".as_slice());
-    assert_eq!(rt; read_all(alloc, &mut source, 3)?.as_slice(), b"abc");
+    assert_eq!(rt;
+        read_all(alloc, &mut source, 3)?.as_slice(),
+        b"abc".as_slice()
+    );
     let mut sink = StdSink::new(Vec::new(alloc));
     sink.put(b"abc")?;
     Ok(())

@@ -3,7 +3,7 @@ use Rattle.std.proofs.Common.{◌≡◌, ℕ, zero, suc, ◌-◌, ◌≤◌, tru
 use Rattle.std.specs.Prelude.{is_some, Contains}
 use Rattle.std.proofs.lemmas.List.{length-drop, length-append}
 use Rattle.bson_doc.specs.Tree.{Tree, document, array, Fields, no_fields, field, Trees, no_items, item, IsDocument, found, with_field, with_item}
-use Rattle.bson_doc.proofs.NameLemmas.{with_set-new, IsDocument-with_set}
+use Rattle.bson_doc.proofs.DocLemmas.{IsDocument-with_field}
 use Rattle.doc_text.specs.declared.fault.Rule.TheVariants.{TooDeep}
 use Rattle.doc_text.specs.Class.{behind_spaces}
 use Rattle.doc_text.specs.Fault.{Read, fails}
@@ -22,10 +22,6 @@ use Rattle.doc_text.proofs.Results.{Gets, bind_gets, gets_more, cond_gets}
 -- what a reader of members gives stands there
 abbrev pub Sound : ℕ → (List ℕ → Read Tree) → Type 0
 Sound most member = (input : List ℕ) → Gets (member input) (StandsAs most input)
-
--- a new name at the end keeps the names apart
-IsDocument-with_field : (fs : Fields) (name : List ℕ) (value : Tree) → IsDocument fs → ¬ Contains name 0 → found name fs ≡ None → IsDocument (with_field fs name value)
-IsDocument-with_field fs name value apart clean new = subst IsDocument (with_set-new fs name value new) (IsDocument-with_set fs name value apart clean)
 
 begun : (mark : ℕ) (input : List ℕ) → begins_with mark input ≡ true → input ≡ mark ∷ drop 1 input
 begun mark [] h = absurd cc

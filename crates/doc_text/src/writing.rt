@@ -147,6 +147,7 @@ fn write_fields(fields: &Doc, out: &mut String) -> Mem<()>
     ensures written { OnOk result (string_bytes out.new ≡ string_bytes out.old ++ printed (document fields.now)) }
     ensures lawful { OnOk result (IsLawful (document fields.now)) }
 {
+    fields.is_sound();
     out.push_str("{")?;
     for place in 0..fields.len() {
         let Some((name, value)) = fields.at(place) else {

@@ -1,10 +1,10 @@
 -- What an update leaves: it begins as the document did, and has each field that was set.
-use Rattle.std.proofs.Common.{◌≡◌, ◌≤◌, ◌+◌, ◌*◌, ◌∙◌, ◌⊎◌, inl, inr, ℕ, length, Bool, true, false, ◌||◌, List, [], ◌∷◌, fold, Option, None, Some, is_some, refl, sym, ap, subst, arith, codes}
-use Rattle.std.specs.Prelude.{⊤, cond}
+use Rattle.std.proofs.Common.{◌≡◌, ◌≤◌, ◌+◌, ◌∙◌, ◌⊎◌, inl, inr, ℕ, length, Bool, true, false, ◌||◌, List, [], ◌∷◌, fold, Option, None, Some, is_some, refl, sym, ap, arith, codes}
+use Rattle.std.specs.Prelude.{cond}
 use Rattle.std.specs.Str.{bytes_eq}
 use Rattle.bson_doc.specs.Tree.{Tree, null, text, Fields, no_fields, field, Trees, no_items, item, found, with_set, without, IsDocument}
-use Rattle.bson_doc.specs.Length.{fields_length, fields_levels}
-use Rattle.oplog_entry.specs.Lawful.{is_among, BeginsWithId, AreUnsets}
+use Rattle.bson_doc.specs.Length.{fields_length}
+use Rattle.oplog_entry.specs.Lawful.{is_among, AreUnsets}
 use Rattle.oplog_entry.specs.Step.{with_sets, strings_of, changed}
 use Rattle.oplog_entry.specs.Walk.{join}
 use Rattle.oplog_entry.proofs.FieldLemmas.{alike_swapped, same_name, same_itself, AllSet, AllSet-with_sets}
@@ -13,7 +13,7 @@ use Rattle.doc_update.specs.Effect.{under, present, sets_of, unsets_of, updated}
 use Rattle.doc_update.specs.Increment.{sums, added}
 use Rattle.doc_update.specs.Ordered.{in_byte_order, as_strings}
 use Rattle.doc_update.proofs.ApartLemmas.{twice-operators}
-use Rattle.doc_update.proofs.LengthLemmas.{found-without-other, length-in, levels-in, names_length, AreNamedIn, names-in}
+use Rattle.doc_update.proofs.LengthLemmas.{found-without-other, names_length, AreNamedIn, names-in}
 use Rattle.doc_update.proofs.NameRules.{found-names_of}
 use Rattle.doc_update.proofs.OrderLemmas.{found-in_byte_order}
 

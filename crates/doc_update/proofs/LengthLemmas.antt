@@ -1,10 +1,10 @@
 -- Fields that are found in a document are no longer and no deeper than it.
-use Rattle.std.proofs.Common.{◌≡◌, ◌≤◌, ◌+◌, ◌*◌, ◌∙◌, ℕ, max, length, Bool, true, false, List, Option, None, Some, is_some, if◌then◌else◌, refl, sym, ap, subst, arith, codes}
+use Rattle.std.proofs.Common.{◌≡◌, ◌≤◌, ◌+◌, ◌∙◌, ℕ, max, length, Bool, true, false, List, Option, None, Some, is_some, refl, ap, arith}
 use Rattle.std.specs.Prelude.{⊤, cond}
 use Rattle.std.specs.Str.{bytes_eq}
-use Rattle.bson_doc.specs.Tree.{Tree, null, boolean, Fields, no_fields, field, Trees, found, without, IsDocument}
+use Rattle.bson_doc.specs.Tree.{Tree, Fields, no_fields, field, found, without, IsDocument}
 use Rattle.bson_doc.specs.Length.{value_length, fields_length, value_levels, fields_levels}
-use Rattle.oplog_entry.proofs.FieldLemmas.{alike_front, alike_swapped, same_name, same_itself, AllSet}
+use Rattle.oplog_entry.proofs.FieldLemmas.{alike_front, alike_swapped, same_name, AllSet}
 
 some_is : (one two : Tree) → Some one ≡ Some two → one ≡ two
 some_is one two same = cc

@@ -1,0 +1,10 @@
+pub mod ApartLemmas
+pub mod ChangeLemmas
+pub mod IdLemmas
+pub mod LengthLemmas
+pub mod LoggedLemmas
+pub mod NameRules
+pub mod OrderLemmas
+pub mod SameLemmas
+pub mod SoundLemmas
+pub mod StoredLemmas

@@ -1,8 +1,8 @@
 -- What a write logs: a lawful op of the place that the write names, which leaves a document that begins with its `_id` and
 -- isn't too large, and which is itself no longer than such documents.
-use Rattle.std.proofs.Common.{◌≡◌, ◌≤◌, ◌+◌, ◌*◌, ◌∙◌, ℕ, length, Bool, true, false, not, ◌||◌, nat_lt, List, [], ◌∷◌, Option, None, Some, IsSome, Result, Ok, Err, IfOk, refl, sym, ap, subst, arith, codes}
+use Rattle.std.proofs.Common.{◌≡◌, ◌≤◌, ◌+◌, ◌*◌, ◌∙◌, ℕ, length, Bool, true, false, not, ◌||◌, nat_lt, List, Option, None, Some, IsSome, Result, Ok, Err, IfOk, refl, sym, ap, subst, arith, codes}
 use Rattle.std.specs.Prelude.{⊤, cond}
-use Rattle.bson_doc.specs.Tree.{Tree, Fields, no_fields, field, Trees, found, without, IsDocument}
+use Rattle.bson_doc.specs.Tree.{Tree, Fields, no_fields, field, found, IsDocument}
 use Rattle.bson_doc.specs.Key.{key_of}
 use Rattle.bson_doc.specs.Place.{Place}
 use Rattle.bson_doc.specs.Sound.{IsSound as IsSoundDocument}
@@ -16,20 +16,18 @@ use Rattle.oplog_entry.specs.Step.{id_key, place_in, place_of, changed, document
 use Rattle.oplog_entry.specs.declared.entry.Op.{Op}
 use Rattle.oplog_entry.specs.declared.entry.Op.TheVariants as ops
 use Rattle.doc_update.specs.Check.{checked, insert_checked, replace_checked, update_checked, with_key, by_rule, broken_rule, all_known, all_documents, all_good, all_names, is_empty, has_twice, names_id}
-use Rattle.doc_update.specs.Effect.{id_first, is_too_large, stored, written, under, present, sets_of, unsets_of, updated, insert_prepared, replace_prepared, update_prepared, prepared}
+use Rattle.doc_update.specs.Effect.{id_first, is_too_large, stored, written, under, sets_of, unsets_of, updated, replace_prepared, update_prepared, prepared}
 use Rattle.doc_update.specs.Increment.{has_wrong_side, has_overflow}
-use Rattle.doc_update.specs.Ordered.{in_byte_order}
 use Rattle.doc_update.specs.Same.{same_fields}
 use Rattle.doc_update.specs.Sound.{IsSound}
 use Rattle.doc_update.specs.declared.write.WriteOp.{WriteOp}
 use Rattle.doc_update.specs.declared.write.WriteOp.TheVariants.{Insert, Replace, Update, Delete}
 use Rattle.doc_update.specs.declared.write.Prepared.{Prepared}
-use Rattle.doc_update.specs.declared.write.Prepared.TheVariants.{Entry, NoMatch, Unchanged}
+use Rattle.doc_update.specs.declared.write.Prepared.TheVariants.{Entry, Unchanged}
 use Rattle.doc_update.specs.declared.write.WriteRefusal.{WriteRefusal}
 use Rattle.doc_update.proofs.ApartLemmas.{IsDocument-under}
 use Rattle.doc_update.proofs.ChangeLemmas.{strings_length, gone-within, id_stays, changed-behind, sets-in}
 use Rattle.doc_update.proofs.LengthLemmas.{length-in, levels-in}
-use Rattle.doc_update.proofs.OrderLemmas.{IsDocument-in_byte_order}
 use Rattle.doc_update.proofs.SoundLemmas.{IsDocument-sets, replace-sound, update-sound}
 
 -- ---- what is wanted

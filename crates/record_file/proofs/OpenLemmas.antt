@@ -8,7 +8,7 @@ use Rattle.rs_disk.specs.Images.{read_is_image, length-overwritten}
 use Rattle.rs_disk.specs.Moments.{EachMoment}
 use Rattle.rs_disk.specs.State.{State, IsDone}
 use Rattle.rs_disk.specs.Steps.{Step, Makes, reads, changes, syncs}
-use Rattle.rs_disk.proofs.MomentLemmas.{EachLeaves, settled_leaves, synced_leaves}
+use Rattle.rs_disk.proofs.MomentLemmas.{EachLeaves, synced_leaves}
 use Rattle.record_file.specs.Files.{IsAtRest, IsOneOf, IsRecordDisk, AreOpeningSteps, StopsBy, EndsBy, OpensBy, first_steps, repair_steps}
 use Rattle.record_file.specs.Parsed.{IsParsed}
 use Rattle.record_file.specs.Records.{HasRecords}

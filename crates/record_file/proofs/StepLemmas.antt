@@ -3,8 +3,8 @@ use Rattle.std.proofs.Common.{◌≡◌, inl, inr, List, [], ◌∷◌, ◌++◌
 use Rattle.std.specs.Prelude.{Result, Ok, Err}
 use Rattle.rs_disk.specs.File.{write}
 use Rattle.rs_disk.specs.Moments.{EachMoment}
-use Rattle.rs_disk.specs.State.{State, IsDone, Writes, SameButRoom}
-use Rattle.rs_disk.specs.Steps.{Step, in_step, after_step, Makes, MakesFirst, Breaks, changes, reads}
+use Rattle.rs_disk.specs.State.{State, IsDone, Writes}
+use Rattle.rs_disk.specs.Steps.{Step, in_step, after_step, MakesFirst, changes}
 use Rattle.rs_disk.proofs.MomentLemmas.{EachLeaves, makes_more, made_moments, broken_moments, first_moments}
 use Rattle.rs_disk.specs.declared.disk.DiskError.{DiskError}
 use Rattle.rs_disk.specs.declared.disk.DiskError.TheVariants.{Failed, Memory as NoRoom}

@@ -1,6 +1,6 @@
 // The records that stand in some bytes.
-ghost use Rattle.std.specs.Prelude.{◌≡◌, ◌≢◌, ◌+◌, ◌^◌, ◌<◌, List, ℕ, ◌∷◌, ◌++◌, length, IfOk, MatchOption};
-ghost use Rattle.record_file.specs.Records.{AreInFront, body, lists};
+ghost use Rattle.std.specs.Prelude.{◌+◌, ◌<◌, List, ℕ, IfOk, MatchOption};
+ghost use Rattle.record_file.specs.Records.{AreInFront, lists};
 ghost use Rattle.record_file.specs.Parsed.{IsFirst, IsParsed};
 
 use std::alloc::{AllocError, Global};

@@ -1,5 +1,5 @@
 // The four disk calls of an append.
-ghost use Rattle.std.specs.Prelude.{◌≡◌, ◌≢◌, ◌+◌, ◌≤◌, max, length, Err, OnOk, IsErrOf};
+ghost use Rattle.std.specs.Prelude.{◌≡◌, ◌≢◌, ◌+◌, ◌≤◌, length, Err, OnOk, IsErrOf};
 ghost use Rattle.rs_disk.specs.File.{contents};
 ghost use Rattle.rs_disk.specs.State.{Keeps, SameButRoom};
 ghost use Rattle.record_file.specs.Files.{IsOpen, EndsBy, append_steps};

@@ -1,9 +1,9 @@
 -- What a crash leaves at each moment of some calls, however they end.
-use Rattle.std.proofs.Common.{◌≡◌, inl, inr, ℕ, List, [], ◌∷◌, ◌++◌, refl, sym, subst, ◌∙◌, ap}
+use Rattle.std.proofs.Common.{inl, inr, ℕ, List, [], ◌∷◌, ◌++◌, refl, sym, subst, ◌∙◌, ap}
 use Rattle.rs_disk.specs.File.{File, LeavesOnly, contents, settled}
 use Rattle.rs_disk.specs.Images.{read_is_image, only_image}
 use Rattle.rs_disk.specs.Moments.{EachMoment, starts, goes_on, joins}
-use Rattle.rs_disk.specs.State.{State, IsDone, IsCrashed}
+use Rattle.rs_disk.specs.State.{State, IsDone}
 use Rattle.rs_disk.specs.Steps.{Step, in_step, after_step, after_steps, past_of, Makes, MakesFirst, Breaks}
 
 -- what is synced reads so after every crash

@@ -1,4 +1,4 @@
-ghost use Rattle.std.specs.Prelude.{◌≡◌, ◌^◌, ◌<◌, IsErr, IsErrOf, MatchOption};
+ghost use Rattle.std.specs.Prelude.{◌≡◌, ◌^◌, ◌<◌, IsErr, IsErrOf};
 ghost use Rattle.rs_disk.specs.Pages.{Holds, room_of};
 
 use crate::arm::Arm;

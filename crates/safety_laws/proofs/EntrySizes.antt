@@ -1,17 +1,16 @@
 -- The document of an entry is no longer and no deeper than an oplog takes, where its op's documents may be stored.
-use Rattle.std.proofs.Common.{◌≡◌, ◌≤◌, ◌+◌, ◌*◌, ◌∙◌, ℕ, length, Bool, true, List, [], Option, None, Some, refl, sym, ap, subst, arith, codes, max}
+use Rattle.std.proofs.Common.{◌≡◌, ◌≤◌, ◌+◌, ◌*◌, ℕ, length, List, [], Option, None, Some, refl, ap, arith, codes, max}
 use Rattle.rs_optime.specs.declared.optime.OpTime.{OpTime}
 use Rattle.bson_doc.specs.Key.{key_of}
 use Rattle.bson_doc.specs.Place.{Place}
 use Rattle.bson_doc.specs.Tree.{Tree, text, Fields, no_fields, field, Trees, no_items, item}
 use Rattle.bson_doc.specs.View.{tree_of}
 use Rattle.bson_doc.specs.Length.{value_length, fields_length, value_levels, fields_levels, document_length, document_levels}
-use Rattle.entry_bytes.specs.Layout.{letter_of, collection_of, only_id, marks, part, changes, body_of, target_of, last_member, members, document_of}
+use Rattle.entry_bytes.specs.Layout.{letter_of, collection_of, only_id, marks, part, changes, body_of, last_member, members, document_of}
 use Rattle.oplog_entry.specs.Step.{id_key, place_of}
 use Rattle.oplog_entry.specs.declared.entry.Entry.{Entry}
 use Rattle.oplog_entry.specs.declared.entry.Op.{Op}
 use Rattle.oplog_entry.specs.declared.entry.Op.TheVariants as ops
-use Rattle.doc_update.specs.Effect.{is_too_large}
 use Rattle.doc_update.proofs.ChangeLemmas.{strings_length}
 use Rattle.doc_update.proofs.StoredLemmas.{IsShort, not_large, place-key}
 

@@ -1,6 +1,6 @@
 -- A node whose log is fit: each front of it leaves documents that may be stored; and of a primary, what it wrote in its term
 -- and what its writers have open may stand in an oplog.
-use Rattle.std.proofs.Common.{◌≡◌, ◌≢◌, ◌∙◌, ◌⊎◌, ◌≤◌, ◌<◌, inl, inr, ap, sym, subst, refl, arith, ltb-true, ℕ, suc, length, Bool, true, false, ◌&&◌, cond, codes, nat_lt, Option, None, Some, Result, Ok, Err, List, [], ◌∷◌}
+use Rattle.std.proofs.Common.{◌≡◌, ◌≢◌, ◌∙◌, ◌≤◌, ◌<◌, inl, inr, ap, sym, subst, refl, arith, ltb-true, ℕ, length, Bool, true, false, ◌&&◌, cond, codes, nat_lt, Option, None, Some, Result, Ok, Err, List, [], ◌∷◌}
 use Rattle.std.proofs.lemmas.Bool.{and_parts}
 use Rattle.std.specs.FinMap as maps
 use Rattle.std.specs.List.{list_all}
@@ -26,17 +26,16 @@ use Rattle.oplog_entry.specs.declared.entry.Entry.{Entry}
 use Rattle.oplog_entry.specs.declared.entry.Op.{Op}
 use Rattle.oplog_store.specs.Log.{with_entry}
 use Rattle.rs_optime.specs.declared.optime.OpTime.{OpTime}
-use Rattle.set_model.proofs.HoldLemmas.{is_at-here, is_at-only, is_at-other, held_by_none}
+use Rattle.set_model.proofs.HoldLemmas.{is_at-only, is_at-other, held_by_none}
 use Rattle.set_model.specs.Admitted.{admitted, or_refused, refusal_of, unless_held}
-use Rattle.set_model.specs.Holds.{is_at, holder, holder_among}
+use Rattle.set_model.specs.Holds.{is_at, holder}
 use Rattle.set_model.specs.Limits.{IsSoundWrite, collection_of, is_collection, is_name_byte}
 use Rattle.set_model.specs.Node.{Node}
 use Rattle.set_model.specs.Points.{next_optime}
 use Rattle.set_model.specs.Roles.{is_primary}
-use Rattle.set_model.specs.declared.reply.Refusal.{Refusal}
 use Rattle.set_model.specs.declared.role.Role.{Role}
 use Rattle.set_model.specs.declared.writer.Writer.{Writer}
-use Rattle.set_model.specs.declared.writer.Writer.TheVariants.{Open, Done, Lost}
+use Rattle.set_model.specs.declared.writer.Writer.TheVariants.{Open}
 use Rattle.commit_machine.specs.Words.{Rises}
 use Rattle.commit_machine.specs.Nodes.{In}
 use Rattle.safety_laws.proofs.EntrySizes.{IsWithin, short_within}

@@ -1,10 +1,8 @@
 -- What leaders write is fit for a log: in each world of a run the log of whoever leads is fit.
-use Rattle.std.proofs.Common.{◌≡◌, ◌≢◌, ◌∙◌, ◌⊎◌, ◌≤◌, ◌<◌, ◌+◌, inl, inr, ap, sym, subst, refl, arith, ℕ, zero, suc, Bool, true, false, Option, None, Some, slice_get, slice_set, List, [], ◌∷◌}
+use Rattle.std.proofs.Common.{◌≡◌, ◌∙◌, ◌<◌, inl, inr, ap, sym, subst, refl, arith, ℕ, true, false, Option, None, Some, slice_get, slice_set, List, [], ◌∷◌}
 use Rattle.std.specs.Prelude.{option_and_then}
 use Rattle.std.specs.List.{list_all}
 use Rattle.std.proofs.lemmas.Bool.{and_parts, cases_Bool, cases_eq}
-use Rattle.std.specs.Prelude.{nat_lt}
-use Rattle.oplog_entry.specs.Lawful.{IsLawfulOp}
 use Rattle.oplog_entry.specs.declared.entry.Entry.{Entry}
 use Rattle.set_model.specs.declared.command.Event.{Event}
 use Rattle.set_model.specs.declared.role.Role.{Role}
@@ -18,45 +16,26 @@ use Rattle.set_model.specs.Run.{Sizes, AreSizes, opening, world_at}
 use Rattle.set_model.specs.Safety as safety
 use Rattle.set_model.specs.Stores.{Plan, done}
 use Rattle.set_model.specs.World.{World, Task, acts, takes, nothing, task, touched_node, plan_of, by_plan, with_outcome, step}
-use Rattle.commit_machine.specs.Nodes as machine
 use Rattle.commit_machine.specs.Nodes.{Snapshot, State, In, Was}
-use Rattle.commit_machine.specs.Machine.{run}
-use Rattle.commit_machine.specs.Words.{Begins, Has}
+use Rattle.commit_machine.specs.Words.{Has}
 use Rattle.commit_machine.proofs.Facts.{Kept}
 use Rattle.safety_laws.proofs.Along.{worlds_before, IsKeptAlong}
+use Rattle.safety_laws.proofs.FitDelivers.{deliver_fits}
 use Rattle.safety_laws.proofs.FitNodes.{IsFit, IsFitEntry, follower_fit, standing_of}
-use Rattle.safety_laws.proofs.FitRows.{FitNow, FitOn, FitsOn, IsFresh, deliver_fits, fit_done, row_fits}
-use Rattle.safety_laws.proofs.Frame.{Goes, RowsTied, DeliveriesTied}
+use Rattle.safety_laws.proofs.FitRows.{FitNow, FitOn, FitsOn, IsFresh, fit_done, row_fits}
+use Rattle.safety_laws.proofs.Frame.{RowsTied, DeliveriesTied}
 use Rattle.safety_laws.proofs.Fronts.{AreFronts, IsFront, fronts_kept}
 use Rattle.safety_laws.proofs.Opening.{get_from}
 use Rattle.safety_laws.proofs.Places.{get_set_same, get_set_other, same_some}
 use Rattle.safety_laws.proofs.Rel.{Rel, IsUp, role_of, snapshot_of}
 use Rattle.safety_laws.proofs.Replies.{AreFit}
 use Rattle.safety_laws.proofs.Runs.{along_of, had_of, kept_of, state_of, up_of}
-use Rattle.safety_laws.proofs.Steps.{in_has}
+use Rattle.safety_laws.proofs.Steps.{draining_is, in_has, not_leading}
 use Rattle.safety_laws.proofs.StoredLogs.{AreStored, none_too_large, stored_front}
 use Rattle.safety_laws.proofs.Visibles.{visible_unless_primary}
 use Rattle.safety_laws.proofs.WrittenEntries.{up_is, was_is}
 
--- ---- roles
-
-draining_is : (role : Role) → is_draining role ≡ true → role_of role ≡ machine.Draining
-draining_is roles.Draining is = refl
-draining_is roles.Secondary is = absurd (cc is)
-draining_is roles.Candidate is = absurd (cc is)
-draining_is roles.Primary is = absurd (cc is)
-
-draining_follows : (role : Role) → is_draining role ≡ true → is_primary role ≡ false
-draining_follows roles.Draining is = refl
-draining_follows roles.Secondary is = absurd (cc is)
-draining_follows roles.Candidate is = absurd (cc is)
-draining_follows roles.Primary is = absurd (cc is)
-
-not_primary : (role : Role) → is_leading role ≡ false → is_primary role ≡ false
-not_primary roles.Secondary none = refl
-not_primary roles.Candidate none = refl
-not_primary roles.Draining none = refl
-not_primary roles.Primary none = absurd (cc none)
+-- ---- who leads and isn't primary
 
 drains : (role : Role) → is_leading role ≡ true → is_primary role ≡ false → is_draining role ≡ true
 drains roles.Draining leads none = refl
@@ -68,8 +47,8 @@ drains roles.Primary leads none = absurd (cc none)
 drain_fresh : (state : State) (number : ℕ) (node : Node) → Kept state → IsUp state node → Was state number (snapshot_of node) → IsFresh node
 drain_fresh state number node kept up was draining entry there same =
     let older : entry.optime.term < node.term =
-    kept.candidate_log number (snapshot_of node) was (inr (draining_is node.role draining)) entry.optime
-    (subst (λ (l : List Entry). Has entry.optime l) (sym (visible_unless_primary node up.log (draining_follows node.role draining))) (in_has entry node.log there)) in
+    kept.candidate_log number (snapshot_of node) was (inr (ap role_of (draining_is node.role draining))) entry.optime
+    (subst (λ (l : List Entry). Has entry.optime l) (sym (visible_unless_primary node up.log (ap is_primary (draining_is node.role draining)))) (in_has entry node.log there)) in
     omega (arith, older, same)
 
 -- ---- the worlds of a run
@@ -91,8 +70,8 @@ front_stored worlds front led (inr begun) =
 now_fit : (past : List World) (world : World) (state : State) → Rel world state → AreLedFit past world state → (number : ℕ) (node : Node) → slice_get world.nodes number ≡ Some node → FitNow (standing_of node)
 now_fit past world state rel fits number node there up = elim (cases_Bool (is_leading node.role)) [
   | inl leads ↦ fits.led world (inl refl) number node there up leads
-  | inr none ↦ follower_fit (standing_of node) (not_primary node.role none)
-      (subst (λ (l : List Entry). AreStored l) (visible_unless_primary node (up_is world state rel number node there up).1.log (not_primary node.role none))
+  | inr none ↦ follower_fit (standing_of node) (not_leading node.role none)
+      (subst (λ (l : List Entry). AreStored l) (visible_unless_primary node (up_is world state rel number node there up).1.log (not_leading node.role none))
       (front_stored (world ∷ past) (visible_log node) fits.led (fits.fronts number (snapshot_of node) (was_is world state rel number node there up))))
 ]
 

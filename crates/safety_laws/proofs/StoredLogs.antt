@@ -1,5 +1,5 @@
 -- The documents that a log leaves, place by place: each of its fronts leaves there what may be stored.
-use Rattle.std.proofs.Common.{◌≡◌, ◌∙◌, ◌⊎◌, ◌≤◌, ◌<◌, inl, inr, ap, sym, subst, refl, arith, ltb-false, ℕ, zero, suc, T, length, Bool, true, false, ◌&&◌, cond, nat_lt, fold, Option, None, Some, List, [], ◌∷◌, ◌++◌}
+use Rattle.std.proofs.Common.{◌≡◌, ◌∙◌, ◌⊎◌, ◌≤◌, ◌<◌, inl, inr, ap, sym, subst, refl, arith, ltb-false, ℕ, T, Bool, true, false, ◌&&◌, cond, nat_lt, fold, Option, None, Some, List, [], ◌∷◌, ◌++◌}
 use Rattle.std.specs.Cmp.{tied_itself, Equal-is}
 use Rattle.std.specs.FinMap as maps
 use Rattle.std.specs.FinMap.Entries.{below_all}
@@ -21,6 +21,7 @@ use Rattle.set_model.proofs.HoldLemmas.{get-step}
 use Rattle.set_model.specs.Holds.{is_at}
 use Rattle.commit_machine.specs.Words.{Begins, Follows, Rises}
 use Rattle.commit_machine.specs.Nodes.{In}
+use Rattle.safety_laws.proofs.Places.{in_at}
 use Rattle.safety_laws.proofs.Steps.{in_has}
 
 -- ---- one place
@@ -110,11 +111,6 @@ found_entry (first ∷ es) sorted e (inr there) = by_test (eq_by_cmp place_cmp e
         let equal : place_cmp first.0 e.0 ≡ Equal = ap (λ p. place_cmp first.0 p) same ∙ tied_itself place_cmp-total first.0 in
         absurd (cc (less, equal))
     by_test false apart later = later
-
-in_at : (es : List (Place × Fields)) (k : ℕ) (d : Place × Fields) → k < length es → In (slice_index_or es k d) es
-in_at [] k d within = absurd (omega (arith, within))
-in_at (e ∷ es) zero d within = inl refl
-in_at (e ∷ es) (suc k) d within = inr (in_at es k d (omega (arith, within)))
 
 -- no document of such a log is too large
 pub none_too_large : (log : List Entry) → AreStored log → All (λ e. is_too_large e.1 ≡ false) (maps.entries (docs log))

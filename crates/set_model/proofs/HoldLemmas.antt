@@ -1,9 +1,9 @@
 -- Places that ops touch, and who holds a document.
-use Rattle.std.proofs.Common.{◌≡◌, ◌≢◌, ◌⊎◌, ◌∙◌, inl, inr, ℕ, Bool, true, false, cond, List, [], ◌∷◌, Option, None, Some, refl, sym, ap}
+use Rattle.std.proofs.Common.{◌≡◌, ◌≢◌, ◌∙◌, ℕ, Bool, true, false, cond, List, [], ◌∷◌, Option, None, Some, refl, sym, ap}
 use Rattle.std.specs.Cmp.{tied_itself, Equal-is, eq_by_cmp_equiv}
 use Rattle.std.specs.FinMap.{find, get, get-entries, entries, FinMap}
 use Rattle.std.specs.Ordering.{eq_by_cmp, is_eq, nat_cmp}
-use Rattle.bson_doc.specs.Place.{Place, place_cmp}
+use Rattle.bson_doc.specs.Place.{Place}
 use Rattle.bson_doc.proofs.KeyLemmas.{place_cmp-total, place_cmp-antisymmetric}
 use Rattle.rs_optime.specs.declared.optime.OpTime.{OpTime}
 use Rattle.oplog_entry.specs.Docs.{Documents, applied}

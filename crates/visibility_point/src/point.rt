@@ -9,10 +9,7 @@ use optime_slots::Slots;
 use rs_optime::OpTime;
 
 /// The optime of the last entry before the earliest open slot, or ZERO. Without an open slot it is the last entry's.
-#[tactic(auto, using(
-    crate::proofs::Least::whole_is_visible,
-    crate::proofs::Least::items_again
-))]
+#[tactic(auto, using(crate::proofs::Least::whole_is_visible, crate::proofs::Least::items_again))]
 pub fn visible(slots: &Slots, log: &Oplog) -> OpTime
     ensures point { result ≡ seen.visible log.now.entries (items slots.now.slots) }
 

@@ -1,5 +1,4 @@
 use Rattle.std.proofs.Common.{[], ◌∷◌, ◌++◌, ◌∙◌}
-use Rattle.std.specs.Prelude.{Ok, Err}
 use Rattle.record_file.proofs.AppendLemmas.{before_all, appends, rests, either_left}
 use Rattle.record_file.proofs.file.RecordFile.append.Goals as goal
 
