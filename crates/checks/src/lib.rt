@@ -16,6 +16,8 @@ mod notation;
 #[cfg(test)]
 mod records;
 #[cfg(test)]
+mod scripts;
+#[cfg(test)]
 mod slots;
 #[cfg(test)]
 mod streams;

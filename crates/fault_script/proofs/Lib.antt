@@ -1,0 +1,10 @@
+mod CommandsConfig
+mod CommandsFit
+mod Gets
+mod LinesCut
+mod ListsLast
+mod ValuesEnd
+mod WholeFits
+mod WholeRead
+mod WordsNumbers
+mod WordsTexts

@@ -1,0 +1,9 @@
+pub mod Built
+pub mod Commands
+pub mod Configs
+pub mod Gives
+pub mod Lines
+pub mod Script
+pub mod Set
+pub mod Values
+pub mod Words

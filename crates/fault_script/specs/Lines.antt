@@ -1,0 +1,18 @@
+-- A line of a script, before its words are looked at.
+use Rattle.std.specs.Prelude.{ℕ, Bool, true, ◌==◌, nat_lt, List, [], ◌∷◌, length, Result, Ok, Err, if◌then◌else◌}
+use Rattle.std.specs.Str.{is_utf8}
+use Rattle.fault_script.specs.declared.rule.ScriptRule.{ScriptRule}
+use Rattle.fault_script.specs.declared.rule.ScriptRule.TheVariants.{TooManyLines, LineTooLong, NotUtf8}
+
+-- the text of a line with this number, or the first fault that needs no word of it
+unfoldable pub text_of : ℕ → List ℕ → Result (List ℕ) ScriptRule
+text_of number line =
+    if nat_lt 200000 number then Err TooManyLines
+    else if nat_lt 1048576 (length line) then Err LineTooLong
+    else if is_utf8 line then Ok line
+    else Err NotUtf8
+
+-- an empty line, or a comment
+abbrev pub is_passed_over : List ℕ → Bool
+is_passed_over [] = true
+is_passed_over (c ∷ line) = c == 35

@@ -1,0 +1,124 @@
+// Lists of commands, each with the number of its line, which contracts see as lists.
+ghost use Rattle.std.specs.Prelude.{◌≡◌, [], ◌∷◌, ◌++◌, length, IfOk};
+ghost use Rattle.fault_script.specs.Script.{in_last};
+
+use bson_doc::Mem;
+use set_model::Command;
+use std::alloc::Global;
+use std::marker::Model;
+
+/// The commands of one thread, in order.
+#[derive(Drop)]
+pub struct Lines {
+    lines: Vec<(u32, Command)>,
+}
+
+impl Model for Lines {
+    ghost use Rattle.std.specs.Prelude.{List, ℕ};
+    ghost use Rattle.std.specs.Coded.{coded×, coded_list, coded_ℕ};
+    ghost use Rattle.set_model.specs.declared.command.Command.{Command};
+    ghost use Rattle.set_model.specs.contracts.command.Command.{the_row};
+
+    ghost Value = { List (ℕ × Command) };
+
+    ghost coded = { coded_list (coded× coded_ℕ the_row.coded) };
+
+    ghost view = { λ l. l.lines.items };
+}
+
+impl Lines {
+    fn new(alloc: Global) -> Self
+        ensures { result ≡ [] }
+    {
+        Lines {
+            lines: Vec::new(alloc),
+        }
+    }
+
+    pub fn as_slice(&self) -> &[(u32, Command)]
+        ensures { result.now ≡ self.now }
+    {
+        &self.lines
+    }
+
+    fn with(mut self, line: (u32, Command)) -> Mem<Self>
+        ensures { IfOk result (λ lines. lines ≡ self ++ line ∷ []) }
+    {
+        self.lines.push(line)?;
+        Ok(self)
+    }
+
+    /// The same in no more memory than it needs.
+    fn shrunk(mut self) -> Self
+        ensures { result ≡ self }
+    {
+        self.lines.shrink_to_fit();
+        self
+    }
+}
+
+/// The threads of a block.
+#[derive(Drop)]
+pub struct Threads {
+    threads: Vec<Lines>,
+}
+
+impl Model for Threads {
+    ghost use Rattle.std.specs.Prelude.{List, ℕ};
+    ghost use Rattle.std.specs.Coded.{coded×, coded_list, coded_ℕ};
+    ghost use Rattle.set_model.specs.declared.command.Command.{Command};
+    ghost use Rattle.set_model.specs.contracts.command.Command.{the_row};
+
+    ghost Value = { List (List (ℕ × Command)) };
+
+    ghost coded = { coded_list (coded_list (coded× coded_ℕ the_row.coded)) };
+
+    ghost view = { λ t. t.threads.items };
+}
+
+impl Threads {
+    pub(crate) fn new(alloc: Global) -> Self
+        ensures { result ≡ [] }
+    {
+        Threads {
+            threads: Vec::new(alloc),
+        }
+    }
+
+    pub fn as_slice(&self) -> &[Lines]
+        ensures { result.now ≡ self.now }
+    {
+        &self.threads
+    }
+
+    /// One thread more, without a command.
+    pub(crate) fn with_thread(self, alloc: Global) -> Mem<Self>
+        ensures { IfOk result (λ threads. threads ≡ self ++ [] ∷ []) }
+    {
+        let mut next = self.shrunk()?;
+        next.threads.push(Lines::new(alloc))?;
+        Ok(next)
+    }
+
+    /// One command more, in the last thread. Where there is no thread there is no command more.
+    pub(crate) fn with_line(mut self, line: (u32, Command)) -> Mem<Self>
+        ensures { IfOk result (λ threads. threads ≡ in_last self line) }
+    {
+        let Some(last) = self.threads.pop() else {
+            return Ok(self);
+        };
+        self.threads.push(last.with(line)?)?;
+        Ok(self)
+    }
+
+    /// The same, the last thread in no more memory than it needs.
+    pub(crate) fn shrunk(mut self) -> Mem<Self>
+        ensures { IfOk result (λ threads. threads ≡ self) }
+    {
+        let Some(last) = self.threads.pop() else {
+            return Ok(self);
+        };
+        self.threads.push(last.shrunk())?;
+        Ok(self)
+    }
+}

@@ -1,0 +1,42 @@
+// A whole script.
+ghost use Rattle.std.specs.Prelude.{◌≡◌, ◌≤◌, true, Ok, IfOk, IfErr, MatchResult};
+ghost use Rattle.std.specs.List.{list_all};
+ghost use Rattle.fault_script.specs.Script.{is_part_for, script, with_line, IsCause, StopsLine};
+
+use crate::lines::next_line;
+use crate::reading::Reading;
+use crate::rule::{LineError, ScriptError, ScriptFault};
+use crate::script::Script;
+use std::alloc::Global;
+
+/// The script that some bytes are, or the first faulty line with its first fault from left to right.
+pub fn parse(alloc: Global, bytes: &[u8]) -> Result<Script, ScriptError>
+    ensures ok { IfOk result (λ read. script bytes.now ≡ Ok read) }
+    ensures fits { IfOk result (λ read. list_all (is_part_for read.nodes) read.parts ≡ true) }
+    ensures fault { IfErr result (IsCause bytes.now) }
+{
+    let mut reading = Reading::new(alloc);
+    let mut number = 1;
+    let mut rest = bytes;
+    while !rest.is_empty() {
+        let (line, behind) = next_line(rest);
+        reading = next(alloc, reading, number, line)?;
+        number += 1;
+        rest = behind;
+    }
+    Ok(reading.finish(number)?)
+}
+
+/// What is known behind a line, which has this number.
+fn next(alloc: Global, reading: Reading, number: u32, line: &[u8]) -> Result<Reading, ScriptError>
+    ensures next { MatchResult result
+        (λ next. with_line number reading line.now ≡ Ok next)
+        (StopsLine number (with_line number reading line.now)) }
+    ensures few { IfOk result (λ next. number ≤ 200000) }
+{
+    match reading.with_line(alloc, number, line) {
+        Ok(next) => Ok(next),
+        Err(LineError::Rule(rule)) => Err(ScriptError::Fault(ScriptFault { line: number, rule })),
+        Err(LineError::Memory) => Err(ScriptError::Memory),
+    }
+}
