@@ -32,7 +32,7 @@ use Rattle.set_model.specs.Concerns.{ack, ack_at, acked, ack_refusal, target_poi
 use Rattle.set_model.specs.Disk.{apply, batch_applied, next_batch, flush, is_flushed, checkpoint, next_stable, restart, recovered, settled_doubt, has_more}
 use Rattle.set_model.specs.Elections.{campaign, candidate, candidate_refusal, dry_run, drain, step_down}
 use Rattle.set_model.specs.Fetching.{fetch, fetch_from, sources}
-use Rattle.set_model.specs.Node.{Node, down}
+use Rattle.set_model.specs.Node.{Node}
 use Rattle.set_model.specs.Outcome.{Outcome, refused}
 use Rattle.set_model.specs.Points.{if_primary, same_optime, next_optime}
 use Rattle.set_model.specs.Reads.{read, read_key}
