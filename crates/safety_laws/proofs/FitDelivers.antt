@@ -14,7 +14,7 @@ use Rattle.set_model.specs.declared.reply.Ignored.{Ignored}
 use Rattle.set_model.specs.declared.reply.Ignored.TheVariants.{NotSecondary, OtherPlace}
 use Rattle.set_model.specs.declared.reply.Reply.TheVariants as reply
 use Rattle.set_model.specs.declared.role.Role.TheVariants as roles
-use Rattle.set_model.specs.Beats.{heard, given_way, beat_told, beat_answered, beat_of}
+use Rattle.set_model.specs.Beats.{heard, given_way, beat_told, beat_answered, beat_of, gives_way}
 use Rattle.set_model.specs.Deliver.{body_refusal, brings_term, vote_reply_told, told, deliver}
 use Rattle.set_model.specs.Fetching.{taken, entries_told}
 use Rattle.set_model.specs.Node.{Node, DryTally}
@@ -24,7 +24,6 @@ use Rattle.set_model.specs.Reports.{report_told}
 use Rattle.set_model.specs.Roles.{is_secondary, is_candidate, is_primary}
 use Rattle.set_model.specs.Rollback.{common_told, common_point, roll_back, rollback_reason}
 use Rattle.set_model.specs.Votes.{vote_asked, vote_decided, vote_refusal, vote_for, with_vote, vote_told, vote_counted, is_elected, dry_told, dry_counted}
-use Rattle.set_model.specs.Beats.{gives_way}
 use Rattle.safety_laws.proofs.FitNodes.{follower_fit, standing_of}
 use Rattle.safety_laws.proofs.FitRows.{FitNow, FitOn, FitsOn, ended, follows, outcome_if, plan_if, plan_unless, plan_up, same}
 use Rattle.safety_laws.proofs.Outcomes.{secondary_back, secondary_not}

@@ -44,7 +44,7 @@ use Rattle.safety_laws.proofs.Places.{same_some}
 use Rattle.safety_laws.proofs.Rel.{HasLog}
 use Rattle.safety_laws.proofs.Slots.{open_with}
 use Rattle.safety_laws.proofs.Steps.{in_has}
-use Rattle.safety_laws.proofs.StoredLogs.{AreStored, IsQuiet, doc_at, doc_docs, in_with_is, other_doc, stored_docs, stored_with}
+use Rattle.safety_laws.proofs.StoredLogs.{AreStored, AreEarlier, doc_at, doc_docs, in_with_is, other_doc, stored_docs, stored_with}
 
 -- ---- what is kept
 
@@ -54,7 +54,7 @@ IsFitEntry entry = IsLawfulOp entry.op × IsWithin entry
 -- An op that may be written at this optime: the entry is fit, and it is the newest of its document, which then may be stored.
 pub record IsReady (log : List Entry) (at : OpTime) (op : Op) : Type 0 where
   pub fit : IsFitEntry (record { optime = at; op = op })
-  pub newest : (place : Place) → is_at (place_of op) place ≡ true → IsStored place (document_after op (doc_at place log)) × IsQuiet place at.ts log
+  pub newest : (place : Place) → is_at (place_of op) place ≡ true → IsStored place (document_after op (doc_at place log)) × AreEarlier place at.ts log
 
 -- no writer of these touches the document of an op
 abbrev pub IsFree : maps.FinMap nat_cmp Writer → Op → Type 0
@@ -142,7 +142,7 @@ written_ready term log writers at op rises stored ready new free = (
     entry = record { optime = at; op = op }
 
     still : (number : ℕ) (by : OpTime) (other : Op) → maps.get writers number ≡ Some (Open by other) → (place : Place) → is_at (place_of other) place ≡ true
-        → IsStored place (document_after other (doc_at place (with_entry log (record { optime = at; op = op })))) × IsQuiet place by.ts (with_entry log (record { optime = at; op = op }))
+        → IsStored place (document_after other (doc_at place (with_entry log (record { optime = at; op = op })))) × AreEarlier place by.ts (with_entry log (record { optime = at; op = op }))
     still number by other is place here = (
       subst (λ d. IsStored place (document_after other d)) (sym (other_doc place entry apart None log)) old.0,
       λ e there touches. elim (in_with_is log entry e there) [
@@ -154,7 +154,7 @@ written_ready term log writers at op rises stored ready new free = (
         apart : is_at (place_of op) place ≡ false
         apart = is_at-other (place_of op) place (λ same. free number by other is place same (is_at-only (place_of other) place here))
 
-        old : IsStored place (document_after other (doc_at place log)) × IsQuiet place by.ts log
+        old : IsStored place (document_after other (doc_at place log)) × AreEarlier place by.ts log
         old = (ready.open_ops number by other is).newest place here
 
 -- ---- what a write comes to

@@ -34,12 +34,12 @@ use Rattle.set_model.specs.Elections.{campaign, candidate, candidate_refusal, dr
 use Rattle.set_model.specs.Fetching.{fetch, fetch_from, sources}
 use Rattle.set_model.specs.Node.{Node}
 use Rattle.set_model.specs.Outcome.{Outcome, refused}
-use Rattle.set_model.specs.Points.{if_primary, same_optime}
+use Rattle.set_model.specs.Points.{if_primary, same_optime, next_optime}
 use Rattle.set_model.specs.Reads.{read, read_key}
 use Rattle.set_model.specs.Reconfig.{reconfig, reconfig_refusal}
 use Rattle.set_model.specs.Roles.{is_secondary, is_draining, is_primary, is_leading}
 use Rattle.set_model.specs.Rows.{row}
-use Rattle.set_model.specs.Stores.{Plan, finished, storing, done, stored, unless_refused, if_up, vote_record}
+use Rattle.set_model.specs.Stores.{Plan, finished, storing, done, stored, unless_refused, if_up, vote_record, in_doubt, config_record}
 use Rattle.set_model.specs.Votes.{is_elected}
 use Rattle.set_model.specs.Write.{write, written}
 use Rattle.set_model.specs.Writers.{begin, begun, unless_open, with_open, commit, abort}
@@ -47,9 +47,6 @@ use Rattle.commit_machine.specs.Nodes.{In}
 use Rattle.oplog_entry.specs.declared.entry.Op.TheVariants.{Noop}
 use Rattle.oplog_store.specs.Log.{with_entry}
 use Rattle.set_model.specs.Limits.{IsSoundWrite, collection_of, is_collection, is_within, write_of}
-use Rattle.set_model.specs.Node.{down}
-use Rattle.set_model.specs.Points.{next_optime}
-use Rattle.set_model.specs.Stores.{in_doubt, config_record}
 use Rattle.member_config.specs.Config.{in_term}
 use Rattle.safety_laws.proofs.EntrySizes.{noop_within}
 use Rattle.safety_laws.proofs.FitNodes.{AreReady, IsAdmitted, IsFit, Standing, admitted_ready, fewer_ready, follower_fit, opened_ready, standing_of, written_ready}

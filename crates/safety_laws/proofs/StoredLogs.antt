@@ -141,8 +141,8 @@ other_stored place entry other before (first ∷ log) stored = by_test (nat_lt f
     by_test false later = (stored.0, subst (λ b. AreStoredFrom place (cond b (document_after entry.op before) before) (first ∷ log)) (sym other) stored)
 
 -- the entries that touch a place are before a time
-abbrev pub IsQuiet : Place → ℕ → List Entry → Type 0
-IsQuiet place ts log = (other : Entry) → In other log → is_at (place_of other.op) place ≡ true → other.optime.ts < ts
+abbrev pub AreEarlier : Place → ℕ → List Entry → Type 0
+AreEarlier place ts log = (other : Entry) → In other log → is_at (place_of other.op) place ≡ true → other.optime.ts < ts
 
 -- where none touches it, what stands there stays
 abbrev AreApart : Place → List Entry → Type 0
@@ -160,9 +160,9 @@ apart_stored place before (first ∷ log) apart stored = (
   subst (λ b. AreStoredFrom place (cond b (document_after first.op before) before) log) (sym (apart first (inl refl))) (apart_stored place before log (λ other there. apart other (inr there)) stored),
 )
 
--- from an entry that isn't earlier on, none touches a quiet place
-late_apart : (place : Place) (ts : ℕ) (first : Entry) (log : List Entry) → nat_lt first.optime.ts ts ≡ false → Rises (first ∷ log) → IsQuiet place ts (first ∷ log) → AreApart place (first ∷ log)
-late_apart place ts first log late rises quiet other there = by_test (is_at (place_of other.op) place) refl
+-- from an entry that isn't earlier on, none touches such a place
+late_apart : (place : Place) (ts : ℕ) (first : Entry) (log : List Entry) → nat_lt first.optime.ts ts ≡ false → Rises (first ∷ log) → AreEarlier place ts (first ∷ log) → AreApart place (first ∷ log)
+late_apart place ts first log late rises earlier other there = by_test (is_at (place_of other.op) place) refl
   where
     after : In other (first ∷ log) → ts ≤ other.optime.ts
     after (inl same) = let from : ts ≤ first.optime.ts = ltb-false first.optime.ts ts late in let is : first.optime.ts ≡ other.optime.ts = ap (λ (e : Entry). e.optime.ts) same in omega (arith, from, is)
@@ -171,34 +171,34 @@ late_apart place ts first log late rises quiet other there = by_test (is_at (pla
 
     by_test : (b : Bool) → is_at (place_of other.op) place ≡ b → is_at (place_of other.op) place ≡ false
     by_test false is = is
-    by_test true is = let before : other.optime.ts < ts = quiet other there is in let from : ts ≤ other.optime.ts = after there in absurd (omega (arith, before, from))
+    by_test true is = let before : other.optime.ts < ts = earlier other there is in let from : ts ≤ other.optime.ts = after there in absurd (omega (arith, before, from))
 
-pub here_doc : (place : Place) (entry : Entry) → is_at (place_of entry.op) place ≡ true → (before : Option Fields) (log : List Entry) → Rises log → IsQuiet place entry.optime.ts log
+pub here_doc : (place : Place) (entry : Entry) → is_at (place_of entry.op) place ≡ true → (before : Option Fields) (log : List Entry) → Rises log → AreEarlier place entry.optime.ts log
     → doc_from place before (with_entry log entry) ≡ document_after entry.op (doc_from place before log)
-here_doc place entry here before [] rises quiet = ap (λ b. cond b (document_after entry.op before) before) here
-here_doc place entry here before (first ∷ log) rises quiet =
-    by_test (nat_lt first.optime.ts entry.optime.ts) refl (here_doc place entry here (next_at place before first) log rises.1 (λ other there. quiet other (inr there)))
+here_doc place entry here before [] rises earlier = ap (λ b. cond b (document_after entry.op before) before) here
+here_doc place entry here before (first ∷ log) rises earlier =
+    by_test (nat_lt first.optime.ts entry.optime.ts) refl (here_doc place entry here (next_at place before first) log rises.1 (λ other there. earlier other (inr there)))
   where
     by_test : (b : Bool) → nat_lt first.optime.ts entry.optime.ts ≡ b → doc_from place (next_at place before first) (with_entry log entry) ≡ document_after entry.op (doc_from place (next_at place before first) log)
         → doc_from place before (cond b (first ∷ with_entry log entry) (entry ∷ first ∷ log)) ≡ document_after entry.op (doc_from place before (first ∷ log))
     by_test true is later = later
     by_test false is later =
-        let apart : AreApart place (first ∷ log) = late_apart place entry.optime.ts first log is rises quiet in
+        let apart : AreApart place (first ∷ log) = late_apart place entry.optime.ts first log is rises earlier in
         apart_doc place (next_at place before entry) (first ∷ log) apart
         ∙ ap (λ b. cond b (document_after entry.op before) before) here
         ∙ ap (document_after entry.op) (sym (apart_doc place before (first ∷ log) apart))
 
-here_stored : (place : Place) (entry : Entry) → is_at (place_of entry.op) place ≡ true → (before : Option Fields) (log : List Entry) → Rises log → IsQuiet place entry.optime.ts log
+here_stored : (place : Place) (entry : Entry) → is_at (place_of entry.op) place ≡ true → (before : Option Fields) (log : List Entry) → Rises log → AreEarlier place entry.optime.ts log
     → AreStoredFrom place before log → IsStored place (document_after entry.op (doc_from place before log)) → AreStoredFrom place before (with_entry log entry)
-here_stored place entry here before [] rises quiet stored new = (stored, subst (λ b. IsStored place (cond b (document_after entry.op before) before)) (sym here) new)
-here_stored place entry here before (first ∷ log) rises quiet stored new =
-    by_test (nat_lt first.optime.ts entry.optime.ts) refl (here_stored place entry here (next_at place before first) log rises.1 (λ other there. quiet other (inr there)) stored.1 new)
+here_stored place entry here before [] rises earlier stored new = (stored, subst (λ b. IsStored place (cond b (document_after entry.op before) before)) (sym here) new)
+here_stored place entry here before (first ∷ log) rises earlier stored new =
+    by_test (nat_lt first.optime.ts entry.optime.ts) refl (here_stored place entry here (next_at place before first) log rises.1 (λ other there. earlier other (inr there)) stored.1 new)
   where
     by_test : (b : Bool) → nat_lt first.optime.ts entry.optime.ts ≡ b → AreStoredFrom place (next_at place before first) (with_entry log entry)
         → AreStoredFrom place before (cond b (first ∷ with_entry log entry) (entry ∷ first ∷ log))
     by_test true is later = (stored.0, later)
     by_test false is later =
-        let apart : AreApart place (first ∷ log) = late_apart place entry.optime.ts first log is rises quiet in (
+        let apart : AreApart place (first ∷ log) = late_apart place entry.optime.ts first log is rises earlier in (
           stored.0,
           subst (λ b. AreStoredFrom place (cond b (document_after entry.op before) before) (first ∷ log)) (sym here)
               (apart_stored place (document_after entry.op before) (first ∷ log) apart (subst (λ d. IsStored place (document_after entry.op d)) (apart_doc place before (first ∷ log) apart) new)),
@@ -206,7 +206,7 @@ here_stored place entry here before (first ∷ log) rises quiet stored new =
 
 -- a log with an entry more: at the place that the entry touches it is the newest, and what it leaves may be stored
 pub stored_with : (log : List Entry) (entry : Entry) → Rises log → AreStored log
-    → ((place : Place) → is_at (place_of entry.op) place ≡ true → IsStored place (document_after entry.op (doc_at place log)) × IsQuiet place entry.optime.ts log)
+    → ((place : Place) → is_at (place_of entry.op) place ≡ true → IsStored place (document_after entry.op (doc_at place log)) × AreEarlier place entry.optime.ts log)
     → AreStored (with_entry log entry)
 stored_with log entry rises stored here place = by_test (is_at (place_of entry.op) place) refl
   where
