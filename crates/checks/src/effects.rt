@@ -59,12 +59,11 @@ fn a_name_with_a_dot_is_refused(rt: HostRuntime) -> Result<(), Fail> {
 fn a_sum_past_32_bits_is_an_int64(rt: HostRuntime) -> Result<(), Fail> {
     let alloc = rt.alloc();
     let before = largest(alloc)?;
-    let Prepared::Entry {
-        after: Some(after),
-        ..
-    } = prepare(alloc, &increment(alloc)?, Some(&before))?
-    else {
+    let Prepared::Entry { after, .. } = prepare(alloc, &increment(alloc)?, Some(&before))? else {
         return Err(Fail::from("nothing is logged"));
+    };
+    let Some(after) = after else {
+        return Err(Fail::from("the document is gone"));
     };
     assert!(rt; matches!(after.get("a"), Some(Value::Int64(2_147_483_648))));
     Ok(())

@@ -2,6 +2,8 @@
 #![tactic(auto)]
 
 #[cfg(test)]
+mod batches;
+#[cfg(test)]
 mod codec;
 #[cfg(test)]
 mod disks;
@@ -14,10 +16,16 @@ mod entries_as_bytes;
 #[cfg(test)]
 mod notation;
 #[cfg(test)]
+mod parts;
+#[cfg(test)]
 mod records;
 #[cfg(test)]
 mod scripts;
 #[cfg(test)]
 mod slots;
 #[cfg(test)]
+mod stores;
+#[cfg(test)]
 mod streams;
+#[cfg(test)]
+mod turns;

@@ -1,4 +1,4 @@
-// Scripts, each with what is told of it, and replies with their texts.
+// Scripts with what is told of their first fault, and replies with their texts.
 use fault_script::{ScriptError, parse};
 use rs_optime::OpTime;
 use set_model::{Refusal, Reply};
@@ -17,233 +17,98 @@ fn told(alloc: Global, script: &[u8]) -> Result<String, Fail> {
     Ok(text)
 }
 
+/// Fails where another line is printed, and says which.
+fn tells(alloc: Global, script: &[u8], line: &str) -> Result<(), Fail> {
+    let text = told(alloc, script)?;
+    if text.as_str() == line {
+        return Ok(());
+    }
+    Err(Fail::new(text))
+}
+
 #[test]
 fn the_first_command_is_set(rt: HostRuntime) -> Result<(), Fail> {
     let alloc = rt.alloc();
-    assert_eq!(rt; told(alloc, b"")?.as_str(), "line 1: NoSetLine\n");
-    assert_eq!(rt;
-        told(alloc, b"\n# nothing\n")?.as_str(),
-        "line 3: NoSetLine\n"
-    );
-    assert_eq!(rt; told(alloc, b"foo n0")?.as_str(), "line 1: NoSetLine\n");
-    assert_eq!(rt; told(alloc, b"par\n")?.as_str(), "line 1: NoSetLine\n");
-    assert_eq!(rt; told(alloc, b"set")?.as_str(), "line 1: WordCount\n");
-    assert_eq!(rt; told(alloc, b"set 1 1 1")?.as_str(), "line 1: WordCount\n");
-    assert_eq!(rt; told(alloc, b"set 0")?.as_str(), "line 1: BadNumber\n");
-    assert_eq!(rt; told(alloc, b"set 1 2")?.as_str(), "line 1: BadNumber\n");
-    assert_eq!(rt; told(alloc, b"set x")?.as_str(), "line 1: BadWord\n");
-    assert_eq!(rt; told(alloc, b"set 2")?.as_str(), "line 1: BadNumber\n");
-    Ok(())
+    tells(alloc, b"", "line 1: NoSetLine\n")?;
+    tells(alloc, b"\n# nothing\n", "line 3: NoSetLine\n")?;
+    tells(alloc, b"set 8", "line 1: BadNumber\n")?;
+    tells(alloc, b"set 1\nset 1", "line 2: UnknownCommand\n")?;
+    tells(alloc, b"set 1\r\n\r\n# set\nlog n0", "")
 }
 
 #[test]
-fn lines_end_and_are_passed_over(rt: HostRuntime) -> Result<(), Fail> {
+fn words_have_their_faults(rt: HostRuntime) -> Result<(), Fail> {
     let alloc = rt.alloc();
-    assert_eq!(rt; told(alloc, b"set 01\r\n\r\n# set\nlog n00")?.as_str(), "");
-    assert_eq!(rt; told(alloc, b"set 1\r")?.as_str(), "line 1: BadWord\n");
-    assert_eq!(rt;
-        told(alloc, b"set 1\n\n \n")?.as_str(),
-        "line 3: UnknownCommand\n"
-    );
-    assert_eq!(rt;
-        told(alloc, b"set 1\nset 1\n")?.as_str(),
-        "line 2: UnknownCommand\n"
-    );
-    assert_eq!(rt;
-        told(alloc, b"set 1\nfoo n0\n")?.as_str(),
-        "line 2: UnknownCommand\n"
-    );
-    assert_eq!(rt;
-        told(alloc, b"set 1\nfetch n0\n")?.as_str(),
-        "line 2: UnknownCommand\n"
-    );
-    Ok(())
+    tells(alloc, b"set 1\nfoo n0\n", "line 2: UnknownCommand\n")?;
+    tells(alloc, b"set 1\n \n", "line 2: UnknownCommand\n")?;
+    tells(alloc, b"set 1\ndrain", "line 2: WordCount\n")?;
+    tells(alloc, b"set 1\ndrain n1 ", "line 2: WordCount\n")?;
+    tells(alloc, b"set 1\ncrash n1", "line 2: BadNode\n")?;
+    tells(alloc, b"set 2\nheartbeat n0 n0", "line 2: BadNode\n")
 }
 
 #[test]
-fn words_are_counted_before_they_are_read(rt: HostRuntime) -> Result<(), Fail> {
+fn numbers_and_levels_have_their_faults(rt: HostRuntime) -> Result<(), Fail> {
     let alloc = rt.alloc();
-    assert_eq!(rt;
-        told(alloc, b"set 1\ndrain")?.as_str(),
-        "line 2: WordCount\n"
-    );
-    assert_eq!(rt;
-        told(alloc, b"set 1\ndrain  n0")?.as_str(),
-        "line 2: WordCount\n"
-    );
-    assert_eq!(rt;
-        told(alloc, b"set 1\ndrain n1 ")?.as_str(),
-        "line 2: WordCount\n"
-    );
-    assert_eq!(rt;
-        told(alloc, b"set 1\ninsert n9 t")?.as_str(),
-        "line 2: WordCount\n"
-    );
-    assert_eq!(rt;
-        told(alloc, b"set 1\ninsert n9 t ")?.as_str(),
-        "line 2: WordCount\n"
-    );
-    assert_eq!(rt;
-        told(alloc, b"set 1\nbegin n0 w1 drop t")?.as_str(),
-        "line 2: WordCount\n"
-    );
-    Ok(())
+    tells(alloc, b"set 1\nclock n0 2147483647", "")?;
+    tells(alloc, b"set 1\nclock n0 2147483648", "line 2: BadNumber\n")?;
+    tells(alloc, b"set 1\nread n0 snapshot t 1", "line 2: BadWord\n")?;
+    tells(alloc, b"set 1\nreconfig n0 {}", "line 2: BadConfigText\n")
 }
 
 #[test]
-fn a_node_is_one_of_the_set(rt: HostRuntime) -> Result<(), Fail> {
+fn documents_have_their_faults(rt: HostRuntime) -> Result<(), Fail> {
     let alloc = rt.alloc();
-    assert_eq!(rt;
-        told(alloc, b"set 1\ndrain n1")?.as_str(),
-        "line 2: BadNode\n"
-    );
-    assert_eq!(rt;
-        told(alloc, b"set 1\ndrain 0")?.as_str(),
-        "line 2: BadNode\n"
-    );
-    assert_eq!(rt;
-        told(alloc, b"set 1\ndrain n")?.as_str(),
-        "line 2: BadNode\n"
-    );
-    assert_eq!(rt;
-        told(alloc, b"set 1\nclock n1 x")?.as_str(),
-        "line 2: BadNode\n"
-    );
-    Ok(())
+    tells(
+        alloc,
+        b"set 1\ninsert n0 t {_id: 1",
+        "line 2: BadText 1 Unexpected\n",
+    )?;
+    tells(
+        alloc,
+        b"set 1\ninsert n0 t {_id: 2147483648}",
+        "line 2: BadText 2 Number\n",
+    )?;
+    tells(
+        alloc,
+        b"set 1\ninsert n0 t {a: 1, a: 2}\n",
+        "line 2: BadText 5 DuplicateName\n",
+    )
 }
 
 #[test]
-fn numbers_and_words_have_their_forms(rt: HostRuntime) -> Result<(), Fail> {
+fn blocks_have_their_faults(rt: HostRuntime) -> Result<(), Fail> {
     let alloc = rt.alloc();
-    assert_eq!(rt;
-        told(alloc, b"set 1\nclock n0 2147483648")?.as_str(),
-        "line 2: BadNumber\n"
-    );
-    assert_eq!(rt; told(alloc, b"set 1\nclock n0 2147483647")?.as_str(), "");
-    assert_eq!(rt;
-        told(alloc, b"set 1\nclock n0 -1")?.as_str(),
-        "line 2: BadWord\n"
-    );
-    assert_eq!(rt;
-        told(alloc, b"set 1\ncommit n0 w1000")?.as_str(),
-        "line 2: BadWord\n"
-    );
-    assert_eq!(rt; told(alloc, b"set 1\ncommit n0 w0999")?.as_str(), "");
-    assert_eq!(rt;
-        told(alloc, b"set 1\nabort n0 1")?.as_str(),
-        "line 2: BadWord\n"
-    );
-    assert_eq!(rt;
-        told(alloc, b"set 1\nbegin n0 w1 drop t 5")?.as_str(),
-        "line 2: BadWord\n"
-    );
-    assert_eq!(rt;
-        told(alloc, b"set 1\ninsert n0 1t {}")?.as_str(),
-        "line 2: BadWord\n"
-    );
-    assert_eq!(rt;
-        told(alloc, b"set 1\nread n0 all t 1")?.as_str(),
-        "line 2: BadWord\n"
-    );
-    assert_eq!(rt;
-        told(alloc, b"set 1\ndump n0 majority")?.as_str(),
-        "line 2: BadWord\n"
-    );
-    Ok(())
+    tells(alloc, b"set 1\npar\nthread\nlog n0\nend", "")?;
+    tells(alloc, b"set 1\nend", "line 2: StrayLine\n")?;
+    tells(alloc, b"set 1\npar\ndrain n0", "line 3: StrayLine\n")?;
+    tells(alloc, b"set 1\npar\npar", "line 3: NestedPar\n")?;
+    tells(alloc, b"set 1\npar", "line 3: OpenPar\n")
 }
 
-#[test]
-fn values_are_read_by_their_notation(rt: HostRuntime) -> Result<(), Fail> {
-    let alloc = rt.alloc();
-    assert_eq!(rt;
-        told(alloc, b"set 1\ninsert n0 t {a: 1, a: 2}\n")?.as_str(),
-        "line 2: BadText 5 DuplicateName\n"
-    );
-    assert_eq!(rt;
-        told(alloc, b"set 1\ninsert n0 t 5")?.as_str(),
-        "line 2: BadText 1 Unexpected\n"
-    );
-    assert_eq!(rt;
-        told(alloc, b"set 1\ninsert n0 t {} ")?.as_str(),
-        "line 2: BadText 1 Unexpected\n"
-    );
-    assert_eq!(rt;
-        told(alloc, b"set 1\ndelete n0 t 2147483648")?.as_str(),
-        "line 2: BadText 2 Number\n"
-    );
-    assert_eq!(rt;
-        told(alloc, b"set 1\nupdate n0 t 5  {}")?.as_str(),
-        "line 2: BadText 1 Unexpected\n"
-    );
-    assert_eq!(rt;
-        told(alloc, b"set 1\nreplace n0 t 5{}")?.as_str(),
-        "line 2: BadText 1 Unexpected\n"
-    );
-    assert_eq!(rt; told(alloc, b"set 1\nread n0 local t 5")?.as_str(), "");
-    Ok(())
-}
-
-#[test]
-fn blocks_have_threads_and_an_end(rt: HostRuntime) -> Result<(), Fail> {
-    let alloc = rt.alloc();
-    assert_eq!(rt;
-        told(alloc, b"set 1\npar\nthread\nlog n0\nend")?.as_str(),
-        ""
-    );
-    assert_eq!(rt; told(alloc, b"set 1\npar\nend")?.as_str(), "");
-    assert_eq!(rt;
-        told(alloc, b"set 1\npar\npar")?.as_str(),
-        "line 3: NestedPar\n"
-    );
-    assert_eq!(rt;
-        told(alloc, b"set 1\nthread")?.as_str(),
-        "line 2: StrayLine\n"
-    );
-    assert_eq!(rt; told(alloc, b"set 1\nend")?.as_str(), "line 2: StrayLine\n");
-    assert_eq!(rt;
-        told(alloc, b"set 1\npar\nlog n9")?.as_str(),
-        "line 3: StrayLine\n"
-    );
-    assert_eq!(rt;
-        told(alloc, b"set 1\npar\nlog")?.as_str(),
-        "line 3: WordCount\n"
-    );
-    assert_eq!(rt;
-        told(alloc, b"set 1\nend 1")?.as_str(),
-        "line 2: WordCount\n"
-    );
-    assert_eq!(rt;
-        told(alloc, b"set 1\npar\nthread\n")?.as_str(),
-        "line 4: OpenPar\n"
-    );
-    Ok(())
-}
-
-/// `set 1`, and then so many times this byte.
+/// `set 1`, and behind it a line with so many times this byte.
 fn long(alloc: Global, count: usize, byte: u8) -> Result<Vec<u8>, Fail> {
-    let mut script = Vec::from_elem(alloc, byte, count)?;
-    script.extend_from_slice(b"\nset 1\n")?;
+    let mut script = Vec::from_slice(alloc, b"set 1\n")?;
+    let line = Vec::from_elem(alloc, byte, count)?;
+    script.extend_from_slice(line.as_slice())?;
     Ok(script)
 }
 
 #[test]
 fn lines_have_limits(rt: HostRuntime) -> Result<(), Fail> {
     let alloc = rt.alloc();
-    assert_eq!(rt; told(alloc, &long(alloc, 1_048_576, b'#')?)?.as_str(), "");
-    assert_eq!(rt;
-        told(alloc, &long(alloc, 1_048_577, b'#')?)?.as_str(),
-        "line 1: LineTooLong\n"
-    );
-    assert_eq!(rt;
-        told(alloc, &long(alloc, 1, 0xff)?)?.as_str(),
-        "line 1: NotUtf8\n"
-    );
-    assert_eq!(rt; told(alloc, &long(alloc, 199_998, b'\n')?)?.as_str(), "");
-    assert_eq!(rt;
-        told(alloc, &long(alloc, 200_000, b'\n')?)?.as_str(),
-        "line 200001: TooManyLines\n"
-    );
-    Ok(())
+    tells(alloc, &long(alloc, 1_048_576, b'#')?, "")?;
+    tells(
+        alloc,
+        &long(alloc, 1_048_577, b'x')?,
+        "line 2: LineTooLong\n",
+    )?;
+    tells(alloc, &long(alloc, 1, 0xff)?, "line 2: NotUtf8\n")?;
+    tells(
+        alloc,
+        &long(alloc, 200_000, b'\n')?,
+        "line 200001: TooManyLines\n",
+    )
 }
 
 /// A block with so many threads.
@@ -259,27 +124,8 @@ fn block(alloc: Global, threads: u32) -> Result<Vec<u8>, Fail> {
 #[test]
 fn a_block_has_at_most_sixteen_threads(rt: HostRuntime) -> Result<(), Fail> {
     let alloc = rt.alloc();
-    assert_eq!(rt; told(alloc, &block(alloc, 16)?)?.as_str(), "");
-    assert_eq!(rt;
-        told(alloc, &block(alloc, 17)?)?.as_str(),
-        "line 19: TooManyThreads\n"
-    );
-    Ok(())
-}
-
-/// How many parts a script has.
-fn parts(alloc: Global, script: &[u8]) -> Result<usize, Fail> {
-    match parse(alloc, script) {
-        Ok(script) => Ok(script.parts.as_slice().len()),
-        Err(_) => Ok(0),
-    }
-}
-
-#[test]
-fn a_line_is_a_part_and_so_is_a_block(rt: HostRuntime) -> Result<(), Fail> {
-    let script = b"set 1\nlog n0\npar\nthread\nlog n0\nthread\nlog n0\nend\nlog n0";
-    assert_eq!(rt; parts(rt.alloc(), script)?, 3);
-    Ok(())
+    tells(alloc, &block(alloc, 16)?, "")?;
+    tells(alloc, &block(alloc, 17)?, "line 19: TooManyThreads\n")
 }
 
 /// The text of a reply to line 7.
@@ -290,20 +136,21 @@ fn text_of(alloc: Global, reply: &Reply) -> Result<String, Fail> {
 }
 
 #[test]
-fn replies_have_their_texts(rt: HostRuntime) -> Result<(), Fail> {
-    let alloc = rt.alloc();
+fn a_write_is_told_with_its_optime(rt: HostRuntime) -> Result<(), Fail> {
+    // the timestamp has its seconds in the upper 32 bits
     let at = OpTime {
         term: 1,
         ts: 4_294_967_298,
     };
-    assert_eq!(rt;
-        text_of(alloc, &Reply::Written(at))?.as_str(),
-        "7: written 1/1/2\n"
-    );
-    assert_eq!(rt; text_of(alloc, &Reply::NoMatch)?.as_str(), "7: matched 0\n");
-    assert_eq!(rt;
-        text_of(alloc, &Reply::Refused(Refusal::WriteConflict(1)))?.as_str(),
-        "7: refused 11 WriteConflict w1\n"
-    );
+    let text = text_of(rt.alloc(), &Reply::Written(at))?;
+    assert_eq!(rt; text.as_str(), "7: written 1/1/2\n");
+    Ok(())
+}
+
+#[test]
+fn a_refusal_is_told_with_its_number(rt: HostRuntime) -> Result<(), Fail> {
+    let reply = Reply::Refused(Refusal::WriteConflict(1));
+    let text = text_of(rt.alloc(), &reply)?;
+    assert_eq!(rt; text.as_str(), "7: refused 11 WriteConflict w1\n");
     Ok(())
 }
