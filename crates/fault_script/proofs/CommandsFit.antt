@@ -1,5 +1,5 @@
 -- A command that is read is one of the set, within its bounds.
-use Rattle.std.proofs.Common.{◌≡◌, ℕ, Bool, true, false, cond, ◌&&◌, ◌==◌, List, [], ◌∷◌, Option, None, Some, Ok, Err, refl, length, arith}
+use Rattle.std.proofs.Common.{◌≡◌, ℕ, Bool, true, ◌&&◌, ◌==◌, List, [], ◌∷◌, Option, None, Some, refl, length, arith}
 use Rattle.std.specs.Prelude.{nat_lt, nat_le, codes}
 use Rattle.std.specs.Char.{is_ascii_digit}
 use Rattle.std.specs.List.{list_all}
@@ -8,7 +8,6 @@ use Rattle.std.specs.Str.Parse.{digits_value}
 use Rattle.doc_update.specs.declared.write.WriteOp.{WriteOp}
 use Rattle.doc_update.specs.declared.write.WriteOp.TheVariants as ops
 use Rattle.set_model.specs.declared.command.Command.{Command}
-use Rattle.set_model.specs.declared.command.AckConcern.TheVariants as concerns
 use Rattle.set_model.specs.declared.command.Target.{Target}
 use Rattle.set_model.specs.Limits.{is_collection, collection_of, is_within_target, is_within_concern, is_within_config, is_for}
 use Rattle.fault_script.specs.declared.rule.ScriptRule.{ScriptRule}
@@ -19,17 +18,16 @@ use Rattle.fault_script.specs.declared.verb.NodeVerb.{NodeVerb}
 use Rattle.fault_script.specs.declared.verb.NodeVerb.TheVariants as asks
 use Rattle.fault_script.specs.declared.verb.WriteKind.{WriteKind}
 use Rattle.fault_script.specs.declared.verb.WriteKind.TheVariants.{Insert, Replace, Update, Delete}
-use Rattle.fault_script.specs.Built.{is_level_built}
-use Rattle.fault_script.specs.Words.{Left, ◌>>=◌, behind_word, word_at, ended, number_of, numbered, number_at, optional_at, pick_at, node_at, other_node_at, writer_at, message_at, collection_at, target_of, optime_of, optime_target, writer_target, concern_of, level_of, disk_of, target_at, concern_at, level_at, disk_at}
+use Rattle.fault_script.specs.Words.{Left, behind_word, word_at, number_of, numbered, number_at, optional_at, pick_at, node_at, other_node_at, writer_at, message_at, collection_at, target_of, optime_of, optime_target, writer_target, concern_of, target_at, concern_at, level_at, disk_at}
 use Rattle.fault_script.specs.Configs.{config_of}
 use Rattle.fault_script.specs.Values.{text_at, value_at, behind_space, last_value, last_document}
-use Rattle.fault_script.specs.Commands.{write_kind, insert_at, delete_at, replace_at, update_at, write_at, write_command, begin_kind, begin_at, commit_at, abort_at, ack_at, read_at, dump_at, heartbeat_at, report_at, common_at, apply_at, reconfig_at, or_zero, crash_at, disk_fail_at, clock_at, of_node, deliver_one, deliver_latest, deliver_at, words_at}
+use Rattle.fault_script.specs.Commands.{write_kind, insert_at, delete_at, replace_at, update_at, write_at, write_command, begin_kind, begin_at, commit_at, abort_at, ack_at, read_at, dump_at, heartbeat_at, report_at, common_at, apply_at, reconfig_at, crash_at, disk_fail_at, clock_at, of_node, deliver_one, deliver_latest, deliver_at, words_at}
 use Rattle.fault_script.proofs.Gets.{Gets, bind_gets, bind_any, either, tested, ended_gets, both}
 use Rattle.fault_script.proofs.CommandsConfig.{config_text_within}
 
 -- ---- words
 
-abbrev IsIn : ℕ → ℕ → ℕ → Type 0
+abbrev pub IsIn : ℕ → ℕ → ℕ → Type 0
 IsIn least most number = (nat_le least number && nat_le number most) ≡ true
 
 number_gets : (form range : ScriptRule) (least most : ℕ) (word : List ℕ) → Gets (number_of form range least most word) (IsIn least most)
@@ -41,13 +39,13 @@ numbered_gets : (rule : ScriptRule) (letter most : ℕ) (word : List ℕ) → Ge
 numbered_gets rule letter most [] = tt
 numbered_gets rule letter most (c ∷ digits) = tested (c == letter) (number_of rule rule 0 most digits) rule (IsIn 0 most) (λ passed. number_gets rule rule 0 most digits)
 
-number_within : (least most : ℕ) (left : Left) → Gets (number_at least most left) (λ x. IsIn least most x.0)
+pub number_within : (least most : ℕ) (left : Left) → Gets (number_at least most left) (λ x. IsIn least most x.0)
 unfolding number_at
 number_within least most left =
     bind_any (word_at left) _ (λ x. IsIn least most x.0) (λ word.
     bind_gets (number_of BadWord BadNumber least most word.0) _ (IsIn least most) (λ x. IsIn least most x.0) (number_gets BadWord BadNumber least most word.0) (λ number within. within))
 
-optional_within : (default least most : ℕ) (left : Left) → IsIn least most default → Gets (optional_at default least most left) (λ x. IsIn least most x.0)
+pub optional_within : (default least most : ℕ) (left : Left) → IsIn least most default → Gets (optional_at default least most left) (λ x. IsIn least most x.0)
 optional_within default least most None fine = fine
 optional_within default least most (Some text) fine = number_within least most (Some text)
 

@@ -1,5 +1,5 @@
 -- Reading a script line by line.
-use Rattle.std.proofs.Common.{◌≡◌, ℕ, ◌+◌, ◌≤◌, Bool, true, false, cond, List, [], ◌∷◌, length, Result, Ok, Err, refl, ap, sym, ◌∙◌, arith}
+use Rattle.std.proofs.Common.{◌≡◌, ℕ, ◌+◌, ◌≤◌, Bool, true, false, List, [], ◌∷◌, length, Result, Ok, Err, refl, ap, sym, ◌∙◌, arith}
 use Rattle.std.specs.Prelude.{nat_lt}
 use Rattle.std.specs.Str.Lines.{lines}
 use Rattle.fault_script.specs.declared.reading.Reading.{Reading}
@@ -7,11 +7,10 @@ use Rattle.fault_script.specs.declared.rule.ScriptError.{ScriptError}
 use Rattle.fault_script.specs.declared.rule.ScriptError.TheVariants.{Fault, Memory}
 use Rattle.fault_script.specs.declared.rule.ScriptFault.{ScriptFault}
 use Rattle.fault_script.specs.declared.rule.ScriptRule.{ScriptRule}
-use Rattle.fault_script.specs.declared.rule.ScriptRule.TheVariants.{TooManyLines, LineTooLong, NotUtf8}
+use Rattle.fault_script.specs.declared.rule.ScriptRule.TheVariants.{TooManyLines}
 use Rattle.fault_script.specs.declared.script.Script.{Script}
-use Rattle.fault_script.specs.Words.{◌>>=◌}
-use Rattle.fault_script.specs.Lines.{text_of, is_passed_over}
-use Rattle.fault_script.specs.Script.{start, with_line, with_text, whole, and_then, script_from, script, Stops, StopsLine}
+use Rattle.fault_script.specs.Lines.{text_of}
+use Rattle.fault_script.specs.Script.{start, with_line, whole, and_then, script_from, script, Stops, StopsLine}
 
 -- what is left gives what the whole gives
 pub record ReadSoFar (bytes : List ℕ) (reading : Reading) (number : ℕ) (rest : List ℕ) : Type 0 where

@@ -3,6 +3,7 @@ pub mod Commands
 pub mod Configs
 pub mod Gives
 pub mod Lines
+pub mod Merge
 pub mod Script
 pub mod Set
 pub mod Values

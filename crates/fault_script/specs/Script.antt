@@ -33,11 +33,11 @@
 -- The first faulty line is told, with its first fault in this order: too many lines, too long, not UTF-8, an unknown first word (of
 -- the first command: not `set`), the number of words, a first word that may not stand there, and then the words from left to
 -- right. Behind the last line, and as its successor, are told that there was no `set`, and that a block is open.
-use Rattle.std.specs.Prelude.{ℕ, ◌≡◌, ◌+◌, Bool, nat_lt, List, [], ◌∷◌, ◌++◌, length, Option, None, Some, Result, Ok, Err, if◌then◌else◌}
-use Rattle.std.specs.List.{list_all}
+use Rattle.std.specs.Prelude.{ℕ, ◌≡◌, ◌+◌, ◌≤◌, Bool, nat_lt, List, [], ◌∷◌, ◌++◌, length, Option, None, Some, Result, Ok, Err, if◌then◌else◌}
+use Rattle.std.specs.List.{list_all, flat_map}
 use Rattle.std.specs.Str.Lines.{lines}
 use Rattle.set_model.specs.declared.command.Command.{Command}
-use Rattle.set_model.specs.Limits.{is_for}
+use Rattle.set_model.specs.Built.{takes}
 use Rattle.fault_script.specs.declared.reading.Reading.{Reading}
 use Rattle.fault_script.specs.declared.rule.ScriptError.{ScriptError}
 use Rattle.fault_script.specs.declared.rule.ScriptError.TheVariants.{Fault, Memory}
@@ -51,6 +51,7 @@ use Rattle.fault_script.specs.declared.set.SetLine.{SetLine}
 use Rattle.fault_script.specs.declared.verb.Keyword.{Keyword}
 use Rattle.fault_script.specs.declared.verb.Keyword.TheVariants as keywords
 use Rattle.fault_script.specs.Words.{Left, ◌>>=◌}
+use Rattle.fault_script.specs.Built.{most_nodes}
 use Rattle.fault_script.specs.Set.{set_line}
 use Rattle.fault_script.specs.Commands.{keyword_at, words_at}
 use Rattle.fault_script.specs.Lines.{text_of, is_passed_over}
@@ -151,10 +152,29 @@ script bytes = script_from 1 start (lines bytes)
 
 -- ---- whose commands they are
 
--- each command of a part is one of a set of so many nodes, within its bounds
+-- a set of so many nodes takes each command of a part
 abbrev pub is_part_for : ℕ → Part → Bool
-is_part_for nodes (parts.Line number command) = is_for nodes command
-is_part_for nodes (parts.Par threads) = list_all (list_all (λ line. is_for nodes line.1)) threads
+is_part_for nodes (parts.Line number command) = takes nodes command
+is_part_for nodes (parts.Par threads) = list_all (list_all (λ line. takes nodes line.1)) threads
+
+-- the threads' commands, one thread after another
+abbrev pub joined : List Thread → List (ℕ × Command)
+joined threads = flat_map (λ (thread : Thread). thread) threads
+
+-- the commands of a part, in the order in which they stand in the script
+abbrev pub lines_of : Part → List (ℕ × Command)
+lines_of (parts.Line number command) = (number, command) ∷ []
+lines_of (parts.Par threads) = joined threads
+
+-- the same of several parts
+abbrev pub lines_in : List Part → List (ℕ × Command)
+lines_in parts = flat_map lines_of parts
+
+-- from one node to the most that a set may have, and from one member to all nodes
+pub record AreSizes (nodes members : ℕ) : Type 0 where
+  pub one : 1 ≤ members
+  pub within : members ≤ nodes
+  pub most : nodes ≤ most_nodes
 
 -- ---- why nothing was read
 

@@ -1,9 +1,7 @@
 -- The one node of a set: nobody else is there, no message was ever sent, and no store of its fails.
-use Rattle.std.specs.Prelude.{false, Bool, true, None}
+use Rattle.std.specs.Prelude.{false, None}
 use Rattle.set_model.specs.declared.command.Command.{Command}
-use Rattle.set_model.specs.declared.command.Command.TheVariants.{Campaign, Drain, Insert, Replace, Update, Delete, Begin, Commit, Abort, Read, Dump, Log, State, Clock}
-use Rattle.set_model.specs.declared.command.ReadLevel.{ReadLevel}
-use Rattle.set_model.specs.declared.command.ReadLevel.TheVariants.{Local, Majority}
+pub use Rattle.set_model.specs.Built.{is_built}
 use Rattle.set_model.specs.Node.{Node}
 use Rattle.set_model.specs.Outcome.{Outcome}
 use Rattle.set_model.specs.Rows.{row}
@@ -16,25 +14,3 @@ unfailed plan = done plan None
 -- what a command comes to on such a node
 abbrev pub outcome_of : Node → Command → Outcome
 outcome_of node command = unfailed (row 1 0 false node command)
-
-abbrev pub is_local : ReadLevel → Bool
-is_local Local = true
-is_local Majority = false
-
--- the commands that a node does so far
-abbrev pub is_built : Command → Bool
-is_built (Campaign node) = true
-is_built (Drain node) = true
-is_built (Insert node collection document) = true
-is_built (Replace node collection id document) = true
-is_built (Update node collection id operators) = true
-is_built (Delete node collection id) = true
-is_built (Begin node writer op) = true
-is_built (Commit node writer) = true
-is_built (Abort node writer) = true
-is_built (Read node level collection id) = is_local level
-is_built (Dump node level) = is_local level
-is_built (Log node) = true
-is_built (State node) = true
-is_built (Clock node seconds) = true
-is_built _ = false
