@@ -8,8 +8,8 @@ use Rattle.set_model.specs.declared.command.Event.{Event}
 use Rattle.set_model.specs.declared.reply.Reply.{Reply}
 use Rattle.set_model.specs.Limits.{Fits, AllFit, IsRun, IsSoundWrite, write_of, is_within, is_for, plan_reaches}
 use Rattle.set_model.specs.Node.{Node}
-use Rattle.set_model.specs.Outcome.{Outcome, replied}
-use Rattle.set_model.specs.Run.{AreSizes, Run, run, opening, after}
+use Rattle.set_model.specs.Outcome.{replied}
+use Rattle.set_model.specs.Run.{AreSizes, Run, opening, after}
 use Rattle.set_model.specs.Stores.{Plan}
 use Rattle.set_model.specs.World.{World, Step, Task, acts, actor, task, plan_of, step, event_plan, with_outcome}
 use Rattle.set_model.specs.Rows.{row}
@@ -19,8 +19,7 @@ use Rattle.set_model.specs.Safety.{Safe}
 use Rattle.safety_laws.specs.Laws.{InEveryRun}
 use Rattle.node_core.specs.Alone.{is_built, outcome_of}
 use Rattle.node_core.specs.Grown.{IsGrown, SetsClock}
-use Rattle.set_program.specs.Script.{one_set, is_taken}
-use Rattle.set_program.specs.World.{IsReached, alone, event_of, reply_to}
+use Rattle.set_program.specs.World.{one_set, is_taken, IsReached, alone, event_of, reply_to}
 
 -- ---- the command
 

@@ -1,0 +1,18 @@
+use Rattle.std.proofs.Common.{◌+◌, [], ◌∷◌, take, drop, string_bytes}
+use Rattle.std.proofs.lemmas.Result.{err_from_is_err_and}
+use Rattle.set_program.proofs.PlayLemmas.{stepped_more, some_more, around, next_take}
+use Rattle.set_program.proofs.steps.step_lines.Goals as goal
+
+pub returns-in_err-step_line : goal.returns-in_err-step_line
+returns-in_err-step_line c =
+    let p = err_from_is_err_and c.from_residual.result c.from_residual.ensures.1 in
+    let i = c.loop-line.line-index in
+    rw p.1 (some_more c.args.lines.now (take i c.args.lines.now) (c.loop-line-item.result ∷ []) (drop (i + 1) c.args.lines.now) c.args.world.now c.loop-line.world c.step_line.new.world
+    (around c.args.lines.now i c.loop-line-item.result c.loop-line-test.true c.loop-line-item.is) c.loop-line.invariant.events c.in_err-step_line.ensures)
+
+pub loop-line-preserved : goal.loop-line-preserved
+loop-line-preserved c =
+    let i = c.loop-line.line-index in
+    rw (next_take c.args.lines.now i c.loop-line-item.result c.loop-line-test.true c.loop-line-item.is)
+    (stepped_more (take i c.args.lines.now) (c.loop-line-item.result ∷ []) c.args.world.now c.loop-line.world c.step_line.new.world (string_bytes c.args.out.now) (string_bytes c.loop-line.out) (string_bytes c.step_line.new.out)
+    c.loop-line.invariant c.in_ok-step_line.ensures)
