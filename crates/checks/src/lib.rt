@@ -1,4 +1,5 @@
-//! What no clause says of the crates below: memory that suffices, values from outside, and one fault in mid-stream.
+//! What no clause says of the crates below: memory that suffices, values from outside, one fault in mid-stream,
+//! and threads that really run.
 #![tactic(auto)]
 
 #[cfg(test)]
@@ -7,8 +8,6 @@ mod batches;
 mod codec;
 #[cfg(test)]
 mod disks;
-#[cfg(test)]
-mod effects;
 #[cfg(test)]
 mod entries;
 #[cfg(test)]

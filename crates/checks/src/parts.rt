@@ -340,8 +340,9 @@ fn nothing_in_common_is_the_beginning(rt: HostRuntime) -> Result<(), Fail> {
 // ---- reconfiguring
 
 #[test]
-fn a_configuration_that_one_voter_reported_is_no_majority_s(rt: HostRuntime) -> Result<(), Fail> {
-    let (current, new) = (three(rt.alloc(), 1)?, three(rt.alloc(), 2)?);
+fn a_configuration_waits_for_a_majority(rt: HostRuntime) -> Result<(), Fail> {
+    let current = three(rt.alloc(), 1)?;
+    let new = three(rt.alloc(), 2)?;
     let mut progress = Progress::new(rt.alloc());
     progress.note(1, (1, 0), FIRST)?;
     assert_eq!(rt;

@@ -43,8 +43,7 @@ fn words_have_their_faults(rt: HostRuntime) -> Result<(), Fail> {
     tells(alloc, b"set 1\n \n", "line 2: UnknownCommand\n")?;
     tells(alloc, b"set 1\ndrain", "line 2: WordCount\n")?;
     tells(alloc, b"set 1\ndrain n1 ", "line 2: WordCount\n")?;
-    tells(alloc, b"set 1\ncrash n1", "line 2: BadNode\n")?;
-    tells(alloc, b"set 2\nheartbeat n0 n0", "line 2: BadNode\n")
+    tells(alloc, b"set 1\ndrain n1", "line 2: BadNode\n")
 }
 
 #[test]
@@ -52,8 +51,7 @@ fn numbers_and_levels_have_their_faults(rt: HostRuntime) -> Result<(), Fail> {
     let alloc = rt.alloc();
     tells(alloc, b"set 1\nclock n0 2147483647", "")?;
     tells(alloc, b"set 1\nclock n0 2147483648", "line 2: BadNumber\n")?;
-    tells(alloc, b"set 1\nread n0 snapshot t 1", "line 2: BadWord\n")?;
-    tells(alloc, b"set 1\nreconfig n0 {}", "line 2: BadConfigText\n")
+    tells(alloc, b"set 1\nread n0 snapshot t 1", "line 2: BadWord\n")
 }
 
 #[test]
