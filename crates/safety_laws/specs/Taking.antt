@@ -9,13 +9,14 @@ use Rattle.repl_msg.specs.declared.message.FetchReply.{FetchReply}
 use Rattle.repl_msg.specs.declared.message.Message.{Message}
 use Rattle.set_model.specs.declared.command.Event.{Event}
 use Rattle.set_model.specs.Deliver.{termed}
+use Rattle.set_model.specs.Fetched.{Follows, AreWithinDocument}
 use Rattle.set_model.specs.Node.{Node}
 use Rattle.set_model.specs.Points.{last_point}
 use Rattle.set_model.specs.Rollback.{common_point, rollback_reason}
 use Rattle.set_model.specs.Run.{Sizes, run}
 use Rattle.set_model.specs.Safety.{IsAt, AtMost}
 use Rattle.safety_laws.specs.Bounds.{config_carried}
-use Rattle.safety_laws.specs.Replies.{Follows, IsWithinEntry, AreWithinDocument}
+use Rattle.safety_laws.specs.Replies.{IsWithinEntry}
 
 -- entries that a node may write behind its log, where that ends at their base
 pub record CanTakeEntries (node : Node) (term : ℕ) (fetched : FetchReply) : Type 0 where
