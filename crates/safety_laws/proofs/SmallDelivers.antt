@@ -1,9 +1,8 @@
 -- Each message that is within limits keeps the numbers of the node that takes it so, and its configurations lawful.
-use Rattle.std.proofs.Common.{◌≡◌, ◌≤◌, ◌<◌, ◌+◌, arith, refl, ℕ, Bool, true, false, not, ◌&&◌, ◌==◌, nat_lt, cond, length, take, is_some, Option, None, Some, if◌then◌else◌, List, [], ◌∷◌, ◌++◌}
+use Rattle.std.proofs.Common.{◌≡◌, ◌≤◌, ◌<◌, ◌+◌, arith, ℕ, Bool, true, false, not, ◌&&◌, ◌==◌, nat_lt, cond, length, take, is_some, Option, None, Some, List, [], ◌∷◌, ◌++◌}
 use Rattle.std.proofs.lemmas.List.{length-append}
 use Rattle.std.specs.Prelude.{IfSome}
 use Rattle.rs_optime.specs.declared.optime.OpTime.{OpTime}
-use Rattle.oplog_entry.specs.declared.entry.Entry.{Entry}
 use Rattle.member_config.specs.Config.{is_newer}
 use Rattle.member_config.specs.Voters.{is_member}
 use Rattle.repl_msg.specs.declared.message.Beat.{Beat}
@@ -19,14 +18,14 @@ use Rattle.set_model.specs.declared.reply.Reply.TheVariants as reply
 use Rattle.set_model.specs.Beats.{heard, given_way, beat_told, beat_answered, beat_of}
 use Rattle.set_model.specs.Changes.{in_new_term}
 use Rattle.set_model.specs.Deliver.{body_refusal, brings_term, vote_reply_told, told, deliver}
-use Rattle.set_model.specs.Fetching.{holds, entries_after, entries_told, reply_to}
+use Rattle.set_model.specs.Fetching.{holds, entries_told, reply_to}
 use Rattle.set_model.specs.Node.{Node, DryTally}
 use Rattle.set_model.specs.Outcome.{Outcome, replied, sending}
 use Rattle.set_model.specs.Points.{last_point, log_behind, visible_log, same_optime}
 use Rattle.set_model.specs.Reports.{report_told}
 use Rattle.set_model.specs.Roles.{is_secondary, is_candidate, is_primary}
 use Rattle.set_model.specs.Rollback.{common_told, common_point, roll_back, rollback_reason, cut_record}
-use Rattle.set_model.specs.Stores.{Plan, finished, stored, then_stored, vote_record, config_record}
+use Rattle.set_model.specs.Stores.{stored, vote_record, config_record}
 use Rattle.set_model.specs.Votes.{vote_asked, vote_decided, vote_answered, vote_refusal, vote_for, with_vote, vote_told, vote_counted, is_elected, dry_told, dry_counted}
 use Rattle.safety_laws.specs.Bounds.{IsLawfulConfig}
 use Rattle.safety_laws.proofs.SmallNodes.{Limits, AreTimely, NodeFine, FineMessage, FineOutcome, FinePlan, quiet, says, take_timely, filter_timely, append_timely, visible_timely, seen_most_after, lost_times, stored_fine, doubt_fine}
@@ -36,8 +35,7 @@ use Rattle.safety_laws.proofs.SmallRows.{plan_if, end_if, plan_unless, plan_up}
 turned_fine : (l : Limits) (node : Node) (term : ℕ) (vote : Option ℕ) → NodeFine l node → IfSome vote (λ candidate. candidate < l.nodes) → length node.records + 1 ≤ l.records
     → NodeFine l (in_new_term (stored node (vote_record term vote)) term vote)
 turned_fine l node term vote ok new room =
-    let more : NodeFine l (stored node (vote_record term vote)) = stored_fine l node (vote_record term vote) ok new room in
-    (
+    let more : NodeFine l (stored node (vote_record term vote)) = stored_fine l node (vote_record term vote) ok new room in (
       lost_times l.time node.seen node.log node.writers ok.0,
       record { number_is = ok.1.number_is; known = ok.1.known; voted = new; config_fine = ok.1.config_fine; first_fine = ok.1.first_fine },
       more.2,
@@ -92,8 +90,7 @@ module _ (l : Limits) (from : ℕ) (known : from < l.nodes) where
           ))
           (λ is. plan_if l (not ask.dry && (ask.asked == node.term && is_some (vote_for from why))) _ _
           (λ given.
-          let more : NodeFine l (stored node (vote_record node.term (Some from))) = stored_fine l node (vote_record node.term (Some from)) ok known room in
-          (
+          let more : NodeFine l (stored node (vote_record node.term (Some from))) = stored_fine l node (vote_record node.term (Some from)) ok known room in (
             doubt_fine l node (vote_record node.term (Some from)) ok known,
             answered why _ (
               more.0,
@@ -130,8 +127,7 @@ module _ (l : Limits) (from : ℕ) (known : from < l.nodes) where
   heard_fine node beat answer ok config room fine =
       plan_if l (is_secondary (given_way node beat).role && is_newer beat.config (given_way node beat).config) _ _
       (λ is.
-      let more : NodeFine l (stored node (config_record beat.config)) = stored_fine l node (config_record beat.config) ok config room in
-      (
+      let more : NodeFine l (stored node (config_record beat.config)) = stored_fine l node (config_record beat.config) ok config room in (
         doubt_fine l node (config_record beat.config) ok config,
         fine _ (
           ok.0,
@@ -161,8 +157,7 @@ common_told_fine l node term after optimes visible ok room ids = go (rollback_re
     go : (why : Option Ignored) → FinePlan l (roll_back node (common_point node.log after optimes) why)
     go (Some why) = quiet l _ node ok
     go None =
-        let more : NodeFine l (stored node (cut_record (common_point node.log after optimes))) = stored_fine l node (cut_record (common_point node.log after optimes)) ok tt room in
-        (
+        let more : NodeFine l (stored node (cut_record (common_point node.log after optimes))) = stored_fine l node (cut_record (common_point node.log after optimes)) ok tt room in (
           doubt_fine l node (cut_record (common_point node.log after optimes)) ok tt,
           quiet l _ _ (
             record { seen_most = ok.0.seen_most; timely = filter_timely l.time _ node.log ok.0.timely; slots = ok.0.slots },

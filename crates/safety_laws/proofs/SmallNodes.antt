@@ -1,14 +1,13 @@
 -- What keeps the numbers and the configurations of a node within limits, and what the changes of a node leave of it.
-use Rattle.std.proofs.Common.{◌≡◌, ◌≤◌, ◌<◌, ◌+◌, arith, inl, inr, ap, sym, subst, refl, ℕ, zero, suc, Bool, true, false, not, nat_lt, ltb-true, ltb-false, cond, filter, length, map, max, take, fold, unwrap_or, Option, None, Some, if◌then◌else◌, List, [], ◌∷◌, ◌++◌}
-use Rattle.std.proofs.lemmas.Bool.{or_parts, cases_Bool}
-use Rattle.std.proofs.lemmas.List.{length-append, length-map}
+use Rattle.std.proofs.Common.{◌≡◌, ◌≤◌, ◌<◌, ◌+◌, arith, inl, inr, ap, subst, refl, ℕ, zero, suc, Bool, true, false, not, nat_lt, ltb-true, ltb-false, cond, filter, length, map, max, take, fold, unwrap_or, Option, None, Some, List, [], ◌∷◌, ◌++◌}
+use Rattle.std.proofs.lemmas.Bool.{or_parts}
+use Rattle.std.proofs.lemmas.List.{length-append}
 use Rattle.std.specs.Prelude.{⊤, IfSome}
 use Rattle.std.specs.FinMap as maps
 use Rattle.std.specs.Ordering.{nat_cmp}
 use Rattle.rs_optime.specs.Order.{is_before}
-use Rattle.rs_optime.specs.Time.{timestamp_after}
 use Rattle.rs_optime.specs.declared.optime.OpTime.{OpTime}
-use Rattle.oplog_entry.specs.Visible.{last_of, log_up_to, least, entries_before}
+use Rattle.oplog_entry.specs.Visible.{last_of, least, entries_before}
 use Rattle.oplog_entry.specs.declared.entry.Entry.{Entry}
 use Rattle.oplog_entry.specs.declared.entry.Op.{Op}
 use Rattle.oplog_store.specs.Log.{with_entry}
@@ -16,10 +15,9 @@ use Rattle.member_config.specs.declared.config.Config.{Config}
 use Rattle.member_config.specs.declared.config.Member.{Member}
 use Rattle.member_config.specs.Config.{in_term}
 use Rattle.member_config.specs.Numbers.{put, in_order, first_of, lowest, has_twice}
-use Rattle.member_config.specs.Rule.{rule, has_wrong_count, has_wrong_votes}
-use Rattle.member_config.specs.Voters.{numbers, voters, unknown_member}
-use Rattle.repl_msg.specs.Kept.{nothing_kept, with_record, with_entries, kept}
-use Rattle.repl_msg.specs.Logs.{log_behind}
+use Rattle.member_config.specs.Rule.{has_wrong_count, has_wrong_votes}
+use Rattle.member_config.specs.Voters.{numbers, voters}
+use Rattle.repl_msg.specs.Kept.{nothing_kept, with_record, kept}
 use Rattle.repl_msg.specs.declared.message.Body.{Body}
 use Rattle.repl_msg.specs.declared.message.Message.{Message}
 use Rattle.repl_msg.specs.declared.record.Kept.{Kept}

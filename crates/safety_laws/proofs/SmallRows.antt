@@ -1,8 +1,8 @@
 -- Each row keeps a node's numbers within limits that leave it room, and its configurations lawful.
-use Rattle.std.proofs.Common.{◌≡◌, ◌∙◌, ◌≤◌, ◌<◌, ◌+◌, arith, inl, inr, ap, sym, subst, refl, ℕ, zero, suc, Bool, true, false, not, ◌&&◌, ◌==◌, nat_lt, ltb-true, cond, filter, length, map, take, unwrap_or, Option, None, Some, if◌then◌else◌, Result, Ok, Err, List, [], ◌∷◌, ◌++◌}
+use Rattle.std.proofs.Common.{◌≡◌, ◌≤◌, ◌<◌, ◌+◌, arith, inl, inr, subst, refl, ℕ, Bool, true, false, not, ◌&&◌, ◌==◌, nat_lt, ltb-true, filter, length, map, Option, None, Some, if◌then◌else◌, Result, Ok, Err, List, [], ◌∷◌, ◌++◌}
 use Rattle.std.proofs.lemmas.Bool.{and_parts}
 use Rattle.std.proofs.lemmas.List.{length-append, length-map}
-use Rattle.std.specs.Prelude.{⊤, IfSome}
+use Rattle.std.specs.Prelude.{IfSome}
 use Rattle.std.specs.FinMap as maps
 use Rattle.bson_doc.specs.Key.{key_of}
 use Rattle.bson_doc.specs.Tree.{Tree}
@@ -20,7 +20,7 @@ use Rattle.oplog_entry.specs.declared.entry.Op.{Op}
 use Rattle.oplog_entry.specs.declared.entry.Op.TheVariants.{Noop}
 use Rattle.member_config.specs.declared.config.Config.{Config}
 use Rattle.member_config.specs.Config.{in_term}
-use Rattle.member_config.specs.Numbers.{in_order, lowest}
+use Rattle.member_config.specs.Numbers.{lowest}
 use Rattle.member_config.specs.Rule.{rule}
 use Rattle.member_config.specs.Voters.{numbers, voters}
 use Rattle.repl_msg.specs.Kept.{kept}
@@ -45,7 +45,7 @@ use Rattle.set_model.specs.Concerns.{ack, ack_at, acked, ack_refusal, target_poi
 use Rattle.set_model.specs.Disk.{apply, batch_applied, next_batch, flush, is_flushed, unkept, next_entries, next_durable, checkpoint, next_stable, crash, restart, recovered, came_back, settled_doubt, has_more}
 use Rattle.set_model.specs.Elections.{campaign, candidate, candidate_refusal, dry_run, drain, step_down}
 use Rattle.set_model.specs.Fetching.{fetch, fetch_from, sources}
-use Rattle.set_model.specs.Limits.{is_for, is_within, nodes_of}
+use Rattle.set_model.specs.Limits.{is_for}
 use Rattle.set_model.specs.Node.{Node}
 use Rattle.set_model.specs.Outcome.{Outcome, refused, message_to}
 use Rattle.set_model.specs.Points.{if_primary, next_optime, same_optime}
@@ -54,7 +54,7 @@ use Rattle.set_model.specs.Reconfig.{reconfig, reconfig_refusal, change_refusal,
 use Rattle.set_model.specs.Roles.{is_secondary, is_draining, is_primary}
 use Rattle.set_model.specs.Rollback.{cut_record}
 use Rattle.set_model.specs.Rows.{row}
-use Rattle.set_model.specs.Stores.{Plan, finished, storing, stored, unless_refused, if_up, vote_record, config_record}
+use Rattle.set_model.specs.Stores.{Plan, stored, unless_refused, if_up, vote_record, config_record}
 use Rattle.set_model.specs.Votes.{asks, ask_of, other_voters, is_elected}
 use Rattle.set_model.specs.Write.{write, written}
 use Rattle.set_model.specs.Writers.{begin, begun, unless_open, with_open, commit, abort}
@@ -62,7 +62,7 @@ use Rattle.commit_machine.specs.Nodes.{In}
 use Rattle.safety_laws.specs.Bounds.{IsLawfulConfig}
 use Rattle.safety_laws.proofs.Places.{in_filter}
 use Rattle.safety_laws.proofs.Reconfigs.{none_broken}
-use Rattle.safety_laws.proofs.SmallNodes.{Limits, HasDisks, HasCounts, FineStore, FineRecord, NodeFine, FineMessage, FineOutcome, FinePlan, FineKept, quiet, says, last_timely, filter_timely, take_timely, logged_times, opened_times, settled_times, aborted_times, lost_times, closed_times, in_term_fine, member_known, voter_known, few_voters, in_ordered, length_ordered, fewer_passed, lowest_in, with_item, with_count, stored_fine, down_fine, doubt_fine, kept_fine, config_of_fine}
+use Rattle.safety_laws.proofs.SmallNodes.{Limits, FineStore, FineRecord, NodeFine, FineMessage, FineOutcome, FinePlan, FineKept, quiet, says, last_timely, filter_timely, take_timely, logged_times, opened_times, settled_times, aborted_times, lost_times, closed_times, in_term_fine, member_known, voter_known, few_voters, in_ordered, length_ordered, fewer_passed, lowest_in, stored_fine, down_fine, doubt_fine, kept_fine, config_of_fine}
 use Rattle.safety_laws.proofs.Voters.{unless_some}
 
 -- ---- plans by cases
@@ -201,8 +201,8 @@ module _ (l : Limits) (node : Node) (ok : NodeFine l node) (room : RoomFor l nod
   campaign_fine next = plan_unless l node (candidate_refusal node) _ ok (λ none. (
     doubt_fine l node (vote_record (node.term + 1) (Some node.number)) ok own,
     end_if l (is_elected asking) _ _
-    (λ is. record { node = asking_fine; sent = asks_fine l asking asking_fine false; few = asks_few l asking asking_fine false })
-    (λ is. record { node = asking_fine; sent = asks_fine l asking asking_fine false; few = asks_few l asking asking_fine false }),
+        (λ is. record { node = asking_fine; sent = asks_fine l asking asking_fine false; few = asks_few l asking asking_fine false })
+        (λ is. record { node = asking_fine; sent = asks_fine l asking asking_fine false; few = asks_few l asking asking_fine false }),
   ))
     where
       own : node.number < l.nodes
@@ -213,8 +213,7 @@ module _ (l : Limits) (node : Node) (ok : NodeFine l node) (room : RoomFor l nod
 
       asking_fine : NodeFine l asking
       asking_fine =
-          let kept_more : NodeFine l (stored node (vote_record (node.term + 1) (Some node.number))) = stored_fine l node (vote_record (node.term + 1) (Some node.number)) ok own (one_more l node room) in
-          (
+          let kept_more : NodeFine l (stored node (vote_record (node.term + 1) (Some node.number))) = stored_fine l node (vote_record (node.term + 1) (Some node.number)) ok own (one_more l node room) in (
             lost_times l.time node.seen node.log node.writers ok.0,
             record { number_is = ok.1.number_is; known = ok.1.known; voted = own; config_fine = ok.1.config_fine; first_fine = ok.1.first_fine },
             kept_more.2,
@@ -229,12 +228,12 @@ module _ (l : Limits) (node : Node) (ok : NodeFine l node) (room : RoomFor l nod
       (λ is. (
         doubt_fine l node (config_record (in_term node.config node.term)) ok config,
         let kept_more : NodeFine l (stored node (config_record (in_term node.config node.term))) = stored_fine l node (config_record (in_term node.config node.term)) ok config (one_more l node room) in
-        quiet l _ _ (
-          logged_times l.time node.seen (next_optime node).ts node.log node.writers (record { optime = next_optime node; op = Noop }) ok.0 room.next room.next,
-          record { number_is = ok.1.number_is; known = ok.1.known; voted = ok.1.voted; config_fine = config; first_fine = ok.1.first_fine },
-          kept_more.2,
-          kept_more.3,
-        ),
+            quiet l _ _ (
+              logged_times l.time node.seen (next_optime node).ts node.log node.writers (record { optime = next_optime node; op = Noop }) ok.0 room.next room.next,
+              record { number_is = ok.1.number_is; known = ok.1.known; voted = ok.1.voted; config_fine = config; first_fine = ok.1.first_fine },
+              kept_more.2,
+              kept_more.3,
+            ),
       ))
       (λ is. quiet l _ node ok)
     where
@@ -277,8 +276,7 @@ module _ (l : Limits) (node : Node) (ok : NodeFine l node) (room : RoomFor l nod
   reconfig_fine : (config : Config) → FinePlan l (reconfig l.nodes node config)
   reconfig_fine config = plan_unless l node (reconfig_refusal l.nodes node config) _ ok (λ none.
       let fine : IsLawfulConfig l.nodes (in_term config node.term) = in_term_fine l.nodes node.term config (allowed none) in
-      let kept_more : NodeFine l (stored node (config_record (in_term config node.term))) = stored_fine l node (config_record (in_term config node.term)) ok fine (one_more l node room) in
-      (
+      let kept_more : NodeFine l (stored node (config_record (in_term config node.term))) = stored_fine l node (config_record (in_term config node.term)) ok fine (one_more l node room) in (
         doubt_fine l node (config_record (in_term config node.term)) ok fine,
         quiet l _ _ (
           ok.0,

@@ -2,14 +2,12 @@
 use Rattle.std.proofs.Common.{slice_get, slice_set, ◌≤◌, ◌<◌, ◌+◌, ◌*◌, arith, ◌≡◌, ◌∙◌, inl, inr, ap, sym, subst, refl, ℕ, zero, suc, Bool, true, false, not, nat_lt, cond, filter, length, map, Option, None, Some, List, [], ◌∷◌, ◌++◌}
 use Rattle.std.proofs.lemmas.Bool.{cases_eq, lt-ltb}
 use Rattle.std.proofs.lemmas.List.{length-append, length-set}
-use Rattle.std.specs.Prelude.{⊤, IfSome, All, Contains, option_and_then}
-use Rattle.std.specs.FinMap as maps
+use Rattle.std.specs.Prelude.{IfSome, Contains, option_and_then}
 use Rattle.rs_optime.specs.Time.{timestamp_after}
 use Rattle.oplog_entry.specs.declared.entry.Entry.{Entry}
 use Rattle.member_config.specs.declared.config.Config.{Config}
 use Rattle.member_config.specs.Config.{first_config, members_from}
 use Rattle.member_config.specs.Numbers.{first_of}
-use Rattle.member_config.specs.Voters.{unknown_member}
 use Rattle.repl_msg.specs.declared.message.Body.{Body}
 use Rattle.repl_msg.specs.declared.message.Body.TheVariants as bodies
 use Rattle.repl_msg.specs.declared.message.Message.{Message}
@@ -27,15 +25,15 @@ use Rattle.set_model.specs.Stores.{Plan, done}
 use Rattle.set_model.specs.World.{World, Task, acts, takes, nothing, task, touched_node, plan_of, by_plan, with_outcome, nodes_from, step}
 use Rattle.commit_machine.specs.Nodes.{In}
 use Rattle.commit_machine.proofs.Growth.{in_append}
-use Rattle.safety_laws.specs.Bounds.{AreTimed, last_timestamp, IsSmallNode, IsSmallMessage, NumbersStaySmall, IsLawfulConfig, HasLawfulConfigs, ConfigsAreLawful, config_kept, entries_kept, config_carried, entries_carried, term_asked}
+use Rattle.safety_laws.specs.Bounds.{AreTimed, last_timestamp, IsSmallNode, IsSmallMessage, NumbersStaySmall, IsLawfulConfig, ConfigsAreLawful, config_kept, entries_kept, entries_carried, term_asked}
 use Rattle.safety_laws.proofs.Frame.{task_sent, world_after}
 use Rattle.safety_laws.proofs.Opening.{first_rule, get_from}
 use Rattle.safety_laws.proofs.Places.{same_some, get_set_same, get_set_other}
 use Rattle.safety_laws.proofs.Replies.{all_of, contained}
-use Rattle.safety_laws.proofs.SmallNodes.{Limits, AreTimely, HasTimes, HasDisks, HasCounts, FineRecord, FineStore, NodeFine, FineMessage, FineOutcome, FinePlan, fine_done, closed_times}
+use Rattle.safety_laws.proofs.SmallNodes.{Limits, AreTimely, FineRecord, FineStore, NodeFine, FineMessage, FineOutcome, FinePlan, fine_done, closed_times}
 use Rattle.safety_laws.proofs.SmallRows.{RoomFor, row_fine}
 use Rattle.safety_laws.proofs.SmallDelivers.{deliver_fine}
-use Rattle.safety_laws.proofs.TermBounds.{IsTermedWorld, AreTermed, asked_term, termed_at, sent_in}
+use Rattle.safety_laws.proofs.TermBounds.{asked_term, termed_at, sent_in}
 
 -- ---- the limits behind so many events
 

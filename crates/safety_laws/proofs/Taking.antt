@@ -2,24 +2,20 @@
 use Rattle.std.proofs.Common.{◌≡◌, ◌≤◌, ◌<◌, arith, ap, sym, subst, refl, length, ℕ, Bool, true, false, ◌&&◌, nat_lt, if◌then◌else◌, Option, None, Some, List}
 use Rattle.std.proofs.Math.Seq.{take-length}
 use Rattle.std.specs.Prelude.{IfSome, Contains}
-use Rattle.rs_optime.specs.declared.optime.OpTime.{OpTime}
 use Rattle.member_config.specs.declared.config.Config.{Config}
 use Rattle.member_config.specs.Rule.{rule}
-use Rattle.repl_msg.specs.declared.message.Body.TheVariants as bodies
-use Rattle.repl_msg.specs.declared.message.FetchReply.{FetchReply}
 use Rattle.repl_msg.specs.declared.message.Message.{Message}
 use Rattle.set_model.specs.Changes.{in_new_term}
 use Rattle.set_model.specs.declared.command.Event.{Event}
 use Rattle.set_model.specs.Deliver.{brings_term, termed}
-use Rattle.set_model.specs.Limits.{IsRun}
 use Rattle.set_model.specs.Node.{Node}
 use Rattle.set_model.specs.Rollback.{common_point}
 use Rattle.set_model.specs.Run.{Sizes, AreSizes, run, world_at}
-use Rattle.set_model.specs.Safety.{AtMost, IsAt, RollbacksKeep}
+use Rattle.set_model.specs.Safety.{AtMost, RollbacksKeep}
 use Rattle.set_model.specs.World.{World}
-use Rattle.safety_laws.specs.Bounds.{NumbersStaySmall, IsSmallMessage, IsLawfulConfig, ConfigsAreLawful, config_carried}
+use Rattle.safety_laws.specs.Bounds.{NumbersStaySmall, IsLawfulConfig, ConfigsAreLawful, config_carried}
 use Rattle.safety_laws.specs.Replies.{RepliesFollow, RepliesFollowAt}
-use Rattle.safety_laws.specs.Taking.{CanTakeEntries, CanTake, MessagesCanBeTaken}
+use Rattle.safety_laws.specs.Taking.{MessagesCanBeTaken}
 
 rules_of : (nodes : ℕ) (carried : Option Config) → IfSome carried (IsLawfulConfig nodes) → IfSome carried (λ config. rule config ≡ None)
 rules_of nodes None lawful = tt
