@@ -1,5 +1,5 @@
 -- Each message that was sent can be taken by the node that it is for.
-use Rattle.std.proofs.Common.{◌≡◌, ◌≤◌, ◌<◌, arith, ap, sym, subst, refl, length, ℕ, Bool, true, false, ◌&&◌, nat_lt, if◌then◌else◌, Option, None, Some, List}
+use Rattle.std.proofs.Common.{◌≡◌, ◌≤◌, ◌<◌, ◌^◌, arith, ap, sym, subst, refl, length, ℕ, Bool, true, false, ◌&&◌, nat_lt, if◌then◌else◌, Option, None, Some, List}
 use Rattle.std.proofs.Math.Seq.{take-length}
 use Rattle.std.specs.Prelude.{IfSome, Contains}
 use Rattle.member_config.specs.declared.config.Config.{Config}
@@ -13,13 +13,17 @@ use Rattle.set_model.specs.Rollback.{common_point}
 use Rattle.set_model.specs.Run.{Sizes, AreSizes, run, world_at}
 use Rattle.set_model.specs.Safety.{AtMost, RollbacksKeep}
 use Rattle.set_model.specs.World.{World}
-use Rattle.safety_laws.specs.Bounds.{NumbersStaySmall, IsLawfulConfig, ConfigsAreLawful, config_carried}
+use Rattle.safety_laws.specs.Bounds.{NumbersStaySmall, IsLawfulConfig, ConfigsAreLawful, config_carried, term_asked}
 use Rattle.safety_laws.specs.Replies.{RepliesFollow, RepliesFollowAt}
 use Rattle.safety_laws.specs.Taking.{MessagesCanBeTaken}
 
 rules_of : (nodes : ℕ) (carried : Option Config) → IfSome carried (IsLawfulConfig nodes) → IfSome carried (λ config. rule config ≡ None)
 rules_of nodes None lawful = tt
 rules_of nodes (Some config) lawful = lawful.rules
+
+asked_early : (events : ℕ) → events ≤ 4294967295 → (asked : Option ℕ) → IfSome asked (λ term. term ≤ events) → IfSome asked (λ term. term < 2 ^ 63)
+asked_early events short None within = tt
+asked_early events short (Some term) within = omega (arith, short, within)
 
 -- a term that is taken leaves the log as it was
 same_log : (node : Node) (message : Message) → (termed node message).log ≡ node.log
@@ -36,6 +40,8 @@ can_be_taken sizes events are numbers configs replies rollbacks message node sho
       let less : message.from < sizes.nodes = (numbers.messages (length events) message sent_there).sender in
       let most : sizes.nodes ≤ 7 = are.most in
       omega (arith, less, most);
+  term = let within : message.term ≤ length events = (numbers.messages (length events) message sent_there).term in omega (arith, within, short);
+  asked = asked_early (length events) short (term_asked message.body) (numbers.messages (length events) message sent_there).asked;
   config = rules_of sizes.nodes (config_carried message.body) (configs.messages (length events) message sent_there);
   fetched = λ fetched body.
       let follow : RepliesFollowAt sizes events message fetched = replies message fetched short sent body in

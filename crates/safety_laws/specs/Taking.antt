@@ -1,6 +1,6 @@
 -- What a node may be handed: of each message that it takes this holds (MongoDB's replication architecture guide; RaftMongo;
 -- MongoRaftReconfig).
-use Rattle.std.specs.Prelude.{◌≡◌, ◌<◌, ◌≤◌, ℕ, ◌++◌, List, length, None, IfSome, take, All, Contains}
+use Rattle.std.specs.Prelude.{◌≡◌, ◌<◌, ◌≤◌, ◌^◌, ℕ, ◌++◌, List, length, None, IfSome, take, All, Contains}
 use Rattle.rs_optime.specs.declared.optime.OpTime.{OpTime}
 use Rattle.oplog_store.specs.Log.{IsOplog}
 use Rattle.member_config.specs.Rule.{rule}
@@ -15,7 +15,7 @@ use Rattle.set_model.specs.Points.{last_point}
 use Rattle.set_model.specs.Rollback.{common_point, rollback_reason}
 use Rattle.set_model.specs.Run.{Sizes, run}
 use Rattle.set_model.specs.Safety.{IsAt, AtMost}
-use Rattle.safety_laws.specs.Bounds.{config_carried}
+use Rattle.safety_laws.specs.Bounds.{config_carried, term_asked}
 use Rattle.safety_laws.specs.Replies.{IsWithinEntry}
 
 -- entries that a node may write behind its log, where that ends at their base
@@ -28,6 +28,8 @@ pub record CanTakeEntries (node : Node) (term : ℕ) (fetched : FetchReply) : Ty
 
 pub record CanTake (node : Node) (message : Message) : Type 0 where
   pub sender : message.from < 50
+  pub term : message.term < 2 ^ 63
+  pub asked : IfSome (term_asked message.body) (λ asked. asked < 2 ^ 63)
   pub config : IfSome (config_carried message.body) (λ config. rule config ≡ None)
   pub fetched : (reply : FetchReply) → message.body ≡ bodies.FetchReply reply → CanTakeEntries node message.term reply
   -- a rollback goes behind no commit point
