@@ -137,6 +137,29 @@ outcome_fine nodes events world number node outcome there fine has = record {
       omega (arith, long, old, more);
 }
 
+-- what an event sends
+step_sends : (nodes events : ℕ) (world : World) (event : Event) → Fits world event → IsFineWorld nodes events world → length (step world event).world.messages ≤ length world.messages + 7
+step_sends nodes events world event fits fine = at_node (slice_get world.nodes number) refl
+  where
+    number : ℕ
+    number = touched_node world event.command
+
+    by : Node → Option Plan
+    by node = plan_of world event (task world event.command) node
+
+    at_plan : (node : Node) → slice_get world.nodes number ≡ Some node → (plan : Option Plan) → by node ≡ plan → length (by_plan world event plan).world.messages ≤ length world.messages + 7
+    at_plan node there None is = omega arith
+    at_plan node there (Some plan) is =
+        let few : length (done plan event.failed).sent ≤ 7 =
+        (fine_done (limits nodes (suc events) number) plan event.failed
+        (plan_fine nodes events world event fits fine (task world event.command) (task_sent world event.command) number node there plan is)).few in
+        let long : length (world.messages ++ (done plan event.failed).sent) ≡ length world.messages + length (done plan event.failed).sent = length-append world.messages (done plan event.failed).sent in
+        omega (arith, few, long)
+
+    at_node : (found : Option Node) → slice_get world.nodes number ≡ found → length (by_plan world event (option_and_then by found)).world.messages ≤ length world.messages + 7
+    at_node None there = omega arith
+    at_node (Some node) there = at_plan node there (by node) refl
+
 step_fine : (nodes events : ℕ) (world : World) (event : Event) → Fits world event → IsFineWorld nodes events world → IsFineWorld nodes (suc events) (step world event).world
 step_fine nodes events world event fits fine = at_node (slice_get world.nodes number) refl
   where
@@ -171,6 +194,15 @@ fine_from nodes start [] bound (suc place) fit fine =
 fine_from nodes start (event ∷ events) bound (suc place) fit fine =
     subst (λ b. IsFineWorld nodes b (world_after (after start event) events place)) (let same : suc bound + place ≡ bound + suc place = omega arith in same)
     (fine_from nodes (after start event) events (suc bound) place fit.1 (step_fine nodes bound start.world event fit.0 fine))
+
+-- each event sends at most seven messages
+sends_from : (nodes : ℕ) (start : Run) (events : List Event) (bound place : ℕ) → AllFit start.world events → IsFineWorld nodes bound start.world
+    → length (world_after start events (suc place)).messages ≤ length (world_after start events place).messages + 7
+sends_from nodes start [] bound zero fit fine = omega arith
+sends_from nodes start [] bound (suc place) fit fine = omega arith
+sends_from nodes start (event ∷ events) bound zero fit fine = step_sends nodes bound start.world event fit.0 fine
+sends_from nodes start (event ∷ events) bound (suc place) fit fine =
+    sends_from nodes (after start event) events (suc bound) place fit.1 (step_fine nodes bound start.world event fit.0 fine)
 
 -- the first members are nodes of the set
 first_known : (first count nodes : ℕ) → first + count ≤ nodes → filter (λ number. not (nat_lt number nodes)) (map (λ m. m.number) (members_from first count)) ≡ []
@@ -297,6 +329,7 @@ module _ (sizes : Sizes) (events : List Event) (are : AreSizes sizes) (is : IsRu
     nodes = small_node;
     messages = small_message;
     sent = λ place. (fine_world place).few;
+    each = λ place. sends_from sizes.nodes (opening sizes) events 0 place is (opening_world_fine sizes are);
   }
 
   pub configs_lawful : ConfigsAreLawful sizes events

@@ -1,5 +1,5 @@
 -- How large the numbers of a run get, which grow with its events, and that no node meets a configuration that breaks a rule.
-use Rattle.std.specs.Prelude.{◌≡◌, ◌<◌, ◌≤◌, ◌+◌, ◌*◌, ℕ, List, [], length, Option, None, Some, IfSome, All, Contains, slice_get}
+use Rattle.std.specs.Prelude.{◌≡◌, ◌<◌, ◌≤◌, ◌+◌, ◌*◌, ℕ, suc, List, [], length, Option, None, Some, IfSome, All, Contains, slice_get}
 use Rattle.oplog_entry.specs.declared.entry.Entry.{Entry}
 use Rattle.member_config.specs.declared.config.Config.{Config}
 use Rattle.member_config.specs.Rule.{rule}
@@ -104,6 +104,7 @@ pub record NumbersStaySmall (sizes : Sizes) (events : List Event) : Type 0 where
       (place : ℕ) (message : Message) → Contains (world_at sizes events place).messages message
       → IsSmallMessage sizes.nodes place message
   pub sent : (place : ℕ) → length (world_at sizes events place).messages ≤ 7 * place
+  pub each : (place : ℕ) → length (world_at sizes events (suc place)).messages ≤ length (world_at sizes events place).messages + 7
 
 -- ---- configurations
 
