@@ -68,8 +68,8 @@ impl<D: Disk> Journal<D> {
         }
     }
 
-    /// Adds a record: at most 2,000 entries, each within the bounds of an entry, or at most 50 members. After `Ok` every
-    /// crash leaves it.
+    /// Adds a record: a vote for anyone but 4,294,967,295, a configuration of at most 50 members, at most 2,000 entries, each
+    /// within the bounds of an entry, or a cut. After `Ok` every crash leaves it.
     ///
     /// # Errors
     /// `Memory` leaves the journal as it was. After `Disk` it has failed, and only `close` is left.
