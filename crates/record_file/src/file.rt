@@ -61,6 +61,14 @@ impl<D: Disk> RecordFile<D> {
         }
     }
 
+    /// The length of the file in bytes.
+    pub fn len(&self) -> u64
+        ensures length { result ≡ length (contents (D.state self.now.0).file) }
+        ensures bound { result < 2 ^ 63 }
+    {
+        self.disk.len()
+    }
+
     /// Adds a record. After `Ok` every crash leaves it.
     ///
     /// # Errors
