@@ -13,13 +13,16 @@ use Rattle.record_file.specs.declared.error.FileError.TheVariants.{Memory}
 use Rattle.record_file.proofs.ParseLemmas.{one_list}
 use Rattle.rs_optime.specs.declared.optime.OpTime.{OpTime}
 use Rattle.oplog_entry.specs.Docs.{Documents}
+use Rattle.version_store.specs.Store.{Store}
 use Rattle.checkpoint_store.specs.Checkpoint.{last_whole, checkpoint_of, checkpoint}
 use Rattle.checkpoint_store.specs.Files.{HasList, HasCheckpoint, RestsWith, IsAtRest, IsOpen, IsOneOf, IsCheckpointDisk, IsBeforeOrAfter, IsFront, Adds}
 use Rattle.checkpoint_store.specs.Layout.{Record, Saved, record_bytes}
+use Rattle.checkpoint_store.specs.Shown.{Shows}
 use Rattle.checkpoint_store.specs.Spelled.{IsRecord}
 use Rattle.checkpoint_store.specs.declared.stable.Stable.{Stable}
 use Rattle.checkpoint_store.proofs.CheckpointLemmas.{front_keeps, checkpoint_counts}
 use Rattle.checkpoint_store.proofs.FileLemmas.{rest_leaves}
+use Rattle.checkpoint_store.proofs.LoopLemmas.{on_ok}
 use Rattle.checkpoint_store.proofs.OnceLemmas.{rest_has}
 
 pub disk_is : (state : State) → IsCheckpointDisk state → files.IsRecordDisk state
@@ -85,50 +88,61 @@ at_rest_open state stable rest = record { records = rest.records; rests = rest.r
 pub before_all : (state : State) (before after : Stable) → IsAtRest state before → EachMoment (IsBeforeOrAfter before after) state state
 before_all state before after rest = starts (IsBeforeOrAfter before after) state (λ image left. inl (rest_has state before rest image left))
 
-module _ {X : Type 0} (result : Result X FileError) (old new : State) where
-  -- with other words for the same documents
-  pub of_map : (at : OpTime) (list : List Saved) (documents : Documents) → list ≡ entries documents → Adds result (checkpoint_of at list) old new
-      → Adds result (checkpoint (record { at = at; documents = documents })) old new
-  of_map at list documents same adds = subst (λ (l : List Saved). Adds result (checkpoint_of at l) old new) same adds
+either_is : (next before : Stable) {old : State} (rest : IsAtRest old before) (image : List ℕ) → IsFront rest.records (checkpoint next) image → IsBeforeOrAfter before next image
+either_is next before rest image (front, [], is, list) = inr (record {
+  records = rest.records ++ front;
+  list = list;
+  last = ap (λ (l : List Record). last_whole (rest.records ++ l)) (sym (is ∙ append-nil front)) ∙ checkpoint_counts rest.records next;
+})
+either_is next before rest image (front, r ∷ others, is, list) = inl (record {
+  records = rest.records ++ front;
+  list = list;
+  last = front_keeps rest.records next.at (entries next.documents) front (r ∷ others) is (λ none. cc) ∙ rest.last;
+})
 
-  pub saved : (next : Stable) → Adds result (checkpoint next) old new → OnOk result ((stable : Stable) → IsAtRest old stable → IsAtRest new next)
-  saved next adds = go result adds.ok
-    where
-      go : (r : Result X FileError) → OnOk r ((records : List Record) → RestsWith old records → RestsWith new (records ++ checkpoint next))
-          → OnOk r ((stable : Stable) → IsAtRest old stable → IsAtRest new next)
-      go (Ok x) done = λ stable rest. record {
-        records = rest.records ++ checkpoint next;
-        rests = done rest.records rest.rests;
-        last = checkpoint_counts rest.records next;
-      }
-      go (Err e) done = tt
+module _ {X : Type 0} (result : Result X FileError) (old new : State) (store : Store) (at : OpTime) (list : List Saved)
+    (same : (documents : Documents) → Shows store at documents → list ≡ entries documents) (adds : Adds result (checkpoint_of at list) old new) where
+  rests_as : (records : List Record) (documents : Documents) → Shows store at documents → RestsWith new (records ++ checkpoint_of at list)
+      → RestsWith new (records ++ checkpoint (record { at = at; documents = documents }))
+  rests_as records documents shows rest = subst (λ (l : List Saved). RestsWith new (records ++ checkpoint_of at l)) (same documents shows) rest
+
+  -- all of the records were added
+  pub saved_records : OnOk result ((documents : Documents) → Shows store at documents → (records : List Record) → RestsWith old records
+      → RestsWith new (records ++ checkpoint (record { at = at; documents = documents })))
+  saved_records = on_ok result (λ done documents shows records rest. rests_as records documents shows (done records rest)) adds.ok
+
+  pub saved : OnOk result ((documents : Documents) → Shows store at documents → (stable : Stable) → IsAtRest old stable → IsAtRest new (record { at = at; documents = documents }))
+  saved = on_ok result (λ done documents shows stable rest. record {
+    records = rest.records ++ checkpoint (record { at = at; documents = documents });
+    rests = rests_as rest.records documents shows (done rest.records rest.rests);
+    last = checkpoint_counts rest.records (record { at = at; documents = documents });
+  }) adds.ok
+
+  pub saved_open : IsOpen old → OnOk result (IsOpen new)
+  saved_open is = on_ok result (λ done. record { records = is.records ++ checkpoint_of at list; rests = done is.records is.rests }) adds.ok
 
   -- memory was wanting
-  pub kept : (at : OpTime) (list : List Saved) → Adds result (checkpoint_of at list) old new → result ≡ Err Memory → (stable : Stable) → IsAtRest old stable → IsAtRest new stable
-  kept at list adds is stable rest =
+  pub kept : result ≡ Err Memory → (stable : Stable) → IsAtRest old stable → IsAtRest new stable
+  kept is stable rest =
       let short = adds.memory is rest.records rest.rests in record {
         records = rest.records ++ short.0;
         rests = short.4;
         last = front_keeps rest.records at list short.0 short.1 short.2 short.3 ∙ rest.last;
       }
 
-  pub adds_left : (added : List Record) → IsOpen old → Adds result added old new → IsCheckpointDisk new
-  adds_left added is adds = record {
-    leaves = λ image left. let front = (adds.moments is.records is.rests).now image left in list_has image (is.records ++ front.0) front.3;
+  pub kept_open : IsOpen old → result ≡ Err Memory → IsOpen new
+  kept_open open_before is =
+      let short = adds.memory is open_before.records open_before.rests in record { records = open_before.records ++ short.0; rests = short.4 }
+
+  pub adds_left : IsOpen old → IsCheckpointDisk new
+  adds_left open_before = record {
+    leaves = λ image left.
+        let front = (adds.moments open_before.records open_before.rests).now image left in list_has image (open_before.records ++ front.0) front.3;
   }
 
-  pub saves : (next before : Stable) → IsAtRest old before → Adds result (checkpoint next) old new → EachMoment (IsBeforeOrAfter before next) old new
-  saves next before rest adds =
-      weakens (IsFront rest.records (checkpoint next)) (IsBeforeOrAfter before next) either old new (adds.moments rest.records rest.rests)
-    where
-      either : (image : List ℕ) → IsFront rest.records (checkpoint next) image → IsBeforeOrAfter before next image
-      either image (front, [], is, list) = inr (record {
-        records = rest.records ++ front;
-        list = list;
-        last = ap (λ (l : List Record). last_whole (rest.records ++ l)) (sym (is ∙ append-nil front)) ∙ checkpoint_counts rest.records next;
-      })
-      either image (front, r ∷ others, is, list) = inl (record {
-        records = rest.records ++ front;
-        list = list;
-        last = front_keeps rest.records next.at (entries next.documents) front (r ∷ others) is (λ none. cc) ∙ rest.last;
-      })
+  pub saves : (documents : Documents) → Shows store at documents → (before : Stable) → IsAtRest old before
+      → EachMoment (IsBeforeOrAfter before (record { at = at; documents = documents })) old new
+  saves documents shows before rest =
+      let next : Stable = record { at = at; documents = documents } in
+      weakens (IsFront rest.records (checkpoint next)) (IsBeforeOrAfter before next) (either_is next before rest) old new
+      (subst (λ (l : List Saved). EachMoment (IsFront rest.records (checkpoint_of at l)) old new) (same documents shows) (adds.moments rest.records rest.rests))

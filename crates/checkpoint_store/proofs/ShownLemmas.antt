@@ -35,9 +35,9 @@ module _ (sh : Place → Option Fields) where
   at_place place = (place, unwrap_or (sh place) no_fields)
 
   not_later : (p : Place) (places : List Place) (q : Place) → eq_by_cmp place_cmp q p ≡ false → ¬ Contains places q → ¬ Contains (p ∷ places) q
-  not_later p places q apart no (zero, within, is) =
+  not_later p places q apart absent (zero, within, is) =
       absurd (cc (ap (λ (x : Place). eq_by_cmp place_cmp q x) is ∙ ap is_eq (tied_itself place_cmp-total q), apart))
-  not_later p places q apart no (suc k, within, is) = no (k, omega arith, is)
+  not_later p places q apart absent (suc k, within, is) = absent (k, omega arith, is)
 
   found : (places : List Place) → All (λ p. IsSome (sh p)) places → (q : Place)
       → (find place_cmp q (map at_place places) ≡ sh q) ⊎ ((find place_cmp q (map at_place places) ≡ None) × (¬ Contains places q))
@@ -51,20 +51,20 @@ module _ (sh : Place → Option Fields) where
       here true tie rest =
           inl (some_is (sh p) (each zero p (omega arith)) ∙ ap sh (sym (place_cmp-antisymmetric q p ((Equal-is _).0 tie))))
       here false apart (inl is) = inl is
-      here false apart (inr (none, no)) = inr (none, not_later p places q apart no)
+      here false apart (inr (none, absent)) = inr (none, not_later p places q apart absent)
 
   find_is : (places : List Place) → All (λ p. IsSome (sh p)) places → ((q : Place) → IsSome (sh q) → Contains places q) → (q : Place)
       → find place_cmp q (map at_place places) ≡ sh q
   find_is places each has q = go (found places each q)
     where
       none_is : (o : Option Fields) → (IsSome o → ⊥) → None ≡ o
-      none_is None no = refl
-      none_is (Some x) no = absurd (no refl)
+      none_is None absent = refl
+      none_is (Some x) absent = absurd (absent refl)
 
       go : (find place_cmp q (map at_place places) ≡ sh q) ⊎ ((find place_cmp q (map at_place places) ≡ None) × (¬ Contains places q))
           → find place_cmp q (map at_place places) ≡ sh q
       go (inl is) = is
-      go (inr (none, no)) = none ∙ none_is (sh q) (λ some. no (has q some))
+      go (inr (none, absent)) = none ∙ none_is (sh q) (λ some. absent (has q some))
 
   below : (p : Place) (places : List Place) → AllByRecursion (λ y. place_cmp p y ≡ Less) places → T (below_all place_cmp p (map at_place places))
   below p [] all = tt

@@ -35,10 +35,33 @@ add_documents-requires-clause-open g c =
     (one c.append.result _ _ item _ (spelled_as item _ _ c.deref.ensures.value c.in_ok-lay_begin.ensures) c.append.ensures.ok c.append.ensures.memory c.append.ensures.any_moment)
 
 pub returns-in_err-add_documents-clause-adds : goal.returns-in_err-add_documents-clause-adds
-returns-in_err-add_documents-clause-adds g c = ?
+returns-in_err-add_documents-clause-adds g c =
+    let item = begins c.args.at in
+    let parts = pieces (map (saved_at c.args.store.now c.args.at) c.args.places.now) in
+    let fault : c.from_residual-in_err-add_documents.result ≡ Err c.in_err-add_documents.field-0.0 = search rules in
+    fails _ c.add_documents.result c.in_err-add_documents.field-0.0 parts _ (ends ∷ []) _ _ _ fault c.in_err-add_documents.was
+    (goes c.append.result c.in_ok-append.field-0 (item ∷ []) _ (parts ++ ends ∷ []) _ _ _ c.in_ok-append.was (starts _ _)
+    (one c.append.result _ _ item _ (spelled_as item _ _ c.deref.ensures.value c.in_ok-lay_begin.ensures) c.append.ensures.ok c.append.ensures.memory c.append.ensures.any_moment))
+    c.add_documents.ensures.adds
 
 pub returns-in_err-lay_end-clause-adds : goal.returns-in_err-lay_end-clause-adds
-returns-in_err-lay_end-clause-adds g c = ?
+returns-in_err-lay_end-clause-adds g c =
+    let item = begins c.args.at in
+    let parts = pieces (map (saved_at c.args.store.now c.args.at) c.args.places.now) in
+    let fault : c.from_residual-in_err-lay_end.result ≡ Err Memory = search rules in
+    wants _ Memory ends _ [] _ _ fault
+    (goes c.add_documents.result c.in_ok-add_documents.field-0 parts _ (ends ∷ []) _ _ _ c.in_ok-add_documents.was
+    (goes c.append.result c.in_ok-append.field-0 (item ∷ []) _ (parts ++ ends ∷ []) _ _ _ c.in_ok-append.was (starts _ _)
+    (one c.append.result _ _ item _ (spelled_as item _ _ c.deref.ensures.value c.in_ok-lay_begin.ensures) c.append.ensures.ok c.append.ensures.memory c.append.ensures.any_moment))
+    c.add_documents.ensures.adds)
 
 pub returns-clause-adds : goal.returns-clause-adds
-returns-clause-adds g c = ?
+returns-clause-adds g c =
+    let item = begins c.args.at in
+    let parts = pieces (map (saved_at c.args.store.now c.args.at) c.args.places.now) in
+    last c.append-2.result _ (ends ∷ []) _ _ _
+    (goes c.add_documents.result c.in_ok-add_documents.field-0 parts _ (ends ∷ []) _ _ _ c.in_ok-add_documents.was
+    (goes c.append.result c.in_ok-append.field-0 (item ∷ []) _ (parts ++ ends ∷ []) _ _ _ c.in_ok-append.was (starts _ _)
+    (one c.append.result _ _ item _ (spelled_as item _ _ c.deref.ensures.value c.in_ok-lay_begin.ensures) c.append.ensures.ok c.append.ensures.memory c.append.ensures.any_moment))
+    c.add_documents.ensures.adds)
+    (one c.append-2.result _ _ ends _ (spelled_as ends _ _ c.deref-2.ensures.value c.in_ok-lay_end.ensures) c.append-2.ensures.ok c.append-2.ensures.memory c.append-2.ensures.any_moment)
