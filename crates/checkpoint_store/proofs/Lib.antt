@@ -3,9 +3,9 @@ mod PartLemmas
 mod TurnLemmas
 mod LoopLemmas
 mod SizeLemmas
-pub mod FileLemmas
-pub mod CheckpointLemmas
+mod FileLemmas
+mod CheckpointLemmas
 pub mod OnceLemmas
-pub mod ShownLemmas
+mod ShownLemmas
 mod SavingLemmas
-pub mod DiskLemmas
+mod DiskLemmas
