@@ -56,10 +56,6 @@ pub opened_left : (old new : State) → IsCheckpointDisk old → EachMoment (fil
 opened_left old new is moments =
     record { leaves = λ image left. let one = one_of old is image (moments.now image left) in (one.0, one.1) }
 
--- the calls of an opening that wanted memory behind them
-pub opened_calls : {T U : Type 0} (opened : T) (old new : State) → files.OpensBy {T = T} (Ok opened) old new → files.OpensBy {T = U} (Err Memory) old new
-opened_calls opened old new (steps, are, made) = (steps, are, (steps, [], sym (append-nil steps), made))
-
 -- the records that were read are those of the file
 pub found_records : (state : State) (pieces : List (List ℕ)) → IsCheckpointDisk state → HasRecords (contents state.file) pieces
     → (records : List Record) × All IsRecord records × (pieces ≡ map record_bytes records)

@@ -1,12 +1,11 @@
 -- Some of the records that are to be added, and those that are left.
 use Rattle.std.proofs.Common.{◌≡◌, inl, inr, ℕ, ◌+◌, ◌-◌, ◌/◌, ◌<◌, ◌≤◌, List, [], ◌∷◌, ◌++◌, length, take, drop, map, suc, refl, sym, ap, subst, ◌∙◌, arith, append_assoc, append-nil, length-drop}
-use Rattle.std.specs.Prelude.{◌≢◌, min, IsErrOf, Result, Ok, Err}
+use Rattle.std.specs.Prelude.{◌≢◌, min, Result, Ok, Err}
 use Rattle.std.specs.Simd.{first_chunks}
 use Rattle.std.proofs.lemmas.Bool.{cases_lt}
-use Rattle.std.proofs.lemmas.List.{take-map, drop-map, length-map, take_all, take_min, drop_all}
+use Rattle.std.proofs.lemmas.List.{take-map, drop-map, take_min, drop_all}
 use Rattle.rs_disk.specs.State.{State, Keeps}
 use Rattle.record_file.specs.declared.error.FileError.{FileError}
-use Rattle.record_file.specs.declared.error.FileError.TheVariants.{Disk}
 use Rattle.bson_doc.specs.Place.{Place}
 use Rattle.checkpoint_store.specs.Checkpoint.{pieces}
 use Rattle.checkpoint_store.specs.Files.{Adds}
@@ -81,9 +80,8 @@ keeps_then old mid new first second = record {
   room = omega (arith, first.room, second.room);
 }
 
--- after an `Ok` there was no fault
-pub keeps_ok : {X : Type 0} (result : Result X FileError) (x : X) (old new : State) → result ≡ Ok x → Keeps (IsErrOf result Disk) old new → Keeps ⊥ old new
-keeps_ok result x old new is keeps = record {
+pub keeps_not : {Fault : Type 0} (old new : State) → ¬ Fault → Keeps Fault old new → Keeps ⊥ old new
+keeps_not old new _ keeps = record {
   faults = keeps.faults;
   cause = λ none. absurd none;
   only_armed = λ none. absurd none;
@@ -103,37 +101,32 @@ first_piece documents some =
     ap (λ (k : ℕ). map holds (first_chunks PIECE k documents))
     (one_fewer (length documents) some ∙ ap (λ (n : ℕ). suc ((n + 999) / 1000)) (sym (length-drop PIECE documents)))
 
--- as a slice is cut in two
-pub take_at_most : {A : Type 0} (n : ℕ) (items : List A) → take (min (length items) n) items ≡ take n items
-take_at_most n items =
-    let same : min (length items) n ≡ min n (length items) = omega arith in
-    ap (λ (k : ℕ). take k items) same ∙ take_min n items
-
-drop_at_most : {A : Type 0} (n : ℕ) (items : List A) → drop (min (length items) n) items ≡ drop n items
-drop_at_most n items = elim (cases_lt n (length items)) [
-  | inl less ↦ (let is : min (length items) n ≡ n = omega arith in ap (λ (k : ℕ). drop k items) is)
-  | inr more ↦ drop_all (min (length items) n) items (omega arith) ∙ sym (drop_all n items (omega arith))
+drop_min : (n : ℕ) (places : List Place) → drop (min n (length places)) places ≡ drop n places
+drop_min n places = elim (cases_lt n (length places)) [
+  | inl less ↦ (let is : min n (length places) ≡ n = omega arith in ap (λ (k : ℕ). drop k places) is)
+  | inr more ↦ drop_all (min n (length places)) places (omega arith) ∙ sym (drop_all n places (omega arith))
 ]
 
-pub behind_piece : {A : Type 0} (size : ℕ) (items : List A) → size ≡ min (length items) 1000 → take (length items - size) (drop size items) ≡ drop 1000 items
-behind_piece size items is =
-    take_all (length items - size) (drop size items) (omega (arith, length-drop size items)) ∙ ap (λ (k : ℕ). drop k items) is ∙ drop_at_most 1000 items
-
-pub ruleset piece_lemmas = (take_at_most, behind_piece)
-
 -- the first piece of the documents at some places, and the others
-pub with_next : (f : Place → Saved) (rest piece behind : List Place) (whole : List Record) (old now : State) → piece ≡ take PIECE rest → behind ≡ drop PIECE rest
-    → 0 < length rest → AddedSoFar whole (pieces (map f rest)) old now → AddedSoFar whole (holds (map f piece) ∷ pieces (map f behind)) old now
-with_next f rest piece behind whole old now front back some so_far =
-    subst (λ (l : List Record). AddedSoFar whole l old now)
-    (first_piece (map f rest) (omega (arith, some, length-map rest f))
-    ∙ (λ i. holds (here i) ∷ pieces (there i))) so_far
+pub next_piece : (f : Place → Saved) (rest piece behind : List Place) (n : ℕ) → n ≡ min (length rest) PIECE → piece ≡ take n rest → behind ≡ drop n rest → 0 < length rest
+    → pieces (map f rest) ≡ holds (map f piece) ∷ pieces (map f behind)
+next_piece f rest piece behind n is front back some =
+    let least : n ≡ min PIECE (length rest) = omega (arith, is) in
+    let here : take PIECE (map f rest) ≡ map f piece =
+    take-map f PIECE rest ∙ ap (map f) (sym (front ∙ ap (λ (k : ℕ). take k rest) least ∙ take_min PIECE rest)) in
+    let there : drop PIECE (map f rest) ≡ map f behind =
+    drop-map f PIECE rest ∙ ap (map f) (sym (back ∙ ap (λ (k : ℕ). drop k rest) least ∙ drop_min PIECE rest)) in
+    first_piece (map f rest) (omega (arith, some, long f rest))
+    ∙ (λ i. holds (here i) ∷ pieces (there i))
   where
-    here : take PIECE (map f rest) ≡ map f piece
-    here = take-map f PIECE rest ∙ ap (map f) (sym front)
+    long : (f : Place → Saved) (places : List Place) → length (map f places) ≡ length places
+    long f [] = refl
+    long f (p ∷ places) = ap suc (long f places)
 
-    there : drop PIECE (map f rest) ≡ map f behind
-    there = drop-map f PIECE rest ∙ ap (map f) (sym back)
+pub with_next : (f : Place → Saved) (rest piece behind : List Place) (n : ℕ) (whole : List Record) (old now : State) → n ≡ min (length rest) PIECE → piece ≡ take n rest
+    → behind ≡ drop n rest → 0 < length rest → AddedSoFar whole (pieces (map f rest)) old now → AddedSoFar whole (holds (map f piece) ∷ pieces (map f behind)) old now
+with_next f rest piece behind n whole old now is front back some so_far =
+    subst (λ (l : List Record). AddedSoFar whole l old now) (next_piece f rest piece behind n is front back some) so_far
 
 pub none_left : (f : Place → Saved) (rest : List Place) (whole : List Record) (old now : State) → length rest ≡ 0 → AddedSoFar whole (pieces (map f rest)) old now
     → Adds {X = Unit {0}} (Ok tt) whole old now

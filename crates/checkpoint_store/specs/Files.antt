@@ -7,7 +7,7 @@ use Rattle.rs_disk.specs.State.{State}
 use Rattle.record_file.specs.Files.{IsAtRest as FileIsAtRest}
 use Rattle.record_file.specs.Records.{HasRecords}
 use Rattle.record_file.specs.declared.error.FileError.{FileError}
-use Rattle.record_file.specs.declared.error.FileError.TheVariants.{Memory}
+use Rattle.record_file.specs.declared.error.FileError.TheVariants.{Disk, Memory}
 use Rattle.checkpoint_store.specs.Layout.{Record, record_bytes}
 use Rattle.checkpoint_store.specs.Spelled.{IsRecord}
 use Rattle.checkpoint_store.specs.Checkpoint.{last_whole}
@@ -90,7 +90,7 @@ abbrev pub disk_after : {D A : Type 0} → Result (D × A) (D × FileError) → 
 disk_after (Ok opened) = opened.0
 disk_after (Err refused) = refused.0
 
--- what an opening answers, but for the disk that it hands back
-abbrev pub answer_of : {D A : Type 0} → Result (D × A) (D × FileError) → Result (D × A) FileError
-answer_of (Ok opened) = Ok opened
-answer_of (Err refused) = Err refused.1
+-- the opening was refused for a fault of the disk
+abbrev pub IsDiskFault : {D A : Type 0} → Result (D × A) (D × FileError) → Type 0
+IsDiskFault (Ok opened) = ⊥
+IsDiskFault (Err refused) = refused.1 ≡ Disk

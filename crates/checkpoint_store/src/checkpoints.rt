@@ -2,10 +2,9 @@ ghost use Rattle.std.specs.Prelude.{◌≡◌, List, ◌++◌, Err, IfErr, IfOk,
 ghost use Rattle.rs_disk.specs.File.{contents};
 ghost use Rattle.rs_disk.specs.Moments.{EachMoment};
 ghost use Rattle.rs_disk.specs.State.{Keeps, IsArmed};
-ghost use Rattle.record_file.specs.Files.{OpensBy};
 ghost use Rattle.oplog_entry.specs.Docs.{Documents};
 ghost use Rattle.checkpoint_store.specs.Checkpoint.{checkpoint};
-ghost use Rattle.checkpoint_store.specs.Files.{HasCheckpoint, IsAtRest, IsBeforeOrAfter, IsCheckpointDisk, IsOneOf, IsOpen, RestsWith, answer_of, disk_after};
+ghost use Rattle.checkpoint_store.specs.Files.{HasCheckpoint, IsAtRest, IsBeforeOrAfter, IsCheckpointDisk, IsDiskFault, IsOneOf, IsOpen, RestsWith, disk_after};
 ghost use Rattle.checkpoint_store.specs.Layout.{Record as ARecord};
 ghost use Rattle.checkpoint_store.specs.Shown.{AllCanBeSaved, Shows};
 ghost use Rattle.checkpoint_store.specs.declared.stable.Stable.{Stable as AStable};
@@ -46,11 +45,10 @@ impl<D: Disk> Checkpoints<D> {
         ensures at_rest { IfOk result (λ opened. IsAtRest (D.state opened.0) opened.1) }
         ensures open { IfOk result (λ opened. IsOpen (D.state opened.0)) }
         ensures handed_back { IfErr result (λ refused. IsCheckpointDisk (D.state refused.0)) }
-        ensures calls { OpensBy (answer_of result) (D.state disk) (D.state (disk_after result)) }
 
         // A crash at any moment leaves a checkpoint that a crash before the call might have left.
         ensures any_moment { EachMoment (IsOneOf (D.state disk)) (D.state disk) (D.state (disk_after result)) }
-        ensures keeps { Keeps (IsErrOf (answer_of result) FileError.Disk) (D.state disk) (D.state (disk_after result)) }
+        ensures keeps { Keeps (IsDiskFault result) (D.state disk) (D.state (disk_after result)) }
     {
         let (file, pieces) = match RecordFile::open(alloc, disk) {
             Ok(opened) => opened,

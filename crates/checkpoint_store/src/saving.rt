@@ -1,5 +1,5 @@
 // The records of a checkpoint, added one behind the other. Only the last of them makes it count.
-ghost use Rattle.std.specs.Prelude.{◌≡◌, ◌<◌, ◌≤◌, All, IsSome, IsErrOf, OnOk, drop, length, map, take};
+ghost use Rattle.std.specs.Prelude.{◌≡◌, All, IsSome, IsErrOf, OnOk, map};
 ghost use Rattle.rs_disk.specs.State.{Keeps};
 ghost use Rattle.version_store.specs.Store.{shown_at};
 ghost use Rattle.checkpoint_store.specs.Checkpoint.{checkpoint_of, pieces};
@@ -53,22 +53,10 @@ fn add_documents<D: Disk>(
 {
     let mut rest = places;
     while !rest.is_empty() {
-        let (piece, behind) = first_piece(rest);
+        let (piece, behind) = rest.split_at(rest.len().min(PIECE));
         lay_documents(buffer, store, at, piece)?;
         file.append(buffer)?;
         rest = behind;
     }
     Ok(())
-}
-
-// The places of the next piece, and those behind it.
-#[tactic(auto, using(crate::proofs::SavingLemmas::piece_lemmas))]
-fn first_piece(places: &[(Text, IdKey)]) -> (&[(Text, IdKey)], &[(Text, IdKey)])
-    ensures piece { result.0.now ≡ take 1000 places.now }
-    ensures behind { result.1.now ≡ drop 1000 places.now }
-    ensures few { length result.0.now ≤ 1000 }
-    ensures fewer { 0 < length places.now → length result.1.now < length places.now }
-{
-    let size = places.len().min(PIECE);
-    (&places[..size], &places[size..])
 }

@@ -1,6 +1,6 @@
 use Rattle.std.proofs.Common.{[], ◌∙◌, ap}
 use Rattle.record_file.specs.Records.{lists}
-use Rattle.checkpoint_store.proofs.DiskLemmas.{disk_is, found_records, opened_calls, opened_left, opens, reads_so, rests_so, at_rest_open}
+use Rattle.checkpoint_store.proofs.DiskLemmas.{disk_is, found_records, opened_left, opens, reads_so, rests_so, at_rest_open}
 use Rattle.checkpoint_store.proofs.checkpoints.Checkpoints.open.Goals as goal
 
 pub open-requires : goal.open-requires
@@ -44,6 +44,3 @@ returns-clause-handed_back g c = rw c.close.ensures.disk (opened_left _ _ c.requ
 
 pub returns-clause-any_moment : goal.returns-clause-any_moment
 returns-clause-any_moment g c = rw c.close.ensures.disk (opens _ _ c.requires c.in-Ok.ensures.any_moment)
-
-pub returns-clause-calls : goal.returns-clause-calls
-returns-clause-calls g c = rw c.close.ensures.disk (opened_calls _ _ _ c.in-Ok.ensures.calls)
