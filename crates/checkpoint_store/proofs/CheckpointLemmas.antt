@@ -1,8 +1,8 @@
 -- What the records of a checkpoint come to, whole or broken off.
-use Rattle.std.proofs.Common.{◌≡◌, ℕ, ◌+◌, ◌*◌, ◌/◌, ◌≤◌, Bool, true, false, cond, List, [], ◌∷◌, ◌++◌, length, take, drop, map, suc, zero, Option, None, Some, refl, sym, ap, subst, ◌∙◌, arith, append-nil, append_assoc, take-append-drop, length-drop}
-use Rattle.std.specs.Prelude.{◌≢◌, fold, unwrap_or, ◌&&◌, T}
+use Rattle.std.proofs.Common.{◌≡◌, ℕ, ◌+◌, ◌*◌, ◌/◌, ◌≤◌, Bool, true, false, cond, List, [], ◌∷◌, ◌++◌, length, take, drop, map, suc, zero, Option, None, Some, refl, sym, ap, ◌∙◌, arith, take-append-drop, length-drop}
+use Rattle.std.specs.Prelude.{◌≢◌, fold, ◌&&◌, T}
 use Rattle.std.specs.Simd.{first_chunks}
-use Rattle.std.specs.FinMap.{FinMap, empty, insert, get, entries, entries_sorted, find, is_sorted, get-insert, get-empty, get-entries, same_map}
+use Rattle.std.specs.FinMap.{empty, insert, get, entries, entries_sorted, find, is_sorted, get-insert, get-empty, get-entries, same_map}
 use Rattle.std.specs.FinMap.Entries.{below_all}
 use Rattle.std.specs.Ordering.{eq_by_cmp, is_eq, is_lt}
 use Rattle.std.specs.declared.cmp.Ordering.{Ordering}
@@ -16,7 +16,7 @@ use Rattle.bson_doc.proofs.KeyLemmas.{place_cmp-total, place_cmp-antisymmetric}
 use Rattle.oplog_entry.specs.Docs.{Documents}
 use Rattle.checkpoint_store.specs.Layout.{Saved, Record, begins, holds, ends}
 use Rattle.checkpoint_store.specs.Spelled.{PIECE}
-use Rattle.checkpoint_store.specs.Checkpoint.{SoFar, nothing_yet, with_record, with_documents, with_more, last_whole, pieces, checkpoint_of, checkpoint}
+use Rattle.checkpoint_store.specs.Checkpoint.{SoFar, nothing_yet, with_record, with_documents, last_whole, checkpoint_of, checkpoint}
 use Rattle.checkpoint_store.specs.declared.stable.Stable.{Stable}
 
 -- ---- the front of a checkpoint leaves the last whole one as it was
@@ -94,7 +94,7 @@ whole_counts records at documents =
     ap (λ (s : SoFar). s.whole) (fold-append with_record nothing_yet records (checkpoint_of at documents))
     ∙ begun_with (last_whole records) (record { at = at; documents = empty }) (first_chunks PIECE ((length documents + 999) / PIECE) documents)
     ∙ ap (λ (l : List Saved). record { at = at; documents = with_documents empty l })
-      (chunks_join PIECE ((length documents + 999) / PIECE) documents (enough (length documents)))
+    (chunks_join PIECE ((length documents + 999) / PIECE) documents (enough (length documents)))
 
 -- ---- the documents of a map, put in one after another, make the map
 

@@ -1,8 +1,8 @@
 -- A checkpoint store's disk is a record file's, and what a crash leaves of the one it leaves of the other.
 use Rattle.std.proofs.Common.{◌≡◌, inl, inr, ℕ, List, [], ◌∷◌, ◌++◌, map, refl, sym, ap, subst, ◌∙◌, append-nil}
-use Rattle.std.specs.Prelude.{◌≢◌, All, Result, Ok, Err, OnOk}
+use Rattle.std.specs.Prelude.{All, Result, Err, OnOk}
 use Rattle.std.specs.FinMap.{entries}
-use Rattle.rs_disk.specs.File.{LeavesOnly, contents}
+use Rattle.rs_disk.specs.File.{contents}
 use Rattle.rs_disk.specs.Images.{read_is_image}
 use Rattle.rs_disk.specs.Moments.{EachMoment, starts, weakens}
 use Rattle.rs_disk.specs.State.{State}

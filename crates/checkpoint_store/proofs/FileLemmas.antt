@@ -2,7 +2,7 @@
 use Rattle.std.proofs.Common.{◌≡◌, inl, inr, ℕ, List, [], ◌∷◌, ◌++◌, map, suc, zero, refl, sym, ap, subst, ◌∙◌, arith, append-nil, append_assoc}
 use Rattle.std.specs.Prelude.{◌≢◌, All, Result, Ok, Err, OnOk}
 use Rattle.std.proofs.lemmas.List.{map-append}
-use Rattle.rs_disk.specs.File.{File, IsImage, LeavesOnly, settled}
+use Rattle.rs_disk.specs.File.{File, IsImage, LeavesOnly}
 use Rattle.rs_disk.specs.Images.{only_image}
 use Rattle.rs_disk.specs.Moments.{EachMoment, joins, starts, weakens}
 use Rattle.rs_disk.specs.State.{State, SameButRoom}
@@ -78,10 +78,15 @@ stops error added state some = record {
 front_of_one : (records : List Record) (item : Record) (piece : List ℕ) → All IsRecord records → IsSpelled item piece
     → (image : List ℕ) → files.IsBeforeOrAfter (map record_bytes records) piece image → IsFront records (item ∷ []) image
 front_of_one records item piece each here image (inl before) = front_of_none records (item ∷ []) image (record { each = each; has = before })
-front_of_one records item piece each here image (inr after) = (item ∷ [], [], refl, record {
-  each = all_push records item each here.lawful;
-  has = subst (λ (l : List (List ℕ)). HasRecords image l) (pieces_push records item piece here.spelled) after;
-})
+front_of_one records item piece each here image (inr after) = (
+  item ∷ [],
+  [],
+  refl,
+  record {
+    each = all_push records item each here.lawful;
+    has = subst (λ (l : List (List ℕ)). HasRecords image l) (pieces_push records item piece here.spelled) after;
+  },
+)
 
 rests_still : (old new : State) (records : List Record) → SameButRoom old new → RestsWith old records → RestsWith new records
 rests_still old new records same rest = record {

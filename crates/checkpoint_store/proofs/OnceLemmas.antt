@@ -1,5 +1,5 @@
 -- Bytes are those of one record at most, and a file has one last whole checkpoint.
-use Rattle.std.proofs.Common.{◌≡◌, ℕ, ◌^◌, ◌<◌, ◌≤◌, List, [], ◌∷◌, ◌++◌, length, take, drop, map, suc, zero, Some, refl, sym, ap, subst, ◌∙◌, arith, append_assoc}
+use Rattle.std.proofs.Common.{◌≡◌, ℕ, ◌^◌, ◌<◌, List, [], ◌∷◌, ◌++◌, length, take, drop, map, suc, zero, Some, refl, sym, ap, ◌∙◌, arith}
 use Rattle.std.specs.Prelude.{All, slice_index}
 use Rattle.std.specs.List.{flat_map}
 use Rattle.std.proofs.lemmas.List.{take_at, drop_at}
@@ -8,7 +8,6 @@ use Rattle.rs_disk.specs.Images.{read_is_image}
 use Rattle.rs_disk.specs.State.{State}
 use Rattle.record_file.proofs.ParseLemmas.{one_list}
 use Rattle.rs_optime.specs.declared.optime.OpTime.{OpTime}
-use Rattle.bson_doc.specs.Tree.{Fields}
 use Rattle.bson_doc.specs.declared.key.IdKey.{IdKey}
 use Rattle.bson_codec.specs.Numbers.{number_bytes, number_in}
 use Rattle.oplog_entry.specs.Step.{id_key}
@@ -22,7 +21,7 @@ use Rattle.checkpoint_store.specs.Layout.{Saved, Record, begins, holds, ends, op
 use Rattle.checkpoint_store.specs.Spelled.{IsOptime, IsSaved, AreSaved, IsRecord}
 use Rattle.checkpoint_store.specs.declared.stable.Stable.{Stable}
 use Rattle.checkpoint_store.proofs.FileLemmas.{rest_leaves}
-use Rattle.checkpoint_store.proofs.PartLemmas.{optime_parts, sized_parts, saved_parts, name_short, document_short, spelled_here}
+use Rattle.checkpoint_store.proofs.PartLemmas.{sized_parts, saved_parts, name_short, document_short, spelled_here}
 
 number_once : (n x y : ℕ) (more others : List ℕ) → x < 256 ^ n → y < 256 ^ n → number_bytes n x ++ more ≡ number_bytes n y ++ others → (x ≡ y) × (more ≡ others)
 number_once n x y more others small short is = (

@@ -1,5 +1,5 @@
 -- What the records of a file come to: the last checkpoint that was ended.
-use Rattle.std.specs.Prelude.{ℕ, ◌+◌, ◌/◌, List, [], ◌∷◌, ◌++◌, length, map, fold, Option, None, Some, option_map, unwrap_or}
+use Rattle.std.specs.Prelude.{◌+◌, ◌/◌, List, [], ◌∷◌, ◌++◌, length, map, fold, Option, None, Some, option_map, unwrap_or}
 use Rattle.std.specs.FinMap.{empty, insert, entries}
 use Rattle.std.specs.Simd.{first_chunks}
 use Rattle.rs_optime.specs.declared.optime.OpTime.{OpTime}

@@ -1,5 +1,5 @@
 -- A disk with checkpoints, between two calls of a checkpoint store and within them.
-use Rattle.std.specs.Prelude.{◌≡◌, ◌≢◌, ◌⊎◌, ℕ, List, [], ◌∷◌, ◌++◌, map, length, All, Result, Ok, Err, OnOk}
+use Rattle.std.specs.Prelude.{◌≡◌, ◌≢◌, ◌⊎◌, ℕ, List, [], ◌++◌, map, length, All, Result, Ok, Err, OnOk}
 use Rattle.std.proofs.Common.{inl, refl, ap, arith}
 use Rattle.rs_disk.specs.File.{IsEmpty, IsImage, LeavesOnly}
 use Rattle.rs_disk.specs.Moments.{EachMoment}

@@ -1,5 +1,5 @@
 -- The documents of a store that a checkpoint saves.
-use Rattle.std.specs.Prelude.{◌≡◌, ◌≤◌, List, map, length, Some, unwrap_or}
+use Rattle.std.specs.Prelude.{◌≡◌, ◌≤◌, length, Some, unwrap_or}
 use Rattle.std.specs.FinMap.{get}
 use Rattle.rs_optime.specs.declared.optime.OpTime.{OpTime}
 use Rattle.bson_doc.specs.Length.{document_length, document_levels}

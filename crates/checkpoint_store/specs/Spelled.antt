@@ -6,7 +6,7 @@ use Rattle.rs_optime.specs.declared.optime.OpTime.{OpTime}
 use Rattle.bson_doc.specs.Sound.{IsSound}
 use Rattle.bson_codec.specs.Spelling.{IsSpelling, document_bytes}
 use Rattle.oplog_entry.specs.Step.{id_key}
-use Rattle.checkpoint_store.specs.Layout.{Saved, Record, begins, holds, ends, saved_bytes, record_bytes}
+use Rattle.checkpoint_store.specs.Layout.{Saved, Record, begins, holds, ends, record_bytes}
 
 -- how many bytes a collection's name may have, and how many documents one record
 abbrev pub NAME : ℕ

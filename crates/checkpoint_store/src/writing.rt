@@ -57,7 +57,12 @@ fn put_shown(out: &mut Vec<u8>, store: &VersionStore, at: OpTime, place: &(Text,
     put_saved(out, place, document)
 }
 
-fn put_each(out: &mut Vec<u8>, store: &VersionStore, at: OpTime, places: &[(Text, IdKey)]) -> Mem<()>
+fn put_each(
+    out: &mut Vec<u8>,
+    store: &VersionStore,
+    at: OpTime,
+    places: &[(Text, IdKey)],
+) -> Mem<()>
     requires can { AllCanBeSaved store.now at }
     requires shown { All (λ place. IsSome (shown_at store.now place at)) places.now }
     ensures laid { OnOk result (out.new.items ≡ out.old.items ++ flat_map (λ place. saved_bytes (saved_at store.now at place)) places.now) }
@@ -79,7 +84,12 @@ pub(crate) fn lay_begin(out: &mut Vec<u8>, at: OpTime) -> Mem<()>
 }
 
 /// Lays out the record of some documents that a store shows.
-pub(crate) fn lay_documents(out: &mut Vec<u8>, store: &VersionStore, at: OpTime, places: &[(Text, IdKey)]) -> Mem<()>
+pub(crate) fn lay_documents(
+    out: &mut Vec<u8>,
+    store: &VersionStore,
+    at: OpTime,
+    places: &[(Text, IdKey)],
+) -> Mem<()>
     requires can { AllCanBeSaved store.now at }
     requires shown { All (λ place. IsSome (shown_at store.now place at)) places.now }
     requires few { length places.now ≤ PIECE }

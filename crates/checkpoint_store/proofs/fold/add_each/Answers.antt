@@ -21,7 +21,7 @@ loop-preserved c =
       read ++ saved ∷ [],
       goes_on IsSaved saved_bytes _ c.loop.counter _ _ _ saved _ c.loop.invariant.1 (omega arith) c.in_ok-place.ensures,
       c.in_ok-insert.ensures ∙ ap (λ (m : Documents). insert m saved.0 saved.1) c.loop.invariant.2
-      ∙ sym (fold-append (λ (so_far : Documents) (one : Saved). insert so_far one.0 one.1) c.args.documents.now read (saved ∷ [])),
+          ∙ sym (fold-append (λ (so_far : Documents) (one : Saved). insert so_far one.0 one.1) c.args.documents.now read (saved ∷ [])),
     )
 
 pub returns : goal.returns

@@ -1,9 +1,7 @@
-use Rattle.std.proofs.Common.{◌≡◌, ◌∙◌, ◌+◌, ℕ, length, take, ap, arith}
+use Rattle.std.proofs.Common.{◌≡◌, ◌∙◌, ℕ, length, take, ap, arith}
 use Rattle.std.specs.Prelude.{Vec}
 use Rattle.std.specs.declared.alloc.Global.{Global}
-use Rattle.checkpoint_store.specs.Layout.{Record}
 use Rattle.checkpoint_store.specs.Checkpoint.{SoFar, with_record}
-use Rattle.checkpoint_store.specs.Folded.{so_far}
 use Rattle.checkpoint_store.proofs.LoopLemmas.{record_at, spelled_as, come_to, one_record_more, all_taken}
 use Rattle.checkpoint_store.proofs.fold.stable_of.Goals as goal
 

@@ -1,4 +1,4 @@
-use Rattle.std.proofs.Common.{[], ◌∙◌, sym, append-nil}
+use Rattle.std.proofs.Common.{◌∙◌, sym, append-nil}
 use Rattle.checkpoint_store.proofs.NumberLemmas.{long, number_read, rest_read}
 use Rattle.checkpoint_store.proofs.reading.optime_of.Goals as goal
 

@@ -1,7 +1,7 @@
-use Rattle.std.proofs.Common.{◌≡◌, [], ◌∷◌, ◌++◌, List, map, length, ap, arith, rules, Err}
+use Rattle.std.proofs.Common.{◌≡◌, [], ◌∷◌, ◌++◌, map, length, ap, arith, rules, Err}
 use Rattle.record_file.specs.declared.error.FileError.TheVariants.{Memory}
 use Rattle.checkpoint_store.specs.Checkpoint.{pieces}
-use Rattle.checkpoint_store.specs.Layout.{Record, begins, ends}
+use Rattle.checkpoint_store.specs.Layout.{begins, ends}
 use Rattle.checkpoint_store.specs.Shown.{saved_at}
 use Rattle.checkpoint_store.proofs.FileLemmas.{one, opened}
 use Rattle.checkpoint_store.proofs.LoopLemmas.{spelled_as}

@@ -11,6 +11,6 @@ pub returns : goal.returns
 returns c =
     let front : c.put_u32.new.out.items ≡ 2 ∷ number_bytes 4 (length c.args.places.now) = search rules in
     on_ok_both c.put_each.result
-    (λ laid fits. spelled_documents (saved_at c.args.store.now c.args.at) c.args.places.now c.put_each.new.out.items c.requires.few fits 
+    (λ laid fits. spelled_documents (saved_at c.args.store.now c.args.at) c.args.places.now c.put_each.new.out.items c.requires.few fits
     (laid ∙ ap (λ (l : List ℕ). l ++ flat_map (λ (place : Place). saved_bytes (saved_at c.args.store.now c.args.at place)) c.args.places.now) front))
     c.put_each.ensures.laid c.put_each.ensures.fits

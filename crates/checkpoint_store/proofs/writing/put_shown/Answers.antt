@@ -1,4 +1,4 @@
-use Rattle.std.proofs.Common.{◌≡◌, ◌++◌, ◌∙◌, Some, Option, List, ℕ, ap, subst, sym}
+use Rattle.std.proofs.Common.{◌≡◌, ◌++◌, ◌∙◌, Option, List, ℕ, ap, subst, sym}
 use Rattle.std.specs.Prelude.{OnOk, unwrap_or}
 use Rattle.bson_doc.specs.Tree.{Fields, no_fields}
 use Rattle.version_store.specs.Store.{shown_at}
