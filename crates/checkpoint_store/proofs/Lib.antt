@@ -1,0 +1,11 @@
+mod NumberLemmas
+mod PartLemmas
+mod TurnLemmas
+mod LoopLemmas
+mod SizeLemmas
+mod FileLemmas
+mod CheckpointLemmas
+pub mod OnceLemmas
+mod ShownLemmas
+mod SavingLemmas
+mod DiskLemmas

@@ -1,0 +1,96 @@
+-- A disk with checkpoints, between two calls of a checkpoint store and within them.
+use Rattle.std.specs.Prelude.{◌≡◌, ◌≢◌, ◌⊎◌, ℕ, List, [], ◌++◌, map, length, All, Result, Ok, Err, OnOk}
+use Rattle.std.proofs.Common.{inl, refl, ap, arith}
+use Rattle.rs_disk.specs.File.{IsEmpty, IsImage, LeavesOnly}
+use Rattle.rs_disk.specs.Moments.{EachMoment}
+use Rattle.rs_disk.specs.State.{State}
+use Rattle.record_file.specs.Files.{IsAtRest as FileIsAtRest}
+use Rattle.record_file.specs.Records.{HasRecords}
+use Rattle.record_file.specs.declared.error.FileError.{FileError}
+use Rattle.record_file.specs.declared.error.FileError.TheVariants.{Disk, Memory}
+use Rattle.checkpoint_store.specs.Layout.{Record, record_bytes}
+use Rattle.checkpoint_store.specs.Spelled.{IsRecord}
+use Rattle.checkpoint_store.specs.Checkpoint.{last_whole}
+use Rattle.checkpoint_store.specs.declared.stable.Stable.{Stable}
+
+-- the file's records are the bytes of these
+pub record HasList (bytes : List ℕ) (records : List Record) : Type 0 where
+  pub each : All IsRecord records
+  pub has : HasRecords bytes (map record_bytes records)
+
+-- this is the last whole checkpoint of the file's records
+pub record HasCheckpoint (bytes : List ℕ) (stable : Stable) : Type 0 where
+  pub records : List Record
+  pub list : HasList bytes records
+  pub last : last_whole records ≡ stable
+
+-- the file is these records and nothing else, all of it synced, so that every crash leaves them
+pub record RestsWith (state : State) (records : List Record) : Type 0 where
+  pub each : All IsRecord records
+  pub rests : FileIsAtRest state (map record_bytes records)
+
+-- All of the file is synced, and this is its last whole checkpoint. The front of one that was not ended may stand behind it.
+pub record IsAtRest (state : State) (stable : Stable) : Type 0 where
+  pub records : List Record
+  pub rests : RestsWith state records
+  pub last : last_whole records ≡ stable
+
+-- a checkpoint store that has not failed
+pub record IsOpen (state : State) : Type 0 where
+  pub records : List Record
+  pub rests : RestsWith state records
+
+-- a crash may leave this as the last whole checkpoint
+abbrev pub MayHave : State → Stable → Type 0
+MayHave state stable = (image : List ℕ) × IsImage state.file image × HasCheckpoint image stable
+
+-- the bytes have a last whole checkpoint, and it is one that the disk might have had
+abbrev pub IsOneOf : State → List ℕ → Type 0
+IsOneOf state image = (stable : Stable) × HasCheckpoint image stable × MayHave state stable
+
+-- a disk that is empty or that a checkpoint store left: whatever a crash leaves of it has checkpoints
+pub record IsCheckpointDisk (state : State) : Type 0 where
+  pub leaves : LeavesOnly (λ image. (stable : Stable) × HasCheckpoint image stable) state.file
+
+-- an empty disk is one
+pub empty_disk : (state : State) → IsEmpty state.file → IsCheckpointDisk state
+empty_disk state empty = record {
+  leaves = λ image is. (
+    last_whole [],
+    record {
+      records = [];
+      list = record { each = λ k d within. absurd (omega arith); has = inl (omega (arith, ap length (empty.leaves image is)), refl) };
+      last = refl;
+    },
+  );
+}
+
+-- the last whole checkpoint from before a new one was saved, or the new one
+abbrev pub IsBeforeOrAfter : Stable → Stable → List ℕ → Type 0
+IsBeforeOrAfter before after image = HasCheckpoint image before ⊎ HasCheckpoint image after
+
+-- the records, and behind them the first of those that are added
+abbrev pub IsFront : List Record → List Record → List ℕ → Type 0
+IsFront records added image =
+    (front : List Record) × (rest : List Record) × (added ≡ front ++ rest) × HasList image (records ++ front)
+
+-- the file has come to rest with some of the records that are added, and others are missing
+abbrev pub RestsShort : List Record → List Record → State → Type 0
+RestsShort records added state =
+    (front : List Record) × (rest : List Record) × (added ≡ front ++ rest) × (rest ≢ []) × RestsWith state (records ++ front)
+
+-- Records are added one behind the other, all of them where there is no error.
+pub record Adds {X : Type 0} (result : Result X FileError) (added : List Record) (old new : State) : Type 0 where
+  pub ok : OnOk result ((records : List Record) → RestsWith old records → RestsWith new (records ++ added))
+  pub memory : result ≡ Err Memory → (records : List Record) → RestsWith old records → RestsShort records added new
+  pub moments : (records : List Record) → RestsWith old records → EachMoment (IsFront records added) old new
+
+-- the disk after an opening
+abbrev pub disk_after : {D A : Type 0} → Result (D × A) (D × FileError) → D
+disk_after (Ok opened) = opened.0
+disk_after (Err refused) = refused.0
+
+-- the opening was refused for a fault of the disk
+abbrev pub IsDiskFault : {D A : Type 0} → Result (D × A) (D × FileError) → Type 0
+IsDiskFault (Ok opened) = ⊥
+IsDiskFault (Err refused) = refused.1 ≡ Disk

@@ -1,0 +1,7 @@
+pub mod Code
+pub mod Layout
+pub mod Spelled
+pub mod Checkpoint
+pub mod Shown
+pub mod Folded
+pub mod Files

@@ -1,0 +1,34 @@
+-- The documents of a store that a checkpoint saves.
+use Rattle.std.specs.Prelude.{◌≡◌, ◌≤◌, length, Some, unwrap_or}
+use Rattle.std.specs.FinMap.{get}
+use Rattle.rs_optime.specs.declared.optime.OpTime.{OpTime}
+use Rattle.bson_doc.specs.Length.{document_length, document_levels}
+use Rattle.bson_doc.specs.Place.{Place}
+use Rattle.bson_doc.specs.Tree.{Fields, no_fields}
+use Rattle.oplog_entry.specs.Docs.{Documents}
+use Rattle.oplog_entry.specs.Step.{id_key}
+use Rattle.version_store.specs.Store.{Store, shown_at}
+use Rattle.checkpoint_store.specs.Layout.{Saved}
+use Rattle.checkpoint_store.specs.Spelled.{NAME}
+
+-- these are the documents that reads of the store as of an optime show
+abbrev pub Shows : Store → OpTime → Documents → Type 0
+Shows store at documents = (place : Place) → get documents place ≡ shown_at store place at
+
+-- at most 262,144 bytes and 100 levels, at its own key, and a collection's name of at most 1,048,576 bytes
+pub record CanBeSaved (place : Place) (document : Fields) : Type 0 where
+  pub short : length place.0 ≤ NAME
+  pub key : id_key document ≡ Some place.1
+  pub bytes : document_length document ≤ 262144
+  pub levels : document_levels document ≤ 100
+
+-- and such is each that a read as of an optime shows
+abbrev pub AllCanBeSaved : Store → OpTime → Type 0
+AllCanBeSaved store at = (place : Place) (document : Fields) → shown_at store place at ≡ Some document → CanBeSaved place document
+
+-- what is shown at a place that shows something
+abbrev pub document_at : Store → OpTime → Place → Fields
+document_at store at place = unwrap_or (shown_at store place at) no_fields
+
+abbrev pub saved_at : Store → OpTime → Place → Saved
+saved_at store at place = (place, document_at store at place)

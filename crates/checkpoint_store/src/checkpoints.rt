@@ -1,0 +1,117 @@
+ghost use Rattle.std.specs.Prelude.{◌≡◌, List, ◌++◌, Err, IfErr, IfOk, OnOk, IsErrOf};
+ghost use Rattle.rs_disk.specs.File.{contents};
+ghost use Rattle.rs_disk.specs.Moments.{EachMoment};
+ghost use Rattle.rs_disk.specs.State.{Keeps, IsArmed};
+ghost use Rattle.oplog_entry.specs.Docs.{Documents};
+ghost use Rattle.checkpoint_store.specs.Checkpoint.{checkpoint};
+ghost use Rattle.checkpoint_store.specs.Files.{HasCheckpoint, IsAtRest, IsBeforeOrAfter, IsCheckpointDisk, IsDiskFault, IsOneOf, IsOpen, RestsWith, disk_after};
+ghost use Rattle.checkpoint_store.specs.Layout.{Record as ARecord};
+ghost use Rattle.checkpoint_store.specs.Shown.{AllCanBeSaved, Shows};
+ghost use Rattle.checkpoint_store.specs.declared.stable.Stable.{Stable as AStable};
+
+use crate::Stable;
+use crate::fold::stable_of;
+use crate::saving::add_checkpoint;
+use record_file::{FileError, RecordFile};
+use rs_disk::Disk;
+use rs_optime::OpTime;
+use std::alloc::Global;
+use std::marker::Model;
+use version_store::VersionStore;
+
+/// The checkpoints of a node on one disk. Contracts see it as its disk.
+#[derive(Drop)]
+pub struct Checkpoints<D: Disk> {
+    file: RecordFile<D>,
+    buffer: Vec<u8>,
+}
+
+impl<D: Disk> Model for Checkpoints<D> {
+    ghost Value = { D };
+
+    ghost view = { λ checkpoints. checkpoints.file.0 };
+}
+
+impl<D: Disk> Checkpoints<D> {
+    /// Reads the last whole checkpoint of a disk: none as of `OpTime::ZERO` where there is no checkpoint. The disk is
+    /// empty, or a checkpoint store left it.
+    ///
+    /// # Errors
+    /// `Disk` where the disk failed. Either error hands the disk back, and an opening may be tried again on it.
+    pub fn open(alloc: Global, disk: D) -> Result<(Checkpoints<D>, Stable), (D, FileError)>
+        requires { IsCheckpointDisk (D.state disk) }
+
+        ensures stable { IfOk result (λ opened. HasCheckpoint (contents (D.state disk).file) opened.1) }
+        ensures at_rest { IfOk result (λ opened. IsAtRest (D.state opened.0) opened.1) }
+        ensures open { IfOk result (λ opened. IsOpen (D.state opened.0)) }
+        ensures handed_back { IfErr result (λ refused. IsCheckpointDisk (D.state refused.0)) }
+
+        // A crash at any moment leaves a checkpoint that a crash before the call might have left.
+        ensures any_moment { EachMoment (IsOneOf (D.state disk)) (D.state disk) (D.state (disk_after result)) }
+        ensures keeps { Keeps (IsDiskFault result) (D.state disk) (D.state (disk_after result)) }
+    {
+        let (file, pieces) = match RecordFile::open(alloc, disk) {
+            Ok(opened) => opened,
+            Err(refused) => return Err(refused),
+        };
+        match stable_of(alloc, &pieces) {
+            Ok(stable) => {
+                let buffer = Vec::new(alloc);
+                Ok((Checkpoints { file, buffer }, stable))
+            }
+            Err(_) => Err((file.close(), FileError::Memory)),
+        }
+    }
+
+    /// Saves the documents that a store shows as of an optime. After `Ok` every crash leaves them.
+    ///
+    /// # Errors
+    /// `Memory` leaves the last whole checkpoint as it was; the front of the new one may stand behind it. After `Disk` the
+    /// store has failed, and only `close` is left.
+    pub fn save(&mut self, at: OpTime, store: &VersionStore) -> Result<(), FileError>
+        requires open { IsOpen (D.state self.old) }
+        requires can { AllCanBeSaved store.now at }
+
+        ensures ok { OnOk result ((documents : Documents) → Shows store.now at documents
+            → (stable : AStable) → IsAtRest (D.state self.old) stable
+            → IsAtRest (D.state self.new) (record { at = at; documents = documents })) }
+        ensures records { OnOk result ((documents : Documents) → Shows store.now at documents
+            → (records : List ARecord) → RestsWith (D.state self.old) records
+            → RestsWith (D.state self.new) (records ++ checkpoint (record { at = at; documents = documents }))) }
+        ensures shows { OnOk result ((documents : Documents) × Shows store.now at documents) }
+        ensures memory { result ≡ Err FileError.Memory → (stable : AStable) → IsAtRest (D.state self.old) stable
+            → IsAtRest (D.state self.new) stable }
+        ensures open { OnOk result (IsOpen (D.state self.new)) }
+        ensures still_open { result ≡ Err FileError.Memory → IsOpen (D.state self.new) }
+        ensures left { IsCheckpointDisk (D.state self.new) }
+
+        // A crash at any moment of the call leaves the last whole checkpoint from before it, or the new one.
+        ensures any_moment { (documents : Documents) → Shows store.now at documents
+            → (stable : AStable) → IsAtRest (D.state self.old) stable
+            → EachMoment (IsBeforeOrAfter stable (record { at = at; documents = documents })) (D.state self.old) (D.state self.new) }
+        ensures keeps { Keeps (IsErrOf result FileError.Disk) (D.state self.old) (D.state self.new) }
+    {
+        let places = store.keys_at(at)?;
+        add_checkpoint(&mut self.file, &mut self.buffer, store, at, &places)
+    }
+
+    /// Asks the disk to fail at its `call`-th call from now on, with a power cut where there is a pick.
+    pub fn arm(&mut self, call: u32, pick: Option<u64>)
+        ensures disk { IsArmed call pick (D.state self.old) (D.state self.new) }
+        ensures open { IsOpen (D.state self.old) → IsOpen (D.state self.new) }
+    {
+        self.file.arm(call, pick);
+    }
+
+    /// Hands the disk back.
+    pub fn close(self) -> D
+        ensures disk { result ≡ self }
+        ensures left { IsOpen (D.state self) → IsCheckpointDisk (D.state result) }
+    {
+        let Checkpoints {
+            file,
+            buffer: _buffer,
+        } = self;
+        file.close()
+    }
+}

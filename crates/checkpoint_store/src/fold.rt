@@ -1,0 +1,130 @@
+// What the records of a file come to.
+ghost use Rattle.std.specs.Prelude.{◌≡◌, List, All, map, IfOk, OnOk};
+ghost use Rattle.std.specs.FinMap as maps;
+ghost use Rattle.rs_optime.specs.declared.optime.OpTime.{OpTime as AnOpTime};
+ghost use Rattle.record_file.specs.Records.{lists};
+ghost use Rattle.checkpoint_store.specs.Checkpoint.{last_whole, nothing_yet, with_documents, with_more, with_record};
+ghost use Rattle.checkpoint_store.specs.Layout.{Record as ARecord, Saved, documents_bytes, optime_bytes, record_bytes, saved_bytes};
+ghost use Rattle.checkpoint_store.specs.Spelled.{AreSaved, IsOptime, IsRecord, IsSaved, IsSpelled, StandInTurn};
+ghost use Rattle.checkpoint_store.specs.Folded.{so_far};
+
+use crate::numbers::u32_of;
+use crate::reading::{optime_of, saved_of};
+use crate::{DocumentMap, Stable};
+use rs_optime::{Mem, OpTime};
+use std::alloc::Global;
+
+// The last whole checkpoint of the records so far, and the one that was begun behind it.
+#[derive(Drop)]
+struct Fold {
+    whole: Stable,
+    begun: Option<Stable>,
+}
+
+impl Fold {
+    fn new(alloc: Global) -> Self
+        ensures { so_far result ≡ nothing_yet }
+    {
+        let whole = Stable {
+            at: OpTime::ZERO,
+            documents: DocumentMap::new(alloc),
+        };
+        Fold { whole, begun: None }
+    }
+
+    // With the record of these bytes.
+    fn with(self, alloc: Global, bytes: &[u8]) -> Mem<Fold>
+        requires { (item : ARecord) × IsSpelled item bytes.now }
+        ensures { IfOk result (λ fold. (item : ARecord) → IsSpelled item bytes.now
+            → so_far fold ≡ with_record (so_far self) item) }
+    {
+        let Fold { whole, begun } = self;
+        let rest = &bytes[1..];
+        match bytes[0] {
+            1 => Ok(Fold {
+                whole,
+                begun: Some(begin(alloc, rest)),
+            }),
+            2 => Ok(Fold {
+                whole,
+                begun: more(alloc, begun, rest)?,
+            }),
+            _ => Ok(Fold {
+                whole: begun.unwrap_or(whole),
+                begun: None,
+            }),
+        }
+    }
+
+    fn whole(self) -> Stable
+        ensures { result ≡ (so_far self).whole }
+    {
+        let Fold {
+            whole,
+            begun: _begun,
+        } = self;
+        whole
+    }
+}
+
+// The checkpoint that begins here.
+fn begin(alloc: Global, bytes: &[u8]) -> Stable
+    requires { (at : AnOpTime) × IsOptime at × (bytes.now ≡ optime_bytes at) }
+    ensures { (at : AnOpTime) → IsOptime at → bytes.now ≡ optime_bytes at
+        → result ≡ record { at = at; documents = maps.empty } }
+{
+    Stable {
+        at: optime_of(bytes),
+        documents: DocumentMap::new(alloc),
+    }
+}
+
+// A checkpoint that was begun, with the documents of these bytes.
+fn more(alloc: Global, begun: Option<Stable>, bytes: &[u8]) -> Mem<Option<Stable>>
+    requires { (documents : List Saved) × AreSaved documents × (bytes.now ≡ documents_bytes documents) }
+    ensures { IfOk result (λ after. (documents : List Saved) → AreSaved documents → bytes.now ≡ documents_bytes documents
+        → after ≡ with_more begun documents) }
+{
+    let Some(Stable { at, documents }) = begun else {
+        return Ok(None);
+    };
+    let mut documents = documents;
+    add_documents(alloc, &mut documents, bytes)?;
+    Ok(Some(Stable { at, documents }))
+}
+
+fn add_documents(alloc: Global, documents: &mut DocumentMap, bytes: &[u8]) -> Mem<()>
+    requires { (more : List Saved) × AreSaved more × (bytes.now ≡ documents_bytes more) }
+    ensures { OnOk result ((more : List Saved) → AreSaved more → bytes.now ≡ documents_bytes more
+        → documents.new ≡ with_documents documents.old more) }
+{
+    let (count, rest) = u32_of(bytes);
+    add_each(alloc, documents, count, rest)
+}
+
+fn add_each(alloc: Global, documents: &mut DocumentMap, count: u32, bytes: &[u8]) -> Mem<()>
+    requires { (more : List Saved) × StandInTurn IsSaved saved_bytes count more bytes.now }
+    ensures { OnOk result ((more : List Saved) → StandInTurn IsSaved saved_bytes count more bytes.now
+        → documents.new ≡ with_documents documents.old more) }
+{
+    let mut rest = bytes;
+    for _ in 0..count {
+        let ((place, document), behind) = saved_of(alloc, rest)?;
+        documents.insert(place, document)?;
+        rest = behind;
+    }
+    Ok(())
+}
+
+// The last whole checkpoint of the records of these bytes.
+pub(crate) fn stable_of(alloc: Global, pieces: &[Vec<u8>]) -> Mem<Stable>
+    requires { (records : List ARecord) × All IsRecord records × (lists pieces.now ≡ map record_bytes records) }
+    ensures { IfOk result (λ read. (records : List ARecord) → All IsRecord records
+        → lists pieces.now ≡ map record_bytes records → read ≡ last_whole records) }
+{
+    let mut fold = Fold::new(alloc);
+    for piece in pieces {
+        fold = fold.with(alloc, piece)?;
+    }
+    Ok(fold.whole())
+}

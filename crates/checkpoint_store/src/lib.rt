@@ -1,0 +1,14 @@
+//! The documents of a node at an optime, as records on one disk. A crash at any moment leaves the last checkpoint from
+//! before a new one was saved, or the new one.
+#![tactic(auto)]
+
+mod checkpoints;
+mod fold;
+mod numbers;
+mod reading;
+mod saving;
+mod stable;
+mod writing;
+
+pub use checkpoints::Checkpoints;
+pub use stable::{DocumentMap, Stable};

@@ -1,0 +1,68 @@
+// The documents as of an optime.
+ghost use Rattle.std.specs.Prelude.{◌≡◌, OnOk, OnErr};
+ghost use Rattle.std.specs.Option.{option_copied};
+ghost use Rattle.std.specs.FinMap as maps;
+ghost use Rattle.doc_fold.specs.Map.{documents_of};
+
+use bson_doc::{Doc, IdKey, Text};
+use rs_optime::{Mem, OpTime};
+use std::alloc::Global;
+use std::collections::BTreeMap;
+use std::marker::Model;
+
+/// Documents by collection and key, which contracts see as a finite map.
+#[derive(Drop)]
+pub struct DocumentMap {
+    documents: BTreeMap<(Text, IdKey), Doc>,
+}
+
+impl Model for DocumentMap {
+    ghost use Rattle.oplog_entry.specs.Docs.{Documents};
+    ghost use Rattle.doc_fold.specs.Map.{documents_of};
+    ghost use Rattle.checkpoint_store.specs.Code.{documents_code};
+
+    ghost Value = { Documents };
+
+    ghost coded = { documents_code };
+
+    ghost view = { λ m. documents_of m.documents.entries };
+}
+
+impl DocumentMap {
+    pub fn new(alloc: Global) -> Self
+        ensures { result ≡ maps.empty }
+    {
+        DocumentMap {
+            documents: BTreeMap::new(alloc),
+        }
+    }
+
+    pub fn get(&self, place: &(Text, IdKey)) -> Option<&Doc>
+        ensures { option_copied result ≡ maps.get self.now place.now }
+    {
+        self.documents.get(place)
+    }
+
+    /// The documents by their places, in order of collection and key.
+    pub fn into_map(self) -> BTreeMap<(Text, IdKey), Doc>
+        ensures { documents_of result.entries ≡ self }
+    {
+        let DocumentMap { documents } = self;
+        documents
+    }
+
+    /// Puts a document at a place, over the one that is there.
+    pub(crate) fn insert(&mut self, place: (Text, IdKey), document: Doc) -> Mem<()>
+        ensures { OnOk result (self.new ≡ maps.insert self.old place document) }
+    {
+        self.documents.insert(place, document)?;
+        Ok(())
+    }
+}
+
+/// The documents as of an optime. Without any checkpoint, none as of `OpTime::ZERO`.
+#[derive(Drop)]
+pub struct Stable {
+    pub at: OpTime,
+    pub documents: DocumentMap,
+}

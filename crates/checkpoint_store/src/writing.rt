@@ -1,0 +1,110 @@
+// Records as they are written.
+ghost use Rattle.std.specs.Prelude.{◌≡◌, ◌<◌, ◌≤◌, ◌^◌, ◌++◌, All, IsSome, OnOk, length, map};
+ghost use Rattle.std.specs.List.{flat_map};
+ghost use Rattle.version_store.specs.Store.{shown_at};
+ghost use Rattle.checkpoint_store.specs.Layout.{begins, ends, holds, optime_bytes, saved_bytes, sized};
+ghost use Rattle.checkpoint_store.specs.Shown.{AllCanBeSaved, CanBeSaved, saved_at};
+ghost use Rattle.checkpoint_store.specs.Spelled.{PIECE, IsOptime, IsSaved, IsSpelled};
+
+use crate::numbers::{put_u32, put_u64};
+use bson_codec::{DOCUMENT, EncodeError, encode};
+use bson_doc::{Doc, IdKey, Text};
+use rs_optime::{Mem, OpTime};
+use std::alloc::AllocError;
+use version_store::VersionStore;
+
+fn put_optime(out: &mut Vec<u8>, at: OpTime) -> Mem<()>
+    ensures laid { OnOk result (out.new.items ≡ out.old.items ++ optime_bytes at) }
+    ensures fits { IsOptime at }
+{
+    put_u64(out, at.term)?;
+    put_u64(out, at.ts)
+}
+
+fn put_sized(out: &mut Vec<u8>, bytes: &[u8]) -> Mem<()>
+    requires { length bytes.now < 2 ^ 32 }
+    ensures { OnOk result (out.new.items ≡ out.old.items ++ sized bytes.now) }
+{
+    put_u32(out, bytes.len() as u32)?;
+    out.extend_from_slice(bytes)
+}
+
+fn put_saved(out: &mut Vec<u8>, place: &(Text, IdKey), document: &Doc) -> Mem<()>
+    requires { CanBeSaved place.now document.now }
+    ensures laid { OnOk result (out.new.items ≡ out.old.items ++ saved_bytes (place.now, document.now)) }
+    ensures fits { OnOk result (IsSaved (place.now, document.now)) }
+{
+    let bytes = match encode(*out.allocator(), document, DOCUMENT) {
+        Ok(bytes) => bytes,
+        Err(EncodeError::Memory) => return Err(AllocError),
+        Err(EncodeError::TooDeep | EncodeError::TooLarge) => unreachable!(),
+    };
+    place.0.is_utf8();
+    put_sized(out, place.0.as_str().as_bytes())?;
+    put_sized(out, &bytes)
+}
+
+// The document that a store shows at a place.
+fn put_shown(out: &mut Vec<u8>, store: &VersionStore, at: OpTime, place: &(Text, IdKey)) -> Mem<()>
+    requires can { AllCanBeSaved store.now at }
+    requires shown { IsSome (shown_at store.now place.now at) }
+    ensures laid { OnOk result (out.new.items ≡ out.old.items ++ saved_bytes (saved_at store.now at place.now)) }
+    ensures fits { OnOk result (IsSaved (saved_at store.now at place.now)) }
+{
+    let Some(document) = store.read_at(place.0.as_str(), &place.1, at) else {
+        unreachable!();
+    };
+    put_saved(out, place, document)
+}
+
+fn put_each(
+    out: &mut Vec<u8>,
+    store: &VersionStore,
+    at: OpTime,
+    places: &[(Text, IdKey)],
+) -> Mem<()>
+    requires can { AllCanBeSaved store.now at }
+    requires shown { All (λ place. IsSome (shown_at store.now place at)) places.now }
+    ensures laid { OnOk result (out.new.items ≡ out.old.items ++ flat_map (λ place. saved_bytes (saved_at store.now at place)) places.now) }
+    ensures fits { OnOk result (All (λ place. IsSaved (saved_at store.now at place)) places.now) }
+{
+    for place in places {
+        put_shown(out, store, at, place)?;
+    }
+    Ok(())
+}
+
+/// Lays out the record that begins a checkpoint, in place of what is there.
+pub(crate) fn lay_begin(out: &mut Vec<u8>, at: OpTime) -> Mem<()>
+    ensures { OnOk result (IsSpelled (begins at) out.new.items) }
+{
+    out.clear();
+    out.push(1)?;
+    put_optime(out, at)
+}
+
+/// Lays out the record of some documents that a store shows.
+pub(crate) fn lay_documents(
+    out: &mut Vec<u8>,
+    store: &VersionStore,
+    at: OpTime,
+    places: &[(Text, IdKey)],
+) -> Mem<()>
+    requires can { AllCanBeSaved store.now at }
+    requires shown { All (λ place. IsSome (shown_at store.now place at)) places.now }
+    requires few { length places.now ≤ PIECE }
+    ensures { OnOk result (IsSpelled (holds (map (saved_at store.now at) places.now)) out.new.items) }
+{
+    out.clear();
+    out.push(2)?;
+    put_u32(out, places.len() as u32)?;
+    put_each(out, store, at, places)
+}
+
+/// Lays out the record that ends a checkpoint.
+pub(crate) fn lay_end(out: &mut Vec<u8>) -> Mem<()>
+    ensures { OnOk result (IsSpelled ends out.new.items) }
+{
+    out.clear();
+    Ok(out.push(3)?)
+}
