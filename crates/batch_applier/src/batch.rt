@@ -1,5 +1,7 @@
-ghost use Rattle.std.specs.Prelude.{◌≡◌, ◌<◌, ◌≤◌, ◌-◌, [], All, length, OnOk, OnErr};
+ghost use Rattle.std.specs.Prelude.{◌≡◌, ◌<◌, ◌≤◌, [], All, length, OnOk, OnErr};
 ghost use Rattle.oplog_entry.specs.Lawful.{IsLawful};
+ghost use Rattle.version_store.specs.Past.{back_before};
+ghost use Rattle.version_store.specs.Store.{AreShards, ChangesEach};
 ghost use Rattle.batch_applier.specs.Applied.{IsBatch, HasApplied};
 ghost use Rattle.batch_applier.specs.Parts.{IsApplied, IsBegun, IsEachReady, EachOf};
 
@@ -40,9 +42,19 @@ pub fn apply_batch<R: Threads + Sync, G: Gate + Sync>(
     }
     let alloc = *shards.allocator();
     let done = apply_to(rt, &mut shards, count, alloc, entries, workers, gate);
+    put_back(store, shards, first.optime, done)
+}
+
+/// Puts the shards back. Where the batch failed, without what its entries left, which begin at `first`.
+fn put_back(store: &mut VersionStore, shards: Vec<Shard>, first: OpTime, done: Mem<()>) -> Mem<()>
+    requires { AreShards store.old.count shards.items }
+    ensures same { result ≡ done }
+    ensures ok { OnOk result (store.new ≡ record { count = store.old.count; shards = shards.items }) }
+    ensures err { OnErr result (ChangesEach (record { count = store.old.count; shards = shards.items }) store.new (back_before first)) }
+{
     store.put_shards(shards);
     if done.is_err() {
-        store.back_before(first.optime);
+        store.back_before(first);
     }
     done
 }

@@ -13,6 +13,8 @@ mod entries;
 #[cfg(test)]
 mod entries_as_bytes;
 #[cfg(test)]
+mod journals;
+#[cfg(test)]
 mod notation;
 #[cfg(test)]
 mod parts;

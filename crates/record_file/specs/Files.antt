@@ -1,6 +1,5 @@
 -- A disk with records, between two calls of a record file and within them.
-use Rattle.std.specs.Prelude.{◌≡◌, ◌⊎◌, ℕ, ◌-◌, ◌<◌, ◌≤◌, min, List, [], ◌∷◌, ◌++◌, length, Result, Ok, Err, Vec}
-use Rattle.std.specs.declared.alloc.Global.{Global}
+use Rattle.std.specs.Prelude.{◌≡◌, ◌⊎◌, ℕ, ◌-◌, ◌<◌, ◌≤◌, min, List, [], ◌∷◌, ◌++◌, length, Result, Ok, Err}
 use Rattle.std.proofs.Common.{inl, refl, ap, arith}
 use Rattle.rs_disk.specs.File.{IsEmpty, IsImage, LeavesOnly, write, cut, settled, contents}
 use Rattle.rs_disk.specs.State.{State}
@@ -45,13 +44,13 @@ IsBeforeOrAfter records piece image = HasRecords image records ⊎ HasRecords im
 abbrev pub spare : State → ℕ → ℕ
 spare state buffer = min (state.room - length (contents state.file)) buffer
 
--- the disk after an opening
-abbrev pub disk_after : {D : Type 0} → Result ((D × ℕ) × Vec (Vec ℕ Global) Global) (D × FileError) → D
+-- the disk after an opening, which gave something beside a file on that disk
+abbrev pub disk_after : {D A : Type 0} → Result ((D × ℕ) × A) (D × FileError) → D
 disk_after (Ok opened) = opened.0.0
 disk_after (Err refused) = refused.0
 
 -- what an opening answers, but for the disk that it hands back
-abbrev pub answer_of : {D : Type 0} → Result ((D × ℕ) × Vec (Vec ℕ Global) Global) (D × FileError) → Result ((D × ℕ) × Vec (Vec ℕ Global) Global) FileError
+abbrev pub answer_of : {D A : Type 0} → Result ((D × ℕ) × A) (D × FileError) → Result ((D × ℕ) × A) FileError
 answer_of (Ok opened) = Ok opened
 answer_of (Err refused) = Err refused.1
 

@@ -32,6 +32,16 @@ impl<D: Disk> Model for RecordFile<D> {
 }
 
 impl<D: Disk> RecordFile<D> {
+    /// A file that `reopen` has yet to open.
+    pub fn unopened(alloc: Global, disk: D) -> Self
+        ensures { result.0 ≡ disk }
+    {
+        RecordFile {
+            disk,
+            buffer: Vec::new(alloc),
+        }
+    }
+
     /// Reads the records of a disk that is empty or that a record file left, and repairs its end.
     ///
     /// # Errors
@@ -51,10 +61,7 @@ impl<D: Disk> RecordFile<D> {
         ensures any_moment { EachMoment (IsOneOf (D.state disk)) (D.state disk) (D.state (disk_after result)) }
         ensures keeps { Keeps (IsErrOf (answer_of result) FileError.Disk) (D.state disk) (D.state (disk_after result)) }
     {
-        let mut file = RecordFile {
-            disk,
-            buffer: Vec::new(alloc),
-        };
+        let mut file = RecordFile::unopened(alloc, disk);
         match file.reopen() {
             Ok(records) => Ok((file, records)),
             Err(error) => Err((file.close(), error)),
@@ -82,6 +89,14 @@ impl<D: Disk> RecordFile<D> {
         ensures buffer { self.new.1 ≡ self.old.1 }
     {
         prepare(*self.buffer.allocator(), &mut self.disk)
+    }
+
+    /// The length of the file in bytes.
+    pub fn len(&self) -> u64
+        ensures length { result ≡ length (contents (D.state self.now.0).file) }
+        ensures bound { result < 2 ^ 63 }
+    {
+        self.disk.len()
     }
 
     /// Adds a record. After `Ok` every crash leaves it.

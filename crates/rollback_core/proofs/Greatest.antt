@@ -22,7 +22,7 @@ pub record IsGreatest (test : OpTime → Bool) (log : List Entry) (point : OpTim
 
 -- ---- optimes
 
-not_itself : (a : OpTime) → is_before a a ≡ false
+pub not_itself : (a : OpTime) → is_before a a ≡ false
 not_itself a = later_time a a refl (omega arith)
 
 -- neither is before the other
@@ -62,7 +62,7 @@ last_there entry [] = or_left _ _ (same_itself entry.optime)
 last_there entry (next ∷ log) = or_right _ _ (last_there next log)
 
 -- an entry of a list is one at a place of it
-stands_behind : (entry : Entry) (log : List Entry) (o : OpTime) → All (StandsBefore entry) log → has_entry log o ≡ true → is_before o entry.optime ≡ false
+pub stands_behind : (entry : Entry) (log : List Entry) (o : OpTime) → All (StandsBefore entry) log → has_entry log o ≡ true → is_before o entry.optime ≡ false
 stands_behind entry [] o behind has = cc has
 stands_behind entry (next ∷ log) o behind has = elim (or_cases _ _ has) [
   | inl same ↦

@@ -4,7 +4,7 @@ use Rattle.std.proofs.lemmas.List.{take_at}
 use Rattle.version_store.specs.Shards.{Shard}
 use Rattle.version_store.specs.Store.{Store, AreShards}
 use Rattle.batch_applier.specs.Parts.{IsBegun, IsEachReady, EachOf}
-use Rattle.batch_applier.proofs.PastLemmas.{on_ok, on_err}
+use Rattle.batch_applier.proofs.PastLemmas.{after_err, on_ok_both}
 use Rattle.batch_applier.proofs.BatchLemmas.{all_there, batch_ready, shards_kept, batch_applied, batch_undone, head_is}
 use Rattle.batch_applier.proofs.batch.apply_batch.Goals as goal
 
@@ -22,8 +22,8 @@ apply_to-done-requires-clause-count g c κs within =
     let are : AreShards c.args.store.now.count c.args.store.now.shards = all_there c.args.store.now.count c.args.store.now.shards (rw c.take_shards-shards.ensures.taken at c.take_shards-shards.ensures.whole) some in
     (c.shard_count-count.ensures.some, ap (λ (xs : List Shard). length xs) old ∙ are.long ∙ sym c.shard_count-count.ensures.count)
 
-pub put_shards-requires : goal.put_shards-requires
-put_shards-requires g c =
+pub put_back-requires : goal.put_back-requires
+put_back-requires g c =
     let old : c.deref_mut.result.now ≡ c.args.store.now.shards = c.deref_mut.ensures.value ∙ c.take_shards-shards.ensures.taken in
     let some : 0 < length c.args.store.now.shards = rw (← old) (grind (arith, nat_tests, c.if-is_empty.ensures, c.deref_mut.ensures.len)) in
     let are : AreShards c.args.store.now.count c.args.store.now.shards = all_there c.args.store.now.count c.args.store.now.shards (rw c.take_shards-shards.ensures.taken at c.take_shards-shards.ensures.whole) some in
@@ -34,8 +34,8 @@ put_shards-requires g c =
     let same : c.take_shards-shards.new.self.count ≡ c.args.store.now.count = ap (λ (s : Store). s.count) c.take_shards-shards.ensures.left in
     rw (same, whole) kept
 
-pub returns-then-is_err-clause-err : goal.returns-then-is_err-clause-err
-returns-then-is_err-clause-err g c =
+pub returns-clause-err : goal.returns-clause-err
+returns-clause-err g c =
     let old : c.deref_mut.result.now ≡ c.args.store.now.shards = c.deref_mut.ensures.value ∙ c.take_shards-shards.ensures.taken in
     let some : 0 < length c.args.store.now.shards = rw (← old) (grind (arith, nat_tests, c.if-is_empty.ensures, c.deref_mut.ensures.len)) in
     let are : AreShards c.args.store.now.count c.args.store.now.shards = all_there c.args.store.now.count c.args.store.now.shards (rw c.take_shards-shards.ensures.taken at c.take_shards-shards.ensures.whole) some in
@@ -44,14 +44,13 @@ returns-then-is_err-clause-err g c =
     let long : c.take_shards-shards.result.len ≡ length c.apply_to-done.new.shards = omega (arith, c.deref_mut.ensures.len, c.apply_to-done.ensures.begun.long) in
     let whole : take c.take_shards-shards.result.len (c.apply_to-done.new.shards ++ drop (length c.apply_to-done.new.shards) c.take_shards-shards.result.items) ≡ c.apply_to-done.new.shards = rw long (take_at c.apply_to-done.new.shards _ _ refl) in
     let same : c.take_shards-shards.new.self.count ≡ c.args.store.now.count = ap (λ (s : Store). s.count) c.take_shards-shards.ensures.left in
-    let put = c.put_shards.ensures in
     let head = head_is c.args.entries.now c.in-Some.first.now c.in-Some.ensures.value in
-    on_err c.apply_to-done.result
-    (batch_undone c.args.store.now.count c.args.store.now.shards c.apply_to-done.new.shards c.back_before.new.self c.in-Some.first.now (drop 1 c.args.entries.now) c.args.entries.now head are kept c.requires.batch begun
-    (rw (put, same, whole) at c.back_before.ensures))
+    after_err c.put_back.result
+    (λ back. batch_undone c.args.store.now.count c.args.store.now.shards c.apply_to-done.new.shards c.put_back.new.store c.in-Some.first.now (drop 1 c.args.entries.now) c.args.entries.now head are kept c.requires.batch begun back)
+    (rw (same, whole) at c.put_back.ensures.err)
 
-pub returns-else-is_err-clause-ok : goal.returns-else-is_err-clause-ok
-returns-else-is_err-clause-ok g c =
+pub returns-clause-ok : goal.returns-clause-ok
+returns-clause-ok g c =
     let old : c.deref_mut.result.now ≡ c.args.store.now.shards = c.deref_mut.ensures.value ∙ c.take_shards-shards.ensures.taken in
     let some : 0 < length c.args.store.now.shards = rw (← old) (grind (arith, nat_tests, c.if-is_empty.ensures, c.deref_mut.ensures.len)) in
     let are : AreShards c.args.store.now.count c.args.store.now.shards = all_there c.args.store.now.count c.args.store.now.shards (rw c.take_shards-shards.ensures.taken at c.take_shards-shards.ensures.whole) some in
@@ -60,7 +59,6 @@ returns-else-is_err-clause-ok g c =
     let long : c.take_shards-shards.result.len ≡ length c.apply_to-done.new.shards = omega (arith, c.deref_mut.ensures.len, c.apply_to-done.ensures.begun.long) in
     let whole : take c.take_shards-shards.result.len (c.apply_to-done.new.shards ++ drop (length c.apply_to-done.new.shards) c.take_shards-shards.result.items) ≡ c.apply_to-done.new.shards = rw long (take_at c.apply_to-done.new.shards _ _ refl) in
     let same : c.take_shards-shards.new.self.count ≡ c.args.store.now.count = ap (λ (s : Store). s.count) c.take_shards-shards.ensures.left in
-    let put = c.put_shards.ensures in
-    on_ok c.apply_to-done.result
-    (λ done. rw (put, same, whole) (batch_applied c.args.store.now.count c.args.store.now.shards c.apply_to-done.new.shards c.args.entries.now are kept (rw old at done)))
-    c.apply_to-done.ensures.ok
+    on_ok_both c.put_back.result
+    (λ put done. rw put (batch_applied c.args.store.now.count c.args.store.now.shards c.apply_to-done.new.shards c.args.entries.now are kept (rw old at done)))
+    (rw (same, whole) at c.put_back.ensures.ok) (rw (← c.put_back.ensures.same) at c.apply_to-done.ensures.ok)

@@ -1,0 +1,9 @@
+mod NumberLemmas
+mod PartLemmas
+mod TurnLemmas
+mod LoopLemmas
+mod OrderLemmas
+mod SizeLemmas
+mod JournalLemmas
+pub mod ApartLemmas
+pub mod DiskLemmas

@@ -1,0 +1,57 @@
+-- The parts of what stands in front of some bytes.
+use Rattle.std.proofs.Common.{◌≡◌, ℕ, ◌<◌, ◌^◌, List, ◌∷◌, ◌++◌, length, take, drop, Option, None, Some, refl, sym, ap, subst, ◌∙◌, arith, append_assoc}
+use Rattle.std.specs.Prelude.{◌≢◌, Err, unwrap_or}
+use Rattle.std.proofs.lemmas.List.{take_at, drop_at}
+use Rattle.bson_codec.specs.Numbers.{number_bytes}
+use Rattle.bson_codec.specs.Spelling.{IsSpelling}
+use Rattle.bson_codec.specs.declared.error.DecodeError.{DecodeError}
+use Rattle.rs_optime.specs.declared.optime.OpTime.{OpTime}
+use Rattle.oplog_entry.specs.declared.entry.Entry.{Entry}
+use Rattle.entry_bytes.specs.Answer.{IsReadAs}
+use Rattle.entry_bytes.specs.Layout.{document_of}
+use Rattle.entry_bytes.specs.declared.error.EntryError.{EntryError}
+use Rattle.entry_bytes.specs.declared.error.EntryError.TheVariants.{Codec, Shape}
+use Rattle.member_config.specs.declared.config.Member.{Member}
+use Rattle.node_journal.specs.Layout.{NOBODY, optime_bytes, member_bytes, truth_byte, entry_bytes, sized_entry}
+use Rattle.node_journal.specs.Spelled.{IsEntry}
+
+pub optime_parts : (o : OpTime) (behind bytes : List ℕ) → bytes ≡ optime_bytes o ++ behind
+    → bytes ≡ number_bytes 8 o.term ++ (number_bytes 8 o.ts ++ behind)
+optime_parts o behind bytes is = is ∙ append_assoc (number_bytes 8 o.term) (number_bytes 8 o.ts) behind
+
+pub member_parts : (m : Member) (behind bytes : List ℕ) → bytes ≡ member_bytes m ++ behind
+    → bytes ≡ number_bytes 4 m.number ++ (truth_byte m.votes ∷ (number_bytes 4 m.priority ++ behind))
+member_parts m behind bytes is = is ∙ append_assoc (number_bytes 4 m.number) (truth_byte m.votes ∷ number_bytes 4 m.priority) behind
+
+pub entry_parts : (e : Entry) (behind bytes : List ℕ) → bytes ≡ sized_entry e ++ behind
+    → bytes ≡ number_bytes 4 (length (entry_bytes e)) ++ (entry_bytes e ++ behind)
+entry_parts e behind bytes is = is ∙ append_assoc (number_bytes 4 (length (entry_bytes e))) (entry_bytes e) behind
+
+pub entry_short : (e : Entry) → IsEntry e → length (entry_bytes e) < 256 ^ 4
+entry_short e is = omega (arith, is.spelling.in_bytes)
+
+-- the bytes of an entry, by their length
+pub piece_is : (front behind rest piece : List ℕ) (size : ℕ) → rest ≡ front ++ behind → size ≡ length front → piece ≡ take size rest → piece ≡ front
+piece_is front behind rest piece size is size_is read = read ∙ ap (λ (l : List ℕ). take size l) is ∙ take_at front behind size (sym size_is)
+
+pub behind_is : (front behind rest after : List ℕ) (size : ℕ) → rest ≡ front ++ behind → size ≡ length front → after ≡ drop size rest → after ≡ behind
+behind_is front behind rest after size is size_is read = read ∙ ap (λ (l : List ℕ). drop size l) is ∙ drop_at front behind size (sym size_is)
+
+pub spelled_here : (e : Entry) (piece : List ℕ) → IsEntry e → piece ≡ entry_bytes e → IsSpelling 1048576 103 (document_of e) piece
+spelled_here e piece is same = subst (λ (l : List ℕ). IsSpelling 1048576 103 (document_of e) l) (sym same) is.spelling
+
+-- a candidate by its number
+pub no_candidate : (candidate : Option ℕ) → candidate ≢ Some NOBODY → NOBODY ≡ unwrap_or candidate NOBODY → None ≡ candidate
+no_candidate None other is = refl
+no_candidate (Some number) other is = absurd (other (ap (λ (n : ℕ). Some n) (sym is)))
+
+pub a_candidate : (candidate : Option ℕ) (number : ℕ) → number ≢ NOBODY → number ≡ unwrap_or candidate NOBODY → Some number ≡ candidate
+a_candidate None number other is = absurd (other is)
+a_candidate (Some other) number not_nobody is = ap (λ (n : ℕ). Some n) is
+
+-- an entry's bytes are not refused
+pub no_fault : (e : Entry) (error : EntryError) (rule : DecodeError) → IsReadAs e (Err error) → error ≡ Codec rule → ⊥
+no_fault e error rule read is = subst (λ (x : EntryError). IsReadAs e (Err x)) is read
+
+pub no_other_shape : (e : Entry) (error : EntryError) → IsReadAs e (Err error) → error ≡ Shape → ⊥
+no_other_shape e error read is = subst (λ (x : EntryError). IsReadAs e (Err x)) is read

@@ -1,0 +1,4 @@
+use Rattle.node_journal.proofs.journal.Journal.open.Goals as goal
+
+pub returns-in-Ok-clause-calls : goal.returns-in-Ok-clause-calls
+returns-in-Ok-clause-calls g c = rw c.unopened.ensures at c.in-Ok.ensures.calls

@@ -1,0 +1,4 @@
+//! A replica set: its nodes on their disks, every message that was sent, and the events that led there.
+#![tactic(auto)]
+
+mod pool;
