@@ -131,5 +131,6 @@ pub calls_of : {X : Type 0} (result : Result X FileError) (at : ℕ) (item : Rec
 calls_of result at item piece old new here calls =
     subst (λ (l : List ℕ). files.EndsBy result (files.append_steps at (body l ++ 0 ∷ [])) old new) here.spelled calls
 
-pub opened_calls : (old new : State) → files.OpensBy {T = Unit {0}} (Ok tt) old new → files.OpensBy {T = Unit {0}} (Err Memory) old new
-opened_calls old new (steps, are, made) = (steps, are, (steps, [], sym (append-nil steps), made))
+pub opened_calls : {X : Type 0} (result : Result X FileError) (old new : State) → result ≡ Err Memory → files.OpensBy {T = Unit {0}} (Ok tt) old new → files.OpensBy result old new
+opened_calls {X} result old new is (steps, are, made) =
+    subst (λ (r : Result X FileError). files.OpensBy r old new) (sym is) (steps, are, (steps, [], sym (append-nil steps), made))

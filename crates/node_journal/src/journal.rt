@@ -1,7 +1,7 @@
 ghost use Rattle.std.specs.Prelude.{◌≡◌, ◌≢◌, ◌+◌, ◌^◌, ◌<◌, ◌≤◌, List, ◌∷◌, [], ◌++◌, length, Err, IfErr, IfOk, OnOk, IsErrOf};
 ghost use Rattle.rs_disk.specs.File.{contents};
 ghost use Rattle.rs_disk.specs.Moments.{EachMoment};
-ghost use Rattle.rs_disk.specs.State.{Keeps, IsArmed, SameButRoom};
+ghost use Rattle.rs_disk.specs.State.{Keeps, IsArmed, IsCut, SameButRoom};
 ghost use Rattle.record_file.specs.Files.{EndsBy, OpensBy, answer_of, append_steps, disk_after, spare};
 ghost use Rattle.record_file.specs.Records.{body};
 ghost use Rattle.repl_msg.specs.declared.record.Record.{Record as ARecord};
@@ -55,17 +55,38 @@ impl<D: Disk> Journal<D> {
         ensures any_moment { EachMoment (IsOneOf (D.state disk)) (D.state disk) (D.state (disk_after result)) }
         ensures keeps { Keeps (IsErrOf (answer_of result) FileError.Disk) (D.state disk) (D.state (disk_after result)) }
     {
-        let (file, pieces) = match RecordFile::open(alloc, disk) {
-            Ok(opened) => opened,
-            Err(refused) => return Err(refused),
+        let mut journal = Journal {
+            file: RecordFile::unopened(alloc, disk),
+            buffer: Vec::new(alloc),
         };
-        match kept_of(alloc, &pieces) {
-            Ok(kept) => {
-                let buffer = Vec::new(alloc);
-                Ok((Journal { file, buffer }, kept))
-            }
-            Err(_) => Err((file.close(), FileError::Memory)),
+        match journal.reopen() {
+            Ok(kept) => Ok((journal, kept)),
+            Err(error) => Err((journal.close(), error)),
         }
+    }
+
+    /// Reads anew what the journal on its disk keeps, also where it has failed.
+    ///
+    /// # Errors
+    /// `Disk` where the disk failed. After either error it may be tried again.
+    pub fn reopen(&mut self) -> Result<Kept, FileError>
+        requires { IsJournalDisk (D.state self.old.0) }
+
+        ensures kept { IfOk result (λ read. (records : List ARecord) → HasJournal (contents (D.state self.old.0).file) records
+            → read ≡ kept records) }
+        ensures at_rest { OnOk result ((records : List ARecord) → HasJournal (contents (D.state self.old.0).file) records
+            → IsAtRest (D.state self.new.0) records) }
+        ensures open { OnOk result (IsOpen (D.state self.new.0)) }
+        ensures left { IsJournalDisk (D.state self.new.0) }
+        ensures calls { OpensBy result (D.state self.old.0) (D.state self.new.0) }
+
+        // A crash at any moment leaves records that a crash before the call might have left.
+        ensures any_moment { EachMoment (IsOneOf (D.state self.old.0)) (D.state self.old.0) (D.state self.new.0) }
+        ensures keeps { Keeps (IsErrOf result FileError.Disk) (D.state self.old.0) (D.state self.new.0) }
+        ensures room { self.new.1 ≡ self.old.1 }
+    {
+        let pieces = self.file.reopen()?;
+        Ok(kept_of(*self.buffer.allocator(), &pieces)?)
     }
 
     /// Adds a record: a vote for anyone but 4,294,967,295, a configuration of at most 50 members, at most 2,000 entries, each
@@ -128,6 +149,15 @@ impl<D: Disk> Journal<D> {
         ensures open { IsOpen (D.state self.old.0) → IsOpen (D.state self.new.0) }
     {
         self.file.arm(call, pick);
+    }
+
+    /// The power goes. The pick chooses among what may be left.
+    pub fn power_cut(&mut self, pick: u64)
+        ensures disk { IsCut pick (D.state self.old.0) (D.state self.new.0) }
+        ensures room { self.new.1 ≡ self.old.1 }
+        ensures left { IsJournalDisk (D.state self.old.0) → IsJournalDisk (D.state self.new.0) }
+    {
+        self.file.power_cut(pick);
     }
 
     /// Hands the disk back.

@@ -1,3 +1,4 @@
+pub mod CutLemmas
 pub mod ListLemmas
 pub mod AppendLemmas
 pub mod ParseLemmas

@@ -5,7 +5,7 @@
 ghost use Rattle.std.specs.Prelude.{◌≡◌, ◌≢◌, ◌+◌, ◌^◌, ◌<◌, ◌≤◌, List, ℕ, [], ◌∷◌, ◌++◌, length, vec_capacity, Err, IfErr, IfOk, OnOk, IsOk, IsErrOf};
 ghost use Rattle.rs_disk.specs.File.{contents};
 ghost use Rattle.rs_disk.specs.Moments.{EachMoment};
-ghost use Rattle.rs_disk.specs.State.{Keeps, IsArmed, SameButRoom};
+ghost use Rattle.rs_disk.specs.State.{Keeps, IsArmed, IsCut, SameButRoom};
 ghost use Rattle.record_file.specs.Files.{IsOpen, IsAtRest, IsBeforeOrAfter, IsOneOf, IsRecordDisk, EndsBy, OpensBy, append_steps, answer_of, disk_after, spare};
 ghost use Rattle.record_file.specs.Records.{HasRecords, body, lists};
 
@@ -32,6 +32,16 @@ impl<D: Disk> Model for RecordFile<D> {
 }
 
 impl<D: Disk> RecordFile<D> {
+    /// A file that `reopen` has yet to open.
+    pub fn unopened(alloc: Global, disk: D) -> Self
+        ensures { result.0 ≡ disk }
+    {
+        RecordFile {
+            disk,
+            buffer: Vec::new(alloc),
+        }
+    }
+
     /// Reads the records of a disk that is empty or that a record file left, and repairs its end.
     ///
     /// # Errors
@@ -51,14 +61,34 @@ impl<D: Disk> RecordFile<D> {
         ensures any_moment { EachMoment (IsOneOf (D.state disk)) (D.state disk) (D.state (disk_after result)) }
         ensures keeps { Keeps (IsErrOf (answer_of result) FileError.Disk) (D.state disk) (D.state (disk_after result)) }
     {
-        let mut disk = disk;
-        match prepare(alloc, &mut disk) {
-            Ok(records) => {
-                let buffer = Vec::new(alloc);
-                Ok((RecordFile { disk, buffer }, records))
-            }
-            Err(error) => Err((disk, error)),
+        let mut file = RecordFile::unopened(alloc, disk);
+        match file.reopen() {
+            Ok(records) => Ok((file, records)),
+            Err(error) => Err((file.close(), error)),
         }
+    }
+
+    /// Reads the records of its disk anew, also where the file has failed, and repairs its end.
+    ///
+    /// # Errors
+    /// `Disk` where the disk failed. After either error it may be tried again.
+    pub fn reopen(&mut self) -> Result<Vec<Vec<u8>>, FileError>
+        requires { IsRecordDisk (D.state self.old.0) }
+
+        ensures records { IfOk result (λ read. HasRecords (contents (D.state self.old.0).file) (lists read.items)) }
+        ensures only { IfOk result (λ read. (records : List (List ℕ)) → HasRecords (contents (D.state self.old.0).file) records
+            → lists read.items ≡ records) }
+        ensures at_rest { IfOk result (λ read. IsAtRest (D.state self.new.0) (lists read.items)) }
+        ensures open { OnOk result (IsOpen (D.state self.new.0)) }
+        ensures left { IsRecordDisk (D.state self.new.0) }
+        ensures calls { OpensBy result (D.state self.old.0) (D.state self.new.0) }
+
+        // A crash at any moment leaves one of the lists that a crash before the call might have left.
+        ensures any_moment { EachMoment (IsOneOf (D.state self.old.0)) (D.state self.old.0) (D.state self.new.0) }
+        ensures keeps { Keeps (IsErrOf result FileError.Disk) (D.state self.old.0) (D.state self.new.0) }
+        ensures buffer { self.new.1 ≡ self.old.1 }
+    {
+        prepare(*self.buffer.allocator(), &mut self.disk)
     }
 
     /// The length of the file in bytes.
@@ -119,6 +149,15 @@ impl<D: Disk> RecordFile<D> {
         ensures open { IsOpen (D.state self.old.0) → IsOpen (D.state self.new.0) }
     {
         self.disk.arm(call, pick);
+    }
+
+    /// The power goes. The pick chooses among what may be left.
+    pub fn power_cut(&mut self, pick: u64)
+        ensures disk { IsCut pick (D.state self.old.0) (D.state self.new.0) }
+        ensures buffer { self.new.1 ≡ self.old.1 }
+        ensures left { IsRecordDisk (D.state self.old.0) → IsRecordDisk (D.state self.new.0) }
+    {
+        self.disk.power_cut(pick);
     }
 
     /// Hands the disk back.

@@ -1,0 +1,2 @@
+pub mod OptimeLemmas
+mod KnownLemmas
