@@ -1,7 +1,8 @@
 ghost use Rattle.std.specs.Prelude.{◌≡◌, List, ◌++◌, Err, IfErr, IfOk, OnOk, IsErrOf};
 ghost use Rattle.rs_disk.specs.File.{contents};
 ghost use Rattle.rs_disk.specs.Moments.{EachMoment};
-ghost use Rattle.rs_disk.specs.State.{Keeps, IsArmed};
+ghost use Rattle.rs_disk.specs.State.{Keeps, IsArmed, IsCut};
+ghost use Rattle.record_file.specs.Files.{OpensBy};
 ghost use Rattle.oplog_entry.specs.Docs.{Documents};
 ghost use Rattle.checkpoint_store.specs.Checkpoint.{checkpoint};
 ghost use Rattle.checkpoint_store.specs.Files.{HasCheckpoint, IsAtRest, IsBeforeOrAfter, IsCheckpointDisk, IsDiskFault, IsOneOf, IsOpen, RestsWith, disk_after};
@@ -50,17 +51,35 @@ impl<D: Disk> Checkpoints<D> {
         ensures any_moment { EachMoment (IsOneOf (D.state disk)) (D.state disk) (D.state (disk_after result)) }
         ensures keeps { Keeps (IsDiskFault result) (D.state disk) (D.state (disk_after result)) }
     {
-        let (file, pieces) = match RecordFile::open(alloc, disk) {
-            Ok(opened) => opened,
-            Err(refused) => return Err(refused),
+        let mut checkpoints = Checkpoints {
+            file: RecordFile::unopened(alloc, disk),
+            buffer: Vec::new(alloc),
         };
-        match stable_of(alloc, &pieces) {
-            Ok(stable) => {
-                let buffer = Vec::new(alloc);
-                Ok((Checkpoints { file, buffer }, stable))
-            }
-            Err(_) => Err((file.close(), FileError::Memory)),
+        match checkpoints.reopen() {
+            Ok(stable) => Ok((checkpoints, stable)),
+            Err(error) => Err((checkpoints.close(), error)),
         }
+    }
+
+    /// Reads anew the last whole checkpoint of its disk, also where it has failed.
+    ///
+    /// # Errors
+    /// `Disk` where the disk failed. After either error it may be tried again.
+    pub fn reopen(&mut self) -> Result<Stable, FileError>
+        requires { IsCheckpointDisk (D.state self.old) }
+
+        ensures stable { IfOk result (λ stable. HasCheckpoint (contents (D.state self.old).file) stable) }
+        ensures at_rest { IfOk result (λ stable. IsAtRest (D.state self.new) stable) }
+        ensures open { OnOk result (IsOpen (D.state self.new)) }
+        ensures left { IsCheckpointDisk (D.state self.new) }
+        ensures calls { OpensBy result (D.state self.old) (D.state self.new) }
+
+        // A crash at any moment leaves a checkpoint that a crash before the call might have left.
+        ensures any_moment { EachMoment (IsOneOf (D.state self.old)) (D.state self.old) (D.state self.new) }
+        ensures keeps { Keeps (IsErrOf result FileError.Disk) (D.state self.old) (D.state self.new) }
+    {
+        let pieces = self.file.reopen()?;
+        Ok(stable_of(*self.buffer.allocator(), &pieces)?)
     }
 
     /// Saves the documents that a store shows as of an optime. After `Ok` every crash leaves them.
@@ -101,6 +120,14 @@ impl<D: Disk> Checkpoints<D> {
         ensures open { IsOpen (D.state self.old) → IsOpen (D.state self.new) }
     {
         self.file.arm(call, pick);
+    }
+
+    /// The power goes. The pick chooses among what may be left.
+    pub fn power_cut(&mut self, pick: u64)
+        ensures disk { IsCut pick (D.state self.old) (D.state self.new) }
+        ensures left { IsCheckpointDisk (D.state self.old) → IsCheckpointDisk (D.state self.new) }
+    {
+        self.file.power_cut(pick);
     }
 
     /// Hands the disk back.
