@@ -1,4 +1,4 @@
-use Rattle.std.proofs.Common.{ℕ, List}
+use Rattle.std.proofs.Common.{List}
 use Rattle.record_file.proofs.CutLemmas.{cut_leaves}
 use Rattle.repl_msg.specs.declared.record.Record.{Record}
 use Rattle.node_journal.specs.Files.{HasJournal}
