@@ -1,5 +1,5 @@
-//! What no clause says of the crates below: memory that suffices, values from outside, one fault in mid-stream,
-//! and threads that really run.
+//! What no clause says of the crates of bytes, stores and threads: memory that suffices, values from outside, one
+//! fault in mid-stream, and threads that really run.
 #![tactic(auto)]
 
 #[cfg(test)]
@@ -15,13 +15,7 @@ mod entries_as_bytes;
 #[cfg(test)]
 mod journals;
 #[cfg(test)]
-mod notation;
-#[cfg(test)]
-mod parts;
-#[cfg(test)]
 mod records;
-#[cfg(test)]
-mod scripts;
 #[cfg(test)]
 mod slots;
 #[cfg(test)]

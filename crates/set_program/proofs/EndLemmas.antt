@@ -1,5 +1,5 @@
 -- How a call ends.
-use Rattle.std.proofs.Common.{ℕ, ◌≡◌, ◌≤◌, ◌<◌, List, [], length, take, drop, Option, None, Some, Result, Ok, Err, String, refl, ap, sym, arith}
+use Rattle.std.proofs.Common.{ℕ, ◌≡◌, ◌<◌, List, [], length, take, drop, Option, None, Some, Result, Ok, Err, String, refl, ap, sym, arith, inr}
 use Rattle.std.specs.Prelude.{IfSome, Vec, map}
 use Rattle.std.specs.declared.alloc.Global.{Global}
 use Rattle.std.specs.Io.KnownBytes.{Appends, Keeps}
@@ -14,22 +14,18 @@ use Rattle.fault_script.specs.Script.{script, lines_in, AreSizes}
 use Rattle.set_program.specs.declared.stop.Stop.{Stop}
 use Rattle.set_program.specs.declared.stop.Stop.TheVariants.{Memory, Usage, Script as NoScript, ReadFault, WriteFault, TooLong}
 use Rattle.set_program.specs.Causes.{of_read}
-use Rattle.set_program.specs.Headline.{AsksRun, Answers, Ends, IfRead, StopsIn, limit}
+use Rattle.set_program.specs.Headline.{AnyFront, AsksRun, Answers, Ends, IfRead, Nothing, StopsIn, limit}
 use Rattle.set_program.specs.Plays.{Plays}
 use Rattle.set_program.specs.World.{event_of}
-use Rattle.set_program.proofs.PlayLemmas.{Appends-nothing, follows_so}
+use Rattle.set_program.proofs.PlayLemmas.{Appends-nothing, Keeps-same, follows_so}
 
 Appends-same : (held : Option (List ℕ)) → Appends held held []
 Appends-same None = tt
 Appends-same (Some a) = sym (append-nil a)
 
-pub Keeps-same : (held : Option (List ℕ)) → Keeps held held
-Keeps-same None = tt
-Keeps-same (Some a) = refl
-
 -- ---- nothing was played
 
-at_once : (held now : Option (List ℕ)) (events : List Event) (read : Result Script ScriptFault) → events ≡ [] → Keeps held now → StopsIn ◌≡◌ held now events read
+at_once : (held now : Option (List ℕ)) (events : List Event) (read : Result Script ScriptFault) → events ≡ [] → Keeps held now → StopsIn Nothing held now events read
 at_once held now events (Ok read) none kept = record {
   done = 0;
   earlier = [];
@@ -38,7 +34,9 @@ at_once held now events (Ok read) none kept = record {
   follows_next = follows_so (take 1 (drop 0 read.parts));
   count = 0;
   events_are = none;
-  put = (0, refl, Appends-nothing held now kept);
+  told = record { whole = 0; put = (0, refl, Appends-nothing held now kept) };
+  least = omega arith;
+  waits = inr (Appends-nothing held now kept);
 }
 at_once held now events (Err fault) none kept = (none, (0, refl, Appends-nothing held now kept))
 
@@ -46,7 +44,7 @@ at_once held now events (Err fault) none kept = (none, (0, refl, Appends-nothing
 pub no_memory : (words : List (String Global)) (left rest held now : Option (List ℕ)) (events : List Event) → AsksRun words → events ≡ [] → Keeps held now → Ends words left rest held now (Err Memory) events
 no_memory words left rest held now events asks none kept = (λ wrong. absurd (wrong asks), λ _. told left)
   where
-    told : (l : Option (List ℕ)) → IfSome l (λ bytes. (limit < length bytes → (events ≡ []) × Keeps held now) × StopsIn ◌≡◌ held now events (script bytes))
+    told : (l : Option (List ℕ)) → IfSome l (λ bytes. (limit < length bytes → (events ≡ []) × Keeps held now) × StopsIn Nothing held now events (script bytes))
     told None = tt
     told (Some bytes) = (λ over. (none, kept), at_once held now events (script bytes) none kept)
 
@@ -54,7 +52,7 @@ no_memory words left rest held now events asks none kept = (λ wrong. absurd (wr
 pub no_world : (words : List (String Global)) (left held : Option (List ℕ)) (events : List Event) → events ≡ [] → Answers words left left held held 1 events
 no_world words left held events none = (Err Memory, refl, (λ wrong. (none, (0, refl, Appends-same held)), λ _. told left))
   where
-    told : (l : Option (List ℕ)) → IfSome l (λ bytes. (limit < length bytes → (events ≡ []) × Keeps held held) × StopsIn ◌≡◌ held held events (script bytes))
+    told : (l : Option (List ℕ)) → IfSome l (λ bytes. (limit < length bytes → (events ≡ []) × Keeps held held) × StopsIn Nothing held held events (script bytes))
     told None = tt
     told (Some bytes) = (λ over. (none, Keeps-same held), at_once held held events (script bytes) none (Keeps-same held))
 
@@ -79,11 +77,11 @@ if_read None rest bytes P reads holds = tt
 if_read (Some before) None bytes P reads holds = absurd reads
 if_read (Some before) (Some after) bytes P reads holds = (reads.2, ap Some reads.1, rw reads.0 at holds)
 
-of_script : (Stands : ℕ → ℕ → Type 0) (held now : Option (List ℕ)) (events : List Event) (read result : Result Script ScriptFault) → read ≡ result → StopsIn Stands held now events result → StopsIn Stands held now events read
-of_script Stands held now events read result is stops = rw is stops
+of_script : (MayBe : ℕ → Type 0) (held now : Option (List ℕ)) (events : List Event) (read result : Result Script ScriptFault) → read ≡ result → StopsIn MayBe held now events result → StopsIn MayBe held now events read
+of_script MayBe held now events read result is stops = rw is stops
 
-within : (left rest held now : Option (List ℕ)) (events : List Event) (bytes : Vec ℕ Global) → ReadsAll limit left rest (Ok bytes) → StopsIn ◌≡◌ held now events (script bytes.items)
-    → IfSome left (λ told. (limit < length told → (events ≡ []) × Keeps held now) × StopsIn ◌≡◌ held now events (script told))
+within : (left rest held now : Option (List ℕ)) (events : List Event) (bytes : Vec ℕ Global) → ReadsAll limit left rest (Ok bytes) → StopsIn Nothing held now events (script bytes.items)
+    → IfSome left (λ told. (limit < length told → (events ≡ []) × Keeps held now) × StopsIn Nothing held now events (script told))
 within None rest held now events bytes reads stops = tt
 within (Some before) None held now events bytes reads stops = absurd reads
 within (Some before) (Some after) held now events bytes reads stops = (λ over. absurd (omega (arith, over, reads.2)), rw reads.0 at stops)
@@ -94,9 +92,9 @@ pub plays_end : (words : List (String Global)) (left rest held now : Option (Lis
 plays_end words left rest held now events bytes read (Ok done) asks reads is played =
     (asks, if_read left rest bytes _ reads (read, is, rw played.events_are (follows_so read.parts)), played.put)
 plays_end words left rest held now events bytes read (Err Memory) asks reads is stopped =
-    (λ wrong. absurd (wrong asks), λ _. within left rest held now events bytes reads (of_script ◌≡◌ held now events (script bytes.items) (Ok read) is stopped))
+    (λ wrong. absurd (wrong asks), λ _. within left rest held now events bytes reads (of_script Nothing held now events (script bytes.items) (Ok read) is stopped))
 plays_end words left rest held now events bytes read (Err WriteFault) asks reads is stopped =
-    (λ wrong. absurd (wrong asks), λ _. if_read left rest bytes _ reads (of_script ◌≤◌ held now events (script bytes.items) (Ok read) is stopped))
+    (λ wrong. absurd (wrong asks), λ _. if_read left rest bytes _ reads (of_script AnyFront held now events (script bytes.items) (Ok read) is stopped))
 plays_end words left rest held now events bytes read (Err Usage) asks reads is never = absurd never
 plays_end words left rest held now events bytes read (Err NoScript) asks reads is never = absurd never
 plays_end words left rest held now events bytes read (Err ReadFault) asks reads is never = absurd never

@@ -1,55 +1,21 @@
 -- How far a play comes, in the order in which the lines stand in the script.
-use Rattle.std.specs.Prelude.{ℕ, ◌≡◌, ◌≤◌, ◌++◌, Option, Result, Ok, Err, List, map, take}
+use Rattle.std.specs.Prelude.{ℕ, ◌≡◌, ◌++◌, ◌⊎◌, Option, Result, Ok, Err, List, [], map, take}
+use Rattle.std.specs.List.{flat_map}
 use Rattle.std.specs.Io.KnownBytes.{Appends, Keeps}
 use Rattle.set_model.specs.declared.command.Command.{Command}
 use Rattle.set_model.specs.declared.command.Event.{Event}
+use Rattle.set_model.specs.declared.reply.Reply.{Reply}
 use Rattle.set_model.specs.Run.{run}
 use Rattle.fault_script.specs.declared.script.Part.{Part}
 use Rattle.fault_script.specs.Script.{lines_in}
-use Rattle.transcript.specs.Replies.{text}
+use Rattle.transcript.specs.Replies.{line_text, text}
 use Rattle.set_program.specs.declared.stop.Stop.{Stop}
 use Rattle.set_program.specs.declared.stop.Stop.TheVariants.{Memory, Usage, Script as NoScript, ReadFault, WriteFault, TooLong}
-use Rattle.set_program.specs.Headline.{GoesToAPoint}
-use Rattle.set_program.specs.Steps.{GoesOn, StepsSome}
+use Rattle.set_program.specs.Headline.{AnyFront, GoesToAPoint, Nothing, PutsReplies}
+use Rattle.set_program.specs.Steps.{GoesOn}
 use Rattle.set_program.specs.World.{one_set, event_of}
 
--- a part is played, and its replies are put
-pub record PlayedPart (lines : List (ℕ × Command)) (held now : Option (List ℕ)) (old new : List Event) : Type 0 where
-  pub events : new ≡ old ++ map event_of lines
-  pub piece : List ℕ
-  pub told : GoesOn old new piece
-  pub put : Appends held now piece
-
--- a front of its replies is put
-pub record CutPart (lines : List (ℕ × Command)) (held now : Option (List ℕ)) (old new : List Event) : Type 0 where
-  pub events : new ≡ old ++ map event_of lines
-  pub piece : List ℕ
-  pub told : GoesOn old new piece
-  pub count : ℕ
-  pub put : Appends held now (take count piece)
-
-abbrev pub PlaysPart : List (ℕ × Command) → Option (List ℕ) → Option (List ℕ) → List Event → List Event → Result (Unit {0}) Stop → Type 0
-PlaysPart lines held now old new (Ok done) = PlayedPart lines held now old new
-PlaysPart lines held now old new (Err Memory) = StepsSome lines old new × Keeps held now
-PlaysPart lines held now old new (Err WriteFault) = CutPart lines held now old new
-PlaysPart lines held now old new (Err Usage) = ⊥
-PlaysPart lines held now old new (Err NoScript) = ⊥
-PlaysPart lines held now old new (Err ReadFault) = ⊥
-PlaysPart lines held now old new (Err TooLong) = ⊥
-
--- all parts are played, and their replies are put
-pub record Played (parts : List Part) (held now : Option (List ℕ)) (events : List Event) : Type 0 where
-  pub events_are : events ≡ map event_of (lines_in parts)
-  pub put : Appends held now (text (run one_set events))
-
-abbrev pub Plays : List Part → Option (List ℕ) → Option (List ℕ) → List Event → Result (Unit {0}) Stop → Type 0
-Plays parts held now events (Ok done) = Played parts held now events
-Plays parts held now events (Err Memory) = GoesToAPoint ◌≡◌ parts held now events
-Plays parts held now events (Err WriteFault) = GoesToAPoint ◌≤◌ parts held now events
-Plays parts held now events (Err Usage) = ⊥
-Plays parts held now events (Err NoScript) = ⊥
-Plays parts held now events (Err ReadFault) = ⊥
-Plays parts held now events (Err TooLong) = ⊥
+-- ---- texts
 
 -- a text is put, or a front of it where the sink fails
 abbrev pub PutsText : Option (List ℕ) → Option (List ℕ) → List ℕ → Result (Unit {0}) Stop → Type 0
@@ -60,3 +26,58 @@ PutsText held now piece (Err Usage) = ⊥
 PutsText held now piece (Err NoScript) = ⊥
 PutsText held now piece (Err ReadFault) = ⊥
 PutsText held now piece (Err TooLong) = ⊥
+
+-- replies are put one after another
+abbrev pub PutsEach : Option (List ℕ) → Option (List ℕ) → List (ℕ × Reply) → Result (Unit {0}) Stop → Type 0
+PutsEach held now replies (Ok done) = Appends held now (flat_map line_text replies)
+PutsEach held now replies (Err Memory) = PutsReplies Nothing held now replies
+PutsEach held now replies (Err WriteFault) = PutsReplies AnyFront held now replies
+PutsEach held now replies (Err Usage) = ⊥
+PutsEach held now replies (Err NoScript) = ⊥
+PutsEach held now replies (Err ReadFault) = ⊥
+PutsEach held now replies (Err TooLong) = ⊥
+
+-- ---- a part
+
+-- its lines are played, and then their replies put
+pub record PlayedPart (lines : List (ℕ × Command)) (held now : Option (List ℕ)) (old new : List Event) : Type 0 where
+  pub events : new ≡ old ++ map event_of lines
+  pub replies : List (ℕ × Reply)
+  pub told : GoesOn old new replies
+  pub put : Appends held now (flat_map line_text replies)
+
+-- some first lines are played, and some first replies put: none before all lines are played
+pub record CutPart (MayBe : ℕ → Type 0) (lines : List (ℕ × Command)) (held now : Option (List ℕ)) (old new : List Event) : Type 0 where
+  pub played : List (ℕ × Command)
+  pub later : List (ℕ × Command)
+  pub lines_are : lines ≡ played ++ later
+  pub events : new ≡ old ++ map event_of played
+  pub replies : List (ℕ × Reply)
+  pub told : GoesOn old new replies
+  pub put : PutsReplies MayBe held now replies
+  pub waits : (later ≡ []) ⊎ Keeps held now
+
+abbrev pub PlaysPart : List (ℕ × Command) → Option (List ℕ) → Option (List ℕ) → List Event → List Event → Result (Unit {0}) Stop → Type 0
+PlaysPart lines held now old new (Ok done) = PlayedPart lines held now old new
+PlaysPart lines held now old new (Err Memory) = CutPart Nothing lines held now old new
+PlaysPart lines held now old new (Err WriteFault) = CutPart AnyFront lines held now old new
+PlaysPart lines held now old new (Err Usage) = ⊥
+PlaysPart lines held now old new (Err NoScript) = ⊥
+PlaysPart lines held now old new (Err ReadFault) = ⊥
+PlaysPart lines held now old new (Err TooLong) = ⊥
+
+-- ---- all parts
+
+-- all parts are played, and their replies are put
+pub record Played (parts : List Part) (held now : Option (List ℕ)) (events : List Event) : Type 0 where
+  pub events_are : events ≡ map event_of (lines_in parts)
+  pub put : Appends held now (text (run one_set events))
+
+abbrev pub Plays : List Part → Option (List ℕ) → Option (List ℕ) → List Event → Result (Unit {0}) Stop → Type 0
+Plays parts held now events (Ok done) = Played parts held now events
+Plays parts held now events (Err Memory) = GoesToAPoint Nothing parts held now events
+Plays parts held now events (Err WriteFault) = GoesToAPoint AnyFront parts held now events
+Plays parts held now events (Err Usage) = ⊥
+Plays parts held now events (Err NoScript) = ⊥
+Plays parts held now events (Err ReadFault) = ⊥
+Plays parts held now events (Err TooLong) = ⊥

@@ -5,6 +5,7 @@ ghost use Rattle.rs_io.specs.Fault.{HasCause};
 ghost use Rattle.fault_script.specs.Script.{is_part_for, lines_of, lines_in};
 ghost use Rattle.set_program.specs.Plays.{Plays, PlaysPart};
 
+use crate::replies::put_replies;
 use crate::steps::step_part;
 use crate::stop::Stop;
 use crate::world::World;
@@ -26,18 +27,20 @@ pub fn play<K: Sink>(
     ensures cause { HasCause (K.faults sink.old) (K.faults sink.new) (IsErrOf result Stop.WriteFault) }
     ensures steady { K.steady sink.old → K.steady sink.new × (result ≢ Err Stop.WriteFault) }
 {
+    let mut text = String::new(alloc);
     for part in parts {
-        play_part(alloc, part, sink, world)?;
+        play_part(alloc, part, sink, world, &mut text)?;
     }
     Ok(())
 }
 
-/// The replies of a part are put together. So a line's are one call of `put`.
+/// The replies of a block are put behind it, when all its lines are played.
 fn play_part<K: Sink>(
     alloc: Global,
     part: &Part,
     sink: &mut K,
     world: &mut World,
+    text: &mut String,
 ) -> Result<(), Stop>
     requires few { length world.old + length (lines_of part.now) ≤ 200000 }
     requires taken { is_part_for 1 part.now ≡ true }
@@ -45,8 +48,7 @@ fn play_part<K: Sink>(
     ensures cause { HasCause (K.faults sink.old) (K.faults sink.new) (IsErrOf result Stop.WriteFault) }
     ensures steady { K.steady sink.old → K.steady sink.new × (result ≢ Err Stop.WriteFault) }
 {
-    let mut out = String::new(alloc);
-    step_part(part, world, &mut out)?;
-    sink.put(out.as_bytes())?;
-    Ok(())
+    let mut replies = Vec::new(alloc);
+    step_part(part, world, &mut replies)?;
+    put_replies(&replies, sink, text)
 }

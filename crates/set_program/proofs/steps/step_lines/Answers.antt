@@ -1,4 +1,4 @@
-use Rattle.std.proofs.Common.{◌+◌, [], ◌∷◌, take, drop, string_bytes}
+use Rattle.std.proofs.Common.{◌+◌, [], ◌∷◌, take, drop}
 use Rattle.std.proofs.lemmas.Result.{err_from_is_err_and}
 use Rattle.set_program.proofs.PlayLemmas.{stepped_more, some_more, around, next_take}
 use Rattle.set_program.proofs.steps.step_lines.Goals as goal
@@ -14,5 +14,5 @@ pub loop-line-preserved : goal.loop-line-preserved
 loop-line-preserved c =
     let i = c.loop-line.line-index in
     rw (next_take c.args.lines.now i c.loop-line-item.result c.loop-line-test.true c.loop-line-item.is)
-    (stepped_more (take i c.args.lines.now) (c.loop-line-item.result ∷ []) c.args.world.now c.loop-line.world c.step_line.new.world (string_bytes c.args.out.now) (string_bytes c.loop-line.out) (string_bytes c.step_line.new.out)
+    (stepped_more (take i c.args.lines.now) (c.loop-line-item.result ∷ []) c.args.world.now c.loop-line.world c.step_line.new.world c.args.replies.now.items c.loop-line.replies.items c.step_line.new.replies.items
     c.loop-line.invariant c.in_ok-step_line.ensures)

@@ -1,6 +1,6 @@
-use Rattle.std.proofs.Common.{take, string_bytes}
+use Rattle.std.proofs.Common.{take}
 use Rattle.set_program.specs.Steps.{Stepped}
 use Rattle.set_program.proofs.steps.step_lines.Given as goal
 
 abbrev pub invariant-loop-line : goal.invariant-loop-line
-invariant-loop-line l = Stepped (take l.line-index l.lines) l.initial.world l.world (string_bytes l.initial.out) (string_bytes l.out)
+invariant-loop-line l = Stepped (take l.line-index l.lines) l.initial.world l.world l.initial.replies.items l.replies.items

@@ -1,7 +1,7 @@
-use Rattle.std.proofs.Common.{take, string_bytes}
+use Rattle.std.proofs.Common.{take}
 use Rattle.fault_script.specs.Script.{joined}
 use Rattle.set_program.specs.Steps.{Stepped}
 use Rattle.set_program.proofs.steps.step_threads.Given as goal
 
 abbrev pub invariant-loop-thread : goal.invariant-loop-thread
-invariant-loop-thread l = Stepped (joined (take l.thread-index l.threads)) l.initial.world l.world (string_bytes l.initial.out) (string_bytes l.out)
+invariant-loop-thread l = Stepped (joined (take l.thread-index l.threads)) l.initial.world l.world l.initial.replies.items l.replies.items

@@ -3,6 +3,7 @@ use fault_script::{ScriptError, parse};
 use rs_optime::OpTime;
 use set_model::{Refusal, Reply};
 use std::alloc::Global;
+use std::fmt::Write;
 use std::test::Fail;
 use transcript::{write_fault, write_reply};
 
@@ -36,41 +37,80 @@ fn the_first_command_is_set(rt: HostRuntime) -> Result<(), Fail> {
     tells(alloc, b"set 1\r\n\r\n# set\nlog n0", "")
 }
 
+/// Lines behind `set 1`, each with what is told of it: a rule of the grammar, or nothing.
+const LINES: &str = r#"campaign n0|
+# no command|
+foo n0|UnknownCommand
+ |UnknownCommand
+Drain n0|UnknownCommand
+drain|WordCount
+drain n0 |WordCount
+drain n0 n0|WordCount
+insert n0 t|WordCount
+begin n0 w1 insert t|WordCount
+drain n1|BadNode
+drain n00|
+drain 0|BadNode
+commit n0 w007|
+commit n0 w1000|BadWord
+abort n0 x1|BadWord
+begin n0 w1 drop t {_id: 1}|BadWord
+begin n0 w insert t {_id: 1}|BadWord
+delete n0 1t 1|BadWord
+read n0 snapshot t 1|BadWord
+dump n0 all|BadWord
+clock n0 1s|BadWord
+clock n0 -1|BadWord
+clock n0 2147483647|
+clock n0 2147483648|BadNumber
+clock n1 2147483648|BadNode
+insert n0 t {_id: 1|BadText 1 Unexpected
+insert n0 t {_id: 1} |BadText 1 Unexpected
+insert n0 t  {_id: 1}|BadText 1 Unexpected
+insert n0 t {_id: 2147483648}|BadText 2 Number
+delete n0 t "\x"|BadText 3 Escape
+delete n0 t Id("0g")|BadText 4 Hex
+delete n0 t Id("00")|BadText 4 Hex
+insert n0 t {a: 1, a: 2}|BadText 5 DuplicateName
+insert n0 t {"\u0000": 1}|BadText 7 NameZero
+replace n0 t 1 {a: 1, a: 2}|BadText 5 DuplicateName
+thread|StrayLine
+thread n0|WordCount
+end|StrayLine"#;
+
 #[test]
-fn words_have_their_faults(rt: HostRuntime) -> Result<(), Fail> {
-    let alloc = rt.alloc();
-    tells(alloc, b"set 1\nfoo n0\n", "line 2: UnknownCommand\n")?;
-    tells(alloc, b"set 1\n \n", "line 2: UnknownCommand\n")?;
-    tells(alloc, b"set 1\ndrain", "line 2: WordCount\n")?;
-    tells(alloc, b"set 1\ndrain n1 ", "line 2: WordCount\n")?;
-    tells(alloc, b"set 1\ndrain n1", "line 2: BadNode\n")
+fn each_line_has_its_fault(rt: HostRuntime) -> Result<(), Fail> {
+    for row in LINES.lines() {
+        if let Some((line, rule)) = row.split_once('|') {
+            tells_of(rt.alloc(), line, rule)?;
+        }
+    }
+    Ok(())
+}
+
+/// Fails where of a line behind `set 1` another rule is told.
+fn tells_of(alloc: Global, line: &str, rule: &str) -> Result<(), Fail> {
+    let mut script = String::from_str(alloc, "set 1\n")?;
+    script.push_str(line)?;
+    let mut text = String::new(alloc);
+    if !rule.is_empty() {
+        write!(text, "line 2: {rule}\n")?;
+    }
+    tells(alloc, script.as_bytes(), &text)
 }
 
 #[test]
-fn numbers_and_levels_have_their_faults(rt: HostRuntime) -> Result<(), Fail> {
-    let alloc = rt.alloc();
-    tells(alloc, b"set 1\nclock n0 2147483647", "")?;
-    tells(alloc, b"set 1\nclock n0 2147483648", "line 2: BadNumber\n")?;
-    tells(alloc, b"set 1\nread n0 snapshot t 1", "line 2: BadWord\n")
-}
-
-#[test]
-fn documents_have_their_faults(rt: HostRuntime) -> Result<(), Fail> {
+fn a_value_has_a_hundred_levels(rt: HostRuntime) -> Result<(), Fail> {
     let alloc = rt.alloc();
     tells(
         alloc,
-        b"set 1\ninsert n0 t {_id: 1",
+        &behind(alloc, b"set 1\ndelete n0 t ", 100, b'[')?,
         "line 2: BadText 1 Unexpected\n",
     )?;
     tells(
         alloc,
-        b"set 1\ninsert n0 t {_id: 2147483648}",
-        "line 2: BadText 2 Number\n",
-    )?;
-    tells(
-        alloc,
-        b"set 1\ninsert n0 t {a: 1, a: 2}\n",
-        "line 2: BadText 5 DuplicateName\n",
+        &behind(alloc, b"set 1\ndelete n0 t ", 101, b'[')?,
+        "line 2: BadText 6 TooDeep\n",
     )
 }
 
@@ -84,12 +124,17 @@ fn blocks_have_their_faults(rt: HostRuntime) -> Result<(), Fail> {
     tells(alloc, b"set 1\npar", "line 3: OpenPar\n")
 }
 
-/// `set 1`, and behind it a line with so many times this byte.
-fn long(alloc: Global, count: usize, byte: u8) -> Result<Vec<u8>, Fail> {
-    let mut script = Vec::from_slice(alloc, b"set 1\n")?;
+/// A front, and behind it so many times a byte.
+fn behind(alloc: Global, front: &[u8], count: usize, byte: u8) -> Result<Vec<u8>, Fail> {
+    let mut script = Vec::from_slice(alloc, front)?;
     let line = Vec::from_elem(alloc, byte, count)?;
     script.extend_from_slice(line.as_slice())?;
     Ok(script)
+}
+
+/// `set 1`, and behind it a line with so many times this byte.
+fn long(alloc: Global, count: usize, byte: u8) -> Result<Vec<u8>, Fail> {
+    behind(alloc, b"set 1\n", count, byte)
 }
 
 #[test]

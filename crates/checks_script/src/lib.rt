@@ -1,0 +1,7 @@
+//! What no clause says of scripts and of printed texts: memory that suffices, and values from outside.
+#![tactic(auto)]
+
+#[cfg(test)]
+mod notation;
+#[cfg(test)]
+mod scripts;
