@@ -1,12 +1,11 @@
 -- What a fetched log owes: the answers to fetches can be taken (MongoDB's replication architecture guide, oplog fetching).
 use Rattle.std.specs.Prelude.{◌≡◌, ◌<◌, ◌≤◌, ℕ, false, ◌++◌, List, length, take, All, Contains}
 use Rattle.std.specs.FinMap as maps
-use Rattle.bson_doc.specs.Length.{document_length, document_levels}
 use Rattle.rs_optime.specs.declared.optime.OpTime.{OpTime}
 use Rattle.oplog_entry.specs.Docs.{docs}
 use Rattle.oplog_entry.specs.declared.entry.Entry.{Entry}
 use Rattle.oplog_store.specs.Log.{IsOplog}
-use Rattle.entry_bytes.specs.Layout.{document_of}
+pub use Rattle.entry_bytes.specs.Sizes.{IsWithinEntry}
 use Rattle.doc_update.specs.Effect.{is_too_large}
 use Rattle.repl_msg.specs.declared.message.Body.TheVariants as bodies
 use Rattle.repl_msg.specs.declared.message.FetchReply.{FetchReply}
@@ -21,11 +20,6 @@ use Rattle.set_model.specs.Safety.{IsAt}
 pub record Follows (base : OpTime) (entry : Entry) : Type 0 where
   pub later : base.ts < entry.optime.ts
   pub term : base.term ≤ entry.optime.term
-
--- at most 1,048,576 bytes and 103 levels
-pub record IsWithinEntry (entry : Entry) : Type 0 where
-  pub bytes : document_length (document_of entry) ≤ 1048576
-  pub levels : document_levels (document_of entry) ≤ 103
 
 -- no document of the log is too large
 abbrev pub AreWithinDocument : List Entry → Type 0
