@@ -1,1 +1,13 @@
+pub mod HasLemmas
+pub mod HolderLemmas
+pub mod LedgerLemmas
+pub mod LogLemmas
+pub mod OpenLemmas
 pub mod OrderLemmas
+pub mod OwnLemmas
+pub mod ShownLemmas
+pub mod SoundLemmas
+pub mod StoreLemmas
+pub mod VersionLemmas
+pub mod VisibleLemmas
+pub mod WriterLemmas

@@ -34,6 +34,7 @@ pub record IsNewest (log : List Entry) (entry : Entry) : Type 0 where
 -- an op that waits for its entry: of the node's term, behind the other disk, and the newest of its document once it is written
 pub record IsPending (node : Node) (at : OpTime) (op : Op) : Type 0 where
   pub open_slot : IsTrue (sets.contains node.slots at)
+  pub positive : 0 < at.ts
   pub seen : at.ts ≤ node.seen
   pub term : at.term ≡ node.term
   pub unstable : is_before node.stable at ≡ true

@@ -55,6 +55,14 @@ abbrev pub applied_after : OpTime → List Entry → OpTime
 applied_after applied [] = applied
 applied_after applied (entry ∷ entries) = last_of (entry ∷ entries)
 
+-- a ledger whose log is applied so far
+abbrev pub applied_at : Ledger → OpTime → Ledger
+applied_at ledger at = record ledger { node = record ledger.node { applied = at } }
+
+-- a ledger whose log is applied by a batch more
+abbrev pub applied_with : Ledger → List Entry → Ledger
+applied_with ledger batch = applied_at ledger (applied_after ledger.node.applied batch)
+
 -- The documents are there as of an optime: none of theirs is pruned, and, but on a primary, the log is applied so far.
 pub record IsReadable (node : Node) (at : OpTime) : Type 0 where
   pub kept : is_before at node.stable ≡ false

@@ -1,5 +1,5 @@
 -- The versions of a document that a log makes.
-use Rattle.std.specs.Prelude.{◌≡◌, false, List, [], ◌∷◌, ◌++◌, Option, None, All, IfSome, if◌then◌else◌}
+use Rattle.std.specs.Prelude.{◌≡◌, false, List, [], ◌∷◌, ◌++◌, Option, None, Some, All, IfSome, if◌then◌else◌}
 use Rattle.std.specs.FinMap.{get}
 use Rattle.bson_doc.specs.Place.{Place}
 use Rattle.bson_doc.specs.Tree.{Fields}
@@ -34,6 +34,11 @@ IsSmall document = IfSome document (λ d. is_too_large d ≡ false)
 -- no document that an entry of the log leaves is too large
 abbrev pub AreSmall : List Entry → Type 0
 AreSmall log = (place : Place) → All (λ version. IsSmall version.doc) (versions_of place log)
+
+-- a document that stood at an optime, where there was one, as a version of then
+abbrev pub version_as_of : OpTime → Option Fields → List Version
+version_as_of at None = []
+version_as_of at (Some document) = record { at = at; doc = Some document } ∷ []
 
 -- what the log makes behind an optime, after versions up to there that show what the log leaves at it
 pub record HasVersions (place : Place) (stable : OpTime) (log : List Entry) (versions : List Version) : Type 0 where

@@ -20,7 +20,6 @@ use oplog_entry::{Entry, Op};
 use oplog_store::Oplog;
 use optime_slots::Slots;
 use rs_optime::OpTime;
-use std::alloc::AllocError;
 
 /// Writes an entry past all others, in the room that there is.
 fn append(log: &mut Oplog, slots: &mut Slots, optime: OpTime, op: Op)
@@ -48,7 +47,11 @@ impl Ledger {
         ensures ok { OnOk result (self.new.node ≡ logged self.old.node op) }
         ensures err { OnErr result (self.new.node ≡ self.old.node) }
     {
-        Err(AllocError)
+        let at = self.next();
+        self.log.reserve(1)?;
+        self.store.put(ns, id, at, after)?;
+        append(&mut self.log, &mut self.slots, at, op);
+        Ok(at)
     }
 
     /// Writes an entry that touches no document, in the room that there is.
