@@ -263,3 +263,21 @@ has_pruned place stable at log versions order later has = record {
         ∙ ap (λ d. versions_from place d (log_behind at (log_behind stable log))) stands
         ∙ ap (λ l. versions_from place (get (docs (log_up_to at log)) place) l)
         (filter-within (λ (e : Entry). is_before at e.optime) (λ (e : Entry). is_before stable e.optime) log (λ e here. at_most_trans stable at e.optime later here))
+
+-- ---- before an entry
+
+-- each version of a document is before its newest entry
+pub has_before : (place : Place) (stable : OpTime) (log : List Entry) (entry : Entry) (versions : List Version) → IsNewest log entry → is_before stable entry.optime ≡ true → place_of entry.op ≡ Some place
+    → HasVersions place stable log versions → All (λ (v : Version). is_before v.at entry.optime ≡ true) versions
+has_before place stable log entry versions newest late own has =
+    subst (λ vs. All (λ (v : Version). is_before v.at entry.optime ≡ true) vs) (sym has.is)
+    (All-append (λ (v : Version). is_before v.at entry.optime ≡ true) has.base (versions_from place (get (docs (log_up_to stable log)) place) (log_behind stable log))
+    (λ k d within. at_most_trans (slice_index_or has.base k d).at stable entry.optime (has.early k d within) late)
+    (all_versions (λ o. is_before o entry.optime ≡ true) place (get (docs (log_up_to stable log)) place) (log_behind stable log)
+    (All-filter (λ (e : Entry). is_before stable e.optime) (λ (e : Entry). is_at (place_of e.op) place ≡ true → is_before e.optime entry.optime ≡ true) log each)))
+  where
+    each : All (λ other. is_at (place_of other.op) place ≡ true → is_before other.optime entry.optime ≡ true) log
+    each k d within here = elim (newest.fits k d within) [
+      | inl before ↦ before_both _ _ before.term before.earlier
+      | inr after ↦ absurd (newest.last k d within after.earlier (is_at-only _ place here ∙ sym own))
+    ]

@@ -1,12 +1,15 @@
 -- A ledger keeps its documents as its log is written.
-use Rattle.std.proofs.Common.{◌≡◌, ◌≢◌, inl, inr, ◌∙◌, ℕ, Bool, true, false, List, [], ◌∷◌, ◌++◌, Option, None, Some, IsSome, refl, sym, ap, subst, rules}
+use Rattle.std.proofs.Common.{◌≡◌, ◌≢◌, max, arith, inl, inr, ◌∙◌, ℕ, Bool, true, false, List, [], ◌∷◌, ◌++◌, Option, None, Some, IsSome, refl, sym, ap, subst, rules}
 use Rattle.std.specs.FinMap.{get, entries, insert, remove}
 use Rattle.std.specs.Prelude.{All}
 use Rattle.bson_doc.specs.Place.{Place}
 use Rattle.bson_doc.specs.Tree.{Fields}
 use Rattle.rs_optime.specs.Order.{is_before}
+use Rattle.rs_optime.specs.Time.{timestamp_after}
 use Rattle.rs_optime.specs.declared.optime.OpTime.{OpTime}
 use Rattle.oplog_entry.specs.Docs.{docs}
+use Rattle.entry_bytes.specs.Sizes.{IsWithinEntry}
+use Rattle.oplog_entry.specs.Lawful.{IsLawfulOp}
 use Rattle.oplog_entry.specs.Log.{with_entry}
 use Rattle.oplog_entry.specs.Step.{place_of, document_after}
 use Rattle.oplog_entry.specs.Visible.{log_up_to}
@@ -26,10 +29,13 @@ use Rattle.set_model.specs.Node.{Node}
 use Rattle.set_model.specs.Points.{if_primary, next_optime}
 use Rattle.set_model.specs.Reads.{shown_log}
 use Rattle.set_model.specs.Writers.{settled, aborted}
+use Rattle.node_ledger.proofs.SizeLemmas.{noop_within_entry}
+use Rattle.optime_slots.specs.Reserved.{Reserved}
+use Rattle.node_ledger.specs.Ledger.{ledger_node}
 use Rattle.node_ledger.specs.Kept.{IsNewest, IsHolder, IsKept, is_held_by}
-use Rattle.node_ledger.specs.Versions.{HasVersions}
+use Rattle.node_ledger.specs.Versions.{HasVersions, IsSmall}
 use Rattle.node_ledger.specs.Writers.{Writers, HasOpen, IsWriting}
-use Rattle.node_ledger.proofs.HasLemmas.{has_with, has_with_other}
+use Rattle.node_ledger.proofs.HasLemmas.{has_before, has_with, has_with_other}
 use Rattle.node_ledger.proofs.HolderLemmas.{held_open, open_held, nobody_holds, holders_opened, holders_closed}
 use Rattle.node_ledger.proofs.SoundLemmas.{IsNew, writing_primary, next_newest, next_unstable, sound_logged, apart_logged, sound_opened, apart_opened, sound_settled, apart_settled, sound_aborted, apart_aborted}
 use Rattle.node_ledger.proofs.StoreLemmas.{versions_stay, holders_stay, changes_twice}
@@ -169,3 +175,52 @@ kept_same node store later kept same = record {
   versions = λ p. subst (λ vs. HasVersions p node.stable (shown_log node Local) vs) (sym (ap (λ (x : Past). x.versions) (same p))) (kept.versions p);
   holders = λ p. subst (λ h. IsHolder node.writers p h) (sym (ap (λ (x : Past). x.holder) (same p))) (kept.holders p);
 }
+
+-- what a write owes
+pub new_write : (node : Node) (op : Op) (place : Place) (after : Option Fields) → node.role ≡ Primary → IsLawfulOp op → IsWithinEntry (record { optime = next_optime node; op = op }) → place_of op ≡ Some place
+    → after ≡ document_after op (get (docs node.log) place) → IsSmall after → IsNew node op
+new_write node op place after role lawful within own left small = record {
+  role = role;
+  lawful = lawful;
+  within = within;
+  small = λ p here. subst (λ q. IsSmall (document_after op (get (docs node.log) q))) (some_same p (sym own ∙ here)) (subst IsSmall left small);
+}
+  where
+    some_same : (p : Place) → Some place ≡ Some p → place ≡ p
+    some_same p e = cc
+
+-- and a no-op
+pub new_noop : (node : Node) → node.role ≡ Primary → IsNew node Noop
+new_noop node role = record { role = role; lawful = tt; within = noop_within_entry (next_optime node); small = λ place here. absurd (nowhere here) }
+
+-- each version of a document is before the next optime
+pub before_versions : (node : Node) (store : Store) (op : Op) (place : Place) → IsKept node store → node.role ≡ Primary → place_of op ≡ Some place
+    → All (λ (v : Version). is_before v.at (next_optime node) ≡ true) (versions_at store place)
+before_versions node store op place kept role own =
+    has_before place node.stable node.log (record { optime = next_optime node; op = op }) (versions_at store place) (next_newest node op kept.sound) (next_unstable node kept.sound role) own (whole_versions node store kept role place)
+
+-- and before a slot of its own writer
+pub before_slot : (node : Node) (store : Store) (writer : ℕ) (at : OpTime) (op : Op) (place : Place) → IsKept node store → HasOpen node.writers writer at op → place_of op ≡ Some place
+    → All (λ (v : Version). is_before v.at at ≡ true) (versions_at store place)
+before_slot node store writer at op place kept opens own =
+    let pending = kept.writers.pending writer at op opens in
+    has_before place node.stable node.log (record { optime = at; op = op }) (versions_at store place) pending.newest pending.unstable own
+    (whole_versions node store kept (writing_primary node writer kept.sound (at, op, opens)) place)
+
+-- a timestamp past the greatest one seen is then the greatest
+pub raised_to : (term seen clock : ℕ) (at : OpTime) → at ≡ record { term = term; ts = timestamp_after clock seen } → max seen at.ts ≡ at.ts
+raised_to term seen clock at is = let ts : at.ts ≡ timestamp_after clock seen = ap (λ (o : OpTime). o.ts) is in omega (arith, ts)
+
+-- what an op owes that opens a slot
+pub new_open : (node : Node) (op : Op) (place : Place) → node.role ≡ Primary → IsLawfulOp op → IsWithinEntry (record { optime = next_optime node; op = op }) → place_of op ≡ Some place
+    → IsSmall (document_after op (get (docs node.log) place)) → IsNew node op
+new_open node op place role lawful within own small = new_write node op place (document_after op (get (docs node.log) place)) role lawful within own refl small
+
+-- a slot that wasn't opened leaves a ledger as it was, once its writer is put back
+pub kept_put_back : (term : ℕ) (role : Role) (clock : ℕ) (log : List Entry) (reserved again : Reserved) (writers back : Writers) (applied stable : OpTime) (store later : Store)
+    → IsKept (ledger_node term role clock log reserved.slots writers reserved.mark applied stable) store → again ≡ reserved → back ≡ writers → ((p : Place) → past_at later p ≡ past_at store p)
+    → IsKept (ledger_node term role clock log again.slots back again.mark applied stable) later
+kept_put_back term role clock log reserved again writers back applied stable store later kept slots put same =
+    subst (λ (r : Reserved). IsKept (ledger_node term role clock log r.slots back r.mark applied stable) later) (sym slots)
+    (subst (λ (w : Writers). IsKept (ledger_node term role clock log reserved.slots w reserved.mark applied stable) later) (sym put)
+    (kept_same (ledger_node term role clock log reserved.slots writers reserved.mark applied stable) store later kept same))

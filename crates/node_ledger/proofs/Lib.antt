@@ -5,7 +5,9 @@ pub mod LogLemmas
 pub mod OpenLemmas
 pub mod OrderLemmas
 pub mod OwnLemmas
+pub mod RoleLemmas
 pub mod ShownLemmas
+pub mod SizeLemmas
 pub mod SoundLemmas
 pub mod StoreLemmas
 pub mod VersionLemmas

@@ -62,7 +62,7 @@ primary_point role a b is = ap (λ r. if_primary r a b) is
 
 -- ---- the next optime
 
-next_past : (node : Node) → node.seen < (next_optime node).ts
+pub next_past : (node : Node) → node.seen < (next_optime node).ts
 next_past node = omega arith
 
 -- ---- the newest entry
