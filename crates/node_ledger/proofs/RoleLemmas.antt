@@ -28,7 +28,7 @@ use Rattle.node_ledger.proofs.SoundLemmas.{primary_not}
 use Rattle.node_ledger.proofs.VisibleLemmas.{visible_shown, some_more, some_to_last, zero_least, IsBeforeSlots}
 
 -- what is told of two roles, neither of them primary
-if_other : {A : Type 0} → (one two : Role) (a b c : A) → is_primary one ≡ false → is_primary two ≡ false → if_primary one a b ≡ if_primary two c b
+pub if_other : {A : Type 0} → (one two : Role) (a b c : A) → is_primary one ≡ false → is_primary two ≡ false → if_primary one a b ≡ if_primary two c b
 if_other Secondary Secondary a b c x y = refl
 if_other Secondary Candidate a b c x y = refl
 if_other Secondary Draining a b c x y = refl

@@ -29,13 +29,13 @@ use Rattle.node_ledger.proofs.OwnLemmas.{IsOwn, own_docs}
 -- ---- the log that is shown
 
 -- a primary's whole log, or another node's as far as it is applied
-shown_order : (role : Role) (applied : OpTime) (log : List Entry) → AllPairs StandsBefore log → AllPairs StandsBefore (if_primary role log (log_up_to applied log))
+pub shown_order : (role : Role) (applied : OpTime) (log : List Entry) → AllPairs StandsBefore log → AllPairs StandsBefore (if_primary role log (log_up_to applied log))
 shown_order Primary applied log order = order
 shown_order Secondary applied log order = AllPairs-filter StandsBefore (λ (e : Entry). not (is_before applied e.optime)) log order
 shown_order Candidate applied log order = AllPairs-filter StandsBefore (λ (e : Entry). not (is_before applied e.optime)) log order
 shown_order Draining applied log order = AllPairs-filter StandsBefore (λ (e : Entry). not (is_before applied e.optime)) log order
 
-shown_up_to : (role : Role) (applied at : OpTime) (log : List Entry) → (is_primary role ≡ false → is_before applied at ≡ false) → log_up_to at (if_primary role log (log_up_to applied log)) ≡ log_up_to at log
+pub shown_up_to : (role : Role) (applied at : OpTime) (log : List Entry) → (is_primary role ≡ false → is_before applied at ≡ false) → log_up_to at (if_primary role log (log_up_to applied log)) ≡ log_up_to at log
 shown_up_to Primary applied at log within = refl
 shown_up_to Secondary applied at log within = up_to-up_to at applied log (within refl)
 shown_up_to Candidate applied at log within = up_to-up_to at applied log (within refl)

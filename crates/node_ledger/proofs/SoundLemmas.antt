@@ -57,7 +57,7 @@ primary_if Draining not = absurd (not refl)
 pub writing_primary : (node : Node) (writer : ℕ) → IsSound node → IsWriting node.writers writer → node.role ≡ Primary
 writing_primary node writer sound writing = primary_if node.role (λ not. (sound.idle not).writers writer writing)
 
-primary_point : (role : Role) (a b : OpTime) → role ≡ Primary → if_primary role a b ≡ a
+pub primary_point : (role : Role) (a b : OpTime) → role ≡ Primary → if_primary role a b ≡ a
 primary_point role a b is = ap (λ r. if_primary r a b) is
 
 -- ---- the next optime

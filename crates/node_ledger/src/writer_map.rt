@@ -148,13 +148,6 @@ impl WriterMap {
         }
     }
 
-    /// The place of the document that an open writer holds.
-    pub(crate) fn place(&self, number: u32) -> Option<&(Text, IdKey)>
-        ensures { (at : OpTime) (op : Op) → HasOpen self.now number at op → option_copied result ≡ place_of op }
-    {
-        self.writers.get(&number)?.place()
-    }
-
     /// Puts a writer in, and gives the one of its number that was there. Only a new number takes memory.
     pub(crate) fn insert(&mut self, number: u32, writer: Held) -> Mem<Option<Held>>
         ensures ok { OnOk result (self.new ≡ maps.insert self.old number writer) }
