@@ -59,8 +59,8 @@ kept_pruned node store later at kept behind within changes = record {
   };
   writers = record {
     pending = λ v by other opens.
-      let was : IsPending node by other = kept.writers.pending v by other opens in
-      record { open_slot = was.open_slot; positive = was.positive; seen = was.seen; term = was.term; unstable = unstable v by other opens was; lawful = was.lawful; within = was.within; place = was.place; small = was.small; newest = was.newest };
+        let was : IsPending node by other = kept.writers.pending v by other opens in
+        record { open_slot = was.open_slot; positive = was.positive; seen = was.seen; term = was.term; unstable = unstable v by other opens was; lawful = was.lawful; within = was.within; place = was.place; small = was.small; newest = was.newest };
     apart = kept.writers.apart;
     alone = kept.writers.alone;
   };

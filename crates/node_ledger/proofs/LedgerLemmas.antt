@@ -27,7 +27,7 @@ use Rattle.set_model.specs.Changes.{logged, opened}
 use Rattle.set_model.specs.Holds.{holder_among}
 use Rattle.set_model.specs.Node.{Node}
 use Rattle.set_model.specs.Points.{if_primary, next_optime}
-use Rattle.set_model.specs.Reads.{shown_log}
+use Rattle.set_model.specs.Reads.{local_documents, shown_log}
 use Rattle.set_model.specs.Writers.{settled, aborted}
 use Rattle.node_ledger.proofs.SizeLemmas.{noop_within_entry}
 use Rattle.optime_slots.specs.Reserved.{Reserved}
@@ -224,3 +224,7 @@ kept_put_back term role clock log reserved again writers back applied stable sto
     subst (λ (r : Reserved). IsKept (ledger_node term role clock log r.slots back r.mark applied stable) later) (sym slots)
     (subst (λ (w : Writers). IsKept (ledger_node term role clock log reserved.slots w reserved.mark applied stable) later) (sym put)
     (kept_same (ledger_node term role clock log reserved.slots writers reserved.mark applied stable) store later kept same))
+
+-- what a primary shows is what its whole log leaves
+pub whole_documents : (node : Node) → node.role ≡ Primary → local_documents node ≡ docs node.log
+whole_documents node primary = ap docs (shown_whole node.role node.log (log_up_to node.applied node.log) primary)

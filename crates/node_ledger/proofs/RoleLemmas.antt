@@ -1,24 +1,28 @@
 -- A ledger keeps its documents as its node's role, term and clock change.
-use Rattle.std.proofs.Common.{◌≡◌, ◌≢◌, ◌⊎◌, inl, inr, ◌<◌, ◌≤◌, ◌^◌, ◌∙◌, ℕ, Bool, true, false, not, List, [], Option, None, Some, refl, sym, ap, subst, arith}
+use Rattle.std.proofs.Common.{◌≡◌, ◌≢◌, ◌⊎◌, inl, inr, ◌<◌, ◌≤◌, ◌^◌, ◌∙◌, ℕ, Bool, true, false, not, List, [], Option, None, Some, refl, sym, ap, subst, arith, lit<}
 use Rattle.std.specs.List.{All, AllPairs}
 use Rattle.std.specs.FinMap as maps
 use Rattle.std.specs.FinSet as sets
-use Rattle.bson_doc.specs.Place.{Place}
+use Rattle.std.specs.Ordering.{nat_cmp}
+use Rattle.bson_doc.specs.Place.{Place, place_cmp}
 use Rattle.rs_optime.specs.Order.{is_before, optime_cmp}
 use Rattle.rs_optime.specs.declared.optime.OpTime.{OpTime}
 use Rattle.oplog_entry.specs.Log.{StandsBefore}
-use Rattle.oplog_entry.specs.Visible.{last_of, visible, log_up_to}
+use Rattle.oplog_entry.specs.Visible.{ZERO, last_of, visible, log_up_to}
 use Rattle.oplog_entry.specs.declared.entry.Entry.{Entry}
 use Rattle.oplog_entry.specs.declared.entry.Op.{Op}
-use Rattle.version_store.specs.Store.{Store, versions_at, holder_at}
+use Rattle.version_store.specs.Past.{Past, no_past}
+use Rattle.version_store.specs.Store.{Store, past_at, versions_at, holder_at}
 use Rattle.set_model.specs.declared.role.Role.{Role}
 use Rattle.set_model.specs.declared.role.Role.TheVariants.{Secondary, Candidate, Draining, Primary}
+use Rattle.set_model.specs.declared.writer.Writer.TheVariants.{Open}
 use Rattle.set_model.specs.Changes.{stepped_down}
 use Rattle.set_model.specs.Node.{Node}
 use Rattle.set_model.specs.Points.{if_primary, last_point, visible_point}
 use Rattle.set_model.specs.Roles.{is_primary}
 use Rattle.visibility_point.proofs.Least.{none_listed, items_again}
 use Rattle.node_ledger.specs.Kept.{AreApart, IsKept, IsHolder, is_held_by}
+use Rattle.node_ledger.specs.Ledger.{ledger_node}
 use Rattle.node_ledger.specs.Sound.{IsSound, IsIdle}
 use Rattle.node_ledger.specs.Versions.{HasVersions}
 use Rattle.node_ledger.specs.Writers.{Writers, HasOpen, IsWriting}
@@ -66,7 +70,7 @@ kept_clock node store seconds kept = record {
   };
   writers = record {
     pending = λ v by other opens. let was = kept.writers.pending v by other opens in
-      record { open_slot = was.open_slot; positive = was.positive; seen = was.seen; term = was.term; unstable = was.unstable; lawful = was.lawful; within = was.within; place = was.place; small = was.small; newest = was.newest };
+        record { open_slot = was.open_slot; positive = was.positive; seen = was.seen; term = was.term; unstable = was.unstable; lawful = was.lawful; within = was.within; place = was.place; small = was.small; newest = was.newest };
     apart = kept.writers.apart;
     alone = kept.writers.alone;
   };
@@ -139,3 +143,28 @@ kept_primary node store kept role applied =
           (ap (λ r. if_primary r node.log (log_up_to node.applied node.log)) role ∙ ap (λ o. log_up_to o node.log) applied ∙ up_to-last node.log kept.sound.oplog.order) (kept.versions p);
       holders = kept.holders;
     }
+
+-- ---- a ledger as the set begins
+
+pub kept_new : (store : Store) → ((p : Place) → past_at store p ≡ no_past) → IsKept (ledger_node 0 Secondary 0 [] sets.empty maps.empty 0 ZERO ZERO) store
+kept_new store none = record {
+  sound = record {
+    oplog = record { order = λ i j d less within. absurd (omega arith); lawful = λ k d within. absurd (omega arith) };
+    entries = λ k d within. absurd (omega arith);
+    documents = λ place k d within. absurd (omega arith);
+    term = lit< tt;
+    terms = λ k d within. absurd (omega arith);
+    marked = λ k d within. absurd (omega arith);
+    idle = λ not. record { slots = refl; writers = closed };
+    applied = refl;
+    stable = refl;
+  };
+  writers = apart_idle (ledger_node 0 Secondary 0 [] sets.empty maps.empty 0 ZERO ZERO) closed;
+  versions = λ p. record { base = []; is = ap (λ (past : Past). past.versions) (none p); early = λ k d within. absurd (omega arith); shows = sym (maps.get-empty place_cmp p) };
+  holders = λ p. subst (λ h. IsHolder maps.empty p h) (sym (ap (λ (past : Past). past.holder) (none p))) (λ w. ap (λ v. is_held_by v p) (maps.get-empty nat_cmp w));
+}
+  where
+    closed : (writer : ℕ) → ¬ IsWriting maps.empty writer
+    closed writer writing =
+        let here : None ≡ Some (Open writing.0 writing.1) = sym (maps.get-empty nat_cmp writer) ∙ writing.2 in
+        cc
