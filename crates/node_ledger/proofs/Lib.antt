@@ -1,4 +1,6 @@
+mod AppendLemmas
 pub mod FollowLemmas
+pub mod GoesOnLemmas
 pub mod HasLemmas
 pub mod HolderLemmas
 pub mod LedgerLemmas
@@ -6,6 +8,7 @@ pub mod LogLemmas
 pub mod OpenLemmas
 pub mod OrderLemmas
 pub mod OwnLemmas
+pub mod ReleaseLemmas
 pub mod RoleLemmas
 pub mod ShownLemmas
 pub mod SizeLemmas
