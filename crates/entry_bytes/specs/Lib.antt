@@ -1,3 +1,4 @@
 pub mod Answer
 pub mod Layout
 pub mod Parts
+pub mod Sizes

@@ -1,9 +1,8 @@
 -- What a fetched log owes: the answers to fetches can be taken (MongoDB's replication architecture guide, oplog fetching).
 use Rattle.std.specs.Prelude.{◌≡◌, ◌≤◌, ℕ, ◌++◌, List, length, take, All, Contains}
-use Rattle.bson_doc.specs.Length.{document_length, document_levels}
 use Rattle.oplog_entry.specs.declared.entry.Entry.{Entry}
 use Rattle.oplog_store.specs.Log.{IsOplog}
-use Rattle.entry_bytes.specs.Layout.{document_of}
+pub use Rattle.entry_bytes.specs.Sizes.{IsWithinEntry}
 use Rattle.repl_msg.specs.declared.message.Body.TheVariants as bodies
 use Rattle.repl_msg.specs.declared.message.FetchReply.{FetchReply}
 use Rattle.repl_msg.specs.declared.message.Message.{Message}
@@ -13,11 +12,6 @@ use Rattle.set_model.specs.Node.{Node}
 use Rattle.set_model.specs.Points.{last_point}
 use Rattle.set_model.specs.Run.{Sizes, run}
 use Rattle.set_model.specs.Safety.{IsAt}
-
--- at most 1,048,576 bytes and 103 levels
-pub record IsWithinEntry (entry : Entry) : Type 0 where
-  pub bytes : document_length (document_of entry) ≤ 1048576
-  pub levels : document_levels (document_of entry) ≤ 103
 
 -- the entries of an answer are a log that goes on behind its base, and a node whose log ends there may take them
 pub record RepliesFollowAt (sizes : Sizes) (events : List Event) (message : Message) (fetched : FetchReply) : Type 0 where

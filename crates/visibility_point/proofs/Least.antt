@@ -52,7 +52,7 @@ pub itself : (a : OpTime) → is_before a a ≡ false
 itself a = later_time a a refl (omega arith)
 
 -- the least is one of the list
-least_listed : (xs : List OpTime) → IfSome (least xs) (λ o. IsTrue (is_listed o xs))
+pub least_listed : (xs : List OpTime) → IfSome (least xs) (λ o. IsTrue (is_listed o xs))
 least_listed [] = tt
 least_listed (x ∷ xs) = go (least xs) (least_listed xs)
   where

@@ -1,0 +1,19 @@
+mod AppendLemmas
+pub mod FollowLemmas
+pub mod GoesOnLemmas
+pub mod HasLemmas
+pub mod HolderLemmas
+pub mod LedgerLemmas
+pub mod LogLemmas
+pub mod OpenLemmas
+pub mod OrderLemmas
+pub mod OwnLemmas
+pub mod ReleaseLemmas
+pub mod RoleLemmas
+pub mod ShownLemmas
+pub mod SizeLemmas
+pub mod SoundLemmas
+pub mod StoreLemmas
+pub mod VersionLemmas
+pub mod VisibleLemmas
+pub mod WriterLemmas

@@ -1,0 +1,6 @@
+pub mod Code
+pub mod Kept
+pub mod Ledger
+pub mod Sound
+pub mod Versions
+pub mod Writers

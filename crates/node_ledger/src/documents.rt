@@ -1,0 +1,71 @@
+// The documents that a ledger's log leaves.
+ghost use Rattle.std.specs.Prelude.{◌≡◌, Some, IfSome};
+ghost use Rattle.std.specs.Option.{option_copied};
+ghost use Rattle.std.specs.FinMap as maps;
+ghost use Rattle.bson_doc.specs.Place.{Place};
+ghost use Rattle.rs_optime.specs.declared.optime.OpTime.{OpTime};
+ghost use Rattle.oplog_entry.specs.Docs.{docs};
+ghost use Rattle.oplog_entry.specs.Lawful.{BeginsWithId};
+ghost use Rattle.oplog_entry.specs.Step.{id_key};
+ghost use Rattle.oplog_entry.specs.Visible.{log_up_to};
+ghost use Rattle.version_store.specs.Past.{latest_of};
+ghost use Rattle.version_store.specs.Store.{versions_at, shown_at};
+ghost use Rattle.set_model.specs.Holds.{holder};
+ghost use Rattle.set_model.specs.Reads.{local_documents, shown_log};
+ghost use Rattle.set_model.specs.declared.command.ReadLevel.TheVariants.{Local};
+ghost use Rattle.node_ledger.specs.Ledger.{IsReadable};
+
+use crate::Ledger;
+use bson_doc::{Doc, IdKey};
+use rs_optime::OpTime;
+use set_model::Role;
+use version_store::VersionStore;
+
+impl Ledger {
+    /// The documents, as of each optime that is readable.
+    pub fn store(&self) -> &VersionStore
+        ensures latest { (place : Place) → latest_of (versions_at result.now place) ≡ maps.get (local_documents self.now.node) place }
+        ensures shown { (place : Place) (at : OpTime) → IsReadable self.now.node at
+            → shown_at result.now place at ≡ maps.get (docs (log_up_to at self.now.node.log)) place }
+    {
+        &self.store
+    }
+
+    /// The optime as of which a read at `local` shows documents: on a primary one behind every entry.
+    pub fn local_point(&self) -> OpTime
+        ensures readable { IsReadable self.now.node result }
+        ensures shown { log_up_to result self.now.node.log ≡ shown_log self.now.node Local }
+    {
+        match self.role {
+            Role::Primary => OpTime {
+                term: self.term + 1,
+                ts: 0,
+            },
+            Role::Secondary | Role::Candidate | Role::Draining => self.applied,
+        }
+    }
+
+    /// A document as a read at `local` shows it. It begins with its `_id`.
+    pub fn latest(&self, ns: &str, id: &IdKey) -> Option<&Doc>
+        ensures latest { option_copied result ≡ maps.get (local_documents self.now.node) (ns.now, id.now) }
+        ensures own { IfSome (option_copied result) (λ document. BeginsWithId document × (id_key document ≡ Some id.now)) }
+    {
+        self.store.latest(ns, id)
+    }
+
+    /// A document as of an optime. It begins with its `_id`.
+    pub fn read_at(&self, ns: &str, id: &IdKey, at: OpTime) -> Option<&Doc>
+        requires { IsReadable self.now.node at }
+        ensures shown { option_copied result ≡ maps.get (docs (log_up_to at self.now.node.log)) (ns.now, id.now) }
+        ensures own { IfSome (option_copied result) (λ document. BeginsWithId document × (id_key document ≡ Some id.now)) }
+    {
+        self.store.read_at(ns, id, at)
+    }
+
+    /// The open writer that holds a document.
+    pub fn holder(&self, ns: &str, id: &IdKey) -> Option<u32>
+        ensures { result ≡ holder self.now.node (ns.now, id.now) }
+    {
+        self.store.holder(ns, id)
+    }
+}

@@ -1,0 +1,199 @@
+// What a node has written and will write, and the documents that its log leaves.
+ghost use Rattle.std.specs.Prelude.{◌≡◌, ◌-◌, ◌^◌, ◌<◌, ◌≤◌, IfOk, OnOk, OnErr};
+ghost use Rattle.std.specs.Option.{option_copied};
+ghost use Rattle.std.specs.FinMap as maps;
+ghost use Rattle.set_model.specs.Node.{opening_node};
+ghost use Rattle.set_model.specs.Points.{applied_point, last_point, visible_point, next_optime};
+ghost use Rattle.set_model.specs.declared.role.Role.TheVariants.{Primary};
+ghost use Rattle.node_ledger.specs.Kept.{AreApart};
+ghost use Rattle.node_ledger.specs.Ledger.{nobody};
+ghost use Rattle.node_ledger.specs.Sound.{IsSound};
+ghost use Rattle.node_ledger.specs.Writers.{is_open};
+
+use crate::writer_map::WriterMap;
+use bson_doc::Mem;
+use oplog_store::Oplog;
+use optime_slots::Slots;
+use rs_optime::{OpTime, next_after};
+use set_model::{Role, Writer};
+use std::alloc::Global;
+use std::marker::Model;
+use version_store::VersionStore;
+use visibility_point::visible;
+
+/// How many shards the documents are spread over.
+pub(crate) const SHARDS: u32 = 64;
+
+/// The log, the slots that are open with their writers, and the documents, with the role and the term that they hang on.
+///
+/// A primary's documents go on to the end of its log. Another node's stand where its log is applied, and it has no slots.
+#[derive(Drop)]
+pub struct Ledger {
+    pub(crate) alloc: Global,
+    pub(crate) term: u64,
+    pub(crate) role: Role,
+    pub(crate) clock: u32,
+    pub(crate) log: Oplog,
+    pub(crate) slots: Slots,
+    pub(crate) writers: WriterMap,
+    pub(crate) store: VersionStore,
+    pub(crate) applied: OpTime,
+    pub(crate) stable: OpTime,
+}
+
+impl Model for Ledger {
+    ghost use Rattle.std.specs.Coded.{codes};
+    ghost use Rattle.bson_doc.specs.Code.{fields_code};
+    ghost use Rattle.rs_optime.specs.Order.{optime_code};
+    ghost use Rattle.oplog_entry.specs.contracts.entry.Entry as entry;
+    ghost use Rattle.bson_doc.specs.contracts.key.IdKey as key;
+    ghost use Rattle.member_config.specs.contracts.config.Config as config;
+    ghost use Rattle.repl_msg.specs.contracts.record.Record as record_kept;
+    ghost use Rattle.set_model.specs.contracts.store.Store as stored_item;
+    ghost use Rattle.node_ledger.specs.Code.{writers_code, slots_code, progress_code, known_code, tally_code};
+    ghost use Rattle.node_ledger.specs.Ledger.{Ledger as Seen, ledger_node};
+
+    ghost Value = { Seen };
+
+    ghost coded = { Prim.hlevel (codes, fields_code, optime_code, key.the_row.coded, entry.the_row.coded, config.the_row.coded, record_kept.the_row.coded, stored_item.the_row.coded, writers_code, slots_code, progress_code, known_code, tally_code) };
+
+    ghost use Rattle.node_ledger.specs.Kept.{IsKept};
+
+    ghost view = { λ l. record { node = ledger_node l.term l.role l.clock l.log.entries l.slots.slots l.writers l.slots.mark l.applied l.stable; spare = l.log.spare } };
+
+    ghost invariant = { λ l. IsKept (ledger_node l.term l.role l.clock l.log.entries l.slots.slots l.writers l.slots.mark l.applied l.stable) l.store };
+}
+
+impl Ledger {
+    /// A ledger as the set begins.
+    pub fn new(alloc: Global) -> Mem<Self>
+        ensures { IfOk result (λ ledger. ledger.node ≡ opening_node nobody 0) }
+    {
+        Ok(Ledger {
+            alloc,
+            term: 0,
+            role: Role::Secondary,
+            clock: 0,
+            log: Oplog::new(alloc),
+            slots: Slots::new(alloc),
+            writers: WriterMap::new(alloc),
+            store: VersionStore::new(alloc, SHARDS)?,
+            applied: OpTime::ZERO,
+            stable: OpTime::ZERO,
+        })
+    }
+
+    /// What is always true of a ledger.
+    pub fn is_sound(&self)
+        ensures node { IsSound self.now.node }
+        ensures writers { AreApart self.now.node }
+    {
+        let _ = &self.term;
+    }
+
+    pub fn term(&self) -> u64
+        ensures { result ≡ self.now.node.term }
+    {
+        self.term
+    }
+
+    pub fn role(&self) -> Role
+        ensures { result ≡ self.now.node.role }
+    {
+        self.role
+    }
+
+    pub fn clock(&self) -> u32
+        ensures { result ≡ self.now.node.clock }
+    {
+        self.clock
+    }
+
+    /// The entries that are written.
+    pub fn log(&self) -> &Oplog
+        ensures { result.now.entries ≡ self.now.node.log }
+    {
+        &self.log
+    }
+
+    /// How far the log of a node that isn't primary is applied. On a primary it is how far it was once it had drained.
+    pub fn applied(&self) -> OpTime
+        ensures { result ≡ self.now.node.applied }
+    {
+        self.applied
+    }
+
+    /// The optime as of which the other disk has the documents. No read may go back further.
+    pub fn stable(&self) -> OpTime
+        ensures { result ≡ self.now.node.stable }
+    {
+        self.stable
+    }
+
+    /// How far the log is applied. On a primary it is how far it is visible.
+    pub fn applied_point(&self) -> OpTime
+        ensures { result ≡ applied_point self.now.node }
+    {
+        match self.role {
+            Role::Primary => self.visible(),
+            Role::Secondary | Role::Candidate | Role::Draining => self.applied,
+        }
+    }
+
+    /// The optime of the last entry, or ZERO.
+    pub fn last(&self) -> OpTime
+        ensures { result ≡ last_point self.now.node }
+    {
+        self.log.last()
+    }
+
+    /// The optime of the last entry before the earliest open slot, or ZERO.
+    pub fn visible(&self) -> OpTime
+        ensures { result ≡ visible_point self.now.node }
+    {
+        visible(&self.slots, &self.log)
+    }
+
+    /// The greatest timestamp seen.
+    pub fn seen(&self) -> u64
+        ensures { result ≡ self.now.node.seen }
+    {
+        self.slots.mark()
+    }
+
+    /// The optime that is given out next.
+    pub fn next(&self) -> OpTime
+        requires { self.now.node.seen < 2 ^ 64 - 1 }
+        ensures { result ≡ next_optime self.now.node }
+    {
+        OpTime {
+            term: self.term,
+            ts: next_after(self.clock, self.slots.mark()),
+        }
+    }
+
+    pub fn writer(&self, number: u32) -> Option<&Writer>
+        ensures { option_copied result ≡ maps.get self.now.node.writers number }
+    {
+        self.writers.get(number)
+    }
+
+    /// Whether a writer has a slot.
+    pub fn is_writing(&self, number: u32) -> bool
+        ensures { result ≡ is_open (maps.get self.now.node.writers number) }
+    {
+        match self.writers.get(number) {
+            Some(Writer::Open { .. }) => true,
+            Some(Writer::Done(_) | Writer::Lost(_)) | None => false,
+        }
+    }
+
+    /// Makes room for entries that are then written without memory.
+    pub fn reserve(&mut self, more: usize) -> Mem<()>
+        ensures node { self.new.node ≡ self.old.node }
+        ensures ok { OnOk result (more ≤ self.new.spare) }
+        ensures never_less { self.old.spare ≤ self.new.spare }
+    {
+        self.log.reserve(more)
+    }
+}

@@ -1,0 +1,14 @@
+//! What a node has written: its log, the slots that are open with their writers, and the documents with their versions, as far
+//! as the log is applied.
+#![tactic(auto)]
+
+mod documents;
+mod following;
+mod ledger;
+mod restoring;
+mod roles;
+mod slots;
+mod writer_map;
+mod writing;
+
+pub use ledger::Ledger;
