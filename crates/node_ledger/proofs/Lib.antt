@@ -1,3 +1,4 @@
+pub mod BatchLemmas
 pub mod FollowLemmas
 pub mod HasLemmas
 pub mod HolderLemmas
