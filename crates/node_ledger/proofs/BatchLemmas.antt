@@ -89,7 +89,7 @@ batch_late : (n : ℕ) (at : OpTime) (log : List Entry) → All (λ (e : Entry).
 batch_late n at log = All-take (λ (e : Entry). is_before at e.optime ≡ true) n (log_behind at log) (filter-passes (λ (e : Entry). is_before at e.optime) log)
 
 -- the last of some entries has what each of them has
-last_has : (P : OpTime → Type 0) (log : List Entry) → 0 < length log → All (λ (e : Entry). P e.optime) log → P (last_of log)
+pub last_has : (P : OpTime → Type 0) (log : List Entry) → 0 < length log → All (λ (e : Entry). P e.optime) log → P (last_of log)
 last_has P [] some all = absurd (omega (arith, some))
 last_has P (entry ∷ log) some all = last_with P entry log all
 
@@ -150,7 +150,7 @@ holder_after place past (entry ∷ entries) =
 -- ---- a batch of a ledger's log
 
 -- what another node than a primary has
-stable_applied : (node : Node) (store : Store) → IsKept node store → is_primary node.role ≡ false → is_before node.applied node.stable ≡ false
+pub stable_applied : (node : Node) (store : Store) → IsKept node store → is_primary node.role ≡ false → is_before node.applied node.stable ≡ false
 stable_applied node store kept other = ap (λ o. is_before o node.stable) (sym (other_point node.role (visible_point node) node.applied other)) ∙ kept.sound.stable
 
 versions_applied : (node : Node) (store : Store) → IsKept node store → is_primary node.role ≡ false → (place : Place) → HasVersions place node.stable (log_up_to node.applied node.log) (versions_at store place)

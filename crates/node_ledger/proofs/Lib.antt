@@ -1,4 +1,5 @@
 pub mod BatchLemmas
+pub mod BatchesLemmas
 pub mod FollowLemmas
 pub mod HasLemmas
 pub mod HolderLemmas
