@@ -128,3 +128,107 @@ so_far_begun first now count left so = (applied_after first.node.applied (batch_
         let some : 0 < length (batch_of (count - left) first.node.applied first.node.log) = subst (λ (es : List Entry). 0 < length es) (sym is) (omega arith) in
         ap (λ o. is_before o first.node.applied) (last_applied first.node.applied (batch_of (count - left) first.node.applied first.node.log) some)
         ∙ not_behind first.node.applied (last_of (batch_of (count - left) first.node.applied first.node.log)) (last_late (count - left) first.node.applied first.node.log some)
+
+-- ---- up to an optime
+
+length_parts : (at : OpTime) (log : List Entry) → AllPairs StandsBefore log → length log ≡ length (log_up_to at log) + length (log_behind at log)
+length_parts at log order = ap length (parts at log order) ∙ length-append (log_up_to at log) (log_behind at log)
+
+pub count_there : (at to : OpTime) (log : List Entry) → AllPairs StandsBefore log → length (log_up_to to log) - length (log_up_to at log) ≤ length (log_behind at log)
+count_there at to log order = omega (arith, length_parts at log order, length_parts to log order)
+
+-- the last entry is no later than an optime that all are no later than
+last_early : (at : OpTime) (log : List Entry) → All (λ (e : Entry). is_before at e.optime ≡ false) log → is_before at (last_of log) ≡ false
+last_early at [] all = zero_least ZERO at refl
+last_early at (entry ∷ log) all = last_has (λ o. is_before at o ≡ false) (entry ∷ log) (omega arith) all
+
+later_first : (a b : OpTime) → is_before a b ≡ false → later_of a b ≡ a
+later_first a b is = ap (λ t. cond t b a) is
+
+later_second : (a b : OpTime) → is_before a b ≡ true → later_of a b ≡ b
+later_second a b is = ap (λ t. cond t b a) is
+
+early_up_to : (at to : OpTime) (log : List Entry) → is_before to at ≡ true → All (λ (e : Entry). is_before at e.optime ≡ false) (log_up_to to log)
+early_up_to at to log earlier k d within =
+    not_then_not (slice_index_or (log_up_to to log) k d).optime to at (not_late _ (filter-passes (λ (e : Entry). not (is_before to e.optime)) log k d within)) (not_behind to at earlier)
+
+-- a front of what is behind an optime is behind it
+front_of : (to : OpTime) (log : List Entry) → AllPairs StandsBefore log → take (length (log_up_to to log)) log ≡ log_up_to to log
+front_of to log order = ap (λ l. take (length (log_up_to to log)) l) (parts to log order) ∙ take_at (log_up_to to log) (log_behind to log) (length (log_up_to to log)) refl
+
+pub applied_up_to : (at to : OpTime) (log : List Entry) (count : ℕ) → AllPairs StandsBefore log → count ≡ length (log_up_to to log) - length (log_up_to at log)
+    → applied_after at (batch_of count at log) ≡ later_of at (last_of (log_up_to to log))
+applied_up_to at to log count order is = by_test (is_before to at) refl
+  where
+    by_count : (n : ℕ) → n ≡ 0 → applied_after at (batch_of n at log) ≡ at
+    by_count zero none = refl
+    by_count (suc n) none = absurd (omega (arith, none))
+
+    by_test : (b : Bool) → is_before to at ≡ b → applied_after at (batch_of count at log) ≡ later_of at (last_of (log_up_to to log))
+    by_test true earlier =
+        let within : log_up_to to (log_up_to at log) ≡ log_up_to to log = up_to-up_to to at log (not_behind to at earlier) in
+        let short : length (log_up_to to log) ≤ length (log_up_to at log) =
+        omega (arith, length_parts to (log_up_to at log) (AllPairs-filter StandsBefore (λ (e : Entry). not (is_before at e.optime)) log order), ap length within) in
+        by_count count (omega (arith, is, short))
+        ∙ sym (later_first at (last_of (log_up_to to log)) (last_early at (log_up_to to log) (early_up_to at to log earlier)))
+    by_test false later = by_more (log_up_to to (log_behind at log)) refl
+      where
+        front : log_up_to at (log_up_to to log) ≡ log_up_to at log
+        front = up_to-up_to at to log later
+
+        back : log_behind at (log_up_to to log) ≡ log_up_to to (log_behind at log)
+        back = filter-swap (λ (e : Entry). is_before at e.optime) (λ (e : Entry). not (is_before to e.optime)) log
+
+        whole : log_up_to to log ≡ log_up_to at log ++ log_up_to to (log_behind at log)
+        whole =
+            parts at (log_up_to to log) (AllPairs-filter StandsBefore (λ (e : Entry). not (is_before to e.optime)) log order)
+            ∙ ap (λ l. l ++ log_behind at (log_up_to to log)) front
+            ∙ ap (λ l. log_up_to at log ++ l) back
+
+        long : count ≡ length (log_up_to to (log_behind at log))
+        long = omega (arith, is, ap length whole, length-append (log_up_to at log) (log_up_to to (log_behind at log)))
+
+        batch : batch_of count at log ≡ log_up_to to (log_behind at log)
+        batch = ap (λ n. batch_of n at log) long ∙ front_of to (log_behind at log) (AllPairs-filter StandsBefore (λ (e : Entry). is_before at e.optime) log order)
+
+        by_more : (more : List Entry) → log_up_to to (log_behind at log) ≡ more → applied_after at (batch_of count at log) ≡ later_of at (last_of (log_up_to to log))
+        by_more [] none =
+            ap (λ es. applied_after at es) (batch ∙ none)
+            ∙ sym (later_first at (last_of (log_up_to to log)) (last_early at (log_up_to to log)
+            (subst (λ l. All (λ (e : Entry). is_before at e.optime ≡ false) l) (sym (whole ∙ ap (λ l. log_up_to at log ++ l) none ∙ append-nil (log_up_to at log)))
+            (λ k d within. not_late _ (filter-passes (λ (e : Entry). not (is_before at e.optime)) log k d within)))))
+        by_more (entry ∷ more) some =
+            let there : 0 < length (log_up_to to (log_behind at log)) = subst (λ (l : List Entry). 0 < length l) (sym some) (omega arith) in
+            let end : last_of (log_up_to to log) ≡ last_of (log_up_to to (log_behind at log)) = ap last_of whole ∙ last_append (log_up_to at log) (log_up_to to (log_behind at log)) there in
+            ap (λ es. applied_after at es) batch
+            ∙ last_applied at (log_up_to to (log_behind at log)) there
+            ∙ sym end
+            ∙ sym (later_second at (last_of (log_up_to to log)) (ap (λ o. is_before at o) end
+            ∙ last_has (λ o. is_before at o ≡ true) (log_up_to to (log_behind at log)) there
+            (All-filter (λ (e : Entry). not (is_before to e.optime)) (λ (e : Entry). is_before at e.optime ≡ true) (log_behind at log) (filter-passes (λ (e : Entry). is_before at e.optime) log))))
+
+-- ---- back to where it was applied
+
+pub kept_back : (node : Node) (store later : Store) (point : OpTime) → IsKept node store → is_primary node.role ≡ false → is_before point node.stable ≡ false → is_before node.applied point ≡ false
+    → ChangesEach store later (back_to point) → IsKept (record node { applied = point }) later
+kept_back node store later point kept other behind within changes =
+    let idle : IsIdle node = kept.sound.idle other in
+    record {
+      sound = record {
+        oplog = kept.sound.oplog;
+        entries = kept.sound.entries;
+        documents = kept.sound.documents;
+        term = kept.sound.term;
+        terms = kept.sound.terms;
+        marked = kept.sound.marked;
+        idle = λ not. record { slots = idle.slots; writers = idle.writers };
+        applied = not_then_not point node.applied (last_of node.log) within kept.sound.applied;
+        stable = ap (λ p. is_before p node.stable) (other_point node.role (visible_point (record node { applied = point })) point other) ∙ behind;
+      };
+      writers = apart_idle (record node { applied = point }) idle.writers;
+      versions = λ p. subst (λ (past : Past). HasVersions p node.stable (if_primary node.role node.log (log_up_to point node.log)) past.versions) (sym (changes.each p))
+          (subst (λ log. HasVersions p node.stable log (up_to point (versions_at store p)))
+          (shown_up_to node.role node.applied point node.log (λ _. within) ∙ sym (other_point node.role node.log (log_up_to point node.log) other))
+          (has_up_to p node.stable point (shown_log node Local) (versions_at store p) (shown_order node.role node.applied node.log kept.sound.oplog.order) behind (kept.versions p)));
+      holders = λ p. subst (λ h. IsHolder node.writers p h) (sym (ap (λ (past : Past). past.holder) (changes.each p))) (kept.holders p);
+    }
