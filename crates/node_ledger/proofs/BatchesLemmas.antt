@@ -142,10 +142,10 @@ last_early : (at : OpTime) (log : List Entry) → All (λ (e : Entry). is_before
 last_early at [] all = zero_least ZERO at refl
 last_early at (entry ∷ log) all = last_has (λ o. is_before at o ≡ false) (entry ∷ log) (omega arith) all
 
-later_first : (a b : OpTime) → is_before a b ≡ false → later_of a b ≡ a
+pub later_first : (a b : OpTime) → is_before a b ≡ false → later_of a b ≡ a
 later_first a b is = ap (λ t. cond t b a) is
 
-later_second : (a b : OpTime) → is_before a b ≡ true → later_of a b ≡ b
+pub later_second : (a b : OpTime) → is_before a b ≡ true → later_of a b ≡ b
 later_second a b is = ap (λ t. cond t b a) is
 
 early_up_to : (at to : OpTime) (log : List Entry) → is_before to at ≡ true → All (λ (e : Entry). is_before at e.optime ≡ false) (log_up_to to log)

@@ -8,6 +8,7 @@ pub mod LogLemmas
 pub mod OpenLemmas
 pub mod OrderLemmas
 pub mod OwnLemmas
+pub mod RestoreLemmas
 pub mod RoleLemmas
 pub mod ShownLemmas
 pub mod SizeLemmas
