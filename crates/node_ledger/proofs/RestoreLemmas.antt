@@ -18,7 +18,7 @@ use Rattle.bson_doc.proofs.KeyLemmas.{place_cmp-total}
 use Rattle.doc_fold.specs.Map.{documents_of}
 use Rattle.doc_fold.proofs.MapLemmas.{document_at, get-documents_of}
 use Rattle.entry_bytes.specs.Sizes.{IsWithinEntry}
-use Rattle.rs_optime.specs.Order.{is_before}
+use Rattle.rs_optime.specs.Order.{is_before, optime_cmp}
 use Rattle.rs_optime.specs.Later.{later_of}
 use Rattle.rs_optime.specs.declared.optime.OpTime.{OpTime}
 use Rattle.oplog_entry.specs.Docs.{docs}
@@ -37,9 +37,9 @@ use Rattle.set_model.specs.declared.role.Role.TheVariants.{Secondary}
 use Rattle.set_model.specs.declared.writer.Writer.TheVariants.{Open}
 use Rattle.set_model.specs.Fetching.{seen_after}
 use Rattle.node_ledger.specs.Kept.{IsKept, IsHolder, is_held_by}
-use Rattle.node_ledger.specs.Ledger.{ledger_node}
+use Rattle.node_ledger.specs.Ledger.{ledger_node, restored}
 use Rattle.node_ledger.specs.Versions.{AreSmall, HasVersions, version_as_of, versions_from}
-use Rattle.node_ledger.specs.Writers.{IsWriting}
+use Rattle.node_ledger.specs.Writers.{IsWriting, Writers}
 use Rattle.node_ledger.proofs.LogLemmas.{filter-none, filter-passes, last_with, up_to-last, up_to-up_to}
 use Rattle.node_ledger.proofs.HasLemmas.{not_late}
 use Rattle.node_ledger.proofs.RoleLemmas.{apart_idle}
@@ -226,3 +226,14 @@ kept_stored store term clock log at fits oplog within terms small reached versio
     closed writer writing =
         let here : None ≡ Some (Open writing.0 writing.1) = sym (maps.get-empty nat_cmp writer) ∙ writing.2 in
         cc
+
+pub restored_is : (term clock mark : ℕ) (log entries : List Entry) (slots : sets.FinSet optime_cmp) (writers : Writers) (last at : OpTime) → log ≡ entries → slots ≡ sets.empty → writers ≡ maps.empty → mark ≡ seen_after 0 entries
+    → last ≡ last_of entries → AllPairs StandsBefore entries → is_before (last_of entries) at ≡ false
+    → ledger_node term Secondary clock log slots writers mark (later_of at (last_of (log_up_to last log))) at ≡ restored term clock entries at
+restored_is term clock mark log entries slots writers last at same none idle seen end order reached =
+    ap (λ l. ledger_node term Secondary clock l slots writers mark (later_of at (last_of (log_up_to last l))) at) same
+    ∙ ap (λ s. ledger_node term Secondary clock entries s writers mark (later_of at (last_of (log_up_to last entries))) at) none
+    ∙ ap (λ w. ledger_node term Secondary clock entries sets.empty w mark (later_of at (last_of (log_up_to last entries))) at) idle
+    ∙ ap (λ m. ledger_node term Secondary clock entries sets.empty maps.empty m (later_of at (last_of (log_up_to last entries))) at) (seen ∙ seen_whole entries order)
+    ∙ ap (λ o. ledger_node term Secondary clock entries sets.empty maps.empty (last_of entries).ts (later_of at (last_of (log_up_to o entries))) at) end
+    ∙ ap (λ o. ledger_node term Secondary clock entries sets.empty maps.empty (last_of entries).ts o at) (applied_whole at entries order reached)
