@@ -1,4 +1,4 @@
-use Rattle.std.proofs.Common.{◌≡◌, ◌∷◌, [], List, arith, subst, sym, true}
+use Rattle.std.proofs.Common.{◌≡◌, List, arith, subst, sym, true}
 use Rattle.std.specs.List.{All}
 use Rattle.rs_optime.specs.Order.{is_before}
 use Rattle.version_store.specs.declared.history.Version.{Version}

@@ -2,8 +2,6 @@ use Rattle.std.proofs.Common.{◌≡◌, ◌∙◌, ◌-◌, Some, ap, length, s
 use Rattle.std.specs.Prelude.{slice_get}
 use Rattle.std.proofs.lemmas.List.{take_min}
 use Rattle.batch_applier.specs.Applied.{HasApplied}
-use Rattle.oplog_entry.specs.declared.entry.Entry.{Entry}
-use Rattle.repl_msg.specs.Logs.{log_behind}
 use Rattle.node_ledger.specs.contracts.ledger.Ledger.{the_view}
 use Rattle.node_ledger.specs.Ledger.{Ledger as Seen, applied_at, applied_with}
 use Rattle.node_ledger.proofs.BatchLemmas.{applied_is, batch_fits, batch_of, kept_next}
