@@ -1,6 +1,8 @@
+mod AppendLemmas
 pub mod BatchLemmas
 pub mod BatchesLemmas
 pub mod FollowLemmas
+pub mod GoesOnLemmas
 pub mod HasLemmas
 pub mod HolderLemmas
 pub mod LedgerLemmas
@@ -8,6 +10,7 @@ pub mod LogLemmas
 pub mod OpenLemmas
 pub mod OrderLemmas
 pub mod OwnLemmas
+pub mod ReleaseLemmas
 pub mod RestoreLemmas
 pub mod RoleLemmas
 pub mod ShownLemmas

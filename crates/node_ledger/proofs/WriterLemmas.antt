@@ -4,7 +4,9 @@ use Rattle.std.specs.Ordering.{eq_by_cmp, is_eq, nat_cmp}
 use Rattle.std.specs.Cmp.{nat_cmp_total, eq_by_cmp_equiv, tied_itself, Equal-is}
 use Rattle.std.specs.Map.{lookup}
 use Rattle.std.specs.BTreeMap.{is_at}
-use Rattle.std.specs.FinMap.{FinMap, find, get, insert, remove, from_entries, get-from_entries, get-insert, get-remove, same_map, nat_cmp-IsAntisymmetric}
+use Rattle.std.specs.FinMap.{FinMap, entries, find, get, insert, remove, from_entries, get-entries, get-from_entries, get-insert, get-remove, same_map, nat_cmp-IsAntisymmetric}
+use Rattle.std.specs.Option.{option_map}
+use Rattle.set_model.specs.Changes.{all_lost, lost_writer}
 use Rattle.set_model.specs.declared.writer.Writer.{Writer}
 use Rattle.node_ledger.specs.Writers.{put_back, Writers}
 
@@ -89,3 +91,23 @@ put_back-insert writers number writer old was = same_map nat_cmp_total nat_cmp-I
       | inl same ↦ ap (get (insert (insert writers number writer) number first)) same.0 ∙ get-with-same (insert writers number writer) number first ∙ was ∙ ap (get writers) (sym same.0)
       | inr differ ↦ get-with-other (insert writers number writer) number q first differ.0 ∙ get-with-other writers number q writer differ.0
     ]
+
+-- ---- each open writer is lost
+
+lost_or : (b : Bool) (writer : Writer) (here there : Option Writer) → here ≡ option_map lost_writer there
+    → cond b (Some (lost_writer writer)) here ≡ option_map lost_writer (cond b (Some writer) there)
+lost_or true writer here there is = refl
+lost_or false writer here there is = is
+
+find-lost : (es : List (ℕ × Writer)) (number : ℕ) → find nat_cmp number (all_lost es) ≡ option_map lost_writer (find nat_cmp number es)
+find-lost [] number = refl
+find-lost (e ∷ es) number =
+    lost_or (is_at (nat_cmp number) e.0) e.1 (find nat_cmp number (all_lost es)) (find nat_cmp number es) (find-lost es number)
+
+pub writers_lost : (old new : List (ℕ × Writer)) (writers : Writers) → from_entries {R = nat_cmp} old ≡ writers → new ≡ all_lost old
+    → from_entries {R = nat_cmp} new ≡ from_entries (all_lost (entries writers))
+writers_lost old new writers same is =
+    same_map nat_cmp_total nat_cmp-IsAntisymmetric _ _ (λ q.
+    get-from_entries nat_cmp_total new q ∙ ap (find nat_cmp q) is ∙ find-lost old q
+    ∙ ap (option_map lost_writer) (sym (get-from_entries nat_cmp_total old q) ∙ ap (λ (m : Writers). get m q) same ∙ get-entries writers q)
+    ∙ sym (find-lost (entries writers) q) ∙ sym (get-from_entries nat_cmp_total (all_lost (entries writers)) q))

@@ -5,6 +5,7 @@ ghost use Rattle.std.specs.FinMap as maps;
 ghost use Rattle.set_model.specs.Node.{opening_node};
 ghost use Rattle.set_model.specs.Points.{applied_point, last_point, visible_point, next_optime};
 ghost use Rattle.set_model.specs.declared.role.Role.TheVariants.{Primary};
+ghost use Rattle.node_ledger.specs.Kept.{AreApart};
 ghost use Rattle.node_ledger.specs.Ledger.{nobody};
 ghost use Rattle.node_ledger.specs.Sound.{IsSound};
 ghost use Rattle.node_ledger.specs.Writers.{is_open};
@@ -84,7 +85,8 @@ impl Ledger {
 
     /// What is always true of a ledger.
     pub fn is_sound(&self)
-        ensures { IsSound self.now.node }
+        ensures node { IsSound self.now.node }
+        ensures writers { AreApart self.now.node }
     {
         let _ = &self.term;
     }

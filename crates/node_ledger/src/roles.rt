@@ -1,11 +1,12 @@
 // What a node is, and the term and the clock that it goes by.
 ghost use Rattle.std.specs.Prelude.{◌≡◌, ◌^◌, ◌<◌, ◌≤◌, false};
 ghost use Rattle.set_model.specs.Changes.{stepped_down};
-ghost use Rattle.set_model.specs.Points.{last_point};
+ghost use Rattle.set_model.specs.Points.{if_primary, last_point};
 ghost use Rattle.set_model.specs.Roles.{is_primary};
 ghost use Rattle.set_model.specs.declared.role.Role.TheVariants.{Secondary, Draining, Primary};
 
 use crate::Ledger;
+use rs_optime::OpTime;
 use set_model::Role;
 
 impl Ledger {
@@ -47,12 +48,22 @@ impl Ledger {
     pub fn step_down(&mut self)
         ensures { self.new ≡ record self.old { node = stepped_down self.old.node } }
     {
+        let reached = self.reached();
         self.writers.release_all(&mut self.store);
         self.writers.lose_all();
         self.slots.abort_all();
-        if self.role == Role::Primary {
-            self.applied = self.log.last();
-        }
+        self.applied = reached;
         self.role = Role::Secondary;
+    }
+
+    /// How far its log is applied once it is a secondary.
+    fn reached(&self) -> OpTime
+        ensures { result ≡ if_primary self.now.node.role (last_point self.now.node) self.now.node.applied }
+    {
+        if self.role == Role::Primary {
+            self.log.last()
+        } else {
+            self.applied
+        }
     }
 }
