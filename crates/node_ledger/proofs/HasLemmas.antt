@@ -33,7 +33,7 @@ newest_of-append : (before : Option Fields) (one two : List Version) → newest_
 newest_of-append before [] two = refl
 newest_of-append before (version ∷ one) two = newest_of-append version.doc one two
 
-latest-append : (base more : List Version) → latest_of (base ++ more) ≡ newest_of (latest_of base) more
+pub latest-append : (base more : List Version) → latest_of (base ++ more) ≡ newest_of (latest_of base) more
 latest-append base more =
     sym (newest_of-latest (base ++ more)) ∙ newest_of-append None base more ∙ ap (λ before. newest_of before more) (newest_of-latest base)
 
@@ -225,7 +225,7 @@ behind-from at place before (entry ∷ log) order =
         ])
         ∙ ap (λ b. versions_from place (newest_of before (versions_from place before (cond (not b) (entry ∷ log_up_to at log) (log_up_to at log)))) (cond b (entry ∷ log_behind at log) (log_behind at log))) (sym early)
 
-not_late : (b : Bool) → not b ≡ true → b ≡ false
+pub not_late : (b : Bool) → not b ≡ true → b ≡ false
 not_late true is = cc is
 not_late false is = refl
 

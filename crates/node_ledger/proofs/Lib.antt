@@ -1,4 +1,6 @@
 mod AppendLemmas
+pub mod BatchLemmas
+pub mod BatchesLemmas
 pub mod FollowLemmas
 pub mod GoesOnLemmas
 pub mod HasLemmas
@@ -9,6 +11,7 @@ pub mod OpenLemmas
 pub mod OrderLemmas
 pub mod OwnLemmas
 pub mod ReleaseLemmas
+pub mod RestoreLemmas
 pub mod RoleLemmas
 pub mod ShownLemmas
 pub mod SizeLemmas

@@ -94,6 +94,7 @@ impl Ledger {
         ensures ok { OnOk result (self.new ≡ applied_with self.old (take count (log_behind self.old.node.applied self.old.node.log))) }
         ensures begun { (at : OpTime) × (self.new ≡ applied_at self.old at) × (is_before at self.old.node.applied ≡ false) }
     {
+        self.is_sound();
         let mut left = count;
         while left > 0 {
             left -= self.apply_next(rt, WORKERS, left.min(BATCH))?;

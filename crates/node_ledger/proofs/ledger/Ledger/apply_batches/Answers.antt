@@ -1,41 +1,34 @@
-use Rattle.std.proofs.Common.{rules, ◌≡◌, ◌⊎◌, ◌-◌, ◌<◌, ◌≤◌, ◌++◌, false, true, All, length, take, IfOk, OnOk, OnErr, ℕ, ◌+◌, ◌*◌, ◌/◌, ◌%◌, Bool, nat_eq, nat_lt, List, [], ◌∷◌, slice_index_or, slice_set, bit_and, bit_or, Fits, w8, w32, w64, Bor, MutBor}
-use Rattle.entry_bytes.specs.Sizes.{IsWithinEntry}
-use Rattle.oplog_entry.specs.Visible.{ZERO, last_of, log_up_to}
-use Rattle.oplog_store.specs.Log.{IsOplog}
-use Rattle.rs_optime.specs.Order.{is_before}
-use Rattle.rs_optime.specs.declared.optime.OpTime.{OpTime}
-use Rattle.set_model.specs.Disk.{next_batch}
-use Rattle.set_model.specs.Fetching.{seen_after, with_fetched}
-use Rattle.set_model.specs.Points.{applied_point, has_entry, last_point, later_of, log_behind}
+use Rattle.std.proofs.Common.{◌≡◌, ◌<◌, ◌≤◌, arith, false, subst, sym}
 use Rattle.set_model.specs.Roles.{is_primary}
-use Rattle.node_ledger.specs.Ledger.{applied_at, applied_with}
-use Rattle.node_ledger.specs.Versions.{AreSmall}
+use Rattle.node_ledger.specs.Ledger.{Ledger as Seen}
+use Rattle.node_ledger.proofs.BatchesLemmas.{IsBegun, so_far_none, so_far_more, so_far_less, so_far_whole, so_far_begun}
 use Rattle.node_ledger.proofs.ledger.Ledger.apply_batches.Goals as goal
 
--- src/following.rt:98:9
 pub loop-left-init : goal.loop-left-init
-loop-left-init g c = ?
+loop-left-init g c = so_far_none c.args.self.now c.args.count c.requires.there
 
--- src/following.rt:99:21
 pub apply_next-requires-clause-role : goal.apply_next-requires-clause-role
-apply_next-requires-clause-role g c κs within = ?
+apply_next-requires-clause-role g c κs within = subst (λ (l : Seen). is_primary l.node.role ≡ false) (sym c.loop-left.invariant.is) c.requires.role
 
--- src/following.rt:99:21
 pub returns-in_err-left-clause-begun : goal.returns-in_err-left-clause-begun
-returns-in_err-left-clause-begun g c = ?
+returns-in_err-left-clause-begun g c =
+    subst (λ (l : Seen). IsBegun c.args.self.now l) (sym c.in_err-left.ensures.err) (so_far_begun c.args.self.now c.loop-left.self c.args.count c.loop-left.left c.loop-left.invariant)
 
--- src/following.rt:98:9
 pub loop-left-smaller : goal.loop-left-smaller
-loop-left-smaller g c = ?
+loop-left-smaller g c =
+    let some : 0 < c.min.result = omega (arith, c.min.ensures, c.loop-left-test.true) in
+    let within : c.min.result ≤ c.loop-left.left = omega (arith, c.min.ensures) in
+    so_far_less c.args.self.now c.loop-left.self c.args.count c.loop-left.left c.min.result c.in_ok-left.field-0 c.is_sound.ensures.node.oplog.order c.loop-left.invariant some within c.in_ok-left.ensures.count
 
--- src/following.rt:98:9
 pub loop-left-preserved : goal.loop-left-preserved
-loop-left-preserved g c = ?
+loop-left-preserved g c =
+    let some : 0 < c.min.result = omega (arith, c.min.ensures, c.loop-left-test.true) in
+    let within : c.min.result ≤ c.loop-left.left = omega (arith, c.min.ensures) in
+    so_far_more c.args.self.now c.loop-left.self c.apply_next.new.self c.args.count c.loop-left.left c.min.result c.in_ok-left.field-0 c.is_sound.ensures.node.oplog.order c.loop-left.invariant some within
+    c.in_ok-left.ensures.count c.in_ok-left.ensures.ok
 
--- src/following.rt:91:5
 pub returns-clause-ok : goal.returns-clause-ok
-returns-clause-ok g c = ?
+returns-clause-ok g c = so_far_whole c.args.self.now c.loop-left.self c.args.count c.loop-left.left c.loop-left.invariant c.loop-left-test.false
 
--- src/following.rt:91:5
 pub returns-clause-begun : goal.returns-clause-begun
-returns-clause-begun g c = ?
+returns-clause-begun g c = so_far_begun c.args.self.now c.loop-left.self c.args.count c.loop-left.left c.loop-left.invariant
