@@ -4,6 +4,7 @@
 
 mod point;
 mod progress;
+mod reached;
 
 pub use point::learn;
 pub use progress::Progress;
