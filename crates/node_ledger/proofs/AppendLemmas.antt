@@ -1,9 +1,9 @@
 -- Entries behind a log, one after another.
-use Rattle.std.proofs.Common.{◌≡◌, ◌<◌, ◌∙◌, ◌-◌, ℕ, suc, zero, Bool, true, false, List, [], ◌∷◌, ◌++◌, length, refl, sym, ap, subst, arith, get_or, fold}
+use Rattle.std.proofs.Common.{◌≡◌, ◌<◌, ◌∙◌, ◌-◌, ℕ, suc, zero, List, [], ◌∷◌, ◌++◌, length, refl, sym, ap, subst, arith, get_or}
 use Rattle.std.specs.List.{All, AllPairs}
 use Rattle.std.specs.Prelude.{max}
 use Rattle.std.proofs.lemmas.List.{append_assoc, length-append}
-use Rattle.std.proofs.lemmas.List.Elements.{All-append, All-cons, All-head, All-tail}
+use Rattle.std.proofs.lemmas.List.Elements.{All-cons, All-head, All-tail}
 use Rattle.oplog_entry.specs.Lawful.{IsLawful}
 use Rattle.oplog_entry.specs.Log.{StandsBefore, IsOplog, with_entry}
 use Rattle.oplog_entry.specs.declared.entry.Entry.{Entry}

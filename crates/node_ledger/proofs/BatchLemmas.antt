@@ -1,6 +1,6 @@
 -- A ledger keeps its documents as entries of its log are applied.
-use Rattle.std.proofs.Common.{◌≡◌, ◌∙◌, ◌<◌, ◌≤◌, ◌+◌, ◌-◌, ap, sym, refl, subst, arith, Bool, true, false, cond, not, ℕ, zero, suc, List, [], ◌∷◌, ◌++◌, Option, None, Some, append_assoc, append-nil, length, take, drop}
-use Rattle.std.specs.Prelude.{filter, slice_get, slice_index_or}
+use Rattle.std.proofs.Common.{◌≡◌, ◌∙◌, ◌<◌, ◌≤◌, ◌-◌, ap, sym, refl, subst, arith, Bool, true, false, cond, not, ℕ, zero, suc, List, [], ◌∷◌, ◌++◌, Option, Some, append_assoc, append-nil, length, take, drop}
+use Rattle.std.specs.Prelude.{slice_get, slice_index_or}
 use Rattle.std.specs.List.{All, AllPairs}
 use Rattle.std.proofs.lemmas.List.{take-append-drop, get_or-take, length-take}
 use Rattle.std.proofs.lemmas.List.Elements.{filter-append, All-filter, All-take, All-drop, All-append}
@@ -22,11 +22,11 @@ use Rattle.oplog_store.proofs.LogLemmas.{last_is}
 use Rattle.repl_msg.specs.Logs.{log_behind}
 use Rattle.version_store.specs.declared.history.Version.{Version}
 use Rattle.version_store.specs.Past.{Past, latest_of, with_version}
-use Rattle.version_store.specs.Store.{Store, past_at, versions_at, holder_at}
-use Rattle.version_store.proofs.HistoryLemmas.{at_most_trans, before_trans, not_behind}
+use Rattle.version_store.specs.Store.{Store, past_at, versions_at}
+use Rattle.version_store.proofs.HistoryLemmas.{at_most_trans, not_behind}
 use Rattle.set_model.specs.Holds.{is_at}
 use Rattle.set_model.specs.Node.{Node}
-use Rattle.set_model.specs.Points.{if_primary, visible_point}
+use Rattle.set_model.specs.Points.{visible_point}
 use Rattle.set_model.specs.Roles.{is_primary}
 use Rattle.node_ledger.specs.Kept.{IsKept, IsHolder}
 use Rattle.node_ledger.specs.Ledger.{applied_after}

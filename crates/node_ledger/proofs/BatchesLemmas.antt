@@ -1,6 +1,6 @@
 -- A ledger whose log is applied batch by batch.
-use Rattle.std.proofs.Common.{◌≡◌, ◌⊎◌, inl, inr, ◌∙◌, ◌<◌, ◌≤◌, ◌+◌, ◌-◌, ap, sym, refl, subst, arith, Bool, true, false, cond, not, ℕ, zero, suc, List, [], ◌∷◌, ◌++◌, append-nil, length, length-append, take, drop, min}
-use Rattle.std.specs.Prelude.{filter, slice_index_or}
+use Rattle.std.proofs.Common.{◌≡◌, ◌∙◌, ◌<◌, ◌≤◌, ◌+◌, ◌-◌, ap, sym, refl, subst, arith, Bool, true, false, cond, not, ℕ, zero, suc, List, [], ◌∷◌, ◌++◌, append-nil, length, length-append, take, drop}
+use Rattle.std.specs.Prelude.{slice_index_or}
 use Rattle.std.specs.List.{All, AllPairs}
 use Rattle.std.proofs.lemmas.List.{take-append-drop, take-take, take_at, drop-take, length-take-le, length-drop}
 use Rattle.std.proofs.lemmas.List.Elements.{All-filter}
@@ -11,8 +11,8 @@ use Rattle.oplog_entry.specs.Visible.{ZERO, is_before, last_of, log_up_to}
 use Rattle.oplog_entry.specs.declared.entry.Entry.{Entry}
 use Rattle.repl_msg.specs.Logs.{log_behind, later_of}
 use Rattle.version_store.specs.Past.{Past, back_to, up_to}
-use Rattle.version_store.specs.Store.{Store, past_at, versions_at, ChangesEach}
-use Rattle.version_store.proofs.HistoryLemmas.{at_most_trans, not_behind, not_before_itself}
+use Rattle.version_store.specs.Store.{Store, versions_at, ChangesEach}
+use Rattle.version_store.proofs.HistoryLemmas.{not_behind, not_before_itself}
 use Rattle.set_model.specs.declared.command.ReadLevel.TheVariants.{Local}
 use Rattle.set_model.specs.Node.{Node}
 use Rattle.set_model.specs.Points.{if_primary, visible_point}
@@ -22,7 +22,7 @@ use Rattle.node_ledger.specs.Kept.{IsKept, IsHolder}
 use Rattle.node_ledger.specs.Ledger.{Ledger, applied_after, applied_at, applied_with}
 use Rattle.node_ledger.specs.Sound.{IsIdle}
 use Rattle.node_ledger.specs.Versions.{HasVersions}
-use Rattle.node_ledger.proofs.BatchLemmas.{batch_behind, batch_of, last_applied, last_has, last_late, stable_applied}
+use Rattle.node_ledger.proofs.BatchLemmas.{batch_behind, batch_of, last_applied, last_has, last_late}
 use Rattle.node_ledger.proofs.FollowLemmas.{other_point}
 use Rattle.node_ledger.proofs.HasLemmas.{has_up_to, not_late}
 use Rattle.node_ledger.proofs.LogLemmas.{filter-passes, filter-swap, parts, up_to-up_to}

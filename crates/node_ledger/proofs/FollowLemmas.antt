@@ -1,10 +1,8 @@
 -- A ledger keeps its documents as its log is cut, and as versions are pruned.
-use Rattle.std.proofs.Common.{◌≡◌, ◌≢◌, ◌⊎◌, inl, inr, ◌<◌, ◌≤◌, ◌∙◌, ℕ, Bool, true, false, not, IsTrue, List, [], ◌∷◌, Option, None, Some, refl, sym, ap, subst, arith}
+use Rattle.std.proofs.Common.{◌≡◌, ◌⊎◌, inl, inr, ◌<◌, ◌≤◌, ◌∙◌, ℕ, Bool, true, false, not, List, [], ◌∷◌, None, refl, sym, ap, subst, arith}
 use Rattle.std.specs.Prelude.{slice_index_or}
 use Rattle.std.specs.List.{All, AllPairs, list_any}
-use Rattle.std.specs.FinSet as sets
 use Rattle.std.proofs.lemmas.List.Elements.{All-filter}
-use Rattle.bson_doc.specs.Place.{Place}
 use Rattle.rs_optime.specs.Later.{same_optime}
 use Rattle.rs_optime.specs.Order.{is_before}
 use Rattle.rs_optime.specs.declared.optime.OpTime.{OpTime}
@@ -19,7 +17,7 @@ use Rattle.repl_msg.specs.Logs.{has_entry}
 use Rattle.repl_msg.proofs.HasLemmas.{same_is}
 use Rattle.version_store.specs.declared.history.Version.{Version}
 use Rattle.version_store.specs.Past.{Past, up_to, back_to, pruned}
-use Rattle.version_store.specs.Store.{Store, past_at, versions_at, holder_at, ChangesEach}
+use Rattle.version_store.specs.Store.{Store, versions_at, ChangesEach}
 use Rattle.version_store.proofs.HistoryLemmas.{at_most_trans, not_before_itself}
 use Rattle.set_model.specs.declared.command.ReadLevel.TheVariants.{Local}
 use Rattle.set_model.specs.declared.role.Role.{Role}

@@ -1,18 +1,18 @@
 -- A ledger keeps its documents as entries come behind its log, and as its node steps down.
-use Rattle.std.proofs.Common.{◌≡◌, ◌≢◌, ◌⊎◌, inl, inr, ◌<◌, ◌≤◌, ◌^◌, ◌∙◌, ℕ, Bool, true, false, cond, not, List, [], ◌∷◌, ◌++◌, Option, None, Some, refl, sym, ap, subst, arith}
+use Rattle.std.proofs.Common.{◌≡◌, inl, inr, ◌≤◌, ◌∙◌, ℕ, Bool, true, false, cond, List, [], ◌∷◌, ◌++◌, None, Some, refl, sym, ap, subst, arith}
 use Rattle.std.specs.Prelude.{max}
 use Rattle.std.specs.List.{All, AllPairs}
 use Rattle.std.specs.Cmp.{nat_cmp_total}
 use Rattle.std.specs.FinMap as maps
 use Rattle.std.specs.FinSet as sets
 use Rattle.std.specs.Ordering.{nat_cmp, eq_by_cmp}
-use Rattle.std.proofs.lemmas.List.Elements.{All-append, All-cons, All-weaker}
+use Rattle.std.proofs.lemmas.List.Elements.{All-append, All-cons}
 use Rattle.bson_doc.specs.Place.{Place}
 use Rattle.rs_optime.specs.Order.{is_before, optime_cmp}
 use Rattle.rs_optime.specs.declared.optime.OpTime.{OpTime}
 use Rattle.entry_bytes.specs.Sizes.{IsWithinEntry}
 use Rattle.oplog_entry.specs.Log.{StandsBefore, IsOplog}
-use Rattle.oplog_entry.specs.Visible.{ZERO, last_of, visible, log_up_to}
+use Rattle.oplog_entry.specs.Visible.{last_of, visible, log_up_to}
 use Rattle.oplog_entry.specs.declared.entry.Entry.{Entry}
 use Rattle.oplog_entry.specs.declared.entry.Op.{Op}
 use Rattle.version_store.specs.Store.{Store, versions_at, holder_at}
@@ -21,12 +21,10 @@ use Rattle.set_model.specs.declared.role.Role.{Role}
 use Rattle.set_model.specs.declared.role.Role.TheVariants.{Secondary, Candidate, Draining, Primary}
 use Rattle.set_model.specs.declared.writer.Writer.{Writer}
 use Rattle.set_model.specs.declared.writer.Writer.TheVariants.{Open, Done, Lost}
-use Rattle.set_model.specs.declared.command.ReadLevel.TheVariants.{Local}
 use Rattle.set_model.specs.Changes.{all_lost, lost_writer, stepped_down}
 use Rattle.set_model.specs.Fetching.{seen_after, with_fetched}
 use Rattle.set_model.specs.Node.{Node}
 use Rattle.set_model.specs.Points.{if_primary, last_point, visible_point}
-use Rattle.set_model.specs.Reads.{shown_log}
 use Rattle.set_model.specs.Roles.{is_primary}
 use Rattle.node_ledger.specs.Kept.{IsHolder, IsKept, is_held_by}
 use Rattle.node_ledger.specs.Sound.{IsIdle}

@@ -1,6 +1,6 @@
 -- The versions that a store has of a document, as the log and the other disk's optime go on.
-use Rattle.std.proofs.Common.{◌≡◌, ◌≢◌, ◌⊎◌, ◌≤◌, inl, inr, ◌∙◌, ap, sym, refl, subst, arith, Bool, true, false, cond, not, ℕ, zero, suc, List, [], ◌∷◌, ◌++◌, Option, None, Some, fold, append_assoc, append-nil, option_and_then, is_some}
-use Rattle.std.specs.Prelude.{filter, slice_index_or, nat_lt}
+use Rattle.std.proofs.Common.{◌≡◌, ◌≢◌, ◌≤◌, inl, inr, ◌∙◌, ap, sym, refl, subst, arith, Bool, true, false, cond, not, ℕ, zero, List, [], ◌∷◌, ◌++◌, Option, None, Some, append_assoc, option_and_then, is_some}
+use Rattle.std.specs.Prelude.{slice_index_or, nat_lt}
 use Rattle.std.specs.List.{All, AllPairs}
 use Rattle.std.proofs.lemmas.List.Elements.{filter-append, All-filter, All-append}
 use Rattle.std.proofs.lemmas.List.Kept.{AllPairs-filter}
@@ -12,20 +12,20 @@ use Rattle.rs_optime.specs.declared.optime.OpTime.{OpTime}
 use Rattle.oplog_entry.specs.Docs.{docs, applied}
 use Rattle.oplog_entry.specs.Log.{StandsBefore, with_entry}
 use Rattle.oplog_entry.specs.Step.{place_of, document_after}
-use Rattle.oplog_entry.specs.Visible.{is_before, last_of, log_up_to}
+use Rattle.oplog_entry.specs.Visible.{is_before, log_up_to}
 use Rattle.oplog_entry.specs.declared.entry.Entry.{Entry}
 use Rattle.oplog_store.proofs.Keeps.{all_tail, pairs_tail}
 use Rattle.oplog_store.proofs.Optimes.{before_both}
 use Rattle.repl_msg.specs.Logs.{log_behind}
 use Rattle.version_store.specs.declared.history.Version.{Version}
-use Rattle.version_store.specs.Past.{Past, latest_of, last_version, up_to, behind, shown, standing}
-use Rattle.version_store.proofs.HistoryLemmas.{at_most_trans, before_trans, not_behind}
+use Rattle.version_store.specs.Past.{latest_of, last_version, up_to, behind, shown, standing}
+use Rattle.version_store.proofs.HistoryLemmas.{at_most_trans, before_trans}
 use Rattle.set_model.specs.Holds.{is_at}
 use Rattle.node_ledger.specs.Kept.{IsNewest, FitsBeside}
 use Rattle.node_ledger.specs.Versions.{versions_from, HasVersions}
 use Rattle.node_ledger.proofs.LogLemmas.{every_late, parts, up_to-up_to, up_to-late, behind-late, filter-swap, filter-within, filter-all, filter-none, filter-passes}
-use Rattle.node_ledger.proofs.OrderLemmas.{not_then_not, before_then_not}
-use Rattle.node_ledger.proofs.VersionLemmas.{none_up_to, newest_of, newest_of-latest, newest-from, up_to-from, with_here-from, with_other-from, is_at-here, is_at-other, is_at-only, all_versions, IsQuiet, quiet_of_newest}
+use Rattle.node_ledger.proofs.OrderLemmas.{not_then_not}
+use Rattle.node_ledger.proofs.VersionLemmas.{none_up_to, newest_of, newest_of-latest, newest-from, up_to-from, with_here-from, with_other-from, is_at-here, is_at-other, is_at-only, all_versions, quiet_of_newest}
 
 -- ---- the newest of versions
 

@@ -18,11 +18,11 @@ use Rattle.oplog_entry.specs.declared.entry.Op.{Op}
 use Rattle.oplog_entry.specs.declared.entry.Op.TheVariants.{Noop}
 use Rattle.version_store.specs.declared.history.Version.{Version}
 use Rattle.version_store.specs.Past.{Past, with_version, held_by}
-use Rattle.version_store.specs.Store.{Store, past_at, versions_at, holder_at, Changes}
+use Rattle.version_store.specs.Store.{Store, past_at, versions_at, Changes}
 use Rattle.set_model.specs.declared.command.ReadLevel.TheVariants.{Local}
 use Rattle.set_model.specs.declared.role.Role.{Role}
 use Rattle.set_model.specs.declared.role.Role.TheVariants.{Primary}
-use Rattle.set_model.specs.declared.writer.Writer.TheVariants.{Open, Done}
+use Rattle.set_model.specs.declared.writer.Writer.TheVariants.{Done}
 use Rattle.set_model.specs.Changes.{logged, opened}
 use Rattle.set_model.specs.Holds.{holder_among}
 use Rattle.set_model.specs.Node.{Node}

@@ -1,5 +1,5 @@
 -- The order of optimes.
-use Rattle.std.proofs.Common.{◌≡◌, ◌⊎◌, inl, inr, true, false, arith}
+use Rattle.std.proofs.Common.{◌≡◌, inl, inr, true, false, arith}
 use Rattle.rs_optime.specs.Order.{is_before}
 use Rattle.rs_optime.specs.declared.optime.OpTime.{OpTime}
 use Rattle.oplog_entry.proofs.Optimes.{earlier_term, earlier_time, later_term, later_time, before_by, not_before_by}

@@ -1,5 +1,5 @@
 -- A ledger out of the entries and the documents that disks have.
-use Rattle.std.proofs.Common.{◌≡◌, ◌≢◌, ◌⊎◌, inl, inr, ◌∙◌, ◌<◌, ◌≤◌, ◌^◌, ap, sym, refl, subst, arith, Bool, true, false, not, ℕ, zero, suc, List, [], ◌∷◌, ◌++◌, Option, None, Some, append-nil, length, length-append, fold, max}
+use Rattle.std.proofs.Common.{◌≡◌, inl, inr, ◌∙◌, ◌<◌, ◌≤◌, ◌^◌, ap, sym, refl, subst, arith, Bool, true, false, not, ℕ, zero, suc, List, [], ◌∷◌, ◌++◌, Option, None, Some, append-nil, length, length-append, max}
 use Rattle.std.specs.Prelude.{slice_index_or}
 use Rattle.std.specs.List.{All, AllPairs, AllByRecursion}
 use Rattle.std.specs.List.Sorted.{IsStrictlySortedBy}
@@ -11,7 +11,6 @@ use Rattle.std.specs.Cmp.{tied_itself}
 use Rattle.std.specs.FinMap as maps
 use Rattle.std.specs.FinSet as sets
 use Rattle.std.proofs.lemmas.Map.Entries.{lookup_head, lookup_tail}
-use Rattle.std.proofs.lemmas.List.Kept.{AllPairs-filter}
 use Rattle.bson_doc.specs.Place.{Place, place_cmp}
 use Rattle.bson_doc.specs.Tree.{Fields}
 use Rattle.bson_doc.proofs.KeyLemmas.{place_cmp-total}
@@ -27,7 +26,7 @@ use Rattle.oplog_entry.specs.Visible.{last_of, log_up_to}
 use Rattle.oplog_entry.specs.declared.entry.Entry.{Entry}
 use Rattle.oplog_entry.proofs.Optimes.{not_before_by}
 use Rattle.oplog_store.specs.Log.{IsOplog}
-use Rattle.oplog_store.proofs.Keeps.{all_tail, pairs_head, pairs_tail}
+use Rattle.oplog_store.proofs.Keeps.{pairs_head, pairs_tail}
 use Rattle.repl_msg.specs.Logs.{log_behind}
 use Rattle.version_store.specs.declared.history.Version.{Version}
 use Rattle.version_store.specs.Past.{Past, no_past, latest_of, with_version}

@@ -1,35 +1,27 @@
 -- A ledger keeps its documents as its node's role, term and clock change.
-use Rattle.std.proofs.Common.{◌≡◌, ◌≢◌, ◌⊎◌, inl, inr, ◌<◌, ◌≤◌, ◌^◌, ◌∙◌, ℕ, Bool, true, false, not, List, [], Option, None, Some, refl, sym, ap, subst, arith, lit<}
-use Rattle.std.specs.List.{All, AllPairs}
+use Rattle.std.proofs.Common.{◌≡◌, ◌<◌, ◌≤◌, ◌^◌, ◌∙◌, ℕ, false, not, List, [], None, Some, refl, sym, ap, subst, arith, lit<}
 use Rattle.std.specs.FinMap as maps
 use Rattle.std.specs.FinSet as sets
 use Rattle.std.specs.Ordering.{nat_cmp}
 use Rattle.bson_doc.specs.Place.{Place, place_cmp}
 use Rattle.rs_optime.specs.Order.{is_before, optime_cmp}
-use Rattle.rs_optime.specs.declared.optime.OpTime.{OpTime}
-use Rattle.oplog_entry.specs.Log.{StandsBefore}
 use Rattle.oplog_entry.specs.Visible.{ZERO, last_of, visible, log_up_to}
 use Rattle.oplog_entry.specs.declared.entry.Entry.{Entry}
-use Rattle.oplog_entry.specs.declared.entry.Op.{Op}
 use Rattle.version_store.specs.Past.{Past, no_past}
-use Rattle.version_store.specs.Store.{Store, past_at, versions_at, holder_at}
+use Rattle.version_store.specs.Store.{Store, past_at, versions_at}
 use Rattle.set_model.specs.declared.role.Role.{Role}
 use Rattle.set_model.specs.declared.role.Role.TheVariants.{Secondary, Candidate, Draining, Primary}
 use Rattle.set_model.specs.declared.writer.Writer.TheVariants.{Open}
-use Rattle.set_model.specs.Changes.{stepped_down}
 use Rattle.set_model.specs.Node.{Node}
 use Rattle.set_model.specs.Points.{if_primary, last_point, visible_point}
 use Rattle.set_model.specs.Roles.{is_primary}
 use Rattle.visibility_point.proofs.Least.{none_listed, items_again}
 use Rattle.node_ledger.specs.Kept.{AreApart, IsKept, IsHolder, is_held_by}
 use Rattle.node_ledger.specs.Ledger.{ledger_node}
-use Rattle.node_ledger.specs.Sound.{IsSound, IsIdle}
+use Rattle.node_ledger.specs.Sound.{IsIdle}
 use Rattle.node_ledger.specs.Versions.{HasVersions}
-use Rattle.node_ledger.specs.Writers.{Writers, HasOpen, IsWriting}
-use Rattle.node_ledger.proofs.HolderLemmas.{held_open}
+use Rattle.node_ledger.specs.Writers.{IsWriting}
 use Rattle.node_ledger.proofs.LogLemmas.{up_to-last}
-use Rattle.node_ledger.proofs.SoundLemmas.{primary_not}
-use Rattle.node_ledger.proofs.VisibleLemmas.{visible_shown, some_more, some_to_last, zero_least, IsBeforeSlots}
 
 -- what is told of two roles, neither of them primary
 pub if_other : {A : Type 0} → (one two : Role) (a b c : A) → is_primary one ≡ false → is_primary two ≡ false → if_primary one a b ≡ if_primary two c b

@@ -1,5 +1,5 @@
 -- What a ledger's documents show.
-use Rattle.std.proofs.Common.{◌≡◌, ◌∙◌, Bool, true, false, not, List, refl, ap, IfSome}
+use Rattle.std.proofs.Common.{◌≡◌, ◌∙◌, false, not, List, refl, ap, IfSome}
 use Rattle.std.specs.List.{All, AllPairs}
 use Rattle.std.specs.FinMap.{get}
 use Rattle.std.proofs.lemmas.List.Elements.{All-filter}

@@ -1,5 +1,5 @@
 -- A no-op fits into a record.
-use Rattle.std.proofs.Common.{◌≡◌, ◌≤◌, length, arith, codes, refl}
+use Rattle.std.proofs.Common.{arith}
 use Rattle.entry_bytes.specs.Sizes.{IsWithinEntry}
 use Rattle.rs_optime.specs.declared.optime.OpTime.{OpTime}
 use Rattle.oplog_entry.specs.declared.entry.Op.TheVariants.{Noop}

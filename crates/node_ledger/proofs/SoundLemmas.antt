@@ -1,12 +1,11 @@
 -- A node's log stays in order as it is written.
-use Rattle.std.proofs.Common.{◌≡◌, ◌≢◌, ◌⊎◌, inl, inr, ◌<◌, ◌≤◌, ◌^◌, ◌+◌, ◌∙◌, ℕ, suc, zero, Bool, true, false, not, IsTrue, IsSome, List, [], ◌∷◌, ◌++◌, Option, None, Some, refl, sym, ap, subst, arith, rules, lit<}
+use Rattle.std.proofs.Common.{◌≡◌, ◌≢◌, ◌⊎◌, inl, inr, ◌<◌, ◌≤◌, ◌∙◌, ℕ, suc, zero, true, false, not, IsTrue, IsSome, List, [], ◌∷◌, Option, None, Some, refl, sym, ap, subst, arith}
 use Rattle.std.specs.Prelude.{slice_index_or}
 use Rattle.std.specs.List.{All, AllPairs}
-use Rattle.std.specs.FinMap.{get, entries, insert, remove}
+use Rattle.std.specs.FinMap.{get, insert}
 use Rattle.std.specs.FinSet as sets
 use Rattle.std.proofs.lemmas.List.Elements.{All-append}
 use Rattle.bson_doc.specs.Place.{Place}
-use Rattle.bson_doc.specs.Tree.{Fields}
 use Rattle.rs_optime.specs.Order.{optime_cmp, is_before}
 use Rattle.rs_optime.specs.declared.optime.OpTime.{OpTime}
 use Rattle.entry_bytes.specs.Sizes.{IsWithinEntry}
@@ -19,26 +18,24 @@ use Rattle.oplog_entry.specs.Step.{place_of, document_after}
 use Rattle.oplog_entry.specs.Visible.{ZERO, last_of, visible}
 use Rattle.oplog_entry.proofs.Optimes.{before_both}
 use Rattle.oplog_store.specs.Log.{IsOplog, with_entry}
-use Rattle.oplog_store.proofs.Keeps.{all_tail, all_with_entry, with_entry_keeps}
+use Rattle.oplog_store.proofs.Keeps.{all_with_entry, with_entry_keeps}
 use Rattle.optime_slots.proofs.SlotLemmas.{open_with, open_without}
 use Rattle.version_store.specs.declared.history.Version.{Version}
 use Rattle.version_store.specs.Past.{latest_of}
 use Rattle.version_store.proofs.HistoryLemmas.{at_most_trans}
 use Rattle.set_model.specs.declared.role.Role.{Role}
 use Rattle.set_model.specs.declared.role.Role.TheVariants.{Secondary, Candidate, Draining, Primary}
-use Rattle.set_model.specs.declared.writer.Writer.TheVariants.{Open, Done}
+use Rattle.set_model.specs.declared.writer.Writer.TheVariants.{Open}
 use Rattle.set_model.specs.Changes.{logged, opened}
 use Rattle.set_model.specs.Node.{Node}
-use Rattle.set_model.specs.Points.{if_primary, next_optime, visible_point, applied_point, last_point}
+use Rattle.set_model.specs.Points.{if_primary, next_optime, visible_point}
 use Rattle.set_model.specs.Roles.{is_primary}
 use Rattle.set_model.specs.Writers.{settled, aborted}
-use Rattle.node_ledger.specs.Kept.{FitsBeside, IsNewest, IsPending, AreApart}
+use Rattle.node_ledger.specs.Kept.{IsNewest, IsPending, AreApart}
 use Rattle.node_ledger.specs.Sound.{IsSound}
 use Rattle.node_ledger.specs.Versions.{versions_of, IsSmall, AreSmall}
 use Rattle.node_ledger.specs.Writers.{HasOpen, IsWriting}
 use Rattle.node_ledger.proofs.OpenLemmas.{newest_with, slot-itself, slot-more, slot-other, opened_cases, done_cases, gone_cases, three_ways}
-use Rattle.node_ledger.proofs.OrderLemmas.{before_then_not, not_then_not}
-use Rattle.node_ledger.proofs.LogLemmas.{at_most_last}
 use Rattle.node_ledger.proofs.VersionLemmas.{same_place, latest_of-versions_of, versions_of-with, versions_of-with-other}
 use Rattle.node_ledger.proofs.VisibleLemmas.{IsShown, IsBeforeSlots, SomeEntry, some_fact, some_with, some_more, some_both, some_to_last, last_to_some, visible_shown, shown_visible, zero_least}
 

@@ -1,5 +1,5 @@
 -- A store whose documents are held and let go.
-use Rattle.std.proofs.Common.{◌≡◌, inl, inr, ◌∙◌, ℕ, Option, None, Some, Result, Ok, Err, is_ok, IsTrue, OnOk, refl, sym, ap, subst}
+use Rattle.std.proofs.Common.{◌≡◌, inl, inr, ◌∙◌, ℕ, Option, None, Some, Result, Ok, Err, is_ok, IsTrue, OnOk, sym, ap, subst}
 use Rattle.std.specs.FinSet as sets
 use Rattle.bson_doc.specs.Place.{Place}
 use Rattle.rs_optime.specs.declared.optime.OpTime.{OpTime}

@@ -1,19 +1,17 @@
 -- How far a log is visible, by the entries that no slot holds back.
-use Rattle.std.proofs.Common.{◌≡◌, ◌⊎◌, inl, inr, ◌≤◌, ◌<◌, ◌∙◌, ap, sym, refl, subst, arith, Bool, true, false, cond, not, IsTrue, ℕ, zero, suc, List, [], ◌∷◌, ◌++◌, Option, None, Some}
-use Rattle.std.specs.Prelude.{IfSome, filter, nat_lt, slice_index_or}
-use Rattle.std.specs.List.{All, AllPairs, list_any}
+use Rattle.std.proofs.Common.{◌≡◌, ◌⊎◌, inl, inr, ◌<◌, ◌∙◌, ap, sym, refl, subst, arith, Bool, true, false, cond, IsTrue, ℕ, zero, suc, List, [], ◌∷◌, Option, None, Some}
+use Rattle.std.specs.Prelude.{IfSome, filter, nat_lt}
+use Rattle.std.specs.List.{All, AllPairs}
 use Rattle.std.proofs.lemmas.List.Kept.{AllPairs-filter}
 use Rattle.std.specs.FinSet as sets
-use Rattle.rs_optime.specs.Later.{same_optime}
 use Rattle.rs_optime.specs.Order.{optime_cmp, is_before}
 use Rattle.rs_optime.specs.declared.optime.OpTime.{OpTime}
 use Rattle.oplog_entry.specs.Log.{StandsBefore, with_entry}
 use Rattle.oplog_entry.specs.Visible.{ZERO, last_of, least, entries_before, visible}
 use Rattle.oplog_entry.specs.declared.entry.Entry.{Entry}
 use Rattle.oplog_entry.proofs.Optimes.{later_term, later_time, not_before_by}
-use Rattle.optime_slots.proofs.SlotLemmas.{optime_total}
 use Rattle.oplog_store.proofs.Keeps.{all_tail}
-use Rattle.visibility_point.proofs.Least.{is_listed, least_listed, least_is_first, none_listed, items_again}
+use Rattle.visibility_point.proofs.Least.{is_listed, least_listed, least_is_first}
 use Rattle.node_ledger.proofs.LogLemmas.{at_most_last}
 use Rattle.node_ledger.proofs.OrderLemmas.{before_then_not, not_then_not}
 

@@ -4,7 +4,7 @@ use Rattle.std.specs.Ordering.{eq_by_cmp, is_eq, nat_cmp}
 use Rattle.std.specs.Cmp.{nat_cmp_total, eq_by_cmp_equiv, tied_itself, Equal-is}
 use Rattle.std.specs.Map.{lookup}
 use Rattle.std.specs.BTreeMap.{is_at}
-use Rattle.std.specs.FinMap.{FinMap, entries, find, get, insert, remove, from_entries, get-entries, get-from_entries, get-insert, get-remove, same_map, nat_cmp-IsAntisymmetric}
+use Rattle.std.specs.FinMap.{entries, find, get, insert, remove, from_entries, get-entries, get-from_entries, get-insert, get-remove, same_map, nat_cmp-IsAntisymmetric}
 use Rattle.std.specs.Option.{option_map}
 use Rattle.set_model.specs.Changes.{all_lost, lost_writer}
 use Rattle.set_model.specs.declared.writer.Writer.{Writer}

@@ -1,4 +1,4 @@
-use Rattle.std.proofs.Common.{◌≡◌, ◌∙◌, ◌++◌, ◌∷◌, [], ap, sym}
+use Rattle.std.proofs.Common.{◌∙◌, ◌++◌, ◌∷◌, [], ap, sym}
 use Rattle.std.proofs.lemmas.List.{append_assoc}
 use Rattle.node_ledger.proofs.AppendLemmas.{log_more, next_oplog, slots_more}
 use Rattle.node_ledger.proofs.following.insert_all.Goals as goal

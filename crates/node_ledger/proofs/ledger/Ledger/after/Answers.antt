@@ -1,5 +1,4 @@
-use Rattle.std.proofs.Common.{◌≡◌, ◌∙◌, sym, Some}
-use Rattle.oplog_entry.specs.declared.entry.Op.{Op}
+use Rattle.std.proofs.Common.{◌≡◌, ◌∙◌, Some}
 use Rattle.set_model.specs.declared.writer.Writer.TheVariants.{Open}
 use Rattle.set_model.specs.declared.role.Role.TheVariants.{Primary}
 use Rattle.node_ledger.proofs.LedgerLemmas.{whole_documents}

@@ -1,4 +1,3 @@
-use Rattle.std.proofs.Common.{◌≡◌, ap}
 use Rattle.node_ledger.proofs.GoesOnLemmas.{kept_appended}
 use Rattle.node_ledger.proofs.ledger.Ledger.append.Goals as goal
 

@@ -1,5 +1,4 @@
 use Rattle.std.proofs.Common.{◌∙◌, sym, subst, IfSome}
-use Rattle.node_ledger.proofs.LedgerLemmas.{kept_logged}
 use Rattle.node_ledger.proofs.ShownLemmas.{local_latest, local_own}
 use Rattle.node_ledger.proofs.OwnLemmas.{IsOwn}
 use Rattle.node_ledger.proofs.ledger.Ledger.latest.Goals as goal

@@ -1,4 +1,4 @@
-use Rattle.std.proofs.Common.{refl, arith}
+use Rattle.std.proofs.Common.{arith}
 use Rattle.node_ledger.proofs.FollowLemmas.{next_term_readable, next_term_shown}
 use Rattle.node_ledger.proofs.ledger.Ledger.local_point.Goals as goal
 

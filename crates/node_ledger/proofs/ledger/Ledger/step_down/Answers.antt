@@ -1,5 +1,3 @@
-use Rattle.std.proofs.Common.{◌≡◌, ◌∙◌, ap}
-use Rattle.set_model.specs.Points.{if_primary, last_point}
 use Rattle.node_ledger.proofs.GoesOnLemmas.{kept_stepped}
 use Rattle.node_ledger.proofs.ledger.Ledger.step_down.Goals as goal
 

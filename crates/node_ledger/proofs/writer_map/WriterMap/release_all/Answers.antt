@@ -1,4 +1,4 @@
-use Rattle.std.proofs.Common.{◌≡◌, ◌∙◌, ℕ, List, Some, sym, ap, refl, rules}
+use Rattle.std.proofs.Common.{◌≡◌, ◌∙◌, ℕ, List, Some, ap, refl, rules}
 use Rattle.std.specs.FinMap.{from_entries}
 use Rattle.std.specs.Ordering.{nat_cmp}
 use Rattle.bson_doc.specs.Place.{Place}
