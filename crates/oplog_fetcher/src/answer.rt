@@ -67,8 +67,8 @@ fn next_entries(log: &Oplog, visible: OpTime, base: OpTime) -> &[Entry]
     &entries[..entries.len().min(MOST_ENTRIES)]
 }
 
-/// The entries behind an optime.
-fn behind(entries: &[Entry], at: OpTime) -> &[Entry]
+/// The entries of a log behind an optime.
+pub fn behind(entries: &[Entry], at: OpTime) -> &[Entry]
     requires { IsOplog entries.now }
     ensures entries { result.now ≡ log_behind at entries.now }
     ensures lawful { All IsLawful result.now }
