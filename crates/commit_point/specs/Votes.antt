@@ -14,6 +14,10 @@ abbrev pub vote_point : Reports → ℕ → ℕ → OpTime → Member → Option
 vote_point reports term own durable member =
     if member.votes then of_term term (durable_of reports own durable member.number) else None
 
+-- whether another optime is at or past one
+abbrev pub reaches : OpTime → OpTime → Bool
+reaches o other = not (is_before other o)
+
 -- whether so many of the points are at or past an optime
 abbrev pub is_reached_by : ℕ → List OpTime → OpTime → Bool
-is_reached_by needed points o = nat_le needed (length (filter (λ other. not (is_before other o)) points))
+is_reached_by needed points o = nat_le needed (length (filter (reaches o) points))
