@@ -1,0 +1,205 @@
+-- What a write comes to on a node.
+use Rattle.std.proofs.Common.{◌≡◌, ◌≤◌, ◌<◌, ◌∙◌, codes, ℕ, zero, Bool, true, false, cond, ◌&&◌, List, [], ◌∷◌, length, nat_lt, fold, All, Option, None, Some, Result, Ok, Err, IfSome, refl, sym, ap, subst, arith, ltb-true}
+use Rattle.std.proofs.lemmas.Bool.{and_parts}
+use Rattle.std.specs.Char.{is_ascii_alphabetic}
+use Rattle.std.specs.Cmp.{eq_by_cmp_equiv}
+use Rattle.std.specs.List.{list_all}
+use Rattle.std.specs.Ordering.{nat_cmp}
+use Rattle.std.specs.FinMap.{FinMap, get, get-empty, empty}
+use Rattle.bson_doc.specs.Key.{key_of, same_key}
+use Rattle.bson_doc.specs.Place.{Place, place_cmp}
+use Rattle.bson_doc.specs.Tree.{Tree, Fields, found}
+use Rattle.bson_doc.specs.View.{tree_of}
+use Rattle.bson_doc.specs.declared.key.IdKey.{IdKey}
+use Rattle.bson_doc.proofs.KeyLemmas.{place_cmp-total}
+use Rattle.oplog_entry.specs.Docs.{Documents, docs, applied}
+use Rattle.oplog_entry.specs.Lawful.{BeginsWithId}
+use Rattle.oplog_entry.specs.Step.{id_key, place_of, document_after}
+use Rattle.oplog_entry.specs.declared.entry.Entry.{Entry}
+use Rattle.oplog_entry.proofs.DocsLemmas.{get-applied-here, get-applied-other, applied-nothing}
+use Rattle.oplog_store.proofs.Keeps.{all_tail}
+use Rattle.doc_update.proofs.StoredLemmas.{IsLogged, IsSoundUpdate, IsStored, write-logged}
+use Rattle.doc_update.specs.Check.{checked, with_key, insert_checked, replace_checked, same_id, update_checked, by_rule, broken_rule, names_id}
+use Rattle.doc_update.specs.Effect.{prepared}
+use Rattle.doc_update.specs.Refusal.{Refuses}
+use Rattle.doc_update.specs.Sound.{IsSound}
+use Rattle.doc_update.specs.declared.write.Prepared.{Prepared}
+use Rattle.doc_update.specs.declared.write.Prepared.TheVariants as made
+use Rattle.doc_update.specs.declared.write.WriteOp.{WriteOp}
+use Rattle.doc_update.specs.declared.write.WriteOp.TheVariants as ops
+use Rattle.doc_update.specs.declared.write.WriteRefusal.{WriteRefusal}
+use Rattle.doc_update.specs.declared.write.WriteRefusal.TheVariants.{DuplicateKey, NoId, BadIdKind, ImmutableId, IncType, IncOverflow, DocTooLarge, BadUpdate, Memory}
+use Rattle.set_model.proofs.HoldLemmas.{is_at-only}
+use Rattle.set_model.specs.declared.reply.Refusal.{Refusal}
+use Rattle.set_model.specs.declared.reply.Refusal.TheVariants.{WriteConflict, WriterOpen}
+use Rattle.set_model.specs.declared.writer.Writer.{Writer}
+use Rattle.set_model.specs.declared.writer.Writer.TheVariants.{Open, Done, Lost}
+use Rattle.set_model.specs.Admitted.{admitted, or_refused}
+use Rattle.set_model.specs.Holds.{holder, is_at}
+use Rattle.set_model.specs.Limits.{IsSoundWrite, collection_of, is_collection, is_name_byte}
+use Rattle.set_model.specs.Node.{Node}
+use Rattle.set_model.specs.Outcome.{Outcome, refused}
+use Rattle.set_model.specs.Points.{next_optime}
+use Rattle.set_model.specs.Writers.{unless_open}
+use Rattle.version_store.specs.declared.history.Version.{Version}
+use Rattle.node_state.specs.Admits.{IsRefusal, CanBeLogged}
+use Rattle.node_ledger.specs.Versions.{AreSmall, IsSmall, versions_from}
+use Rattle.node_ledger.specs.Writers.{is_open, IsWriting}
+use Rattle.node_state.proofs.EntrySizes.{IsWithin, short_within}
+
+-- ---- admission
+
+pub admitted-held : (node : Node) (op : WriteOp) (place : Place) (writer : ℕ) → checked op ≡ Ok place → holder node place ≡ Some writer → admitted node op ≡ Err (WriteConflict writer)
+admitted-held node op place writer is held = rw (is, held) refl
+
+pub admitted-free : (node : Node) (op : WriteOp) (place : Place) → checked op ≡ Ok place → holder node place ≡ None → admitted node op ≡ or_refused (prepared op (get (docs node.log) place))
+admitted-free node op place is free = rw (is, free) refl
+
+pub refuses : (why : WriteRefusal) (refusal : Refusal) (wanted : Result Prepared WriteRefusal) → Refuses why wanted → IsRefusal why refusal → or_refused wanted ≡ Err refusal
+refuses DuplicateKey refusal wanted is same = ap or_refused is ∙ ap (λ (r : Refusal). Err r) (sym same)
+refuses NoId refusal wanted is same = ap or_refused is ∙ ap (λ (r : Refusal). Err r) (sym same)
+refuses BadIdKind refusal wanted is same = ap or_refused is ∙ ap (λ (r : Refusal). Err r) (sym same)
+refuses ImmutableId refusal wanted is same = ap or_refused is ∙ ap (λ (r : Refusal). Err r) (sym same)
+refuses IncType refusal wanted is same = ap or_refused is ∙ ap (λ (r : Refusal). Err r) (sym same)
+refuses IncOverflow refusal wanted is same = ap or_refused is ∙ ap (λ (r : Refusal). Err r) (sym same)
+refuses DocTooLarge refusal wanted is same = ap or_refused is ∙ ap (λ (r : Refusal). Err r) (sym same)
+refuses (BadUpdate rule) refusal wanted is same = ap or_refused is ∙ ap (λ (r : Refusal). Err r) (sym same)
+refuses Memory refusal wanted is same = absurd same
+
+-- ---- writers
+
+pub unless_open-closed : (node : Node) (writer : Option Writer) (outcome : Outcome) → is_open writer ≡ false → unless_open node writer outcome ≡ outcome
+unless_open-closed node (Some (Open at op)) outcome closed = cc closed
+unless_open-closed node (Some (Done at)) outcome closed = refl
+unless_open-closed node (Some (Lost term)) outcome closed = refl
+unless_open-closed node None outcome closed = refl
+
+pub unless_open-open : (node : Node) (writer : Option Writer) (outcome : Outcome) → is_open writer ≡ true → unless_open node writer outcome ≡ refused WriterOpen node
+unless_open-open node (Some (Open at op)) outcome opens = refl
+unless_open-open node (Some (Done at)) outcome opens = cc opens
+unless_open-open node (Some (Lost term)) outcome opens = cc opens
+unless_open-open node None outcome opens = cc opens
+
+pub closed_writer : (writers : FinMap nat_cmp Writer) (writer : ℕ) → is_open (get writers writer) ≡ false → ¬ (IsWriting writers writer)
+closed_writer writers writer closed writing =
+    let opens : is_open (get writers writer) ≡ true = ap is_open writing.2 in
+    cc
+
+pub ruleset closed_writers = (closed_writer, unless_open-closed, unless_open-open)
+
+-- ---- what a write brings
+
+sound_update : (op : WriteOp) → IsSoundWrite op → IsSoundUpdate op
+sound_update (ops.Insert ns document) sound = tt
+sound_update (ops.Replace ns id document) sound = tt
+sound_update (ops.Update ns id operators) sound = sound.1
+sound_update (ops.Delete ns id) sound = tt
+
+-- a collection's name has at most 64 letters
+name_length : (name : List ℕ) → is_collection name ≡ true → length name ≤ 64
+name_length [] is = cc is
+name_length (first ∷ others) is =
+    let less : length others < 64 = ltb-true (length others) 64 (and_parts (nat_lt (length others) 64) (list_all is_name_byte others) (rest (is_ascii_alphabetic first) (nat_lt (length others) 64) (list_all is_name_byte others) is)).0 in
+    omega (arith, less)
+  where
+    rest : (a b c : Bool) → (a && b && c) ≡ true → (b && c) ≡ true
+    rest true b c all = all
+    rest false b c all = cc all
+
+-- the collection of a place that was checked
+first_is : (one two : Place) → ◌≡◌ {A = Result Place WriteRefusal} (Ok one) (Ok two) → one.0 ≡ two.0
+first_is one two same = ap (λ (p : Place). p.0) (whole same)
+  where
+    whole : ◌≡◌ {A = Result Place WriteRefusal} (Ok one) (Ok two) → one ≡ two
+    whole same = cc same
+
+keyed_place : (ns : List ℕ) (key : Option IdKey) (place : Place) → with_key ns key ≡ Ok place → ns ≡ place.0
+keyed_place ns None place is = cc is
+keyed_place ns (Some key) place is = first_is (ns, key) place is
+
+insert_place : (ns : List ℕ) (own : Option Tree) (place : Place) → insert_checked ns own ≡ Ok place → ns ≡ place.0
+insert_place ns None place is = cc is
+insert_place ns (Some id) place is = keyed_place ns (key_of id) place is
+
+replace_place : (ns : List ℕ) (key : Option IdKey) (own : Option Tree) (place : Place) → replace_checked ns key own ≡ Ok place → ns ≡ place.0
+replace_place ns None own place is = cc is
+replace_place ns (Some key) None place is = first_is (ns, key) place is
+replace_place ns (Some key) (Some id) place is = by_own (key_of id) is
+  where
+    by_test : (b : Bool) → ◌≡◌ {A = Result Place WriteRefusal} (cond b (Ok (ns, key)) (Err WriteRefusal.ImmutableId)) (Ok place) → ns ≡ place.0
+    by_test true is = first_is (ns, key) place is
+    by_test false is = cc is
+
+    by_own : (own : Option IdKey) → same_id ns key own ≡ Ok place → ns ≡ place.0
+    by_own None is = cc is
+    by_own (Some own) is = by_test (same_key own key) is
+
+update_place : (ns : List ℕ) (key : Option IdKey) (operators : Fields) (place : Place) → update_checked ns key operators ≡ Ok place → ns ≡ place.0
+update_place ns None operators place is = cc is
+update_place ns (Some key) operators place is = by_found (broken_rule operators) is
+  where
+    by_test : (b : Bool) → ◌≡◌ {A = Result Place WriteRefusal} (cond b (Err WriteRefusal.ImmutableId) (Ok (ns, key))) (Ok place) → ns ≡ place.0
+    by_test true is = cc is
+    by_test false is = first_is (ns, key) place is
+
+    by_found : (rule : Option ℕ) → by_rule ns key (names_id operators) rule ≡ Ok place → ns ≡ place.0
+    by_found (Some rule) is = cc is
+    by_found None is = by_test (names_id operators) is
+
+checked_place : (op : WriteOp) (place : Place) → checked op ≡ Ok place → collection_of op ≡ place.0
+checked_place (ops.Insert ns doc) place is = insert_place ns (found (codes "_id") doc) place is
+checked_place (ops.Replace ns id doc) place is = replace_place ns (key_of (tree_of id)) (found (codes "_id") doc) place is
+checked_place (ops.Update ns id operators) place is = update_place ns (key_of (tree_of id)) operators place is
+checked_place (ops.Delete ns id) place is = keyed_place ns (key_of (tree_of id)) place is
+
+-- ---- the document that a log leaves is one of those that its entries leave
+
+not_here : (documents : Documents) (entry : Entry) (place : Place) (own : Option Place) → place_of entry.op ≡ own → is_at own place ≡ false → get (applied documents entry) place ≡ get documents place
+not_here documents entry place None is other = ap (λ d. get d place) (applied-nothing documents entry is)
+not_here documents entry place (Some own) is other = get-applied-other documents entry own place is ((eq_by_cmp_equiv place_cmp-total).symm place own ∙ other)
+
+small_from : (log : List Entry) (documents : Documents) (place : Place) (before : Option Fields) → before ≡ get documents place → IsSmall before
+    → All (λ (v : Version). IsSmall v.doc) (versions_from place before log) → IsSmall (get (fold applied documents log) place)
+small_from [] documents place before is small all = subst IsSmall is small
+small_from (entry ∷ log) documents place before is small all =
+    go (is_at (place_of entry.op) place) refl (λ next same fits rest. small_from log (applied documents entry) place next same fits rest) all
+  where
+    there : Version
+    there = record { at = entry.optime; doc = document_after entry.op before }
+
+    go : (b : Bool) → is_at (place_of entry.op) place ≡ b
+        → ((next : Option Fields) → next ≡ get (applied documents entry) place → IsSmall next → All (λ (v : Version). IsSmall v.doc) (versions_from place next log) → IsSmall (get (fold applied (applied documents entry) log) place))
+        → All (λ (v : Version). IsSmall v.doc) (cond b (there ∷ versions_from place (document_after entry.op before) log) (versions_from place before log))
+        → IsSmall (get (fold applied (applied documents entry) log) place)
+    go true here again all =
+        again (document_after entry.op before)
+        (ap (document_after entry.op) is ∙ sym (get-applied-here documents entry place (is_at-only (place_of entry.op) place here)))
+        (all zero there (omega arith)) (all_tail (λ (v : Version). IsSmall v.doc) there (versions_from place (document_after entry.op before) log) all)
+    go false other again all = again before (is ∙ sym (not_here documents entry place (place_of entry.op) refl other)) small all
+
+pub small_docs : (log : List Entry) (place : Place) → AreSmall log → IsSmall (get (docs log) place)
+small_docs log place small = small_from log empty place None (sym (get-empty place_cmp place)) tt (small place)
+
+-- ---- what is logged
+
+is_stored : (place : Place) (before : Option Fields) → IfSome before (λ document. BeginsWithId document × (id_key document ≡ Some place.1)) → IsSmall before → IsStored place before
+is_stored place None own small = tt
+is_stored place (Some document) own small = (own.0, own.1, small)
+
+is_small : (place : Place) (left : Option Fields) → IsStored place left → IsSmall left
+is_small place None stored = tt
+is_small place (Some document) stored = stored.2
+
+pub effect_can : (node : Node) (op : WriteOp) (place : Place) (before : Option Fields) (effect : Prepared) → AreSmall node.log → IsSoundWrite op → is_collection (collection_of op) ≡ true
+    → checked op ≡ Ok place → before ≡ get (docs node.log) place → IfSome before (λ document. BeginsWithId document × (id_key document ≡ Some place.1))
+    → prepared op before ≡ Ok effect → IsSound (Ok place) before effect → CanBeLogged node place effect
+effect_can node op place before made.NoMatch small sound name is stands own does lawful = tt
+effect_can node op place before made.Unchanged small sound name is stands own does lawful = tt
+effect_can node op place before (made.Entry logged after) small sound name is stands own does lawful =
+    (lawful.0, lawful.1, lawful.2 ∙ ap (document_after logged) stands, subst IsSmall (sym lawful.2) (is_small place (document_after logged before) known.stored), record { bytes = within.0; levels = within.1 })
+  where
+    known : IsLogged place before logged
+    known = write-logged op before place logged after (sound_update op sound) (is_stored place before own (subst IsSmall (sym stands) (small_docs node.log place small))) is does
+
+    within : IsWithin (record { optime = next_optime node; op = logged })
+    within = short_within (next_optime node) logged place known.at (subst (λ l. length l ≤ 64) (checked_place op place is) (name_length (collection_of op) name)) known.short

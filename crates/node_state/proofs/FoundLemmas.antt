@@ -1,0 +1,213 @@
+-- Entries of a log that are found by their optimes.
+use Rattle.std.proofs.Common.{◌≡◌, ◌≢◌, ◌∙◌, ◌<◌, ◌≤◌, ◌+◌, ◌++◌, nat_lt, add-one, ap, sym, subst, refl, arith, inl, inr, ℕ, zero, suc, Bool, true, false, cond, take, map, length, min, Option, None, Some, List, [], ◌∷◌}
+use Rattle.std.specs.Prelude.{slice_get, slice_index_or, is_some, IfSome, ◌==◌, ◌&&◌}
+use Rattle.std.proofs.Math.Seq.{take-suc}
+use Rattle.std.proofs.lemmas.List.Elements.{filter_map-append}
+use Rattle.std.proofs.lemmas.Bool.Decides.{nat_tests}
+use Rattle.std.proofs.lemmas.List.{append-nil}
+use Rattle.std.specs.List.{All, cons_option}
+use Rattle.std.specs.Option.{option_map}
+use Rattle.rs_optime.specs.declared.optime.OpTime.{OpTime}
+use Rattle.oplog_entry.specs.Lawful.{IsLawful}
+use Rattle.oplog_entry.specs.Visible.{last_of}
+use Rattle.oplog_entry.specs.declared.entry.Entry.{Entry}
+use Rattle.oplog_store.specs.Log.{IsOplog, StandsBefore, StandsAt}
+use Rattle.oplog_store.proofs.Keeps.{all_tail, pairs_tail, pairs_head}
+use Rattle.repl_msg.specs.Logs.{same_optime}
+use Rattle.repl_msg.proofs.HasLemmas.{same_is, same_itself}
+use Rattle.set_model.specs.Disk.{next_entries, next_durable, unkept, is_flushed}
+use Rattle.set_model.specs.Points.{visible_point, earlier_of}
+use Rattle.set_model.specs.Node.{Node}
+use Rattle.oplog_store.proofs.LogLemmas.{found_there}
+use Rattle.node_state.specs.Flushing.{entry_at, entries_at}
+use Rattle.node_state.proofs.EntryLemmas.{In, all_in, in_all, in_filter}
+use Rattle.node_state.proofs.MergeLemmas.{Rises, in_take, not_before_same}
+
+-- ---- one entry
+
+pub entry_at-in : (log : List Entry) → Rises log → (entry : Entry) → In entry log → entry_at log entry.optime ≡ Some entry
+entry_at-in [] rises entry there = absurd there
+entry_at-in (other ∷ log) rises entry (inl same) =
+    ap (λ (e : Entry). cond (same_optime other.optime e.optime) (Some other) (entry_at log e.optime)) (sym same)
+    ∙ ap (λ b. cond b (Some other) (entry_at log other.optime)) (same_itself other.optime) ∙ ap (λ (e : Entry). Some e) same
+entry_at-in (other ∷ log) rises entry (inr there) = go (same_optime other.optime entry.optime) refl (entry_at-in log (pairs_tail StandsBefore other log rises) entry there)
+  where
+    go : (b : Bool) → same_optime other.optime entry.optime ≡ b → entry_at log entry.optime ≡ Some entry → cond b (Some other) (entry_at log entry.optime) ≡ Some entry
+    go true is rest = absurd (not_before_same other entry (same_is other.optime entry.optime is) (all_in (StandsBefore other) log entry (pairs_head StandsBefore other log rises) there))
+    go false is rest = rest
+
+pub entry_at-none : (log : List Entry) (at : OpTime) → All (λ (e : Entry). e.optime ≢ at) log → entry_at log at ≡ None
+entry_at-none [] at apart = refl
+entry_at-none (entry ∷ log) at apart = go (same_optime entry.optime at) refl (entry_at-none log at (all_tail (λ (e : Entry). e.optime ≢ at) entry log apart))
+  where
+    go : (b : Bool) → same_optime entry.optime at ≡ b → entry_at log at ≡ None → cond b (Some entry) (entry_at log at) ≡ None
+    go true is rest = absurd (apart zero entry (omega arith) (same_is entry.optime at is))
+    go false is rest = rest
+
+in_entry_at : (log : List Entry) (at : OpTime) (entry : Entry) → entry_at log at ≡ Some entry → In entry log
+in_entry_at [] at entry is = absurd (cc is)
+in_entry_at (other ∷ log) at entry is = go (same_optime other.optime at) (λ more. in_entry_at log at entry more) is
+  where
+    go : (b : Bool) → (entry_at log at ≡ Some entry → In entry log) → cond b (Some other) (entry_at log at) ≡ Some entry → In entry (other ∷ log)
+    go true rest is = inl (cc is)
+    go false rest is = inr (rest is)
+
+get_in : (xs : List Entry) (k : ℕ) (x : Entry) → slice_get xs k ≡ Some x → In x xs
+get_in [] k x is = absurd (cc is)
+get_in (y ∷ ys) zero x is = inl (cc is)
+get_in (y ∷ ys) (suc k) x is = inr (get_in ys k x is)
+
+get_within : (xs : List Entry) (k : ℕ) (x : Entry) → slice_get xs k ≡ Some x → k < length xs
+get_within [] k x is = absurd (cc is)
+get_within (y ∷ ys) zero x is = omega arith
+get_within (y ∷ ys) (suc k) x is = let rest : k < length ys = get_within ys k x is in omega (arith, rest)
+
+-- the entry at a place where one has this optime
+pub get-entry_at : (log : List Entry) (place : ℕ) (at : OpTime) → IsOplog log → StandsAt log place at → slice_get log place ≡ entry_at log at
+get-entry_at log place at oplog stands = go (slice_get log place) refl stands
+  where
+    go : (o : Option Entry) → slice_get log place ≡ o → option_map (λ (e : Entry). e.optime) o ≡ Some at → slice_get log place ≡ entry_at log at
+    go None is none = absurd (cc none)
+    go (Some entry) is here =
+        let same : entry.optime ≡ at = cc here in
+        is ∙ sym (entry_at-in log oplog.order entry (get_in log place entry is)) ∙ ap (entry_at log) same
+
+-- ---- some of them
+
+pub entries_at-more : (log : List Entry) (optimes : List OpTime) → All IsLawful log → All IsLawful (entries_at log optimes)
+entries_at-more log [] lawful = in_all IsLawful [] (λ x none. absurd none)
+entries_at-more log (at ∷ optimes) lawful = go (entry_at log at) refl (entries_at-more log optimes lawful)
+  where
+    go : (o : Option Entry) → entry_at log at ≡ o → All IsLawful (entries_at log optimes) → All IsLawful (cons_option o (entries_at log optimes))
+    go None is rest = rest
+    go (Some entry) is rest = in_all IsLawful (entry ∷ entries_at log optimes) (λ x there. elim there [
+      | inl same ↦ subst IsLawful same (all_in IsLawful log entry lawful (in_entry_at log at entry is))
+      | inr more ↦ all_in IsLawful (entries_at log optimes) x rest more
+    ])
+
+entries_at-map : (log : List Entry) → Rises log → (xs : List Entry) → ((x : Entry) → In x xs → In x log) → entries_at log (map (λ (e : Entry). e.optime) xs) ≡ xs
+entries_at-map log rises [] there = refl
+entries_at-map log rises (x ∷ xs) there =
+    ap (λ o. cons_option o (entries_at log (map (λ (e : Entry). e.optime) xs))) (entry_at-in log rises x (there x (inl refl)))
+    ∙ ap (λ rest. x ∷ rest) (entries_at-map log rises xs (λ y more. there y (inr more)))
+
+take_of_map : (f : Entry → OpTime) (k : ℕ) (xs : List Entry) → take (min (length (map f xs)) k) (map f xs) ≡ map f (take k xs)
+take_of_map f zero [] = refl
+take_of_map f zero (x ∷ xs) = ap (λ n. take n (map f (x ∷ xs))) (min_zero (length (map f (x ∷ xs))))
+  where
+    min_zero : (n : ℕ) → min n 0 ≡ 0
+    min_zero n = omega arith
+take_of_map f (suc k) [] = ap (λ n. take n []) (min_none k)
+  where
+    min_none : (n : ℕ) → min 0 (suc n) ≡ 0
+    min_none n = omega arith
+take_of_map f (suc k) (x ∷ xs) =
+    ap (λ n. take n (map f (x ∷ xs))) (min_more (length (map f xs)) k) ∙ ap (λ rest. f x ∷ rest) (take_of_map f k xs)
+  where
+    min_more : (n m : ℕ) → min (suc n) (suc m) ≡ suc (min n m)
+    min_more n m = omega arith
+
+pub next_entries-at : (node : Node) (optimes : List OpTime) → IsOplog node.log → optimes ≡ map (λ (e : Entry). e.optime) (unkept node)
+    → entries_at node.log (take (min (length optimes) 2000) optimes) ≡ next_entries node
+next_entries-at node optimes oplog is =
+    ap (λ xs. entries_at node.log (take (min (length xs) 2000) xs)) is
+    ∙ ap (entries_at node.log) (take_of_map (λ (e : Entry). e.optime) 2000 (unkept node))
+    ∙ entries_at-map node.log oplog.order (next_entries node)
+    (λ x there. (in_filter _ node.log x (in_take 2000 x (unkept node) there)).0)
+
+pub last_of-taken : (k : ℕ) (xs : List Entry) → k < length xs → slice_get (map (λ (e : Entry). e.optime) xs) k ≡ Some (last_of (take (suc k) xs))
+last_of-taken k [] less = absurd (omega (arith, less))
+last_of-taken zero (x ∷ xs) less = refl
+last_of-taken (suc k) (x ∷ []) less = absurd (omega (arith, less))
+last_of-taken (suc k) (x ∷ y ∷ ys) less = last_of-taken k (y ∷ ys) (omega (arith, less))
+
+-- one optime more
+entries_more : (log : List Entry) (optimes : List OpTime) (i : ℕ) (at : OpTime) → i < length optimes → at ≡ slice_index_or optimes i at
+    → entries_at log (take (i + 1) optimes) ≡ entries_at log (take i optimes) ++ cons_option (entry_at log at) []
+entries_more log optimes i at within is = rw (add-one, take-suc optimes i at within, ← is) (filter_map-append (entry_at log) (take i optimes) (at ∷ []))
+
+pub entries_more_some : (log : List Entry) (optimes : List OpTime) (i : ℕ) (at : OpTime) (entry : Entry) → i < length optimes → at ≡ slice_index_or optimes i at → entry_at log at ≡ Some entry
+    → entries_at log (take (i + 1) optimes) ≡ entries_at log (take i optimes) ++ entry ∷ []
+entries_more_some log optimes i at entry within is there = entries_more log optimes i at within is ∙ ap (λ o. entries_at log (take i optimes) ++ cons_option o []) there
+
+pub entries_more_none : (log : List Entry) (optimes : List OpTime) (i : ℕ) (at : OpTime) → i < length optimes → at ≡ slice_index_or optimes i at → entry_at log at ≡ None
+    → entries_at log (take (i + 1) optimes) ≡ entries_at log (take i optimes)
+entries_more_none log optimes i at within is none =
+    entries_more log optimes i at within is ∙ ap (λ o. entries_at log (take i optimes) ++ cons_option o []) none ∙ simp append-nil
+
+same_index : (optimes : List OpTime) (i : ℕ) (d e : OpTime) → i < length optimes → slice_index_or optimes i d ≡ slice_index_or optimes i e
+same_index [] i d e within = absurd (omega (arith, within))
+same_index (x ∷ xs) zero d e within = refl
+same_index (x ∷ xs) (suc i) d e within = same_index xs i d e (omega (arith, within))
+
+pub entries_next_some : (log : List Entry) (optimes : List OpTime) (i : ℕ) (d : OpTime) (entry : Entry) → i < length optimes → Some entry ≡ entry_at log (slice_index_or optimes i d)
+    → entries_at log (take (i + 1) optimes) ≡ entries_at log (take i optimes) ++ entry ∷ []
+entries_next_some log optimes i d entry within there =
+    entries_more_some log optimes i (slice_index_or optimes i d) entry within (same_index optimes i d (slice_index_or optimes i d) within) (sym there)
+
+pub entries_next_none : (log : List Entry) (optimes : List OpTime) (i : ℕ) (d : OpTime) → i < length optimes → None ≡ entry_at log (slice_index_or optimes i d)
+    → entries_at log (take (i + 1) optimes) ≡ entries_at log (take i optimes)
+entries_next_none log optimes i d within none =
+    entries_more_none log optimes i (slice_index_or optimes i d) within (same_index optimes i d (slice_index_or optimes i d) within) (sym none)
+
+-- ---- how far a record goes
+
+map-length : (xs : List Entry) → length (map (λ (e : Entry). e.optime) xs) ≡ length xs
+map-length [] = refl
+map-length (x ∷ xs) = ap (λ n. suc n) (map-length xs)
+
+pub next_durable-short : (node : Node) (optimes : List OpTime) → optimes ≡ map (λ (e : Entry). e.optime) (unkept node) → length optimes ≤ 2000 → next_durable node ≡ visible_point node
+next_durable-short node optimes is short =
+    let long : length optimes ≡ length (unkept node) = ap length is ∙ map-length (unkept node) in
+    let less : length (unkept node) ≤ 2000 = omega (arith, long, short) in
+    let test : nat_lt 2000 (length (unkept node)) ≡ false = grind arith in
+    ap (λ b. cond b (earlier_of (visible_point node) (last_of (next_entries node))) (visible_point node)) test
+
+pub next_durable-long : (node : Node) (optimes : List OpTime) (last : OpTime) → optimes ≡ map (λ (e : Entry). e.optime) (unkept node) → 2000 < length optimes → slice_get optimes 1999 ≡ Some last
+    → next_durable node ≡ earlier_of (visible_point node) last
+next_durable-long node optimes last is long there =
+    let same : length optimes ≡ length (unkept node) = ap length is ∙ map-length (unkept node) in
+    let more : 2000 < length (unkept node) = omega (arith, same, long) in
+    let test : nat_lt 2000 (length (unkept node)) ≡ true = grind arith in
+    let found : Some (last_of (take 2000 (unkept node))) ≡ Some last = sym (last_of-taken 1999 (unkept node) (omega (arith, more))) ∙ ap (λ xs. slice_get xs 1999) (sym is) ∙ there in
+    let point : last_of (take 2000 (unkept node)) ≡ last = cc in
+    ap (λ b. cond b (earlier_of (visible_point node) (last_of (next_entries node))) (visible_point node)) test
+    ∙ ap (earlier_of (visible_point node)) point
+
+pub next_durable-index : (node : Node) (optimes : List OpTime) (d : OpTime) → optimes ≡ map (λ (e : Entry). e.optime) (unkept node) → 2000 < length optimes
+    → next_durable node ≡ earlier_of (visible_point node) (slice_index_or optimes 1999 d)
+next_durable-index node optimes d is long =
+    let same : length optimes ≡ length (unkept node) = ap length is ∙ map-length (unkept node) in
+    let there : slice_get optimes 1999 ≡ Some (last_of (take 2000 (unkept node))) = ap (λ xs. slice_get xs 1999) is ∙ last_of-taken 1999 (unkept node) (omega (arith, same, long)) in
+    next_durable-long node optimes (last_of (take 2000 (unkept node))) is long there
+    ∙ ap (earlier_of (visible_point node)) (sym (found_there optimes 1999 (last_of (take 2000 (unkept node))) d (sym there)))
+
+-- what a look-up at the place of an optime finds
+pub got-entry_at : {B : Type 0} (found : Option B) (now : B → Entry) (log : List Entry) (place : ℕ) (at : OpTime) → IsOplog log → StandsAt log place at
+    → IfSome found (λ x. now x ≡ slice_index_or log place (now x)) → is_some found ≡ nat_lt place (length log) → option_map now found ≡ entry_at log at
+got-entry_at {B} found now log place at oplog stands here there = go (slice_get log place) refl stands found here there
+  where
+    go : (o : Option Entry) → slice_get log place ≡ o → option_map (λ (e : Entry). e.optime) o ≡ Some at → (r : Option B) → IfSome r (λ x. now x ≡ slice_index_or log place (now x))
+        → is_some r ≡ nat_lt place (length log) → option_map now r ≡ entry_at log at
+    go None is none r here there = absurd (cc none)
+    go (Some entry) is some None here there =
+        let within : place < length log = get_within log place entry is in let test : nat_lt place (length log) ≡ true = grind arith in absurd (cc (there, test))
+    go (Some entry) is some (Some x) here there =
+        let same : slice_index_or log place (now x) ≡ entry = found_there log place entry (now x) (sym is) in
+        ap (λ (e : Entry). Some e) (here ∙ same) ∙ sym is ∙ get-entry_at log place at oplog stands
+
+-- ---- whether a record is wanted
+
+none_of : (xs : List Entry) → map (λ (e : Entry). e.optime) xs ≡ [] → (length xs == 0) ≡ true
+none_of [] none = refl
+none_of (x ∷ xs) none = absurd (cc none)
+
+some_of : (xs : List Entry) → (map (λ (e : Entry). e.optime) xs ≡ [] → ⊥) → (length xs == 0) ≡ false
+some_of [] some = absurd (some refl)
+some_of (x ∷ xs) some = let long : length (x ∷ xs) ≡ length xs + 1 = omega arith in grind (arith, nat_tests)
+
+pub is_flushed-none : (node : Node) (optimes : List OpTime) → optimes ≡ map (λ (e : Entry). e.optime) (unkept node) → optimes ≡ [] → same_optime node.durable (visible_point node) ≡ is_flushed node
+is_flushed-none node optimes is none = ap (λ b. b && same_optime node.durable (visible_point node)) (sym (none_of (unkept node) (sym is ∙ none)))
+
+pub is_flushed-some : (node : Node) (optimes : List OpTime) → optimes ≡ map (λ (e : Entry). e.optime) (unkept node) → (optimes ≡ [] → ⊥) → false ≡ is_flushed node
+is_flushed-some node optimes is some = ap (λ b. b && same_optime node.durable (visible_point node)) (sym (some_of (unkept node) (λ none. some (is ∙ none))))

@@ -1,0 +1,218 @@
+-- How a node that rolls back makes it ready, while it may still be in its own term.
+use Rattle.std.proofs.Common.{◌≡◌, ◌∙◌, ◌⊎◌, ◌<◌, ◌-◌, ◌^◌, inl, inr, ap, sym, subst, refl, ℕ, Bool, true, false, not, nat_lt, cond, length, Option, None, Some, List}
+use Rattle.std.specs.Prelude.{Result, Ok, Err, OnOk, OnErr}
+use Rattle.std.specs.declared.alloc.AllocError.{AllocError}
+use Rattle.bson_doc.specs.Place.{Place}
+use Rattle.bson_doc.specs.Tree.{Fields}
+use Rattle.rs_optime.specs.declared.optime.OpTime.{OpTime}
+use Rattle.oplog_entry.specs.Docs.{docs}
+use Rattle.oplog_entry.specs.Visible.{ZERO, is_before, last_of, log_up_to}
+use Rattle.oplog_entry.specs.declared.entry.Entry.{Entry}
+use Rattle.oplog_store.specs.Log.{IsOplog}
+use Rattle.oplog_store.proofs.LogLemmas.{oplog_filter}
+use Rattle.repl_msg.specs.Logs.{later_of, log_behind}
+use Rattle.repl_msg.specs.Rollback.{is_common, common_point}
+use Rattle.election_core.specs.Counting.{Tallied}
+use Rattle.rollback_core.proofs.Greatest.{greatest_last}
+use Rattle.rollback_core.specs.Plan.{plan}
+use Rattle.rollback_core.specs.declared.point.RollbackRefusal.{RollbackRefusal}
+use Rattle.rollback_core.specs.declared.point.RollbackRefusal.TheVariants as refusals
+use Rattle.set_model.specs.declared.reply.Ignored.{Ignored}
+use Rattle.set_model.specs.declared.reply.Ignored.TheVariants as ignored
+use Rattle.set_model.specs.declared.role.Role.{Role}
+use Rattle.set_model.specs.declared.role.Role.TheVariants.{Secondary, Candidate, Draining, Primary}
+use Rattle.set_model.specs.Node.{Node}
+use Rattle.set_model.specs.Points.{if_primary, last_point}
+use Rattle.set_model.specs.Reads.{local_documents}
+use Rattle.set_model.specs.Roles.{is_secondary}
+use Rattle.set_model.specs.Rollback.{common_told, is_of_later_branch, lost_documents, roll_back, rolled_back, rollback_reason}
+use Rattle.set_model.specs.Safety.{AtMost, Has}
+use Rattle.node_state.specs.Ahead.{Foretells, Tells, taking}
+use Rattle.node_state.specs.Coherent.{IsCoherent}
+use Rattle.node_ledger.specs.Ledger.{Ledger}
+use Rattle.node_state.specs.Ready.{IsCut}
+use Rattle.node_state.specs.Rolling.{point_or, reached}
+use Rattle.node_state.specs.Seen.{Rest, seen_node}
+use Rattle.node_state.specs.Told.{told_plan}
+use Rattle.node_state.specs.declared.turn.Told.TheVariants as tolds
+use Rattle.node_state.proofs.CoherentLemmas.{coherent-applied}
+use Rattle.node_ledger.proofs.LogLemmas.{up_to-last}
+use Rattle.node_ledger.proofs.OrderLemmas.{not_then_not}
+use Rattle.node_state.proofs.RestartLemmas.{no_further}
+use Rattle.node_state.proofs.WellKeptLemmas.{has_up_to}
+use Rattle.node_state.proofs.EntryLemmas.{at_most_itself}
+
+-- ---- the node as it takes a message
+
+-- a node that steps down has the documents that it had
+pub taken_documents : (raised : Bool) (term : ℕ) (node : Node) → IsOplog node.log → local_documents (taking raised term node) ≡ local_documents node
+taken_documents false term node oplog = refl
+taken_documents true term node oplog = by_role node.role
+  where
+    by_role : (role : Role) → docs (log_up_to (if_primary role (last_point node) node.applied) node.log) ≡ docs (if_primary role node.log (log_up_to node.applied node.log))
+    by_role Primary = ap docs (up_to-last node.log oplog.order)
+    by_role Secondary = refl
+    by_role Candidate = refl
+    by_role Draining = refl
+
+-- ---- why a node doesn't roll back
+
+-- a refusal of two logs, as a node's
+abbrev pub as_ignored : Result OpTime RollbackRefusal → Result OpTime Ignored
+as_ignored (Ok point) = Ok point
+as_ignored (Err refusals.NotOlder) = Err ignored.NotOlder
+as_ignored (Err refusals.SameBranch) = Err ignored.SameBranch
+
+planned : (other common : Bool) (point : OpTime)
+    → as_ignored (cond other (Err refusals.NotOlder) (cond common (Err refusals.SameBranch) (Ok point)))
+    ≡ point_or (cond other (Some ignored.NotOlder) (cond common (Some ignored.SameBranch) None)) point
+planned true true point = refl
+planned true false point = refl
+planned false true point = refl
+planned false false point = refl
+
+reason_by : (secondary old other common : Bool) → Option Ignored
+reason_by secondary old other common =
+    cond (not secondary) (Some ignored.NotSecondary) (cond old (Some ignored.OldTerm) (cond other (Some ignored.NotOlder) (cond common (Some ignored.SameBranch) None)))
+
+point_by : (secondary old other common : Bool) (point : OpTime) → secondary ≡ true → old ≡ false
+    → as_ignored (cond other (Err refusals.NotOlder) (cond common (Err refusals.SameBranch) (Ok point))) ≡ point_or (reason_by secondary old other common) point
+unfolding reason_by
+point_by secondary old other common point is late =
+    planned other common point ∙ sym (ap (λ (p : Bool × Bool). point_or (reason_by p.0 p.1 other common) point) (λ i. (is i, late i)))
+
+-- of a secondary in no later term, what its log says
+pub point_is : (raised : Bool) (term : ℕ) (node : Node) (after : OpTime) (optimes : List OpTime) (visible : OpTime)
+    → is_secondary (taking raised 0 node).role ≡ true → nat_lt term (taking raised term node).term ≡ false
+    → as_ignored (plan (taking raised term node).term node.log (last_point node) visible after optimes)
+    ≡ point_or (rollback_reason (taking raised term node) term after optimes visible) (common_point node.log after optimes)
+unfolding reason_by
+point_is true term node after optimes visible is late =
+    point_by true (nat_lt term term) (not (is_of_later_branch (taking true term node) visible)) (is_common after optimes (last_point node)) (common_point node.log after optimes) refl late
+point_is false term node after optimes visible is late =
+    point_by (is_secondary node.role) (nat_lt term node.term) (not (is_of_later_branch node visible)) (is_common after optimes (last_point node)) (common_point node.log after optimes) is late
+
+pub point_role : (raised : Bool) (term : ℕ) (node : Node) (after : OpTime) (optimes : List OpTime) (visible point : OpTime)
+    → is_secondary (taking raised 0 node).role ≡ false → Err ignored.NotSecondary ≡ point_or (rollback_reason (taking raised term node) term after optimes visible) point
+point_role true term node after optimes visible point other = cc other
+point_role false term node after optimes visible point other =
+    sym (ap (λ b. point_or (cond (not b) (Some ignored.NotSecondary) (cond (nat_lt term node.term) (Some ignored.OldTerm)
+    (cond (not (is_of_later_branch node visible)) (Some ignored.NotOlder) (cond (is_common after optimes (last_point node)) (Some ignored.SameBranch) None)))) point) other)
+
+pub point_term : (raised : Bool) (term : ℕ) (node : Node) (after : OpTime) (optimes : List OpTime) (visible point : OpTime)
+    → is_secondary (taking raised 0 node).role ≡ true → nat_lt term (taking raised term node).term ≡ true
+    → Err ignored.OldTerm ≡ point_or (rollback_reason (taking raised term node) term after optimes visible) point
+point_term true term node after optimes visible point is old =
+    sym (ap (λ b. point_or (cond b (Some ignored.OldTerm)
+    (cond (not (is_of_later_branch (taking true term node) visible)) (Some ignored.NotOlder) (cond (is_common after optimes (last_point node)) (Some ignored.SameBranch) None))) point) old)
+point_term false term node after optimes visible point is old =
+    sym (ap (λ (p : Bool × Bool). point_or (cond (not p.0) (Some ignored.NotSecondary) (cond p.1 (Some ignored.OldTerm)
+    (cond (not (is_of_later_branch node visible)) (Some ignored.NotOlder) (cond (is_common after optimes (last_point node)) (Some ignored.SameBranch) None)))) point) (λ i. (is i, old i)))
+
+-- what a point or its want says of the reason
+pub no_reason : (reason : Option Ignored) (point found : OpTime) → Ok found ≡ point_or reason point → (reason ≡ None) × (found ≡ point)
+no_reason None point found is = (refl, cc is)
+no_reason (Some why) point found is = cc is
+
+pub a_reason : (reason : Option Ignored) (point : OpTime) (why : Ignored) → Err why ≡ point_or reason point → reason ≡ Some why
+a_reason None point why is = cc is
+a_reason (Some other) point why is = cc is
+
+-- ---- what the message then comes to
+
+pub ignored_tells : (raised : Bool) (term : ℕ) (old : Node) (after : OpTime) (optimes : List OpTime) (visible : OpTime) (why : Ignored)
+    → rollback_reason (taking raised term old) term after optimes visible ≡ Some why
+    → Foretells (tolds.Ignored why) raised term (λ node. common_told node term after optimes visible) old old
+ignored_tells raised term old after optimes visible why reason = record { tells = tells raised reason; at = old.applied; same = refl }
+  where
+    tells : (raised : Bool) → rollback_reason (taking raised term old) term after optimes visible ≡ Some why
+        → Tells (tolds.Ignored why) raised term (λ node. common_told node term after optimes visible) old old
+    tells true reason items =
+        sym (ap (roll_back (taking true term (record old { records = items })) (common_point old.log after optimes)) reason)
+    tells false reason items = sym (ap (roll_back (record old { records = items }) (common_point old.log after optimes)) reason)
+
+pub rolled_tells : (raised : Bool) (term : ℕ) (old : Node) (at : OpTime) (after : OpTime) (optimes : List OpTime) (visible : OpTime) (point : OpTime) (removed : ℕ) (lost : List (Place × Option Fields))
+    → IsOplog old.log → rollback_reason (taking raised term old) term after optimes visible ≡ None → point ≡ common_point old.log after optimes
+    → removed ≡ length (log_behind point old.log) → lost ≡ lost_documents (local_documents old) (log_behind point old.log)
+    → Foretells (tolds.RolledBack point removed lost) raised term (λ node. common_told node term after optimes visible) old (record old { applied = at })
+rolled_tells raised term old at after optimes visible point removed lost oplog reason point_is removed_is lost_is =
+    record { tells = tells raised reason (lost_is ∙ ap (λ d. lost_documents d (log_behind point old.log)) (sym (taken_documents raised term old oplog))); at = at; same = refl }
+  where
+    tells : (raised : Bool) → rollback_reason (taking raised term old) term after optimes visible ≡ None → lost ≡ lost_documents (local_documents (taking raised term old)) (log_behind point old.log)
+        → Tells (tolds.RolledBack point removed lost) raised term (λ node. common_told node term after optimes visible) old (record old { applied = at })
+    tells true reason lost_is items =
+        let node = taking true term (record old { records = items }) in
+        (λ i. told_plan (tolds.RolledBack point (removed_is i) (lost_is i)) node)
+        ∙ ap (rolled_back node) point_is
+        ∙ sym (ap (roll_back node (common_point old.log after optimes)) reason)
+    tells false reason lost_is items =
+        let node = record old { records = items } in
+        (λ i. told_plan (tolds.RolledBack point (removed_is i) (lost_is i)) node)
+        ∙ ap (rolled_back node) point_is
+        ∙ sym (ap (roll_back node (common_point old.log after optimes)) reason)
+
+-- ---- and what it needs
+
+secondary_is : (role : Role) → is_secondary role ≡ true → role ≡ Secondary
+secondary_is Secondary is = refl
+secondary_is Candidate is = cc is
+secondary_is Draining is = cc is
+secondary_is Primary is = cc is
+
+must_be : (b : Bool) (rest : Option Ignored) → cond (not b) (Some ignored.NotSecondary) rest ≡ None → b ≡ true
+must_be true rest is = refl
+must_be false rest is = cc is
+
+later_second : (a b : OpTime) → AtMost b (later_of a b)
+later_second a b = go (is_before a b) refl
+  where
+    go : (c : Bool) → is_before a b ≡ c → AtMost b (cond c b a)
+    go true is = at_most_itself b
+    go false is = is
+
+pub common_there : (log : List Entry) (after : OpTime) (optimes : List OpTime) → IsOplog log → (common_point log after optimes ≡ ZERO) ⊎ Has log (common_point log after optimes)
+common_there log after optimes oplog = elim (greatest_last (is_common after optimes) log oplog).there [ inl none ↦ inl none | inr has ↦ inr has.0 ]
+
+point_reached : (log : List Entry) (point applied : OpTime) → IsOplog log → (point ≡ ZERO) ⊎ Has log point → AtMost point (later_of applied (last_of (log_up_to point log)))
+point_reached log point applied oplog there =
+    not_then_not point (last_of (log_up_to point log)) (later_of applied (last_of (log_up_to point log)))
+    (no_further (log_up_to point log) point (oplog_filter (λ (e : Entry). not (is_before point e.optime)) log oplog)
+    (elim there [ inl none ↦ inl none | inr has ↦ inr (has_up_to log point point has (at_most_itself point)) ]))
+    (later_second applied (last_of (log_up_to point log)))
+
+pub can_cut : (raised : Bool) (term : ℕ) (old : Node) (after : OpTime) (optimes : List OpTime) (visible point : OpTime) → IsOplog old.log
+    → rollback_reason (taking raised term old) term after optimes visible ≡ None → point ≡ common_point old.log after optimes
+    → AtMost old.commit (common_point old.log after optimes) → old.rollback < 2 ^ 64 - 1 → IsCut point (taking raised term (reached old point))
+can_cut raised term old after optimes visible point oplog reason is commit below = go raised reason
+  where
+    there : (point ≡ ZERO) ⊎ Has old.log point
+    there = subst (λ o. (o ≡ ZERO) ⊎ Has old.log o) (sym is) (common_there old.log after optimes oplog)
+
+    far : AtMost point (later_of old.applied (last_of (log_up_to point old.log)))
+    far = point_reached old.log point old.applied oplog there
+
+    as_secondary : (role : Role) → AtMost point (if_primary role (last_point old) (if_primary role old.applied (later_of old.applied (last_of (log_up_to point old.log)))))
+    as_secondary Primary = no_further old.log point oplog there
+    as_secondary Secondary = far
+    as_secondary Candidate = far
+    as_secondary Draining = far
+
+    go : (raised : Bool) → rollback_reason (taking raised term old) term after optimes visible ≡ None → IsCut point (taking raised term (reached old point))
+    go true reason = record { role = refl; commit = subst (AtMost old.commit) (sym is) commit; applied = as_secondary old.role; there = there; rollback = below }
+    go false reason =
+        let role_is : old.role ≡ Secondary = secondary_is old.role (must_be (is_secondary old.role) _ reason) in
+        record {
+          role = role_is;
+          commit = subst (AtMost old.commit) (sym is) commit;
+          applied = subst (λ role. AtMost point (if_primary role old.applied (later_of old.applied (last_of (log_up_to point old.log))))) (sym role_is) far;
+          there = there;
+          rollback = below;
+        }
+
+-- a log that is applied further, or not, keeps a node coherent
+pub coherent-reached : (n m : Node) (rest : Rest) (spare left : ℕ) (at : OpTime) (result : Result (Unit {0}) AllocError) (tally : Option Tallied) (optimes : List OpTime)
+    → OnOk result (◌≡◌ {A = Ledger} (record { node = m; spare = left }) (record { node = record n { applied = at }; spare = spare })) → OnErr result (◌≡◌ {A = Ledger} (record { node = m; spare = left }) (record { node = n; spare = spare }))
+    → IsCoherent (seen_node n rest) tally optimes → IsCoherent (seen_node m rest) tally optimes
+coherent-reached n m rest spare left at (Ok done) tally optimes ok err old =
+    subst (λ (l : Ledger). IsCoherent (seen_node l.node rest) tally optimes) (sym ok) (coherent-applied (seen_node n rest) tally optimes at old)
+coherent-reached n m rest spare left at (Err why) tally optimes ok err old = subst (λ (l : Ledger). IsCoherent (seen_node l.node rest) tally optimes) (sym err) old

@@ -1,0 +1,122 @@
+-- A primary's writes keep the node coherent.
+use Rattle.std.proofs.Common.{◌≡◌, ◌≢◌, ◌≤◌, ◌<◌, inl, inr, ap, sym, subst, refl, arith, ℕ, Bool, true, false, Option, List}
+use Rattle.std.specs.FinMap as maps
+use Rattle.std.specs.FinSet as sets
+use Rattle.rs_optime.specs.declared.optime.OpTime.{OpTime}
+use Rattle.oplog_entry.specs.declared.entry.Entry.{Entry}
+use Rattle.oplog_entry.specs.declared.entry.Op.{Op}
+use Rattle.oplog_entry.specs.Visible.{ZERO, is_before, least, entries_before}
+use Rattle.oplog_entry.proofs.Optimes.{before_both}
+use Rattle.oplog_store.specs.Log.{IsOplog, with_entry}
+use Rattle.election_core.specs.Counting.{Tallied}
+use Rattle.set_model.specs.Changes.{logged, opened}
+use Rattle.set_model.specs.Node.{Node}
+use Rattle.set_model.specs.Points.{visible_point, next_optime}
+use Rattle.set_model.specs.Safety.{AtMost}
+use Rattle.set_model.specs.Writers.{settled, aborted}
+use Rattle.set_model.specs.declared.writer.Writer.TheVariants.{Open, Done}
+use Rattle.node_tables.specs.Unkept.{with_optime}
+use Rattle.node_state.specs.Coherent.{IsCoherent}
+use Rattle.node_ledger.specs.Kept.{AreApart, IsPending, FitsBeside}
+use Rattle.node_state.specs.Seen.{Rest, seen_node}
+use Rattle.node_ledger.specs.Sound.{IsSound}
+use Rattle.node_ledger.specs.Writers.{HasOpen}
+use Rattle.node_state.proofs.EntryLemmas.{In, all_in, in_with, last_before, zero_first}
+use Rattle.node_ledger.proofs.OrderLemmas.{not_then_not}
+use Rattle.node_state.proofs.SlotLemmas.{in_more, in_fewer, contains_in, in_visible, visible_grows}
+use Rattle.node_state.proofs.CoherentLemmas.{coherent-slots, coherent-written}
+
+-- ---- the next optime
+
+next_later : (node : Node) → node.seen < (next_optime node).ts
+next_later node = omega arith
+
+before_next : (node : Node) → IsSound node → (entry : Entry) → In entry node.log → is_before entry.optime (next_optime node) ≡ true
+before_next node sound entry there =
+    let term : entry.optime.term ≤ node.term = all_in (λ (e : Entry). e.optime.term ≤ node.term) node.log entry sound.terms there in
+    let seen : entry.optime.ts ≤ node.seen = all_in (λ (e : Entry). e.optime.ts ≤ node.seen) node.log entry sound.marked there in
+    let later : node.seen < (next_optime node).ts = next_later node in
+    before_both entry.optime (next_optime node) term (omega (arith, seen, later))
+
+apart_from_next : (node : Node) → IsSound node → (entry : Entry) → In entry node.log → entry.optime ≢ next_optime node
+apart_from_next node sound entry there same =
+    let seen : entry.optime.ts ≤ node.seen = all_in (λ (e : Entry). e.optime.ts ≤ node.seen) node.log entry sound.marked there in
+    let later : node.seen < (next_optime node).ts = next_later node in
+    let ts : entry.optime.ts ≡ (next_optime node).ts = ap (λ (o : OpTime). o.ts) same in
+    omega (arith, seen, later, ts)
+
+-- at or before what is before a third
+most_then_before : (a b c : OpTime) → AtMost a b → is_before b c ≡ true → is_before a c ≡ true
+most_then_before a b c most before = go (is_before a c) refl
+  where
+    go : (d : Bool) → is_before a c ≡ d → is_before a c ≡ true
+    go true is = is
+    go false is = let late : is_before b c ≡ false = not_then_not c a b is most in absurd (cc (late, before))
+
+-- what is durable is before an optime that is behind each visible entry
+durable_before : (node : Node) (at : OpTime) → AtMost node.durable (visible_point node) → is_before ZERO at ≡ true
+    → ((entry : Entry) → In entry (entries_before (least (sets.items node.slots)) node.log) → is_before entry.optime at ≡ true) → is_before node.durable at ≡ true
+durable_before node at durable first each =
+    most_then_before node.durable (visible_point node) at durable (last_before (entries_before (least (sets.items node.slots)) node.log) at first each)
+
+zero_before : (stable at : OpTime) → is_before stable at ≡ true → is_before ZERO at ≡ true
+zero_before stable at behind = most_then_before ZERO stable at (zero_first stable) behind
+
+-- ---- each write
+
+pub coherent-logged : (n m : Node) (rest : Rest) (op : Op) (tally : Option Tallied) (optimes : List OpTime) → m ≡ logged n op → IsSound n → IsSound m
+    → IsCoherent (seen_node n rest) tally optimes → IsCoherent (seen_node m rest) tally (with_optime optimes (next_optime n))
+coherent-logged n m rest op tally optimes is sound after old =
+    subst (λ (k : Node). IsCoherent (seen_node k rest) tally (with_optime optimes (next_optime n))) (sym is)
+    (coherent-written (seen_node n rest) (record { optime = next_optime n; op = op }) n.slots n.writers (next_optime n).ts tally optimes sound.oplog
+    (record {
+      behind = durable_before (seen_node n rest) (next_optime n) old.points.durable (before_both ZERO (next_optime n) (omega arith) (omega (arith, next_later n)))
+          (λ entry there. before_next n sound entry (in_visible (sets.items n.slots) n.log entry there).0);
+      apart = apart_from_next n sound;
+      grows = visible_grows (sets.items n.slots) (sets.items n.slots) n.log (with_entry n.log (record { optime = next_optime n; op = op })) (subst (λ (k : Node). IsOplog k.log) is after.oplog)
+          (in_with n.log (record { optime = next_optime n; op = op })) (λ slot listed. inl listed);
+    })
+    old)
+
+pub coherent-opened : (n m : Node) (rest : Rest) (number : ℕ) (op : Op) (tally : Option Tallied) (optimes : List OpTime) → m ≡ opened n number op → IsSound n
+    → IsCoherent (seen_node n rest) tally optimes → IsCoherent (seen_node m rest) tally optimes
+coherent-opened n m rest number op tally optimes is sound old =
+    subst (λ (k : Node). IsCoherent (seen_node k rest) tally optimes) (sym is)
+    (coherent-slots (seen_node n rest) (sets.insert n.slots (next_optime n)) (maps.insert n.writers number (Open (next_optime n) op)) (next_optime n).ts tally optimes
+    (visible_grows (sets.items n.slots) (sets.items (sets.insert n.slots (next_optime n))) n.log n.log sound.oplog (λ entry there. there)
+    (λ slot listed. elim (in_more n.slots (next_optime n) slot listed) [
+      | inl same ↦ inr (λ entry there. subst (λ o. is_before entry.optime o ≡ true) (sym same) (before_next n sound entry there))
+      | inr before ↦ inl before
+    ]))
+    old)
+
+same_ts_apart : (at : OpTime) (op : Op) (other : Entry) → FitsBeside (record { optime = at; op = op }) other → other.optime ≢ at
+same_ts_apart at op other (inl before) same =
+    let earlier : other.optime.ts < at.ts = before.earlier in let ts : other.optime.ts ≡ at.ts = ap (λ (o : OpTime). o.ts) same in omega (arith, earlier, ts)
+same_ts_apart at op other (inr behind) same =
+    let earlier : at.ts < other.optime.ts = behind.earlier in let ts : other.optime.ts ≡ at.ts = ap (λ (o : OpTime). o.ts) same in omega (arith, earlier, ts)
+
+pub coherent-settled : (n m : Node) (rest : Rest) (number : ℕ) (at : OpTime) (op : Op) (tally : Option Tallied) (optimes : List OpTime) → m ≡ settled n number at op → HasOpen n.writers number at op
+    → IsSound n → AreApart n → IsSound m → IsCoherent (seen_node n rest) tally optimes → IsCoherent (seen_node m rest) tally (with_optime optimes at)
+coherent-settled n m rest number at op tally optimes is has sound writers after old =
+    subst (λ (k : Node). IsCoherent (seen_node k rest) tally (with_optime optimes at)) (sym is)
+    (coherent-written (seen_node n rest) (record { optime = at; op = op }) (sets.remove n.slots at) (maps.insert n.writers number (Done at)) n.seen tally optimes sound.oplog
+    (record {
+      behind = durable_before (seen_node n rest) at old.points.durable (zero_before n.stable at pending.unstable)
+          (λ entry there. (in_visible (sets.items n.slots) n.log entry there).1 at (contains_in n.slots at pending.open_slot));
+      apart = λ other there. same_ts_apart at op other (all_in (FitsBeside (record { optime = at; op = op })) n.log other pending.newest.fits there);
+      grows = visible_grows (sets.items n.slots) (sets.items (sets.remove n.slots at)) n.log (with_entry n.log (record { optime = at; op = op })) (subst (λ (k : Node). IsOplog k.log) is after.oplog)
+          (in_with n.log (record { optime = at; op = op })) (λ slot listed. inl (in_fewer n.slots at slot listed));
+    })
+    old)
+  where
+    pending : IsPending n at op
+    pending = writers.pending number at op has
+
+pub coherent-aborted : (n m : Node) (rest : Rest) (number : ℕ) (at : OpTime) (tally : Option Tallied) (optimes : List OpTime) → m ≡ aborted n number at → IsSound n
+    → IsCoherent (seen_node n rest) tally optimes → IsCoherent (seen_node m rest) tally optimes
+coherent-aborted n m rest number at tally optimes is sound old =
+    subst (λ (k : Node). IsCoherent (seen_node k rest) tally optimes) (sym is)
+    (coherent-slots (seen_node n rest) (sets.remove n.slots at) (maps.remove n.writers number) n.seen tally optimes
+    (visible_grows (sets.items n.slots) (sets.items (sets.remove n.slots at)) n.log n.log sound.oplog (λ entry there. there) (λ slot listed. inl (in_fewer n.slots at slot listed)))
+    old)

@@ -1,0 +1,48 @@
+use Rattle.std.proofs.Common.{◌≡◌, ◌∙◌, ap, sym, subst, None}
+use Rattle.std.specs.Option.{option_copied}
+use Rattle.std.specs.FinMap.{get}
+use Rattle.oplog_entry.specs.Docs.{docs}
+use Rattle.oplog_entry.specs.Visible.{log_up_to}
+use Rattle.doc_update.specs.Effect.{prepared}
+use Rattle.doc_update.specs.Sound.{IsSound}
+use Rattle.set_model.specs.Admitted.{or_refused}
+use Rattle.set_model.specs.Holds.{holder}
+use Rattle.set_model.specs.Reads.{local_documents}
+use Rattle.set_model.specs.Roles.{if_primary}
+use Rattle.set_model.specs.declared.role.Role.{Role}
+use Rattle.node_state.specs.Standing.{Standing}
+use Rattle.node_ledger.specs.Versions.{AreSmall}
+use Rattle.node_state.proofs.AdmitLemmas.{admitted-held, admitted-free, refuses, effect_can}
+use Rattle.node_state.proofs.state.State.admit.Goals as goal
+
+pub returns-in-Some : goal.returns-in-Some
+returns-in-Some c =
+    let found = rw c.as_str.ensures at c.in-Some.ensures in
+    admitted-held c.args.self.now.node c.args.op.now c.in-Ok.place c.in-Some.writer c.in-Ok.ensures
+    (ap (λ (s : Standing). holder s.node c.in-Ok.place) (sym c.self.view_is) ∙ sym found)
+
+pub returns-in-Ok-prepare : goal.returns-in-Ok-prepare
+returns-in-Ok-prepare c =
+    let none = rw c.as_str.ensures at c.in_default.ensures in
+    let free : holder c.args.self.now.node c.in-Ok.place ≡ None = ap (λ (s : Standing). holder s.node c.in-Ok.place) (sym c.self.view_is) ∙ sym none in
+    let stands = rw c.as_str-2.ensures at c.latest.ensures.latest in
+    let latest : option_copied c.latest.result ≡ get (docs c.args.self.now.node.log) c.in-Ok.place =
+    stands ∙ ap (λ (s : Standing). get (local_documents s.node) c.in-Ok.place) c.self.view_is
+    ∙ ap (λ (r : Role). get (docs (if_primary r c.args.self.now.node.log (log_up_to c.args.self.now.node.applied c.args.self.now.node.log))) c.in-Ok.place) c.requires.role in
+    let sound = subst (λ place. IsSound place (option_copied c.latest.result) c.in-Ok-prepare.effect) c.in-Ok.ensures c.in-Ok-prepare.ensures.sound in (
+      admitted-free c.args.self.now.node c.args.op.now c.in-Ok.place c.in-Ok.ensures free ∙ ap or_refused (ap (prepared c.args.op.now) (sym latest) ∙ c.in-Ok-prepare.ensures.answer),
+      free,
+      effect_can c.args.self.now.node c.args.op.now c.in-Ok.place (option_copied c.latest.result) c.in-Ok-prepare.effect
+          (subst (λ (s : Standing). AreSmall s.node.log) c.self.view_is c.is_sound.ensures.node.documents) c.is_sound-2.ensures c.requires.name c.in-Ok.ensures latest c.latest.ensures.own c.in-Ok-prepare.ensures.answer sound,
+    )
+
+pub returns-in_ok-refusal-in-Err-prepare : goal.returns-in_ok-refusal-in-Err-prepare
+returns-in_ok-refusal-in-Err-prepare c =
+    let none = rw c.as_str.ensures at c.in_default.ensures in
+    let free : holder c.args.self.now.node c.in-Ok.place ≡ None = ap (λ (s : Standing). holder s.node c.in-Ok.place) (sym c.self.view_is) ∙ sym none in
+    let stands = rw c.as_str-2.ensures at c.latest.ensures.latest in
+    let latest : option_copied c.latest.result ≡ get (docs c.args.self.now.node.log) c.in-Ok.place =
+    stands ∙ ap (λ (s : Standing). get (local_documents s.node) c.in-Ok.place) c.self.view_is
+    ∙ ap (λ (r : Role). get (docs (if_primary r c.args.self.now.node.log (log_up_to c.args.self.now.node.applied c.args.self.now.node.log))) c.in-Ok.place) c.requires.role in
+    admitted-free c.args.self.now.node c.args.op.now c.in-Ok.place c.in-Ok.ensures free ∙ ap or_refused (ap (prepared c.args.op.now) (sym latest))
+    ∙ refuses c.in-Err-prepare.why c.in_ok-refusal-in-Err-prepare.field-0 (prepared c.args.op.now (option_copied c.latest.result)) c.in-Err-prepare.ensures.answer c.in_ok-refusal-in-Err-prepare.ensures

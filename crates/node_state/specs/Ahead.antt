@@ -1,0 +1,43 @@
+-- What a message that brings a higher term comes to is made ready while the node is still in its own term.
+use Rattle.std.specs.Prelude.{◌≡◌, ℕ, Bool, true, false, List, None, if◌then◌else◌}
+use Rattle.rs_optime.specs.declared.optime.OpTime.{OpTime}
+use Rattle.repl_msg.specs.declared.message.Body.{Body}
+use Rattle.repl_msg.specs.declared.message.Body.TheVariants as bodies
+use Rattle.repl_msg.specs.declared.record.Record.{Record}
+use Rattle.set_model.specs.Changes.{in_new_term}
+use Rattle.set_model.specs.Node.{Node}
+use Rattle.set_model.specs.Stores.{Plan}
+use Rattle.node_state.specs.Standing.{Standing}
+use Rattle.node_state.specs.Told.{told_plan}
+use Rattle.node_state.specs.declared.turn.Told.{Told}
+
+-- the node as it takes a message: once it has the message's term, where that is higher
+abbrev pub taking : Bool → ℕ → Node → Node
+taking raised term node = if raised then in_new_term node term None else node
+
+-- the same, with the room that it has
+abbrev pub ahead : Bool → ℕ → Standing → Standing
+ahead raised term standing = record standing { node = taking raised term standing.node }
+
+-- at that node this comes to what the plan says, whatever is stored before
+abbrev pub Tells : Told → Bool → ℕ → (Node → Plan) → Node → Node → Type 0
+Tells told raised term plan old new =
+    (items : List Record) → told_plan told (taking raised term (record new { records = items })) ≡ plan (taking raised term (record old { records = items }))
+
+-- and nothing has changed but how far the log is applied
+pub record Foretells (told : Told) (raised : Bool) (term : ℕ) (plan : Node → Plan) (old new : Node) : Type 0 where
+  pub tells : Tells told raised term plan old new
+  pub at : OpTime
+  pub same : new ≡ record old { applied = at }
+
+-- a message that is made ready so: it wants no memory once its term is taken
+abbrev pub is_foreseen : Body → Bool
+is_foreseen (bodies.Fetch base) = true
+is_foreseen (bodies.FetchReply reply) = true
+is_foreseen (bodies.Report config durable) = false
+is_foreseen (bodies.VoteAsk ask) = false
+is_foreseen (bodies.VoteReply asked dry why) = false
+is_foreseen (bodies.Heartbeat beat) = true
+is_foreseen (bodies.HeartbeatReply beat) = true
+is_foreseen (bodies.CommonAsk after) = true
+is_foreseen (bodies.CommonReply after optimes visible) = true

@@ -1,0 +1,53 @@
+-- A node in memory, as it is seen.
+use Rattle.std.specs.Prelude.{ℕ, true, List, [], Option, None, Some}
+use Rattle.std.specs.Ordering.{nat_cmp}
+use Rattle.std.specs.FinMap as maps
+use Rattle.bson_doc.specs.Place.{Place}
+use Rattle.bson_doc.specs.Tree.{Fields}
+use Rattle.rs_optime.specs.declared.optime.OpTime.{OpTime}
+use Rattle.member_config.specs.declared.config.Config.{Config}
+use Rattle.election_core.specs.Counting.{Tallied}
+use Rattle.repl_msg.specs.declared.record.Record.{Record}
+use Rattle.set_model.specs.Node.{Node, DryTally, Report, Heard}
+
+-- those who voted for the candidate
+abbrev pub yes_of : Option Tallied → List ℕ
+yes_of None = []
+yes_of (Some tally) = tally.yes
+
+-- beside the log and what hangs on it
+pub record Rest : Type 0 where
+  pub number : ℕ
+  pub first : Config
+  pub vote : Option ℕ
+  pub records : List Record
+  pub durable : OpTime
+  pub commit : OpTime
+  pub config : Config
+  pub progress : maps.FinMap nat_cmp Report
+  pub known : maps.FinMap nat_cmp Heard
+  pub tally : Option Tallied
+  pub dry_tally : Option DryTally
+  pub lost : List (Place × Option Fields)
+  pub rollback : ℕ
+
+-- the node of which a ledger has the log. It is up.
+abbrev pub seen_node : Node → Rest → Node
+seen_node ledger rest =
+    record ledger {
+      number = rest.number;
+      up = true;
+      doubt = None;
+      first = rest.first;
+      vote = rest.vote;
+      records = rest.records;
+      durable = rest.durable;
+      commit = rest.commit;
+      config = rest.config;
+      progress = rest.progress;
+      known = rest.known;
+      tally = yes_of rest.tally;
+      dry_tally = rest.dry_tally;
+      lost = rest.lost;
+      rollback = rest.rollback;
+    }

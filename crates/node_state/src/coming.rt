@@ -1,0 +1,126 @@
+// A node that comes back with what its disks have.
+ghost use Rattle.std.specs.Prelude.{◌≡◌, ◌<◌, ◌-◌, ◌^◌, None, IfOk, unwrap_or};
+ghost use Rattle.doc_fold.specs.Map.{documents_of};
+ghost use Rattle.oplog_entry.specs.Docs.{docs};
+ghost use Rattle.oplog_entry.specs.Visible.{log_up_to};
+ghost use Rattle.member_config.specs.Rule.{rule};
+ghost use Rattle.repl_msg.specs.Kept.{kept};
+ghost use Rattle.set_model.specs.Disk.{come_back};
+ghost use Rattle.node_state.specs.WellKept.{coming, IsReadAs, IsWellKept, StoresWell};
+ghost use Rattle.node_state.specs.Ready.{IsReady, CanBeStored};
+
+use crate::State;
+use crate::turn::Then;
+use bson_doc::{Doc, IdKey, Mem, Text};
+use commit_point::Progress;
+use member_config::Config;
+use node_ledger::Ledger;
+use node_tables::{KnownTable, Records, Unkept};
+use repl_msg::Kept;
+use rs_optime::OpTime;
+use set_model::{EntryList, LostList, Store};
+use std::alloc::Global;
+use std::collections::BTreeMap;
+use std::thread::Threads;
+
+/// Who a node is, and what it keeps in memory while it is down.
+#[derive(Drop)]
+pub struct Coming<'a> {
+    pub number: u32,
+    pub first: &'a Config,
+    pub clock: u32,
+    /// How often it rolled back or came up before.
+    pub rollback: u64,
+    pub records: Records,
+}
+
+impl State {
+    /// A node that comes up with what was read of its journal, and with the documents of its other disk as of an optime. Entries
+    /// behind the journal's point are left out: a cut at the point stands among the records.
+    pub fn restored<R: Threads + Sync>(
+        rt: &R,
+        alloc: Global,
+        coming_up: Coming<'_>,
+        found: Kept,
+        stable: OpTime,
+        documents: BTreeMap<(Text, IdKey), Doc>,
+    ) -> Mem<State>
+        requires number { coming_up.number < 50 }
+        requires first { rule coming_up.first.now ≡ None }
+        requires rollback { coming_up.rollback < 2 ^ 64 - 1 }
+        requires kept { IsWellKept coming_up.records.list stable }
+        requires read { IsReadAs found coming_up.records.list }
+        requires documents { documents_of documents.entries ≡ docs (log_up_to stable (kept coming_up.records.list).entries) }
+        ensures { IfOk result (λ state. state.node ≡ come_back (coming coming_up.entry.first.now coming_up.entry.number coming_up.entry.records.list stable coming_up.entry.rollback coming_up.entry.clock) (kept coming_up.entry.records.list)) }
+    {
+        let config = config_or(found.config, coming_up.first)?;
+        let entries = entries_up_to(found.entries, found.point);
+        let ledger = Ledger::restore(
+            rt,
+            alloc,
+            found.vote.term,
+            coming_up.clock,
+            entries,
+            stable,
+            documents,
+        )?;
+        Ok(State {
+            alloc,
+            number: coming_up.number,
+            first: coming_up.first.copy()?,
+            ledger,
+            vote: found.vote.candidate,
+            durable: found.point,
+            commit: stable,
+            config,
+            progress: Progress::new(alloc),
+            known: KnownTable::new(alloc)?,
+            tally: None,
+            dry_run: None,
+            lost: LostList::new(alloc),
+            rollback: coming_up.rollback + 1,
+            unkept: Unkept::new(alloc),
+            records: coming_up.records,
+        })
+    }
+}
+
+// Facts of a node in memory, for the proofs of who stores for it.
+impl State {
+    /// What it keeps is enough to come back with.
+    pub fn is_well_kept(&self)
+        ensures { IsWellKept self.now.node.records self.now.node.stable }
+    {
+        let _ = &self.number;
+        self.ledger.is_sound();
+    }
+
+    /// So is what it then keeps that stores something.
+    pub fn stores_well(&self, _item: &Store, _then: &Then)
+        requires ready { IsReady _item.now _then.now self.now }
+        requires stored { CanBeStored _item.now }
+        ensures { StoresWell self.now.node _item.now }
+    {
+        let _ = &self.number;
+        self.ledger.is_sound();
+    }
+}
+
+/// The configuration that was kept, or the first one.
+fn config_or(config: Option<Config>, first: &Config) -> Mem<Config>
+    ensures { IfOk result (λ c. c ≡ unwrap_or config first.now) }
+{
+    match config {
+        Some(config) => Ok(config),
+        None => first.copy(),
+    }
+}
+
+/// The entries that aren't behind a point.
+fn entries_up_to(entries: EntryList, point: OpTime) -> EntryList
+    ensures { result ≡ log_up_to point entries }
+{
+    let mut entries = entries.into_entries();
+    entries.retain(|entry| entry.optime <= point);
+    EntryList::new(entries)
+}

@@ -1,0 +1,120 @@
+// Entries that were fetched, as they arrive.
+ghost use Rattle.std.specs.Prelude.{◌≡◌, ◌<◌, ◌≤◌, ◌-◌, nat_lt, fold, length, map, true, IfOk, OnOk, OnErr};
+ghost use Rattle.repl_msg.specs.Fetching.{continues};
+ghost use Rattle.node_tables.specs.Unkept.{with_optime};
+ghost use Rattle.set_model.specs.Changes.{heard_of};
+ghost use Rattle.set_model.specs.Fetching as rows;
+ghost use Rattle.set_model.specs.Outcome.{replied};
+ghost use Rattle.set_model.specs.Points.{last_point, learnt};
+ghost use Rattle.set_model.specs.Stores.{finished};
+ghost use Rattle.set_model.specs.declared.reply.Reply.TheVariants.{Took};
+ghost use Rattle.set_model.specs.declared.role.Role.TheVariants.{Secondary};
+ghost use Rattle.node_state.specs.Ahead.{Foretells, ahead};
+ghost use Rattle.node_state.specs.Ready.{IsFetched, IsReadyTold, IsReadyTurn};
+ghost use Rattle.node_state.specs.Taking.{CanFetch};
+ghost use Rattle.node_state.specs.Turns.{Means};
+
+use crate::State;
+use crate::turn::{Told, Turn};
+use bson_doc::Mem;
+use commit_point::learn;
+use node_tables::Unkept;
+use oplog_entry::Entry;
+use repl_msg::FetchReply;
+use rs_optime::OpTime;
+use set_model::{Ignored, Reply, Role};
+
+/// Entries are written that aren't in the records yet.
+fn note_all(unkept: &mut Unkept, entries: &[Entry])
+    requires room { length entries.now ≤ unkept.old.spare }
+    ensures { unkept.new ≡ record { optimes = fold with_optime unkept.old.optimes (map (λ e. e.optime) entries.now); spare = unkept.old.spare - length entries.now } }
+{
+    for entry in entries {
+        unkept.add(entry.optime);
+    }
+}
+
+impl State {
+    /// The entries of an answer, with room for them.
+    pub(crate) fn prepare_entries(
+        &mut self,
+        from: u32,
+        term: u64,
+        reply: &FetchReply,
+        raised: bool,
+    ) -> Mem<Told>
+        requires from { from < 50 }
+        requires fetched { CanFetch self.old.node term reply.now }
+        requires raised { raised ≡ nat_lt self.old.node.term term }
+        ensures told { IfOk result (λ told. Foretells told raised term (λ node. finished (rows.entries_told node from reply.now)) self.old.node self.new.node) }
+        ensures ready { IfOk result (λ told. IsReadyTold told (ahead raised term self.new)) }
+        ensures err { OnErr result (self.new.node ≡ self.old.node) }
+    {
+        let reply = reply.copy()?;
+        self.make_room(reply.entries.as_slice().len())?;
+        Ok(Told::Fetched { from, reply })
+    }
+
+    fn make_room(&mut self, count: usize) -> Mem<()>
+        ensures node { self.new.node ≡ self.old.node }
+        ensures room { OnOk result (count ≤ self.new.spare) }
+    {
+        self.unkept.reserve(count)?;
+        self.ledger.reserve(count)
+    }
+
+    /// A secondary takes entries that go on where its log ends.
+    pub(crate) fn take_entries(&mut self, from: u32, reply: FetchReply) -> Turn
+        requires ready { IsFetched from reply self.old }
+        ensures turn { Means result self.new.node (finished (rows.entries_told self.old.node from reply)) }
+        ensures ready { IsReadyTurn result self.new }
+    {
+        if self.ledger.role() != Role::Secondary {
+            return self.answered(Reply::Ignored(Ignored::NotSecondary));
+        }
+        if !reply.holds || reply.base != self.ledger.last() {
+            return self.answered(Reply::Ignored(Ignored::OtherPlace));
+        }
+        self.follow(from, reply)
+    }
+
+    fn follow(&mut self, from: u32, reply: FetchReply) -> Turn
+        requires ready { IsFetched from reply self.old }
+        requires role { self.old.node.role ≡ Secondary }
+        requires base { continues (last_point self.old.node) reply ≡ true }
+        ensures turn { Means result self.new.node (finished (replied (Took (length reply.entries) (last_point (rows.taken self.old.node from reply))) (rows.taken self.old.node from reply))) }
+        ensures ready { IsReadyTurn result self.new }
+    {
+        let count = reply.entries.as_slice().len() as u64;
+        let (visible, commit, primary) = (reply.visible, reply.commit, reply.primary);
+        self.append(reply);
+        self.learn_from(from, visible, commit, primary);
+        self.answered(Reply::Took {
+            count,
+            last: self.ledger.last(),
+        })
+    }
+
+    /// The sender is known, and its commit point is learnt.
+    fn learn_from(&mut self, from: u32, visible: OpTime, commit: OpTime, primary: bool)
+        requires { from < 50 }
+        ensures { self.new.node ≡ learnt (heard_of self.old.node from visible primary) commit }
+    {
+        self.commit = learn(self.commit, commit, self.durable);
+        self.known.set(from, visible, primary);
+    }
+
+    /// Its entries are written behind the log.
+    fn append(&mut self, reply: FetchReply)
+        requires fetched { CanFetch self.old.node self.old.node.term reply }
+        requires room { length reply.entries ≤ self.old.spare }
+        requires role { self.old.node.role ≡ Secondary }
+        requires base { continues (last_point self.old.node) reply ≡ true }
+        ensures { self.new.node ≡ rows.with_fetched self.old.node reply.entries }
+    {
+        self.ledger.is_sound();
+        note_all(&mut self.unkept, reply.entries.as_slice());
+        self.ledger.append(reply.entries.into_entries());
+        self.ledger.is_sound();
+    }
+}

@@ -1,0 +1,190 @@
+// Batches, the journal and checkpoints.
+ghost use Rattle.std.specs.Prelude.{◌≡◌, ◌≤◌, ◌<◌, IfOk, OnErr};
+ghost use Rattle.std.specs.Option.{option_copied};
+ghost use Rattle.set_model.specs.Disk as disk;
+ghost use Rattle.set_model.specs.Points.{earlier_of};
+ghost use Rattle.set_model.specs.Stores.{finished, stored};
+ghost use Rattle.node_state.specs.Flushing.{entry_at, entries_at};
+ghost use Rattle.node_state.specs.Ready.{IsCheckpoint, IsFlush, IsReadyTurn};
+ghost use Rattle.node_state.specs.Turns.{Means, rest_of};
+ghost use Rattle.node_state.specs.declared.turn.Then.TheVariants as thens;
+
+use crate::State;
+use crate::turn::{Then, Turn};
+use bson_doc::Mem;
+use oplog_entry::Entry;
+use oplog_store::Oplog;
+use repl_msg::{EntryList, Record};
+use rs_optime::OpTime;
+use set_model::{Refusal, Reply, Role, Store};
+use std::alloc::Global;
+use std::thread::Threads;
+
+/// How many entries a record has, at most.
+const RECORD: usize = 2_000;
+
+pub(crate) fn earlier(one: OpTime, other: OpTime) -> OpTime
+    ensures { result ≡ earlier_of one other }
+{
+    if one < other { one } else { other }
+}
+
+/// The entry with an optime.
+fn entry_at(log: &Oplog, at: OpTime) -> Option<&Entry>
+    ensures { option_copied result ≡ entry_at log.now.entries at }
+{
+    let _ = log.as_slice();
+    match log.find(at) {
+        Some(place) => log.as_slice().get(place),
+        None => None,
+    }
+}
+
+/// Copies of the entries with these optimes.
+fn copies_at(alloc: Global, log: &Oplog, optimes: &[OpTime]) -> Mem<EntryList>
+    ensures { IfOk result (λ list. list ≡ entries_at log.now.entries optimes.now) }
+{
+    let mut copies = Vec::with_capacity(alloc, optimes.len())?;
+    for at in optimes {
+        if let Some(entry) = entry_at(log, *at) {
+            copies.push(entry.copy()?)?;
+        }
+    }
+    let _ = log.as_slice();
+    Ok(EntryList::new(copies))
+}
+
+impl State {
+    /// Applies the next batch, by so many workers.
+    pub(crate) fn apply<R: Threads + Sync>(&mut self, rt: &R, workers: u32) -> Mem<Turn>
+        requires some { 0 < workers }
+        requires most { workers ≤ 16 }
+        ensures turn { IfOk result (λ turn. Means turn self.new.node (finished (disk.apply self.old.node))) }
+        ensures ready { IfOk result (λ turn. IsReadyTurn turn self.new) }
+        ensures err { OnErr result (self.new.node ≡ self.old.node) }
+    {
+        if self.ledger.role() == Role::Primary {
+            return Ok(self.refused(Refusal::NothingToDo));
+        }
+        let count = self.ledger.apply(rt, workers)?;
+        if count == 0 {
+            return Ok(self.refused(Refusal::NothingToDo));
+        }
+        let to = self.ledger.applied();
+        Ok(self.answered(Reply::Applied {
+            count: count as u64,
+            to,
+        }))
+    }
+
+    /// The next entries that aren't in the records, at most 2,000.
+    pub(crate) fn start_flush(&mut self) -> Mem<Turn>
+        ensures turn { IfOk result (λ turn. Means turn self.new.node (disk.flush self.old.node)) }
+        ensures ready { IfOk result (λ turn. IsReadyTurn turn self.new) }
+        ensures same { self.new.node ≡ self.old.node }
+        ensures err { OnErr result (self.new.node ≡ self.old.node) }
+    {
+        self.ledger.is_sound();
+        if self.is_flushed() {
+            return Ok(self.refused(Refusal::NothingToDo));
+        }
+        let list = self.next_entries()?;
+        let count = list.as_slice().len() as u64;
+        let point = self.next_durable();
+        Ok(Turn::Storing {
+            item: Store::Record(Record::Entries { list, point }),
+            then: Then::Flush { count, point },
+        })
+    }
+
+    /// Whether all that is visible is durable, and no entry is left for a record.
+    fn is_flushed(&self) -> bool
+        ensures { result ≡ disk.is_flushed self.now.node }
+    {
+        self.unkept.is_empty() && self.durable == self.ledger.visible()
+    }
+
+    /// Copies of the entries of the next record.
+    fn next_entries(&self) -> Mem<EntryList>
+        ensures { IfOk result (λ list. list ≡ disk.next_entries self.now.node) }
+    {
+        self.ledger.is_sound();
+        let optimes = self.unkept.as_slice();
+        let count = optimes.len().min(RECORD);
+        copies_at(self.alloc, self.ledger.log(), &optimes[..count])
+    }
+
+    /// How far the log is durable once they are in the records.
+    fn next_durable(&self) -> OpTime
+        ensures { result ≡ disk.next_durable self.now.node }
+    {
+        let visible = self.ledger.visible();
+        if self.unkept.len() <= RECORD {
+            return visible;
+        }
+        let last = self.unkept.as_slice()[RECORD - 1];
+        earlier(visible, last)
+    }
+
+    pub(crate) fn go_on_flush(&mut self, item: &Store, count: u64, point: OpTime) -> Turn
+        requires ready { IsFlush item.now count point self.old.node }
+        ensures turn { Means result self.new.node (rest_of (thens.Flush count point) (stored self.old.node item.now)) }
+        ensures ready { IsReadyTurn result self.new }
+    {
+        self.flush(item, count as usize, point);
+        self.evaluate();
+        self.answered(Reply::Flushed { count, to: point })
+    }
+
+    /// The first entries that weren't in the records are there now.
+    fn flush(&mut self, item: &Store, count: usize, point: OpTime)
+        requires ready { IsFlush item.now count point self.old.node }
+        ensures { self.new.node ≡ record (stored self.old.node item.now) { durable = point } }
+    {
+        self.ledger.is_sound();
+        self.unkept.drop_first(count);
+        self.records = self.records.with(item);
+        self.durable = point;
+    }
+
+    pub(crate) fn start_checkpoint(&mut self) -> Turn
+        ensures turn { Means result self.new.node (disk.checkpoint self.old.node) }
+        ensures ready { IsReadyTurn result self.new }
+        ensures same { self.new.node ≡ self.old.node }
+    {
+        let at = self.next_stable();
+        if at == self.ledger.stable() {
+            return self.refused(Refusal::NothingToDo);
+        }
+        Turn::Storing {
+            item: Store::Checkpoint(at),
+            then: Then::Checkpoint { at },
+        }
+    }
+
+    /// The lesser of the commit point and what is applied.
+    fn next_stable(&self) -> OpTime
+        ensures { result ≡ disk.next_stable self.now.node }
+    {
+        earlier(self.commit, self.ledger.applied_point())
+    }
+
+    pub(crate) fn go_on_checkpoint(&mut self, item: &Store, at: OpTime) -> Turn
+        requires ready { IsCheckpoint item.now at self.old.node }
+        ensures turn { Means result self.new.node (rest_of (thens.Checkpoint at) (stored self.old.node item.now)) }
+        ensures ready { IsReadyTurn result self.new }
+    {
+        self.keep_documents(item, at);
+        self.answered(Reply::Checkpoint(at))
+    }
+
+    /// The other disk has the documents as of this optime.
+    fn keep_documents(&mut self, item: &Store, at: OpTime)
+        requires ready { IsCheckpoint item.now at self.old.node }
+        ensures { self.new.node ≡ stored self.old.node item.now }
+    {
+        self.ledger.is_sound();
+        self.ledger.prune(at);
+        self.records = self.records.with(item);
+    }
+}

@@ -1,0 +1,95 @@
+// How a node that won begins to lead: steps that several rows take.
+ghost use Rattle.std.specs.Prelude.{◌≡◌, ◌-◌, ◌^◌, ◌<◌, ◌≤◌, false, IfOk, OnOk, OnErr};
+ghost use Rattle.oplog_entry.specs.declared.entry.Op.TheVariants.{Noop};
+ghost use Rattle.member_config.specs.Config.{in_term};
+ghost use Rattle.rs_optime.specs.declared.optime.OpTime.{OpTime};
+ghost use Rattle.set_model.specs.Changes.{logged};
+ghost use Rattle.set_model.specs.Elections.{drained};
+ghost use Rattle.set_model.specs.Points.{evaluated, last_point, next_optime};
+ghost use Rattle.set_model.specs.Roles.{is_primary};
+ghost use Rattle.set_model.specs.Stores.{stored, config_record};
+ghost use Rattle.set_model.specs.declared.role.Role.TheVariants.{Draining, Primary};
+
+use crate::State;
+use bson_doc::Mem;
+use commit_point::Progress;
+use member_config::Config;
+use rs_optime::OpTime;
+use set_model::{Role, Store};
+use std::thread::Threads;
+
+impl State {
+    /// The node's configuration in its term.
+    pub(crate) fn config_in_term(&self) -> Mem<Config>
+        ensures { IfOk result (λ config. config ≡ in_term self.now.node.config self.now.node.term) }
+    {
+        let mut config = self.config.copy()?;
+        config.term = self.ledger.term();
+        Ok(config)
+    }
+
+    /// Applies the whole log.
+    pub(crate) fn apply_all<R: Threads + Sync>(&mut self, rt: &R) -> Mem<()>
+        requires role { is_primary self.old.node.role ≡ false }
+        ensures ok { OnOk result (self.new.node ≡ record self.old.node { applied = last_point self.old.node }) }
+        ensures spare { self.new.spare ≡ self.old.spare }
+        ensures err { OnErr result (self.new.node ≡ self.old.node) }
+    {
+        self.ledger.is_sound();
+        let last = self.ledger.last();
+        self.ledger.apply_to(rt, last)?;
+        Ok(())
+    }
+
+    /// Makes room for so many entries.
+    pub(crate) fn reserve(&mut self, more: usize) -> Mem<()>
+        ensures node { self.new.node ≡ self.old.node }
+        ensures ok { OnOk result (more ≤ self.new.spare) }
+    {
+        self.unkept.reserve(more)?;
+        self.ledger.reserve(more)
+    }
+
+    /// It is primary, with its configuration in its term, whose record stands.
+    pub(crate) fn lead(&mut self, item: &Store, config: Config)
+        requires item { item.now ≡ config_record config }
+        requires config { config ≡ in_term self.old.node.config self.old.node.term }
+        requires role { self.old.node.role ≡ Draining }
+        requires applied { self.old.node.applied ≡ last_point self.old.node }
+        ensures node { self.new.node ≡ drained (stored self.old.node item.now) }
+        ensures spare { self.new.spare ≡ self.old.spare }
+    {
+        self.ledger.become_primary();
+        self.records = self.records.with(item);
+        self.config = config;
+        self.progress = Progress::new(self.alloc);
+    }
+
+    /// A primary writes a no-op.
+    pub(crate) fn log_noop(&mut self) -> OpTime
+        requires role { self.old.node.role ≡ Primary }
+        requires seen { self.old.node.seen < 2 ^ 64 - 1 }
+        requires room { 0 < self.old.spare }
+        ensures at { result ≡ next_optime self.old.node }
+        ensures node { self.new.node ≡ logged self.old.node Noop }
+    {
+        self.ledger.is_sound();
+        let at = self.ledger.append_noop();
+        self.ledger.is_sound();
+        self.unkept.add(at);
+        at
+    }
+
+    /// A primary's commit point goes on to what a majority of the voters has reached.
+    pub(crate) fn evaluate(&mut self)
+        ensures node { self.new.node ≡ evaluated self.old.node }
+        ensures spare { self.new.spare ≡ self.old.spare }
+    {
+        if self.ledger.role() == Role::Primary {
+            let term = self.ledger.term();
+            self.commit = self
+                .progress
+                .advance(&self.config, term, self.number, self.durable, self.commit);
+        }
+    }
+}

@@ -1,0 +1,34 @@
+//! A node of a replica set in memory: its log and documents, its vote, its points, its configuration, and what it heard of others.
+//!
+//! What a command or a message comes to is a turn: it is finished, or it stores something and goes on once that stands.
+#![tactic(auto)]
+
+mod admission;
+mod asking;
+mod changing;
+mod coming;
+mod commands;
+mod concerns;
+mod elections;
+mod fetching;
+mod hearing;
+mod keeping;
+mod leading;
+mod listing;
+mod preparing;
+mod reading;
+mod reports;
+mod rolling;
+mod sending;
+mod state;
+mod taking;
+mod tallies;
+mod terms;
+mod turn;
+mod votes;
+mod writers;
+mod writes;
+
+pub use coming::Coming;
+pub use state::State;
+pub use turn::{Answer, Hearing, Then, Told, Turn};

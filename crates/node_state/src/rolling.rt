@@ -1,0 +1,256 @@
+// Rolling back what a later primary doesn't have.
+ghost use Rattle.std.specs.Prelude.{◌≡◌, All, map, nat_lt, None, IfOk, OnErr, OnOk};
+ghost use Rattle.oplog_entry.specs.Lawful.{IsLawful};
+ghost use Rattle.repl_msg.specs.Logs.{log_behind};
+ghost use Rattle.repl_msg.specs.Rollback.{common_point};
+ghost use Rattle.rollback_core.specs.Lost.{lost_of};
+ghost use Rattle.set_model.specs.Points.{visible_log};
+ghost use Rattle.set_model.specs.Reads.{local_documents};
+ghost use Rattle.set_model.specs.Roles.{is_secondary};
+ghost use Rattle.set_model.specs.Rollback as rows;
+ghost use Rattle.set_model.specs.Rollback.{cut_record};
+ghost use Rattle.set_model.specs.Safety.{AtMost};
+ghost use Rattle.set_model.specs.Stores.{finished, stored};
+ghost use Rattle.node_state.specs.Ahead.{Foretells, ahead, taking};
+ghost use Rattle.node_state.specs.Bounds.{IsBounded};
+ghost use Rattle.node_state.specs.Ready.{IsCut, IsReadyTold, IsReadyTurn};
+ghost use Rattle.node_state.specs.Rolling.{point_or, reached, rolled_node};
+ghost use Rattle.node_state.specs.Told.{told_plan};
+ghost use Rattle.node_state.specs.Turns.{Means, rest_of};
+ghost use Rattle.node_state.specs.declared.turn.Then.TheVariants as thens;
+ghost use Rattle.node_state.specs.declared.turn.Told.TheVariants as tolds;
+
+use crate::State;
+use crate::keeping::earlier;
+use crate::turn::{Then, Told, Turn};
+use bson_doc::Mem;
+use oplog_entry::Entry;
+use oplog_fetcher::behind;
+use repl_msg::{Body, OptimeList, Record};
+use rollback_core::{LostDocument, RollbackRefusal, lost_documents, plan};
+use rs_optime::OpTime;
+use set_model::{Ignored, LostList, Refusal, Reply, Role, Store};
+use std::alloc::Global;
+use std::thread::Threads;
+
+/// The most optimes that are told at once.
+const MOST_OPTIMES: usize = 20_000;
+
+/// The optimes of some entries.
+fn optimes_of(alloc: Global, entries: &[Entry]) -> Mem<OptimeList>
+    ensures { IfOk result (λ list. list ≡ rows.optimes_of entries.now) }
+{
+    let mut optimes = OptimeList::new(alloc);
+    for entry in entries {
+        optimes.push(entry.optime)?;
+    }
+    Ok(optimes)
+}
+
+/// Lost documents, each by its place.
+fn listed(alloc: Global, documents: Vec<LostDocument>) -> Mem<LostList>
+    ensures { IfOk result (λ lost. lost ≡ map lost_of documents.items) }
+{
+    let mut lost = LostList::new(alloc);
+    for document in documents {
+        lost.push((document.ns, document.id), document.doc)?;
+    }
+    Ok(lost)
+}
+
+// What another node asks.
+impl State {
+    /// The visible entries behind an optime, once a message's term is taken.
+    fn visible_behind(&self, raised: bool, after: OpTime) -> &[Entry]
+        ensures { result.now ≡ log_behind after (visible_log (taking raised 0 self.now.node)) }
+    {
+        behind(self.ledger.log().up_to(self.visible_then(raised)), after)
+    }
+
+    /// A message of this term makes the node take it.
+    fn raises(&self, term: u64) -> bool
+        ensures { result ≡ nat_lt self.now.node.term term }
+    {
+        self.ledger.term() < term
+    }
+
+    /// Too many optimes would be told.
+    pub(crate) fn common_refusal(&self, term: u64, after: OpTime) -> Option<Refusal>
+        ensures { result ≡ rows.common_refusal self.now.node term after }
+    {
+        let raised = self.raises(term);
+        if self.visible_behind(raised, after).len() > MOST_OPTIMES {
+            return Some(Refusal::TooManyOptimes);
+        }
+        None
+    }
+
+    /// A node asks what comes after its commit point.
+    pub(crate) fn prepare_common_asked(
+        &self,
+        next: u64,
+        from: u32,
+        term: u64,
+        after: OpTime,
+        raised: bool,
+    ) -> Mem<Told>
+        ensures told { IfOk result (λ told. Foretells told raised term (λ node. finished (rows.common_asked next node from after)) self.now.node self.now.node) }
+        ensures ready { IfOk result (λ told. IsReadyTold told (ahead raised term self.now)) }
+    {
+        let body = Body::CommonReply {
+            after,
+            optimes: optimes_of(self.alloc, self.visible_behind(raised, after))?,
+            visible: self.visible_then(raised),
+        };
+        let sent = self.message_in(self.term_then(raised, term), from, body)?;
+        Ok(Told::Answered { next, sent })
+    }
+}
+
+// What another node answers.
+impl State {
+    /// The optimes after a node's commit point, as another has them.
+    pub(crate) fn prepare_common_told<R: Threads + Sync>(
+        &mut self,
+        rt: &R,
+        term: u64,
+        after: OpTime,
+        optimes: &OptimeList,
+        visible: OpTime,
+        raised: bool,
+    ) -> Mem<Told>
+        requires bounds { IsBounded self.old.node }
+        requires raised { raised ≡ nat_lt self.old.node.term term }
+        requires common { rows.rollback_reason (taking raised term self.old.node) term after optimes.now visible ≡ None → AtMost self.old.node.commit (common_point self.old.node.log after optimes.now) }
+        ensures told { IfOk result (λ told. Foretells told raised term (λ node. rows.common_told node term after optimes.now visible) self.old.node self.new.node) }
+        ensures ready { IfOk result (λ told. IsReadyTold told (ahead raised term self.new)) }
+        ensures err { OnErr result (self.new.node ≡ self.old.node) }
+    {
+        self.ledger.is_sound();
+        let point = match self.rollback_point(term, after, optimes, visible, raised) {
+            Ok(point) => point,
+            Err(why) => return Ok(Told::Ignored(why)),
+        };
+        let removed = self.ledger.log().after(point).len() as u64;
+        let lost = self.lost_behind(point)?;
+        self.reach(rt, point)?;
+        Ok(Told::RolledBack {
+            point,
+            removed,
+            lost,
+        })
+    }
+
+    /// Up to where the node rolls back, or why it doesn't.
+    fn rollback_point(
+        &self,
+        term: u64,
+        after: OpTime,
+        optimes: &OptimeList,
+        visible: OpTime,
+        raised: bool,
+    ) -> Result<OpTime, Ignored>
+        ensures { result ≡ point_or (rows.rollback_reason (taking raised term self.now.node) term after optimes.now visible) (common_point self.now.node.log after optimes.now) }
+    {
+        if !self.is_secondary_then(raised) {
+            return Err(Ignored::NotSecondary);
+        }
+        let own = self.term_then(raised, term);
+        if term < own {
+            return Err(Ignored::OldTerm);
+        }
+        let log = self.ledger.log();
+        match plan(
+            own,
+            log,
+            self.ledger.last(),
+            visible,
+            after,
+            optimes.as_slice(),
+        ) {
+            Ok(point) => Ok(point),
+            Err(RollbackRefusal::NotOlder) => Err(Ignored::NotOlder),
+            Err(RollbackRefusal::SameBranch) => Err(Ignored::SameBranch),
+        }
+    }
+
+    fn is_secondary_then(&self, raised: bool) -> bool
+        ensures { result ≡ is_secondary (taking raised 0 self.now.node).role }
+    {
+        match self.role_then(raised) {
+            Role::Secondary => true,
+            Role::Candidate | Role::Draining | Role::Primary => false,
+        }
+    }
+
+    /// The documents that the entries behind a point touched, as they stand.
+    fn lost_behind(&self, point: OpTime) -> Mem<LostList>
+        ensures { IfOk result (λ lost. lost ≡ rows.lost_documents (local_documents self.now.node) (log_behind point self.now.node.log)) }
+    {
+        self.ledger.is_sound();
+        let removed = self.ledger.log().after(point);
+        listed(
+            self.alloc,
+            lost_documents(self.alloc, self.ledger.store(), removed)?,
+        )
+    }
+
+    /// Applies the log up to a point, so that it can be cut there.
+    fn reach<R: Threads + Sync>(&mut self, rt: &R, point: OpTime) -> Mem<()>
+        ensures ok { OnOk result (self.new.node ≡ reached self.old.node point) }
+        ensures err { OnErr result (self.new.node ≡ self.old.node) }
+    {
+        match self.ledger.role() {
+            Role::Primary => Ok(()),
+            Role::Secondary | Role::Candidate | Role::Draining => self.ledger.apply_to(rt, point),
+        }
+    }
+
+    /// The node rolls back: it keeps that its log is cut.
+    pub(crate) fn roll_back(&mut self, point: OpTime, removed: u64, lost: LostList) -> Turn
+        requires ready { IsCut point self.old.node }
+        ensures turn { Means result self.new.node (told_plan (tolds.RolledBack point removed lost) self.old.node) }
+        ensures ready { IsReadyTurn result self.new }
+    {
+        Turn::Storing {
+            item: Store::Record(Record::Cut(point)),
+            then: Then::Cut {
+                point,
+                removed,
+                lost,
+            },
+        }
+    }
+
+    /// The log is cut behind the point.
+    pub(crate) fn go_on_cut(
+        &mut self,
+        item: &Store,
+        point: OpTime,
+        removed: u64,
+        lost: LostList,
+    ) -> Turn
+        requires item { item.now ≡ cut_record point }
+        requires ready { IsCut point self.old.node }
+        ensures turn { Means result self.new.node (rest_of (thens.Cut point removed lost) (stored self.old.node item.now)) }
+        ensures ready { IsReadyTurn result self.new }
+    {
+        self.cut_log(item, point, lost);
+        self.answered(Reply::RolledBack { to: point, removed })
+    }
+
+    /// The log is cut behind the point, and the record of that stands.
+    fn cut_log(&mut self, item: &Store, point: OpTime, lost: LostList)
+        requires item { item.now ≡ cut_record point }
+        requires ready { IsCut point self.old.node }
+        ensures { self.new.node ≡ rolled_node (stored self.old.node item.now) point lost }
+    {
+        self.ledger.is_sound();
+        self.ledger.cut(point);
+        self.unkept.cut(point);
+        self.records = self.records.with(item);
+        self.durable = earlier(self.durable, point);
+        self.lost = lost;
+        self.rollback += 1;
+    }
+}

@@ -1,0 +1,285 @@
+ghost use Rattle.std.specs.Prelude.{◌≡◌, ◌<◌, [], None, true, false, IfOk, OnErr};
+ghost use Rattle.std.specs.FinMap as maps;
+ghost use Rattle.bson_doc.specs.Place.{Place};
+ghost use Rattle.rs_optime.specs.declared.optime.OpTime.{OpTime};
+ghost use Rattle.oplog_entry.specs.Docs.{docs};
+ghost use Rattle.oplog_entry.specs.Visible.{log_up_to};
+ghost use Rattle.version_store.specs.Past.{latest_of};
+ghost use Rattle.version_store.specs.Store.{shown_at, versions_at};
+ghost use Rattle.member_config.specs.Rule.{rule};
+ghost use Rattle.set_model.specs.Deliver.{deliver};
+ghost use Rattle.set_model.specs.Limits.{is_within};
+ghost use Rattle.set_model.specs.Node.{opening_node};
+ghost use Rattle.set_model.specs.Reads.{local_documents};
+ghost use Rattle.set_model.specs.Rows.{row};
+ghost use Rattle.set_model.specs.Stores.{stored};
+ghost use Rattle.node_ledger.specs.Ledger.{IsReadable};
+ghost use Rattle.node_state.specs.Bounds.{IsBounded, IsNumbered, is_own};
+ghost use Rattle.node_state.specs.Ready.{IsReady, IsReadyTurn};
+ghost use Rattle.node_state.specs.Taking.{CanTake};
+ghost use Rattle.node_state.specs.Turns.{Means, Says, rest_of};
+
+use crate::turn::{Then, Turn};
+use bson_doc::Mem;
+use commit_point::Progress;
+use election_core::Tally;
+use member_config::Config;
+use node_ledger::Ledger;
+use node_tables::{DryRun, KnownTable, Records, Unkept};
+use repl_msg::Message;
+use rs_optime::OpTime;
+use set_model::{Command, LostList, Refusal, Reply, Store};
+use std::alloc::Global;
+use std::marker::Model;
+use std::thread::Threads;
+use version_store::VersionStore;
+
+/// A node that is up, as far as it is in memory. Its documents are those of its log.
+#[derive(Drop)]
+pub struct State {
+    pub(crate) alloc: Global,
+    pub(crate) number: u32,
+    /// The configuration that the set began with.
+    pub(crate) first: Config,
+    pub(crate) ledger: Ledger,
+    pub(crate) vote: Option<u32>,
+    /// How far the log is durable.
+    pub(crate) durable: OpTime,
+    pub(crate) commit: OpTime,
+    pub(crate) config: Config,
+    pub(crate) progress: Progress,
+    pub(crate) known: KnownTable,
+    /// The votes for this candidate.
+    pub(crate) tally: Option<Tally>,
+    pub(crate) dry_run: Option<DryRun>,
+    /// The documents that the last rollback touched, as they were.
+    pub(crate) lost: LostList,
+    pub(crate) rollback: u64,
+    /// The optimes of the entries that aren't in the records.
+    pub(crate) unkept: Unkept,
+    pub(crate) records: Records,
+}
+
+impl Model for State {
+    ghost use Rattle.std.specs.Prelude.{min};
+    ghost use Rattle.std.specs.Coded.{codes};
+    ghost use Rattle.bson_doc.specs.Code.{fields_code};
+    ghost use Rattle.rs_optime.specs.Order.{optime_code};
+    ghost use Rattle.oplog_entry.specs.contracts.entry.Entry as entry;
+    ghost use Rattle.bson_doc.specs.contracts.key.IdKey as key;
+    ghost use Rattle.member_config.specs.contracts.config.Config as config_row;
+    ghost use Rattle.repl_msg.specs.contracts.record.Record as record_kept;
+    ghost use Rattle.set_model.specs.contracts.store.Store as store_row;
+    ghost use Rattle.node_ledger.specs.Code.{writers_code, slots_code, progress_code, known_code, tally_code};
+    ghost use Rattle.node_state.specs.Standing.{Standing};
+
+    ghost Value = { Standing };
+
+    ghost coded = { Prim.hlevel (codes, fields_code, optime_code, key.the_row.coded, entry.the_row.coded, config_row.the_row.coded, record_kept.the_row.coded, store_row.the_row.coded, writers_code, slots_code, progress_code, known_code, tally_code) };
+
+    ghost use Rattle.node_state.specs.Seen.{seen_node};
+    ghost use Rattle.node_state.specs.Coherent.{IsCoherent};
+
+    ghost view = { λ s. record { node = seen_node s.ledger.node (record { number = s.number; first = s.first; vote = s.vote; records = s.records.list; durable = s.durable; commit = s.commit; config = s.config; progress = s.progress; known = s.known; tally = s.tally; dry_tally = s.dry_run; lost = s.lost; rollback = s.rollback }); spare = min s.ledger.spare s.unkept.spare } };
+
+    ghost invariant = { λ s. IsCoherent (seen_node s.ledger.node (record { number = s.number; first = s.first; vote = s.vote; records = s.records.list; durable = s.durable; commit = s.commit; config = s.config; progress = s.progress; known = s.known; tally = s.tally; dry_tally = s.dry_run; lost = s.lost; rollback = s.rollback })) s.tally s.unkept.optimes };
+}
+
+impl State {
+    /// A node as the set begins.
+    pub fn open(alloc: Global, number: u32, config: &Config) -> Mem<State>
+        requires number { number < 50 }
+        requires config { rule config.now ≡ None }
+        ensures { IfOk result (λ state. state.node ≡ opening_node config.now number) }
+    {
+        Ok(State {
+            alloc,
+            number,
+            first: config.copy()?,
+            ledger: Ledger::new(alloc)?,
+            vote: None,
+            durable: OpTime::ZERO,
+            commit: OpTime::ZERO,
+            config: config.copy()?,
+            progress: Progress::new(alloc),
+            known: KnownTable::new(alloc)?,
+            tally: None,
+            dry_run: None,
+            lost: LostList::new(alloc),
+            rollback: 0,
+            unkept: Unkept::new(alloc),
+            records: Records::none(),
+        })
+    }
+
+    /// The documents that the log leaves, as of each optime that the store can show.
+    pub fn store(&self) -> &VersionStore
+        ensures latest { (place : Place) → latest_of (versions_at result.now place) ≡ maps.get (local_documents self.now.node) place }
+        ensures shown { (place : Place) (at : OpTime) → IsReadable self.now.node at → shown_at result.now place at ≡ maps.get (docs (log_up_to at self.now.node.log)) place }
+    {
+        self.ledger.store()
+    }
+
+    /// Begins what a command asks of a node, in a set of so many nodes, where the next message gets this number.
+    /// Only memory can be wanting, and then the node is as it was.
+    #[tactic(auto, using(crate::proofs::TurnLemmas::while_up))]
+    pub fn start<R: Threads + Sync>(
+        &mut self,
+        rt: &R,
+        nodes: u32,
+        next: u64,
+        command: &Command,
+    ) -> Mem<Turn>
+        requires bounds { IsBounded self.old.node }
+        requires next { IsNumbered next }
+        requires own { is_own command.now ≡ true }
+        requires within { is_within command.now ≡ true }
+        ensures turn { IfOk result (λ turn. Means turn self.new.node (row nodes next false self.old.node command.now)) }
+        ensures ready { IfOk result (λ turn. IsReadyTurn turn self.new) }
+        ensures err { OnErr result (self.new.node ≡ self.old.node) }
+    {
+        self.stays_up();
+        match command {
+            Command::Campaign { .. } => self.start_campaign(next),
+            Command::Drain { .. } => self.start_drain(rt),
+            Command::DryRun { .. } => self.dry_run(next),
+            Command::StepDown { .. } => Ok(self.step_down()),
+            Command::Begin { .. }
+            | Command::Commit { .. }
+            | Command::Abort { .. }
+            | Command::Insert { .. }
+            | Command::Replace { .. }
+            | Command::Update { .. }
+            | Command::Delete { .. } => self.start_write(command),
+            Command::Heartbeat { to, .. } => self.heartbeat(next, *to),
+            Command::Report { to, .. } => self.report(next, *to),
+            Command::Common { to, .. } => self.common(next, *to),
+            Command::Fetch { .. } => self.fetch(next),
+            Command::Ack {
+                target,
+                concern,
+                ..
+            } => Ok(self.ack(*target, *concern)),
+            Command::Apply { workers, .. } => self.apply(rt, *workers),
+            Command::Flush { .. } => self.start_flush(),
+            Command::Checkpoint { .. } => Ok(self.start_checkpoint()),
+            Command::Reconfig { config, .. } => self.start_reconfig(nodes, config),
+            Command::Read { .. }
+            | Command::Dump { .. }
+            | Command::Log { .. }
+            | Command::State { .. }
+            | Command::Rolled { .. }
+            | Command::Clock { .. } => self.show(command),
+            Command::Deliver { .. }
+            | Command::DeliverLatest { .. }
+            | Command::Crash { .. }
+            | Command::Restart { .. }
+            | Command::DiskFail { .. } => unreachable!(),
+        }
+    }
+
+    /// Begins what a message comes to at the node.
+    pub fn take<R: Threads + Sync>(&mut self, rt: &R, next: u64, message: &Message) -> Mem<Turn>
+        requires bounds { IsBounded self.old.node }
+        requires next { IsNumbered next }
+        requires message { CanTake self.old.node message.now }
+        ensures turn { IfOk result (λ turn. Means turn self.new.node (deliver next self.old.node message.now)) }
+        ensures ready { IfOk result (λ turn. IsReadyTurn turn self.new) }
+        ensures err { OnErr result (self.new.node ≡ self.old.node) }
+    {
+        self.take_message(rt, next, message)
+    }
+
+    /// Goes on once this stands on the node's disk. Takes no memory.
+    pub fn go_on(&mut self, item: &Store, then: Then) -> Turn
+        requires ready { IsReady item.now then self.old }
+        ensures turn { Means result self.new.node (rest_of then (stored self.old.node item.now)) }
+        ensures ready { IsReadyTurn result self.new }
+    {
+        match then {
+            Then::Campaign { next, tally, sent } => self.go_on_campaign(item, next, tally, sent),
+            Then::Drain { config } => self.go_on_drain(item, config),
+            Then::Flush { count, point } => self.go_on_flush(item, count, point),
+            Then::Checkpoint { at } => self.go_on_checkpoint(item, at),
+            Then::Reconfig { config } => self.go_on_reconfig(item, config),
+            Then::VoteInTerm {
+                next,
+                from,
+                ask,
+                why,
+                sent,
+            } => self.go_on_vote_in_term(item, next, from, ask, why, sent),
+            Then::VoteGiven {
+                next,
+                from,
+                ask,
+                why,
+                sent,
+            } => self.go_on_vote_given(item, next, from, ask, why, sent),
+            Then::TookTerm { term, told } => self.go_on_term(item, term, told),
+            Then::Installed { config, hearing } => self.go_on_installed(item, config, hearing),
+            Then::Cut {
+                point,
+                removed,
+                lost,
+            } => self.go_on_cut(item, point, removed, lost),
+        }
+    }
+
+    /// A turn that sends nothing.
+    pub(crate) fn answered(&self, reply: Reply) -> Turn
+        ensures { Says result reply [] }
+    {
+        Turn::Finished {
+            reply,
+            sent: Vec::new(self.alloc),
+        }
+    }
+
+    pub(crate) fn refused(&self, why: Refusal) -> Turn
+        ensures { Says result (Reply.Refused why) [] }
+    {
+        self.answered(Reply::Refused(why))
+    }
+}
+
+// What a node keeps while it is down, and who it is.
+impl State {
+    pub fn number(&self) -> u32
+        ensures { result ≡ self.now.node.number }
+    {
+        self.number
+    }
+
+    /// The configuration that the set began with.
+    pub fn first(&self) -> &Config
+        ensures { result.now ≡ self.now.node.first }
+    {
+        &self.first
+    }
+
+    pub fn clock(&self) -> u32
+        ensures { result ≡ self.now.node.clock }
+    {
+        self.ledger.clock()
+    }
+
+    /// The optime of the documents on the other disk.
+    pub fn stable(&self) -> OpTime
+        ensures { result ≡ self.now.node.stable }
+    {
+        self.ledger.stable()
+    }
+
+    pub fn rollback(&self) -> u64
+        ensures { result ≡ self.now.node.rollback }
+    {
+        self.rollback
+    }
+
+    pub fn records(&self) -> &Records
+        ensures { result.now.list ≡ self.now.node.records }
+    {
+        &self.records
+    }
+}

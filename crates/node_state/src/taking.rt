@@ -1,0 +1,165 @@
+// Messages, as they arrive.
+ghost use Rattle.std.specs.Prelude.{◌≡◌, ◌<◌, ◌&&◌, nat_lt, true, false, IfOk, OnErr};
+ghost use Rattle.set_model.specs.Deliver as delivered;
+ghost use Rattle.set_model.specs.Stores.{stored};
+ghost use Rattle.node_state.specs.Ahead.{is_foreseen};
+ghost use Rattle.node_state.specs.Bounds.{IsBounded, IsNumbered};
+ghost use Rattle.node_state.specs.Ready.{IsReadyTold, IsReadyTurn, IsTerm};
+ghost use Rattle.node_state.specs.Taking.{CanTake};
+ghost use Rattle.node_state.specs.Told.{told_plan};
+ghost use Rattle.node_state.specs.Turns.{Means, rest_of};
+ghost use Rattle.node_state.specs.declared.turn.Then.TheVariants as thens;
+
+use crate::State;
+use crate::terms::vote_record;
+use crate::turn::{Then, Told, Turn};
+use bson_doc::Mem;
+use repl_msg::{Body, Message};
+use set_model::{Refusal, Reply, Store};
+use std::thread::Threads;
+
+/// Whether a higher term in the message makes the node take that term first.
+fn brings_term(body: &Body) -> bool
+    ensures { result ≡ delivered.brings_term body.now }
+{
+    match body {
+        Body::VoteAsk(_) => false,
+        _ => true,
+    }
+}
+
+impl State {
+    pub(crate) fn take_message<R: Threads + Sync>(
+        &mut self,
+        rt: &R,
+        next: u64,
+        message: &Message,
+    ) -> Mem<Turn>
+        requires bounds { IsBounded self.old.node }
+        requires next { IsNumbered next }
+        requires message { CanTake self.old.node message.now }
+        ensures turn { IfOk result (λ turn. Means turn self.new.node (delivered.deliver next self.old.node message.now)) }
+        ensures ready { IfOk result (λ turn. IsReadyTurn turn self.new) }
+        ensures err { OnErr result (self.new.node ≡ self.old.node) }
+    {
+        self.stays_up();
+        if let Some(why) = self.body_refusal(message) {
+            return Ok(self.refused(why));
+        }
+        if brings_term(&message.body) && self.ledger.term() < message.term {
+            return self.take_higher(rt, next, message);
+        }
+        self.take_known(rt, next, message)
+    }
+
+    /// Why a message isn't taken at all.
+    fn body_refusal(&self, message: &Message) -> Option<Refusal>
+        ensures { result ≡ delivered.body_refusal self.now.node message.now.term message.now.body }
+    {
+        match &message.body {
+            Body::CommonAsk { commit } => self.common_refusal(message.term, *commit),
+            _ => None,
+        }
+    }
+
+    /// A message of a higher term: the node keeps that term first.
+    fn take_higher<R: Threads + Sync>(&mut self, rt: &R, next: u64, message: &Message) -> Mem<Turn>
+        requires bounds { IsBounded self.old.node }
+        requires next { IsNumbered next }
+        requires message { CanTake self.old.node message.now }
+        requires brings { delivered.brings_term message.now.body ≡ true }
+        requires higher { self.old.node.term < message.now.term }
+        ensures turn { IfOk result (λ turn. Means turn self.new.node (delivered.take_term self.old.node message.now.term (delivered.told next message.now.from message.now.term message.now.body))) }
+        ensures ready { IfOk result (λ turn. IsReadyTurn turn self.new) }
+        ensures err { OnErr result (self.new.node ≡ self.old.node) }
+    {
+        let told = self.prepare_higher(rt, next, message)?;
+        Ok(Turn::Storing {
+            item: vote_record(message.term, None),
+            then: Then::TookTerm {
+                term: message.term,
+                told,
+            },
+        })
+    }
+
+    /// A message of no higher term, or one that asks for a vote.
+    fn take_known<R: Threads + Sync>(&mut self, rt: &R, next: u64, message: &Message) -> Mem<Turn>
+        requires bounds { IsBounded self.old.node }
+        requires next { IsNumbered next }
+        requires message { CanTake self.old.node message.now }
+        requires known { (delivered.brings_term message.now.body && nat_lt self.old.node.term message.now.term) ≡ false }
+        ensures turn { IfOk result (λ turn. Means turn self.new.node (delivered.told next message.now.from message.now.term message.now.body self.old.node)) }
+        ensures ready { IfOk result (λ turn. IsReadyTurn turn self.new) }
+        ensures err { OnErr result (self.new.node ≡ self.old.node) }
+    {
+        match &message.body {
+            Body::VoteAsk(ask) => self.vote_asked(next, message.from, *ask),
+            Body::VoteReply {
+                asked,
+                dry,
+                refused,
+            } => self.vote_told(message.from, *asked, *dry, *refused),
+            Body::Report { config, durable } => {
+                self.report_told(message.from, message.term, *config, *durable)
+            }
+            _ => self.take_foreseen(rt, next, message),
+        }
+    }
+
+    /// A message of no higher term that is made ready, and then wants no memory.
+    fn take_foreseen<R: Threads + Sync>(
+        &mut self,
+        rt: &R,
+        next: u64,
+        message: &Message,
+    ) -> Mem<Turn>
+        requires bounds { IsBounded self.old.node }
+        requires next { IsNumbered next }
+        requires message { CanTake self.old.node message.now }
+        requires known { nat_lt self.old.node.term message.now.term ≡ false }
+        requires foreseen { is_foreseen message.now.body ≡ true }
+        ensures turn { IfOk result (λ turn. Means turn self.new.node (delivered.told next message.now.from message.now.term message.now.body self.old.node)) }
+        ensures ready { IfOk result (λ turn. IsReadyTurn turn self.new) }
+        ensures err { OnErr result (self.new.node ≡ self.old.node) }
+    {
+        let told = self.prepare(rt, next, message)?;
+        Ok(self.tell(told))
+    }
+
+    /// The node has the message's term, and takes the message.
+    pub(crate) fn go_on_term(&mut self, item: &Store, term: u64, told: Told) -> Turn
+        requires ready { IsTerm item.now term told self.old }
+        ensures turn { Means result self.new.node (rest_of (thens.TookTerm term told) (stored self.old.node item.now)) }
+        ensures ready { IsReadyTurn result self.new }
+    {
+        self.enter_term(item, term, None);
+        self.tell(told)
+    }
+
+    /// Takes a message whose term the node has. Takes no memory.
+    pub(crate) fn tell(&mut self, told: Told) -> Turn
+        requires ready { IsReadyTold told self.old }
+        ensures turn { Means result self.new.node (told_plan told self.old.node) }
+        ensures ready { IsReadyTurn result self.new }
+    {
+        match told {
+            Told::Answered { next, sent } => Turn::Finished {
+                reply: Reply::Replied(next),
+                sent,
+            },
+            Told::Fetched { from, reply } => self.take_entries(from, reply),
+            Told::Heard {
+                config,
+                kept,
+                hearing,
+            } => self.hear(config, kept, hearing),
+            Told::RolledBack {
+                point,
+                removed,
+                lost,
+            } => self.roll_back(point, removed, lost),
+            Told::Ignored(why) => self.answered(Reply::Ignored(why)),
+        }
+    }
+}

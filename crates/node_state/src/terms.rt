@@ -1,0 +1,101 @@
+// Terms and the votes in them: steps that several rows take.
+ghost use Rattle.std.specs.Prelude.{◌≡◌, ◌^◌, ◌<◌, ◌≤◌, ◌∷◌, [], Some, IfSome, if◌then◌else◌};
+ghost use Rattle.member_config.specs.Voters.{voters};
+ghost use Rattle.set_model.specs.Changes.{in_new_term, stepped_down};
+ghost use Rattle.set_model.specs.Stores.{stored, vote_record};
+ghost use Rattle.set_model.specs.Votes.{is_elected, won};
+ghost use Rattle.set_model.specs.declared.role.Role.TheVariants.{Secondary, Candidate};
+
+use crate::State;
+use commit_point::Progress;
+use election_core::Tally;
+use repl_msg::Record;
+use set_model::{Role, Store};
+use vote_store::Vote;
+
+/// What keeps a vote, or none, in a term.
+pub(crate) fn vote_record(term: u64, candidate: Option<u32>) -> Store
+    ensures { result ≡ vote_record term candidate }
+{
+    Store::Record(Record::Vote(Vote { term, candidate }))
+}
+
+impl State {
+    /// The node is a secondary of another term, with its vote there. Its record stands.
+    pub(crate) fn enter_term(&mut self, item: &Store, term: u64, vote: Option<u32>)
+        requires item { item.now ≡ vote_record term vote }
+        requires above { self.old.node.term ≤ term }
+        requires bound { term < 2 ^ 63 }
+        requires vote { IfSome vote (λ voter. voter < 50) }
+        ensures node { self.new.node ≡ in_new_term (stored self.old.node item.now) term vote }
+        ensures spare { self.new.spare ≡ self.old.spare }
+    {
+        self.ledger.is_sound();
+        self.ledger.step_down();
+        self.ledger.set_term(term);
+        self.records = self.records.with(item);
+        self.vote = vote;
+        self.progress = Progress::new(self.alloc);
+        self.tally = None;
+        self.dry_run = None;
+    }
+
+    /// The node is a secondary, and what it counted is forgotten.
+    pub(crate) fn be_secondary(&mut self)
+        ensures node { self.new.node ≡ stepped_down self.old.node }
+        ensures spare { self.new.spare ≡ self.old.spare }
+    {
+        self.ledger.is_sound();
+        self.ledger.step_down();
+        self.progress = Progress::new(self.alloc);
+        self.tally = None;
+        self.dry_run = None;
+    }
+
+    /// The node has a vote in its term, whose record stands.
+    pub(crate) fn set_vote(&mut self, item: &Store, vote: u32)
+        requires item { item.now ≡ vote_record self.old.node.term (Some vote) }
+        requires vote { vote < 50 }
+        ensures node { self.new.node ≡ record (stored self.old.node item.now) { vote = Some vote } }
+        ensures spare { self.new.spare ≡ self.old.spare }
+    {
+        self.records = self.records.with(item);
+        self.vote = Some(vote);
+    }
+
+    /// A secondary is a candidate that counts its votes.
+    pub(crate) fn stand(&mut self, tally: Tally)
+        requires role { self.old.node.role ≡ Secondary }
+        requires counts { tally.voters ≡ voters self.old.node.config }
+        ensures node { self.new.node ≡ record self.old.node { role = Candidate; tally = tally.yes } }
+        ensures spare { self.new.spare ≡ self.old.spare }
+    {
+        self.ledger.set_role(Role::Candidate);
+        self.tally = Some(tally);
+    }
+
+    /// A candidate that a majority voted for has won.
+    pub(crate) fn has_won(&mut self) -> bool
+        requires role { self.old.node.role ≡ Candidate }
+        ensures elected { result ≡ is_elected self.old.node }
+        ensures node { self.new.node ≡ (if result then won self.old.node else self.old.node) }
+        ensures spare { self.new.spare ≡ self.old.spare }
+    {
+        if !self.is_elected() {
+            return false;
+        }
+        self.ledger.set_role(Role::Draining);
+        true
+    }
+
+    fn is_elected(&self) -> bool
+        requires role { self.now.node.role ≡ Candidate }
+        ensures { result ≡ is_elected self.now.node }
+    {
+        let Some(tally) = &self.tally else {
+            return false;
+        };
+        let count = tally.count();
+        count.needed <= count.yes
+    }
+}
