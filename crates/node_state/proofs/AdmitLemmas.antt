@@ -45,7 +45,7 @@ use Rattle.version_store.specs.declared.history.Version.{Version}
 use Rattle.node_state.specs.Admits.{IsRefusal, CanBeLogged}
 use Rattle.node_ledger.specs.Versions.{AreSmall, IsSmall, versions_from}
 use Rattle.node_ledger.specs.Writers.{is_open, IsWriting}
-use Rattle.node_state.proofs.EntrySizes.{IsWithin, short_within}
+use Rattle.set_model.proofs.EntrySizes.{IsWithin, short_within}
 
 -- ---- admission
 

@@ -16,7 +16,7 @@ use Rattle.set_model.specs.Safety.{AtMost}
 use Rattle.set_model.specs.Stores.{finished}
 use Rattle.set_model.specs.declared.reply.Ignored.TheVariants.{NotCandidate, NotPrimary, OldTerm}
 use Rattle.node_state.specs.Ahead.{Foretells, taking}
-use Rattle.node_state.specs.Taking.{CanTake}
+use Rattle.set_model.specs.Taking.{CanTake}
 use Rattle.node_state.specs.declared.turn.Told.TheVariants.{Ignored}
 use Rattle.node_state.proofs.TakenLemmas.{foretold}
 

@@ -35,7 +35,7 @@ use Rattle.node_ledger.proofs.OrderLemmas.{not_then_not}
 use Rattle.node_ledger.proofs.VersionLemmas.{get-step}
 use Rattle.node_state.specs.Coherent.{IsCoherent}
 use Rattle.node_state.specs.Seen.{Rest, seen_node}
-use Rattle.node_state.specs.Taking.{CanFetch}
+use Rattle.set_model.specs.Taking.{CanTakeEntries}
 use Rattle.node_state.proofs.CommitLemmas.{coherent-commit, counted_between}
 use Rattle.node_state.proofs.EntryLemmas.{last_grows}
 use Rattle.node_state.proofs.FetchedLemmas.{coherent-fetched, follow_behind, joined, joined_oplog}
@@ -119,21 +119,21 @@ base_is node reply continues = go reply.holds continues
     go true is = sym (same_is reply.base (last_point node) is)
     go false is = absurd (cc is)
 
-follows_last : (node : Node) (term : ℕ) (reply : FetchReply) → CanFetch node term reply → continues (last_point node) reply ≡ true → All (Follows (last_point node)) reply.entries
+follows_last : (node : Node) (term : ℕ) (reply : FetchReply) → CanTakeEntries node term reply → continues (last_point node) reply ≡ true → All (Follows (last_point node)) reply.entries
 follows_last node term reply can goes = subst (λ (o : OpTime). All (Follows o) reply.entries) (sym (base_is node reply goes)) can.base
 
-pub fetched_oplog : (node : Node) (term : ℕ) (reply : FetchReply) (entries : List Entry) → entries ≡ reply.entries → CanFetch node term reply → continues (last_point node) reply ≡ true
+pub fetched_oplog : (node : Node) (term : ℕ) (reply : FetchReply) (entries : List Entry) → entries ≡ reply.entries → CanTakeEntries node term reply → continues (last_point node) reply ≡ true
     → IsOplog node.log → IsOplog (node.log ++ entries)
 fetched_oplog node term reply entries is can goes oplog =
     subst (λ (list : List Entry). IsOplog (node.log ++ list)) (sym is) (joined_oplog node.log reply.entries oplog can.order (follows_last node term reply can goes))
 
-pub fetched_later : (node : Node) (term : ℕ) (reply : FetchReply) (entries : List Entry) (at : OpTime) → entries ≡ reply.entries → CanFetch node term reply → continues (last_point node) reply ≡ true
+pub fetched_later : (node : Node) (term : ℕ) (reply : FetchReply) (entries : List Entry) (at : OpTime) → entries ≡ reply.entries → CanTakeEntries node term reply → continues (last_point node) reply ≡ true
     → AtMost at (last_point node) → All (λ (entry : Entry). is_before at entry.optime ≡ true) entries
 fetched_later node term reply entries at is can goes most =
     subst (λ (list : List Entry). All (λ (entry : Entry). is_before at entry.optime ≡ true) list) (sym is)
     (follow_behind at (last_point node) reply.entries most (follows_last node term reply can goes))
 
-pub fetched_small : (node : Node) (term : ℕ) (reply : FetchReply) (entries : List Entry) → entries ≡ reply.entries → CanFetch node term reply → continues (last_point node) reply ≡ true
+pub fetched_small : (node : Node) (term : ℕ) (reply : FetchReply) (entries : List Entry) → entries ≡ reply.entries → CanTakeEntries node term reply → continues (last_point node) reply ≡ true
     → AreSmall node.log → AreSmall (node.log ++ entries)
 fetched_small node term reply entries is can goes small =
     subst (λ (list : List Entry). AreSmall (node.log ++ list)) (sym is)
@@ -147,7 +147,7 @@ durable_last node oplog most =
 -- the node with these entries
 pub coherent-appended : (n m : Node) (rest : Rest) (reply : FetchReply) (entries : List Entry) (tally : Option Tallied) (optimes more : List OpTime)
     → entries ≡ reply.entries → m ≡ with_fetched n entries → more ≡ fold with_optime optimes (map (λ (e : Entry). e.optime) reply.entries)
-    → CanFetch (seen_node n rest) n.term reply → continues (last_point n) reply ≡ true → IsOplog n.log
+    → CanTakeEntries (seen_node n rest) n.term reply → continues (last_point n) reply ≡ true → IsOplog n.log
     → IsCoherent (seen_node n rest) tally optimes → IsCoherent (seen_node m rest) tally more
 coherent-appended n m rest reply entries tally optimes more entries_is node_is more_is can goes oplog old =
     subst (λ (k : Node). IsCoherent (seen_node k rest) tally more) (sym (node_is ∙ ap (with_fetched n) entries_is))

@@ -9,7 +9,6 @@ pub mod CommitLemmas
 pub mod CommonLemmas
 pub mod CutLemmas
 pub mod EntryLemmas
-pub mod EntrySizes
 pub mod FetchedLemmas
 pub mod FlushLemmas
 pub mod ForeseenLemmas

@@ -15,7 +15,7 @@ use Rattle.set_model.specs.Stores.{Plan, in_doubt, records_after, stored, storin
 use Rattle.node_state.specs.Ahead.{Foretells, Tells, ahead, taking}
 use Rattle.node_state.specs.Ready.{IsFetched, IsReadyTold, in_term_of}
 use Rattle.node_state.specs.Standing.{Standing}
-use Rattle.node_state.specs.Taking.{CanFetch}
+use Rattle.set_model.specs.Taking.{CanTakeEntries}
 use Rattle.node_state.specs.Told.{told_plan}
 use Rattle.node_state.specs.declared.turn.Told.{Told}
 use Rattle.node_state.specs.declared.turn.Told.TheVariants.{Answered, Fetched, Heard, RolledBack, Ignored}
@@ -51,7 +51,7 @@ told_now told term plan old new foretells =
 
 -- ---- what is ready stays so with other records
 
-fetch_with : (node : Node) (items : List Record) (term : ℕ) (fetched : FetchReply) → CanFetch node term fetched → CanFetch (record node { records = items }) term fetched
+fetch_with : (node : Node) (items : List Record) (term : ℕ) (fetched : FetchReply) → CanTakeEntries node term fetched → CanTakeEntries (record node { records = items }) term fetched
 fetch_with node items term fetched can = record { order = can.order; base = can.base; entries = can.entries; terms = can.terms; documents = can.documents }
 
 pub ready_with : (told : Told) (standing : Standing) (items : List Record) → IsReadyTold told standing → IsReadyTold told (record standing { node = record standing.node { records = items } })
@@ -67,8 +67,8 @@ ready_with (Ignored why) standing items ready = tt
 terms_up_to : (low high : ℕ) (entries : List Entry) → low ≤ high → All (λ (e : Entry). e.optime.term ≤ low) entries → All (λ (e : Entry). e.optime.term ≤ high) entries
 terms_up_to low high entries less all k e within = omega (arith, all k e within, less)
 
-pub fetch_then : (raised : Bool) (node : Node) (term : ℕ) (fetched : FetchReply) → raised ≡ nat_lt node.term term → CanFetch node term fetched
-    → CanFetch (taking raised term node) (taking raised term node).term fetched
+pub fetch_then : (raised : Bool) (node : Node) (term : ℕ) (fetched : FetchReply) → raised ≡ nat_lt node.term term → CanTakeEntries node term fetched
+    → CanTakeEntries (taking raised term node) (taking raised term node).term fetched
 fetch_then true node term fetched is can = record { order = can.order; base = can.base; entries = can.entries; terms = can.terms; documents = can.documents }
 fetch_then false node term fetched is can = record {
   order = can.order;
@@ -82,11 +82,11 @@ fetch_then false node term fetched is can = record {
     no_less a b test = grind (arith, nat_tests)
 
 pub ready_fetched : (raised : Bool) (old : Node) (new : Standing) (term from : ℕ) (given reply : FetchReply) → new.node ≡ old → given ≡ reply → raised ≡ nat_lt old.term term
-    → from < 50 → CanFetch old term reply → length given.entries ≤ new.spare → IsFetched from given (ahead raised term new)
+    → from < 50 → CanTakeEntries old term reply → length given.entries ≤ new.spare → IsFetched from given (ahead raised term new)
 ready_fetched raised old new term from given reply same copied is from_is can room = record {
   from_is = from_is;
   lawful = fetch_then raised new.node term given (is ∙ ap (λ (n : Node). nat_lt n.term term) (sym same))
-      (subst (λ (n : Node). CanFetch n term given) (sym same) (subst (CanFetch old term) (sym copied) can));
+      (subst (λ (n : Node). CanTakeEntries n term given) (sym same) (subst (CanTakeEntries old term) (sym copied) can));
   room = room;
 }
 

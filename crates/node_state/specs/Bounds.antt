@@ -1,7 +1,7 @@
 -- How large the numbers are that a node is handed, and which commands are its own.
 use Rattle.std.specs.Prelude.{◌<◌, ◌-◌, ◌^◌, ℕ, Bool, true, false}
 use Rattle.set_model.specs.declared.command.Command.{Command}
-use Rattle.set_model.specs.declared.command.Command.TheVariants.{Insert, Replace, Update, Delete, Begin, Commit, Abort, Read, Dump, Log, State, Rolled, Deliver, DeliverLatest, Crash, Restart, DiskFail, Clock}
+use Rattle.set_model.specs.declared.command.Command.TheVariants.{Insert, Replace, Update, Delete, Begin, Commit, Abort, Read, Dump, Log, State, Rolled, Deliver, DeliverLatest, Flush, Checkpoint, Crash, Restart, DiskFail, Clock}
 use Rattle.set_model.specs.Node.{Node}
 
 -- one more term, one more timestamp and one more rollback have numbers
@@ -22,6 +22,12 @@ is_own (Crash node pick) = false
 is_own (Restart node) = false
 is_own (DiskFail node disk call pick) = false
 is_own _ = true
+
+-- what stores so much that it may want memory as it does
+abbrev pub is_long : Command → Bool
+is_long (Flush node) = true
+is_long (Checkpoint node) = true
+is_long _ = false
 
 -- a write, or a step of a writer
 abbrev pub is_write : Command → Bool

@@ -12,7 +12,6 @@ pub mod Ready
 pub mod Rolling
 pub mod Seen
 pub mod Standing
-pub mod Taking
 pub mod Told
 pub mod Trying
 pub mod Turns

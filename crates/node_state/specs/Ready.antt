@@ -29,7 +29,7 @@ use Rattle.set_model.specs.Safety.{AtMost, Has}
 use Rattle.set_model.specs.Stores.{vote_record, config_record}
 use Rattle.set_model.specs.Votes.{asks, vote_for}
 use Rattle.node_state.specs.Standing.{Standing}
-use Rattle.node_state.specs.Taking.{CanFetch}
+use Rattle.set_model.specs.Taking.{CanTakeEntries}
 use Rattle.node_state.specs.Told.{beat_in, heard_then}
 use Rattle.node_state.specs.declared.turn.Hearing.{Hearing}
 use Rattle.node_state.specs.declared.turn.Then.{Then}
@@ -109,7 +109,7 @@ pub record IsCut (point : OpTime) (node : Node) : Type 0 where
 
 pub record IsFetched (from : ℕ) (fetched : FetchReply) (standing : Standing) : Type 0 where
   pub from_is : from < 50
-  pub lawful : CanFetch standing.node standing.node.term fetched
+  pub lawful : CanTakeEntries standing.node standing.node.term fetched
   pub room : length fetched.entries ≤ standing.spare
 
 -- a configuration that is kept and installed alike

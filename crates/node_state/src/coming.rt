@@ -1,11 +1,12 @@
 // A node that comes back with what its disks have.
-ghost use Rattle.std.specs.Prelude.{◌≡◌, ◌<◌, ◌-◌, ◌^◌, None, IfOk, unwrap_or};
+ghost use Rattle.std.specs.Prelude.{◌≡◌, ◌<◌, ◌-◌, ◌^◌, None, true, IfOk, unwrap_or};
 ghost use Rattle.doc_fold.specs.Map.{documents_of};
 ghost use Rattle.oplog_entry.specs.Docs.{docs};
 ghost use Rattle.oplog_entry.specs.Visible.{log_up_to};
 ghost use Rattle.member_config.specs.Rule.{rule};
 ghost use Rattle.repl_msg.specs.Kept.{kept};
 ghost use Rattle.set_model.specs.Disk.{come_back};
+ghost use Rattle.node_ledger.specs.Sound.{IsSound};
 ghost use Rattle.node_state.specs.WellKept.{coming, IsReadAs, IsWellKept, StoresWell};
 ghost use Rattle.node_state.specs.Ready.{IsReady, CanBeStored};
 
@@ -87,6 +88,17 @@ impl State {
 
 // Facts of a node in memory, for the proofs of who stores for it.
 impl State {
+    /// It is up, its log is sound, and it knows who it is.
+    pub fn is_sound(&self)
+        ensures sound { IsSound self.now.node }
+        ensures up { self.now.node.up ≡ true }
+        ensures number { self.now.node.number < 50 }
+        ensures first { rule self.now.node.first ≡ None }
+    {
+        let _ = &self.number;
+        self.ledger.is_sound();
+    }
+
     /// What it keeps is enough to come back with.
     pub fn is_well_kept(&self)
         ensures { IsWellKept self.now.node.records self.now.node.stable }

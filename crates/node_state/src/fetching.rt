@@ -11,7 +11,7 @@ ghost use Rattle.set_model.specs.declared.reply.Reply.TheVariants.{Took};
 ghost use Rattle.set_model.specs.declared.role.Role.TheVariants.{Secondary};
 ghost use Rattle.node_state.specs.Ahead.{Foretells, ahead};
 ghost use Rattle.node_state.specs.Ready.{IsFetched, IsReadyTold, IsReadyTurn};
-ghost use Rattle.node_state.specs.Taking.{CanFetch};
+ghost use Rattle.set_model.specs.Taking.{CanTakeEntries};
 ghost use Rattle.node_state.specs.Turns.{Means};
 
 use crate::State;
@@ -44,7 +44,7 @@ impl State {
         raised: bool,
     ) -> Mem<Told>
         requires from { from < 50 }
-        requires fetched { CanFetch self.old.node term reply.now }
+        requires fetched { CanTakeEntries self.old.node term reply.now }
         requires raised { raised ≡ nat_lt self.old.node.term term }
         ensures told { IfOk result (λ told. Foretells told raised term (λ node. finished (rows.entries_told node from reply.now)) self.old.node self.new.node) }
         ensures ready { IfOk result (λ told. IsReadyTold told (ahead raised term self.new)) }
@@ -106,7 +106,7 @@ impl State {
 
     /// Its entries are written behind the log.
     fn append(&mut self, reply: FetchReply)
-        requires fetched { CanFetch self.old.node self.old.node.term reply }
+        requires fetched { CanTakeEntries self.old.node self.old.node.term reply }
         requires room { length reply.entries ≤ self.old.spare }
         requires role { self.old.node.role ≡ Secondary }
         requires base { continues (last_point self.old.node) reply ≡ true }

@@ -8,7 +8,7 @@ ghost use Rattle.set_model.specs.Stores.{finished};
 ghost use Rattle.node_state.specs.Ahead.{Foretells, ahead, is_foreseen, taking};
 ghost use Rattle.node_state.specs.Bounds.{IsBounded};
 ghost use Rattle.node_state.specs.Ready.{IsReadyTold};
-ghost use Rattle.node_state.specs.Taking.{CanTake};
+ghost use Rattle.set_model.specs.Taking.{CanTake};
 
 use crate::State;
 use crate::turn::Told;

@@ -14,9 +14,9 @@ ghost use Rattle.set_model.specs.Reads.{local_documents};
 ghost use Rattle.set_model.specs.Rows.{row};
 ghost use Rattle.set_model.specs.Stores.{stored};
 ghost use Rattle.node_ledger.specs.Ledger.{IsReadable};
-ghost use Rattle.node_state.specs.Bounds.{IsBounded, IsNumbered, is_own};
+ghost use Rattle.node_state.specs.Bounds.{IsBounded, IsNumbered, is_long, is_own};
 ghost use Rattle.node_state.specs.Ready.{IsReady, IsReadyTurn};
-ghost use Rattle.node_state.specs.Taking.{CanTake};
+ghost use Rattle.set_model.specs.Taking.{CanTake};
 ghost use Rattle.node_state.specs.Turns.{Means, Says, rest_of};
 
 use crate::turn::{Then, Turn};
@@ -121,7 +121,7 @@ impl State {
     }
 
     /// Begins what a command asks of a node, in a set of so many nodes, where the next message gets this number.
-    /// Only memory can be wanting, and then the node is as it was.
+    /// Only memory can be wanting, and then the node is as it was. What may want memory as it stores has changed nothing before.
     #[tactic(auto, using(crate::proofs::TurnLemmas::while_up))]
     pub fn start<R: Threads + Sync>(
         &mut self,
@@ -136,6 +136,7 @@ impl State {
         requires within { is_within command.now ≡ true }
         ensures turn { IfOk result (λ turn. Means turn self.new.node (row nodes next false self.old.node command.now)) }
         ensures ready { IfOk result (λ turn. IsReadyTurn turn self.new) }
+        ensures quiet { is_long command.now ≡ true → self.new.node ≡ self.old.node }
         ensures err { OnErr result (self.new.node ≡ self.old.node) }
     {
         self.stays_up();

@@ -5,7 +5,7 @@ ghost use Rattle.set_model.specs.Stores.{stored};
 ghost use Rattle.node_state.specs.Ahead.{is_foreseen};
 ghost use Rattle.node_state.specs.Bounds.{IsBounded, IsNumbered};
 ghost use Rattle.node_state.specs.Ready.{IsReadyTold, IsReadyTurn, IsTerm};
-ghost use Rattle.node_state.specs.Taking.{CanTake};
+ghost use Rattle.set_model.specs.Taking.{CanTake};
 ghost use Rattle.node_state.specs.Told.{told_plan};
 ghost use Rattle.node_state.specs.Turns.{Means, rest_of};
 ghost use Rattle.node_state.specs.declared.turn.Then.TheVariants as thens;

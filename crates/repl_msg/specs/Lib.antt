@@ -2,6 +2,7 @@ pub mod Configs
 pub mod Fetching
 pub mod Kept
 pub mod Logs
+pub mod Parts
 pub mod Points
 pub mod Rollback
 pub mod Sources

@@ -38,7 +38,7 @@ use Rattle.set_model.specs.declared.writer.Writer.{Writer}
 use Rattle.set_model.specs.declared.writer.Writer.TheVariants.{Open}
 use Rattle.commit_machine.specs.Words.{Rises}
 use Rattle.commit_machine.specs.Nodes.{In}
-use Rattle.safety_laws.proofs.EntrySizes.{IsWithin, short_within}
+use Rattle.set_model.proofs.EntrySizes.{IsWithin, short_within}
 use Rattle.safety_laws.proofs.Logged.{next_later}
 use Rattle.safety_laws.proofs.Places.{same_some}
 use Rattle.safety_laws.proofs.Rel.{HasLog}

@@ -48,7 +48,7 @@ use Rattle.oplog_entry.specs.declared.entry.Op.TheVariants.{Noop}
 use Rattle.oplog_store.specs.Log.{with_entry}
 use Rattle.set_model.specs.Limits.{IsSoundWrite, collection_of, is_collection, is_within, write_of}
 use Rattle.member_config.specs.Config.{in_term}
-use Rattle.safety_laws.proofs.EntrySizes.{noop_within}
+use Rattle.set_model.proofs.EntrySizes.{noop_within}
 use Rattle.safety_laws.proofs.FitNodes.{AreReady, IsAdmitted, IsFit, Standing, admitted_ready, fewer_ready, follower_fit, opened_ready, standing_of, written_ready}
 use Rattle.safety_laws.proofs.Rel.{HasLog}
 use Rattle.safety_laws.proofs.Slots.{open_with, open_without}

@@ -23,6 +23,7 @@ use Rattle.repl_msg.specs.declared.message.Message.{Message}
 use Rattle.repl_msg.specs.declared.record.Kept.{Kept}
 use Rattle.repl_msg.specs.declared.record.Record.{Record}
 use Rattle.repl_msg.specs.declared.record.Record.TheVariants as records
+use Rattle.repl_msg.specs.Parts.{config_carried, entries_carried}
 use Rattle.set_model.specs.declared.reply.Reply.{Reply}
 use Rattle.set_model.specs.declared.store.Store.{Store}
 use Rattle.set_model.specs.declared.store.Store.TheVariants as stores
@@ -36,7 +37,7 @@ use Rattle.set_model.specs.Points.{visible_log}
 use Rattle.set_model.specs.Stores.{Plan, finished, storing, done, in_doubt, stored}
 use Rattle.commit_machine.specs.Nodes.{In}
 use Rattle.commit_machine.proofs.Growth.{in_append}
-use Rattle.safety_laws.specs.Bounds.{IsLawfulConfig, config_carried, entries_carried}
+use Rattle.safety_laws.specs.Bounds.{IsLawfulConfig}
 use Rattle.safety_laws.proofs.Merges.{in_take, in_entry, in_entries}
 use Rattle.safety_laws.proofs.Opening.{no_writer}
 use Rattle.safety_laws.proofs.Places.{in_filter, same_some}

@@ -13,6 +13,7 @@ use Rattle.repl_msg.specs.declared.message.Body.TheVariants as bodies
 use Rattle.repl_msg.specs.declared.message.Message.{Message}
 use Rattle.repl_msg.specs.declared.record.Record.{Record}
 use Rattle.repl_msg.specs.declared.record.Record.TheVariants as records
+use Rattle.repl_msg.specs.Parts.{config_kept, entries_kept, entries_carried, term_asked}
 use Rattle.set_model.specs.declared.command.Event.{Event}
 use Rattle.set_model.specs.declared.store.Store.{Store}
 use Rattle.set_model.specs.declared.store.Store.TheVariants as stores
@@ -25,7 +26,7 @@ use Rattle.set_model.specs.Stores.{Plan, done}
 use Rattle.set_model.specs.World.{World, Task, acts, takes, nothing, task, touched_node, plan_of, by_plan, with_outcome, nodes_from, step}
 use Rattle.commit_machine.specs.Nodes.{In}
 use Rattle.commit_machine.proofs.Growth.{in_append}
-use Rattle.safety_laws.specs.Bounds.{AreTimed, last_timestamp, IsSmallNode, IsSmallMessage, NumbersStaySmall, IsLawfulConfig, ConfigsAreLawful, config_kept, entries_kept, entries_carried, term_asked}
+use Rattle.safety_laws.specs.Bounds.{AreTimed, last_timestamp, IsSmallNode, IsSmallMessage, NumbersStaySmall, IsLawfulConfig, ConfigsAreLawful}
 use Rattle.safety_laws.proofs.Frame.{task_sent, world_after}
 use Rattle.safety_laws.proofs.Opening.{first_rule, get_from}
 use Rattle.safety_laws.proofs.Places.{same_some, get_set_same, get_set_other}

@@ -5,6 +5,7 @@ use Rattle.std.specs.Prelude.{IfSome, Contains}
 use Rattle.member_config.specs.declared.config.Config.{Config}
 use Rattle.member_config.specs.Rule.{rule}
 use Rattle.repl_msg.specs.declared.message.Message.{Message}
+use Rattle.repl_msg.specs.Parts.{config_carried, term_asked}
 use Rattle.set_model.specs.Changes.{in_new_term}
 use Rattle.set_model.specs.declared.command.Event.{Event}
 use Rattle.set_model.specs.Deliver.{brings_term, termed}
@@ -13,7 +14,7 @@ use Rattle.set_model.specs.Rollback.{common_point}
 use Rattle.set_model.specs.Run.{Sizes, AreSizes, run, world_at}
 use Rattle.set_model.specs.Safety.{AtMost, RollbacksKeep}
 use Rattle.set_model.specs.World.{World}
-use Rattle.safety_laws.specs.Bounds.{NumbersStaySmall, IsLawfulConfig, ConfigsAreLawful, config_carried, term_asked}
+use Rattle.safety_laws.specs.Bounds.{NumbersStaySmall, IsLawfulConfig, ConfigsAreLawful}
 use Rattle.safety_laws.specs.Replies.{RepliesFollow, RepliesFollowAt}
 use Rattle.safety_laws.specs.Taking.{MessagesCanBeTaken}
 

@@ -1,42 +1,11 @@
--- What a node may be handed: of each message that it takes this holds (MongoDB's replication architecture guide; RaftMongo;
--- MongoRaftReconfig).
-use Rattle.std.specs.Prelude.{◌≡◌, ◌<◌, ◌≤◌, ◌^◌, ℕ, ◌++◌, List, length, None, IfSome, take, All, Contains}
-use Rattle.rs_optime.specs.declared.optime.OpTime.{OpTime}
-use Rattle.oplog_store.specs.Log.{IsOplog}
-use Rattle.member_config.specs.Rule.{rule}
-use Rattle.repl_msg.specs.declared.message.Body.TheVariants as bodies
-use Rattle.repl_msg.specs.declared.message.FetchReply.{FetchReply}
+-- Whatever was sent, the node that it is for can take it.
+use Rattle.std.specs.Prelude.{◌≤◌, ℕ, List, length, Contains}
 use Rattle.repl_msg.specs.declared.message.Message.{Message}
 use Rattle.set_model.specs.declared.command.Event.{Event}
-use Rattle.set_model.specs.Deliver.{termed}
-use Rattle.set_model.specs.Fetched.{Follows, AreWithinDocument}
 use Rattle.set_model.specs.Node.{Node}
-use Rattle.set_model.specs.Points.{last_point}
-use Rattle.set_model.specs.Rollback.{common_point, rollback_reason}
 use Rattle.set_model.specs.Run.{Sizes, run}
-use Rattle.set_model.specs.Safety.{IsAt, AtMost}
-use Rattle.safety_laws.specs.Bounds.{config_carried, term_asked}
-use Rattle.safety_laws.specs.Replies.{IsWithinEntry}
-
--- entries that a node may write behind its log, where that ends at their base
-pub record CanTakeEntries (node : Node) (term : ℕ) (fetched : FetchReply) : Type 0 where
-  pub order : IsOplog fetched.entries
-  pub base : All (Follows fetched.base) fetched.entries
-  pub entries : All IsWithinEntry fetched.entries
-  pub terms : All (λ entry. entry.optime.term ≤ term) fetched.entries
-  pub documents : last_point node ≡ fetched.base → (many : ℕ) → AreWithinDocument (node.log ++ take many fetched.entries)
-
-pub record CanTake (node : Node) (message : Message) : Type 0 where
-  pub sender : message.from < 50
-  pub term : message.term < 2 ^ 63
-  pub asked : IfSome (term_asked message.body) (λ asked. asked < 2 ^ 63)
-  pub config : IfSome (config_carried message.body) (λ config. rule config ≡ None)
-  pub fetched : (reply : FetchReply) → message.body ≡ bodies.FetchReply reply → CanTakeEntries node message.term reply
-  -- a rollback goes behind no commit point
-  pub common :
-      (after : OpTime) (optimes : List OpTime) (visible : OpTime) → message.body ≡ bodies.CommonReply after optimes visible
-      → rollback_reason (termed node message) message.term after optimes visible ≡ None
-      → AtMost node.commit (common_point node.log after optimes)
+use Rattle.set_model.specs.Safety.{IsAt}
+use Rattle.set_model.specs.Taking.{CanTake}
 
 -- In the last world each message that was sent can be taken by the node that it is for.
 abbrev pub MessagesCanBeTaken : Sizes → List Event → Type 0
