@@ -1,8 +1,6 @@
-pub mod GrownLemmas
-pub mod HolderLemmas
-pub mod LedgerLemmas
-pub mod ListingLemmas
-pub mod NodeLemmas
-pub mod OwnLemmas
-pub mod VersionLemmas
-pub mod WriterLemmas
+pub mod ActingLemmas
+pub mod CarryLemmas
+pub mod DeliverLemmas
+pub mod DoesLemmas
+pub mod OwedLemmas
+pub mod PuttingLemmas

@@ -1,11 +1,6 @@
-pub mod Admits
-pub mod Alone
-pub mod Code
-pub mod Grown
-pub mod Kept
-pub mod Ledger
-pub mod Listing
-pub mod NodeCode
-pub mod Restored
-pub mod Seen
-pub mod Versions
+pub mod Acting
+pub mod Down
+pub mod Nodes
+pub mod Putting
+pub mod Resting
+pub mod Stands

@@ -1,14 +1,13 @@
-//! A node of a replica set: its log, its documents with their versions, and the writers between them.
+//! A node of a replica set on its two disks: the journal, and the checkpoints.
+//!
+//! A command or a message is a turn of the node in memory, which is carried out: what it stores is put on a disk, and then it
+//! goes on. A store that fails leaves the node down, with that store in doubt.
 #![tactic(auto)]
 
-mod admission;
-mod elections;
-mod ledger;
-mod listing;
+mod disks;
+mod done;
 mod node;
-mod reading;
-mod writer_map;
-mod writers;
-mod writing;
+mod storing;
 
-pub use node::{Done, Node};
+pub use done::Done;
+pub use node::Node;

@@ -1,180 +1,358 @@
-ghost use Rattle.std.specs.Prelude.{◌≡◌, ◌-◌, ◌^◌, ◌<◌, true, IfOk, OnErr};
+ghost use Rattle.std.specs.Prelude.{◌≡◌, ◌<◌, ℕ, [], None, true, false, IfOk, OnErr, IsSome};
 ghost use Rattle.std.specs.FinMap as maps;
 ghost use Rattle.bson_doc.specs.Place.{Place};
-ghost use Rattle.rs_optime.specs.declared.optime.OpTime.{OpTime};
 ghost use Rattle.oplog_entry.specs.Docs.{docs};
 ghost use Rattle.oplog_entry.specs.Visible.{log_up_to};
+ghost use Rattle.rs_disk.specs.File.{IsEmpty};
+ghost use Rattle.rs_optime.specs.declared.optime.OpTime.{OpTime};
 ghost use Rattle.version_store.specs.Past.{latest_of};
 ghost use Rattle.version_store.specs.Store.{versions_at, shown_at};
-ghost use Rattle.member_config.specs.Config.{first_config};
-ghost use Rattle.set_model.specs.Clock.{set_clock};
-ghost use Rattle.set_model.specs.Node.{opening_node};
-ghost use Rattle.set_model.specs.Outcome.{replied};
-ghost use Rattle.node_core.specs.Alone.{is_built, outcome_of};
-ghost use Rattle.node_core.specs.Grown.{IsGrown};
+ghost use Rattle.member_config.specs.Rule.{rule};
+ghost use Rattle.set_model.specs.declared.command.Command.TheVariants as commands;
+ghost use Rattle.set_model.specs.Deliver.{deliver};
+ghost use Rattle.set_model.specs.Limits.{is_within};
+ghost use Rattle.set_model.specs.Node.{down, opening_node};
+ghost use Rattle.set_model.specs.Reads.{local_documents};
+ghost use Rattle.set_model.specs.Rows.{row};
+ghost use Rattle.node_ledger.specs.Ledger.{IsReadable};
+ghost use Rattle.node_core.specs.Acting.{Acted, Follows, Runs, Took, Unchanged, is_here};
+ghost use Rattle.node_state.specs.Bounds.{IsBounded, IsNumbered, is_own};
+ghost use Rattle.node_core.specs.Down.{down_node, left_in, seen_node};
+ghost use Rattle.node_core.specs.Nodes.{HasFailed, checkpoints_after, journal_after};
+ghost use Rattle.node_core.specs.Putting.{EndsFrom, IsBroken, Leaves};
+ghost use Rattle.node_core.specs.Resting.{IsResting};
+ghost use Rattle.node_core.specs.Stands.{Stands};
+ghost use Rattle.rs_disk.specs.State.{State as OnDisk};
+ghost use Rattle.set_model.specs.Stores.{Plan};
+ghost use Rattle.set_model.specs.Taking.{CanTake};
 
-use crate::ledger::Ledger;
+use crate::disks::Disks;
+use crate::storing::{Ended, act_own, take_in};
+use crate::Done;
+use node_state::State;
 use bson_doc::Mem;
-use doc_update::WriteOp;
-use set_model::{Command, ReadLevel, Reply, Role};
-use std::alloc::Global;
+use checkpoint_store::Checkpoints;
+use member_config::Config;
+use node_journal::Journal;
+use node_tables::Records;
+use record_file::FileError;
+use repl_msg::Message;
+use rs_disk::Disk;
+use rs_optime::OpTime;
+use set_model::{Command, DiskName, Refusal, Reply, Store};
+use std::alloc::{AllocError, Global};
 use std::marker::Model;
+use std::thread::Threads;
 use version_store::VersionStore;
 
-/// A node of a set of one member, n0.
+/// What is left of a node that is down, beside its disks.
 #[derive(Drop)]
-pub struct Node {
-    pub(crate) alloc: Global,
-    pub(crate) number: u32,
-    pub(crate) vote: Option<u32>,
-    pub(crate) role: Role,
-    pub(crate) ledger: Ledger,
+pub(crate) struct Left {
     pub(crate) clock: u32,
-    pub(crate) config_term: u64,
+    pub(crate) stable: OpTime,
+    pub(crate) rollback: u64,
+    pub(crate) records: Records,
+    /// What was being stored as a disk failed.
+    pub(crate) doubt: Option<Store>,
 }
 
-impl Model for Node {
-    ghost use Rattle.set_model.specs.Node.{Node as Seen};
+/// A node on its two disks. Contracts see the model's node, and the two disks.
+#[derive(Drop)]
+pub struct Node<D: Disk> {
+    pub(crate) alloc: Global,
+    /// The node while it is up. While it is down only who it is counts of this.
+    pub(crate) state: State,
+    pub(crate) disks: Disks<D>,
+    pub(crate) up: bool,
+    /// What counts while it is down.
+    pub(crate) left: Left,
+}
+
+impl<D: Disk> Model for Node<D> {
     ghost use Rattle.std.specs.Coded.{codes};
     ghost use Rattle.bson_doc.specs.Code.{fields_code};
     ghost use Rattle.rs_optime.specs.Order.{optime_code};
     ghost use Rattle.oplog_entry.specs.contracts.entry.Entry as entry;
-    ghost use Rattle.node_core.specs.Code.{writers_code};
     ghost use Rattle.bson_doc.specs.contracts.key.IdKey as key;
-    ghost use Rattle.member_config.specs.contracts.config.Config as config;
+    ghost use Rattle.member_config.specs.contracts.config.Config as config_row;
     ghost use Rattle.repl_msg.specs.contracts.record.Record as record_kept;
-    ghost use Rattle.set_model.specs.contracts.store.Store as store;
-    ghost use Rattle.node_core.specs.NodeCode.{slots_code, progress_code, known_code, tally_code};
+    ghost use Rattle.set_model.specs.contracts.store.Store as store_row;
+    ghost use Rattle.node_ledger.specs.Code.{writers_code, slots_code, progress_code, known_code, tally_code};
+    ghost use Rattle.set_model.specs.Node.{Node as Seen};
 
-    ghost Value = { Seen };
+    ghost Value = { Seen × D × D };
 
-    ghost coded = { Prim.hlevel (codes, fields_code, optime_code, key.the_row.coded, entry.the_row.coded, config.the_row.coded, record_kept.the_row.coded, store.the_row.coded, writers_code, slots_code, progress_code, known_code, tally_code) };
+    ghost coded = { Prim.hlevel (codes, fields_code, optime_code, key.the_row.coded, entry.the_row.coded, config_row.the_row.coded, record_kept.the_row.coded, store_row.the_row.coded, writers_code, slots_code, progress_code, known_code, tally_code) };
 
-    ghost use Rattle.node_core.specs.Seen.{seen_node, IsInRole};
+    ghost use Rattle.node_core.specs.Down.{left_in, seen_node};
+    ghost use Rattle.node_core.specs.Resting.{IsResting};
 
-    ghost view = { λ n. seen_node n.number n.vote n.role n.ledger n.clock n.config_term };
+    ghost view = { λ n. (seen_node n.up n.state.node (left_in n.left), n.disks.journal.0, n.disks.checkpoints) };
 
-    ghost invariant = { λ n. IsInRole n.role n.ledger };
+    ghost invariant = { λ n. IsResting n.up n.state.node (left_in n.left) n.disks.count (D.state n.disks.journal.0) (D.state n.disks.checkpoints) };
 }
 
-/// What a command came to.
-#[derive(Drop)]
-pub struct Done {
-    pub reply: Reply,
-}
-
-impl Node {
-    /// A node as the set begins.
-    pub fn open(alloc: Global, number: u32) -> Mem<Node>
-        ensures { IfOk result (λ node. node ≡ opening_node (first_config 1) number) }
+impl<D: Disk> Node<D> {
+    /// A node as the set begins, on two empty disks.
+    ///
+    /// # Errors
+    /// `Disk` where a disk failed. The disks are handed back, the journal's first.
+    pub fn open(
+        alloc: Global,
+        number: u32,
+        config: &Config,
+        journal: D,
+        checkpoint: D,
+    ) -> Result<Node<D>, (D, D, FileError)>
+        requires number { number < 50 }
+        requires config { rule config.now ≡ None }
+        requires journal { IsEmpty (D.state journal).file }
+        requires checkpoint { IsEmpty (D.state checkpoint).file }
+        ensures node { IfOk result (λ node. node.0 ≡ opening_node config.now number) }
+        ensures stands { IfOk result (λ node. Stands node.0 (D.state node.1) (D.state node.2)) }
+        ensures runs { Runs (HasFailed result) (D.state journal) (D.state (journal_after result))
+            (D.state checkpoint) (D.state (checkpoints_after result)) }
     {
+        let Ok(state) = State::open(alloc, number, config) else {
+            return Err((journal, checkpoint, FileError::Memory));
+        };
+        let journal = match Journal::open(alloc, journal) {
+            Ok((journal, _)) => journal,
+            Err((journal, error)) => return Err((journal, checkpoint, error)),
+        };
+        let checkpoints = match Checkpoints::open(alloc, checkpoint) {
+            Ok((checkpoints, _)) => checkpoints,
+            Err((checkpoint, error)) => return Err((journal.close(), checkpoint, error)),
+        };
+        let left = left_of(&state, None);
         Ok(Node {
             alloc,
-            number,
-            vote: None,
-            role: Role::Secondary,
-            ledger: Ledger::new(alloc)?,
-            clock: 0,
-            config_term: 0,
+            state,
+            disks: Disks {
+                journal,
+                checkpoints,
+                count: 0,
+            },
+            up: true,
+            left,
         })
     }
 
-    /// Does one command. Only memory can be wanting, and then the node is as it was.
-    pub fn act(&mut self, command: &Command) -> Mem<Done>
-        requires room { self.old.seen < 2 ^ 64 - 1 }
-        requires terms { self.old.term < 2 ^ 63 - 1 }
-        requires built { is_built command.now ≡ true }
-        ensures ok { IfOk result (λ done. outcome_of self.old command.now ≡ replied done.reply self.new) }
-        ensures err { OnErr result (self.new ≡ self.old) }
-        ensures grown { IsGrown self.old self.new command.now }
+    /// Does what a command asks of this node, in a set of so many nodes, where the next message gets this number.
+    pub fn act<R: Threads + Sync>(
+        &mut self,
+        rt: &R,
+        nodes: u32,
+        next: u64,
+        command: &Command,
+    ) -> Mem<Done>
+        requires bounds { IsBounded self.old.0 }
+        requires next { IsNumbered next }
+        requires here { is_here command.now ≡ true }
+        requires within { is_within command.now ≡ true }
+        ensures ok { IfOk result (λ done. Acted (row nodes next done.kept self.old.0 command.now) command.now self.old.0 self.new.0
+            (D.state self.old.1) (D.state self.new.1) (D.state self.old.2) (D.state self.new.2) done) }
+        ensures err { OnErr result (Unchanged self.old.0 self.new.0 (D.state self.old.1) (D.state self.new.1) (D.state self.old.2) (D.state self.new.2)) }
     {
-        let reply = self.reply_to(command)?;
-        Ok(Done { reply })
-    }
-
-    /// The documents that the node's log leaves, as of each optime.
-    pub fn store(&self) -> &VersionStore
-        ensures latest { (place : Place) → latest_of (versions_at result.now place) ≡ maps.get (docs self.now.log) place }
-        ensures shown { (place : Place) (at : OpTime) → shown_at result.now place at ≡ maps.get (docs (log_up_to at self.now.log)) place }
-    {
-        self.ledger.store()
-    }
-
-    /// Nothing is done: no command stops a node yet.
-    fn stays_up(&self)
-        ensures { self.now.up ≡ true }
-    {
-        let _ = &self.alloc;
-    }
-
-    #[tactic(auto, using(crate::proofs::NodeLemmas::while_up))]
-    fn reply_to(&mut self, command: &Command) -> Mem<Reply>
-        requires room { self.old.seen < 2 ^ 64 - 1 }
-        requires terms { self.old.term < 2 ^ 63 - 1 }
-        requires built { is_built command.now ≡ true }
-        ensures ok { IfOk result (λ reply. outcome_of self.old command.now ≡ replied reply self.new) }
-        ensures err { OnErr result (self.new ≡ self.old) }
-    {
-        self.stays_up();
         match command {
-            Command::Campaign { .. } => Ok(self.campaign()),
-            Command::Drain { .. } => self.drain(),
-            Command::Begin { writer, op, .. } => self.begin(*writer, op),
-            Command::Commit { writer, .. } => self.commit(*writer),
-            Command::Abort { writer, .. } => self.abort(*writer),
-            Command::Read {
-                level: ReadLevel::Local,
-                collection,
-                id,
+            Command::Crash { pick, .. } => Ok(self.crash(*pick)),
+            Command::Restart { .. } => self.restart(rt),
+            Command::DiskFail {
+                disk,
+                call,
+                pick,
                 ..
-            } => self.read(collection, id),
-            Command::Dump {
-                level: ReadLevel::Local,
-                ..
-            } => self.dump(),
-            Command::Log { .. } => self.show_log(),
-            Command::State { .. } => Ok(self.state()),
-            Command::Clock { seconds, .. } => Ok(self.set_clock(*seconds)),
-            Command::Insert {
-                collection,
-                document,
-                ..
-            } => self.write(&WriteOp::Insert {
-                ns: collection.copy()?,
-                doc: document.copy()?,
-            }),
-            Command::Replace {
-                collection,
-                id,
-                document,
-                ..
-            } => self.write(&WriteOp::Replace {
-                ns: collection.copy()?,
-                id: id.copy()?,
-                doc: document.copy()?,
-            }),
-            Command::Update {
-                collection,
-                id,
-                operators,
-                ..
-            } => self.write(&WriteOp::Update {
-                ns: collection.copy()?,
-                id: id.copy()?,
-                operators: operators.copy()?,
-            }),
-            Command::Delete { collection, id, .. } => self.write(&WriteOp::Delete {
-                ns: collection.copy()?,
-                id: id.copy()?,
-            }),
-            _ => unreachable!(),
+            } => Ok(self.disk_fail(*disk, *call, *pick)),
+            _ => self.act_in_memory(rt, nodes, next, command),
         }
     }
 
-    fn set_clock(&mut self, seconds: u32) -> Reply
-        ensures { set_clock self.old seconds ≡ replied result self.new }
+    /// Takes a message of the set, where the next message gets this number.
+    pub fn take<R: Threads + Sync>(&mut self, rt: &R, next: u64, message: &Message) -> Mem<Done>
+        requires bounds { IsBounded self.old.0 }
+        requires next { IsNumbered next }
+        requires message { self.old.0.up ≡ true → CanTake self.old.0 message.now }
+        ensures ok { IfOk result (λ done. Took (deliver next self.old.0 message.now) self.new.0
+            (D.state self.old.1) (D.state self.new.1) (D.state self.old.2) (D.state self.new.2) done) }
+        ensures unkept { IfOk result (λ done. done.kept ≡ false) }
+        ensures err { OnErr result (Unchanged self.old.0 self.new.0 (D.state self.old.1) (D.state self.new.1) (D.state self.old.2) (D.state self.new.2)) }
     {
-        self.clock = seconds;
-        Reply::Clock(seconds)
+        if !self.up {
+            return Ok(self.answered(Reply::Refused(Refusal::NodeDown)));
+        }
+        let ended = take_in(&mut self.state, &mut self.disks, rt, next, message)?;
+        Ok(told(&self.state, &mut self.up, &mut self.left, ended))
+    }
+
+    // A command that a node does in memory, storing as it goes.
+    fn act_in_memory<R: Threads + Sync>(
+        &mut self,
+        rt: &R,
+        nodes: u32,
+        next: u64,
+        command: &Command,
+    ) -> Mem<Done>
+        requires bounds { IsBounded self.old.0 }
+        requires next { IsNumbered next }
+        requires own { is_own command.now ≡ true }
+        requires within { is_within command.now ≡ true }
+        ensures ok { IfOk result (λ done. Acted (row nodes next false self.old.0 command.now) command.now self.old.0 self.new.0
+            (D.state self.old.1) (D.state self.new.1) (D.state self.old.2) (D.state self.new.2) done) }
+        ensures unkept { IfOk result (λ done. done.kept ≡ false) }
+        ensures err { OnErr result (Unchanged self.old.0 self.new.0 (D.state self.old.1) (D.state self.new.1) (D.state self.old.2) (D.state self.new.2)) }
+    {
+        if !self.up {
+            return Ok(self.act_down(command));
+        }
+        let ended = act_own(&mut self.state, &mut self.disks, rt, nodes, next, command)?;
+        Ok(told(&self.state, &mut self.up, &mut self.left, ended))
+    }
+
+    // Only the clock of a node that is down is set.
+    fn act_down(&mut self, command: &Command) -> Done
+        requires down { self.old.0.up ≡ false }
+        requires own { is_own command.now ≡ true }
+        ensures ok { (nodes next : ℕ) → Acted (row nodes next false self.old.0 command.now) command.now self.old.0 self.new.0
+            (D.state self.old.1) (D.state self.new.1) (D.state self.old.2) (D.state self.new.2) result }
+        ensures unkept { result.kept ≡ false }
+    {
+        self.state.is_coherent();
+        match command {
+            Command::Clock { seconds, .. } => {
+                self.left.clock = *seconds;
+                self.answered(Reply::Clock(*seconds))
+            }
+            _ => self.answered(Reply::Refused(Refusal::NodeDown)),
+        }
+    }
+
+    // A command that stores and sends nothing.
+    fn answered(&self, reply: Reply) -> Done
+        ensures reply { result.reply ≡ reply }
+        ensures sent { result.sent.items ≡ [] }
+        ensures failed { result.failed ≡ None }
+        ensures unkept { result.kept ≡ false }
+    {
+        Done {
+            reply,
+            sent: Vec::new(self.alloc),
+            failed: None,
+            kept: false,
+        }
+    }
+
+    // The power of both disks is cut, with the node's.
+    fn crash(&mut self, pick: u64) -> Done
+        ensures ok { (nodes next node : ℕ) → Acted (row nodes next false self.old.0 (commands.Crash node pick)) (commands.Crash node pick) self.old.0 self.new.0
+            (D.state self.old.1) (D.state self.new.1) (D.state self.old.2) (D.state self.new.2) result }
+        ensures unkept { result.kept ≡ false }
+    {
+        if !self.up {
+            return self.answered(Reply::Refused(Refusal::NodeDown));
+        }
+        self.left = left_of(&self.state, None);
+        self.disks.cut_power(pick);
+        self.up = false;
+        self.answered(Reply::Down)
+    }
+
+    // A node that is down opens its disks anew, and comes up with what is there.
+    fn restart<R: Threads + Sync>(&mut self, rt: &R) -> Mem<Done>
+        requires bounds { IsBounded self.old.0 }
+        ensures ok { (nodes next node : ℕ) → IfOk result (λ done. Acted (row nodes next done.kept self.old.0 (commands.Restart node)) (commands.Restart node) self.old.0 self.new.0
+            (D.state self.old.1) (D.state self.new.1) (D.state self.old.2) (D.state self.new.2) done) }
+        ensures err { OnErr result (Unchanged self.old.0 self.new.0 (D.state self.old.1) (D.state self.new.1) (D.state self.old.2) (D.state self.new.2)) }
+    {
+        let _ = rt;
+        Err(AllocError)
+    }
+
+    // One of the disks is told to fail.
+    fn disk_fail(&mut self, disk: DiskName, call: u32, pick: Option<u64>) -> Done
+        ensures ok { (nodes next node : ℕ) → Acted (row nodes next false self.old.0 (commands.DiskFail node disk call pick)) (commands.DiskFail node disk call pick) self.old.0 self.new.0
+            (D.state self.old.1) (D.state self.new.1) (D.state self.old.2) (D.state self.new.2) result }
+        ensures unkept { result.kept ≡ false }
+    {
+        match disk {
+            DiskName::Journal => self.disks.journal.arm(call, pick),
+            DiskName::Checkpoint => self.disks.checkpoints.arm(call, pick),
+        }
+        self.answered(Reply::Armed)
+    }
+
+    /// Lends the documents, while the node is up.
+    pub fn store(&self) -> &VersionStore
+        requires up { self.now.0.up ≡ true }
+        ensures latest { (place : Place) → latest_of (versions_at result.now place) ≡ maps.get (local_documents self.now.0) place }
+        ensures shown { (place : Place) (at : OpTime) → IsReadable self.now.0 at → shown_at result.now place at ≡ maps.get (docs (log_up_to at self.now.0.log)) place }
+    {
+        self.state.store()
+    }
+
+    pub fn is_up(&self) -> bool
+        ensures { result ≡ self.now.0.up }
+    {
+        self.state.is_coherent();
+        self.up
+    }
+
+    /// Hands the disks back, the journal's first.
+    pub fn close(self) -> (D, D)
+        ensures { result ≡ (self.1, self.2) }
+    {
+        let Node {
+            alloc: _,
+            state: _,
+            disks: Disks {
+                journal,
+                checkpoints,
+                count: _,
+            },
+            up: _,
+            left: _,
+        } = self;
+        (journal.close(), checkpoints.close())
+    }
+}
+
+// What was done by how a turn ended. A node of which a store failed is down from there on.
+fn told(state: &State, up: &mut bool, left: &mut Left, ended: Ended) -> Done
+    requires { up.old ≡ true }
+    ensures follows { (plan : Plan) → EndsFrom 0 plan state.now.node ended → Follows plan (seen_node up.new state.now.node (left_in left.new)) result }
+    ensures rests { (count : ℕ) (journal checkpoints : OnDisk) → Leaves ended state.now.node count journal checkpoints
+        → IsResting up.new state.now.node (left_in left.new) count journal checkpoints }
+    ensures failed { IsSome result.failed → IsBroken ended }
+    ensures unkept { result.kept ≡ false }
+{
+    match ended {
+        Ended::Said { reply, sent } => Done {
+            reply,
+            sent,
+            failed: None,
+            kept: false,
+        },
+        Ended::Broken { item, number } => {
+            *up = false;
+            *left = left_of(state, Some(item));
+            Done {
+                reply: Reply::Refused(Refusal::DiskFailed),
+                sent: Vec::new(state.alloc),
+                failed: Some(number),
+                kept: false,
+            }
+        }
+    }
+}
+
+// What is left of a node that goes down, with what was being stored as a disk failed.
+fn left_of(state: &State, doubt: Option<Store>) -> Left
+    ensures { down_node state.now.node (left_in result) ≡ record (down state.now.node) { doubt = doubt } }
+{
+    Left {
+        clock: state.clock(),
+        stable: state.stable(),
+        rollback: state.rollback(),
+        records: state.records().same(),
+        doubt,
     }
 }

@@ -1,1 +1,6 @@
+mod ActingLemmas
+mod DiskLemmas
+mod NodesLemmas
+mod OpenLemmas
 mod PoolLemmas
+mod WorldLemmas

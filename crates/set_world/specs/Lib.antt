@@ -1,1 +1,4 @@
+pub mod Acting
+pub mod Disks
 pub mod Pool
+pub mod World

@@ -1,4 +1,4 @@
-ghost use Rattle.std.specs.Prelude.{◌≡◌, ◌<◌, ◌≤◌, ◌+◌, ◌++◌, ◌∷◌, [], All, length, None, IfOk, IfNone, IfSome, OnOk, Some, slice_get};
+ghost use Rattle.std.specs.Prelude.{◌≡◌, ◌<◌, ◌≤◌, ◌+◌, ◌++◌, ◌∷◌, [], All, Contains, length, None, IfOk, IfNone, IfSome, OnOk, Some, slice_get};
 ghost use Rattle.set_model.specs.World.{latest_between};
 ghost use Rattle.set_world.specs.Pool.{IsBetweenNodes};
 
@@ -65,19 +65,24 @@ impl Pool {
     }
 
     /// The message of this number.
+    #[tactic(auto, using(crate::proofs::NodesLemmas::among))]
     pub(crate) fn get(&self, number: u64) -> Option<&Message>
         ensures some { IfSome result (λ message. slice_get self.now.messages number ≡ Some message.now) }
         ensures none { IfNone result (slice_get self.now.messages number ≡ None) }
+        ensures sent { IfSome result (λ message. Contains self.now.messages message.now) }
     {
-        self.messages.get(number as usize)
+        let message = self.messages.get(number as usize)?;
+        Some(message)
     }
 
     /// The newest message from one node to another.
+    #[tactic(auto, using(crate::proofs::NodesLemmas::among))]
     pub(crate) fn latest(&self, from: u32, to: u32) -> Option<&Message>
         requires sender { from < self.now.nodes }
         requires receiver { to < self.now.nodes }
         ensures some { IfSome result (λ message. latest_between self.now.messages from to ≡ Some message.now) }
         ensures none { IfNone result (latest_between self.now.messages from to ≡ None) }
+        ensures sent { IfSome result (λ message. Contains self.now.messages message.now) }
     {
         let place = self.newest[from as usize * STRIDE + to as usize]?;
         Some(&self.messages[place])

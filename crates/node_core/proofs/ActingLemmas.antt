@@ -1,0 +1,126 @@
+-- What a command or a message comes to at a node on its disks, by what was done in memory and on the disks.
+use Rattle.std.proofs.Common.{◌≡◌, ◌∙◌, inl, ap, sym, subst, refl, ℕ, Bool, true, false, not, ◌&&◌, ◌||◌, [], Option, None, if◌then◌else◌}
+use Rattle.std.specs.Prelude.{IsSome}
+use Rattle.rs_disk.specs.Orders.{Orders}
+use Rattle.rs_disk.specs.State.{State}
+use Rattle.node_journal.proofs.DiskLemmas.{rest_only}
+use Rattle.checkpoint_store.proofs.OnceLemmas.{rest_has}
+use Rattle.set_model.specs.declared.command.Command.{Command}
+use Rattle.set_model.specs.declared.command.Command.TheVariants.{Deliver, DeliverLatest, Crash, Restart, DiskFail, Clock}
+use Rattle.set_model.specs.declared.command.DiskName.{DiskName}
+use Rattle.set_model.specs.declared.command.DiskName.TheVariants as disks
+use Rattle.set_model.specs.declared.reply.Reply.{Reply}
+use Rattle.set_model.specs.declared.reply.Reply.TheVariants as reply
+use Rattle.set_model.specs.declared.reply.Refusal.TheVariants.{NodeDown}
+use Rattle.set_model.specs.Outcome.{replied, refused}
+use Rattle.set_model.specs.Rows.{row}
+use Rattle.node_core.proofs.PuttingLemmas.{runs_as, runs_none}
+use Rattle.set_model.specs.Limits.{is_restart, passes_first, is_in_doubt}
+use Rattle.set_model.specs.Node.{Node}
+use Rattle.set_model.specs.Stores.{Plan, finished, done as comes_to, reaches, if_up}
+use Rattle.node_core.specs.Acting.{Acted, Follows, Runs, orders_after}
+use Rattle.node_state.specs.Bounds.{is_own}
+use Rattle.node_core.specs.Down.{Left, down_node, seen_node}
+use Rattle.node_core.specs.Resting.{IsResting, Rests}
+use Rattle.node_core.specs.Stands.{Stands, documents_at}
+use Rattle.node_core.specs.declared.done.Done.{Done}
+
+-- ---- what stands on the disks
+
+pub rests_stand : (node : Node) (count : ℕ) (j c : State) → Rests node count j c → Stands node j c
+rests_stand node count j c rests = record {
+  records = λ image left. inl (rest_only j node.records rests.records image left);
+  documents = λ image left. inl (rest_has c (documents_at node node.stable) rests.documents image left);
+}
+
+pub resting_stands : (up : Bool) (node : Node) (left : Left) (count : ℕ) (j c : State) → IsResting up node left count j c → Stands (seen_node up node left) j c
+resting_stands true node left count j c rests = rests_stand node count j c rests
+resting_stands false node left count j c lies = lies.stands
+
+-- ---- commands that give no orders
+
+own_not : false ≡ true → ⊥
+own_not h = cc
+
+own_orders : (name : DiskName) (command : Command) (answer : Reply) (orders : Orders) → is_own command ≡ true → orders_after name command answer orders ≡ orders
+own_orders name (Deliver message) answer orders own = absurd (own_not own)
+own_orders name (DeliverLatest from to) answer orders own = absurd (own_not own)
+own_orders name (Crash node pick) answer orders own = absurd (own_not own)
+own_orders name (Restart node) answer orders own = absurd (own_not own)
+own_orders name (DiskFail node disk call pick) answer orders own = absurd (own_not own)
+own_orders name _ answer orders own = refl
+
+-- nothing was in doubt
+unkept : (old : Node) (command : Command) (done : Done) → done.kept ≡ false
+    → (not done.kept || (is_restart command && passes_first done.failed && is_in_doubt old)) ≡ true
+unkept old command done kept = ap (λ (k : Bool). not k || (is_restart command && passes_first done.failed && is_in_doubt old)) kept
+
+pub acted_own : (plan : Plan) (command : Command) (old new : Node) (j j' c c' : State) (done : Done) → is_own command ≡ true → Follows plan new done → done.kept ≡ false
+    → Stands new j' c' → Runs (IsSome done.failed) j j' c c' → Acted plan command old new j j' c c' done
+acted_own plan command old new j j' c c' done own follows kept stands runs = record {
+  follows = follows;
+  settles = unkept old command done kept;
+  stands = stands;
+  disks = record {
+    fails = runs.fails;
+    journal_armed = λ _. runs.journal_armed;
+    checkpoints_armed = λ _. runs.checkpoints_armed;
+    journal_orders = runs.journal_orders ∙ sym (own_orders disks.Journal command done.reply j.orders own);
+    checkpoints_orders = runs.checkpoints_orders ∙ sym (own_orders disks.Checkpoint command done.reply c.orders own);
+  };
+}
+
+-- ---- commands that store nothing
+
+-- a reply with no messages
+pub answered_follows : (plan : Plan) (node : Node) (answer : Reply) (done : Done) → plan ≡ finished (replied answer node) → done.reply ≡ answer → done.sent.items ≡ []
+    → done.failed ≡ None → Follows plan node done
+answered_follows plan node answer done is reply sent failed = record {
+  outcome = ap (λ (p : Plan). comes_to p done.failed) is ∙ (λ i. record { reply = sym reply i; node = node; sent = sym sent i });
+  reached = ap (λ (f : Option ℕ). reaches plan f) failed;
+}
+
+-- no store failed
+unfailed : (failed : Option ℕ) → failed ≡ None → ¬ IsSome failed
+unfailed failed none some = own_not (subst (λ (f : Option ℕ). IsSome f) none some)
+
+pub answered_runs : (j c : State) (done : Done) → done.failed ≡ None → Runs (IsSome done.failed) j j c c
+answered_runs j c done failed = runs_as j j c c (unfailed done.failed failed) (runs_none j c)
+
+-- a node that is down
+pub while_down : (node : Node) (plan : Plan) → node.up ≡ false → if_up node plan ≡ finished (refused NodeDown node)
+while_down node plan down = ap (λ (b : Bool). if b then plan else finished (refused NodeDown node)) down
+
+-- a command that is not for a node that is down
+pub down_row : (nodes next : ℕ) (node : Node) (command : Command) → is_own command ≡ true → ((n seconds : ℕ) → command ≡ Clock n seconds → ⊥) → node.up ≡ false
+    → row nodes next false node command ≡ finished (refused NodeDown node)
+down_row nodes next node (Clock n seconds) own not down = absurd (not n seconds refl)
+down_row nodes next node (Deliver message) own not down = absurd (own_not own)
+down_row nodes next node (DeliverLatest from to) own not down = absurd (own_not own)
+down_row nodes next node (Crash n pick) own not down = absurd (own_not own)
+down_row nodes next node (Restart n) own not down = absurd (own_not own)
+down_row nodes next node (DiskFail n disk call pick) own not down = absurd (own_not own)
+down_row nodes next node _ own not down = while_down node _ down
+
+module _ (node : Node) (left : Left) (count : ℕ) (j c : State) (done : Done) (kept : done.kept ≡ false) (failed : done.failed ≡ None) (sent : done.sent.items ≡ []) where
+  -- it answers that it is down
+  pub acted_down : (up : Bool) → IsResting up node left count j c → (nodes next : ℕ) (command : Command) → is_own command ≡ true
+      → ((n seconds : ℕ) → command ≡ Clock n seconds → ⊥) → (seen_node up node left).up ≡ false → done.reply ≡ reply.Refused NodeDown
+      → Acted (row nodes next false (seen_node up node left) command) command (seen_node up node left) (seen_node up node left) j j c c done
+  acted_down up resting nodes next command own not down answer =
+      let seen = seen_node up node left in
+      acted_own (row nodes next false seen command) command seen seen j j c c done own
+      (answered_follows (row nodes next false seen command) seen (reply.Refused NodeDown) done (down_row nodes next seen command own not down) answer sent failed)
+      kept (resting_stands up node left count j c resting) (answered_runs j c done failed)
+
+  -- only its clock is set
+  pub acted_clock : (up : Bool) → IsResting up node left count j c → node.up ≡ true → (seen_node up node left).up ≡ false → (nodes next : ℕ) (command : Command) (n seconds : ℕ)
+      → command ≡ Clock n seconds → done.reply ≡ reply.Clock seconds
+      → Acted (row nodes next false (seen_node up node left) command) command (seen_node up node left) (seen_node up node (record left { clock = seconds })) j j c c done
+  acted_clock true resting is_up down nodes next command n seconds is answer = absurd (own_not (sym down ∙ is_up))
+  acted_clock false lies is_up down nodes next command n seconds is answer =
+      let seen = down_node node left in
+      let new = down_node node (record left { clock = seconds }) in
+      acted_own (row nodes next false seen command) command seen new j j c c done (ap (λ (x : Command). is_own x) is)
+      (answered_follows (row nodes next false seen command) new (reply.Clock seconds) done (ap (λ (x : Command). row nodes next false seen x) is) answer sent failed)
+      kept (record { records = lies.stands.records; documents = lies.stands.documents }) (answered_runs j c done failed)

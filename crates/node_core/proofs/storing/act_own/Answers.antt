@@ -1,0 +1,15 @@
+use Rattle.set_model.specs.Rows.{row}
+use Rattle.std.proofs.Common.{false}
+use Rattle.node_core.proofs.DoesLemmas.{MayPut, row_does, turn_kept}
+use Rattle.node_core.proofs.PuttingLemmas.{rests_same}
+use Rattle.node_core.proofs.storing.act_own.Goals as goal
+
+pub carry_out-requires-clause-rests : goal.carry_out-requires-clause-rests
+carry_out-requires-clause-rests g c =
+    let old = c.args.state.now.node in
+    let new = c.start.new.self.node in
+    let plan = row c.args.nodes c.args.next false old c.args.command.now in
+    let kept = turn_kept (MayPut c.args.command.now) 1 c.in_ok-turn.turn new plan old.records old.stable c.in_ok-turn.ensures.turn
+    (row_does c.args.nodes c.args.next old c.args.command.now c.requires.own) in
+    rests_same old new c.reserve.new.self.count (g.D.Disk.state c.reserve.new.self.journal.0) (g.D.Disk.state c.reserve.new.self.checkpoints)
+    kept.0 kept.1 (c.reserve.ensures.rests old c.requires.rests)

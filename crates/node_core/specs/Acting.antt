@@ -1,0 +1,97 @@
+-- What a command or a message does to a node and to its disks.
+use Rattle.std.specs.Prelude.{◌≡◌, ◌⊎◌, ◌≤◌, ℕ, Bool, true, false, not, ◌&&◌, ◌||◌, IsTrue, IsSome, Option, None, Some}
+use Rattle.rs_io.specs.Fault.{Rose}
+use Rattle.rs_disk.specs.Orders.{Orders, ordered, arm, power_cut}
+use Rattle.rs_disk.specs.State.{State}
+use Rattle.set_model.specs.declared.command.Command.{Command}
+use Rattle.set_model.specs.declared.command.Command.TheVariants.{Deliver, DeliverLatest, Crash, DiskFail}
+use Rattle.set_model.specs.declared.command.DiskName.{DiskName}
+use Rattle.set_model.specs.declared.command.DiskName.TheVariants as disks
+use Rattle.set_model.specs.declared.reply.Reply.{Reply}
+use Rattle.set_model.specs.declared.reply.Reply.TheVariants as reply
+use Rattle.set_model.specs.Limits.{is_restart, passes_first, is_in_doubt}
+use Rattle.set_model.specs.Node.{Node}
+use Rattle.set_model.specs.Outcome.{Outcome}
+use Rattle.set_model.specs.Stores.{Plan, done, reaches}
+use Rattle.node_core.specs.Stands.{Stands}
+use Rattle.node_core.specs.declared.done.Done.{Done}
+
+-- a command of one node; the others deliver messages
+abbrev pub is_here : Command → Bool
+is_here (Deliver message) = false
+is_here (DeliverLatest from to) = false
+is_here _ = true
+
+-- what was answered is the plan, up to the store that failed, if one did
+pub record Follows (plan : Plan) (node : Node) (done : Done) : Type 0 where
+  pub outcome : Rattle.set_model.specs.Stores.done plan done.failed ≡ record { reply = done.reply; node = node; sent = done.sent.items }
+  pub reached : reaches plan done.failed ≡ true
+
+-- a restart that gets past its first store settles what is in doubt, and nothing else does
+abbrev pub MaySettle : Node → Command → Done → Type 0
+MaySettle node command done =
+    (not done.kept || (is_restart command && passes_first done.failed && is_in_doubt node)) ≡ true
+
+-- Faults of two disks: their counts never fall. A store fails only where one of them rose, and on steady disks only where one
+-- was armed.
+pub record Fails (Fault : Type 0) (journal journal' checkpoints checkpoints' : State) : Type 0 where
+  pub journal_faults : journal.faults ≤ journal'.faults
+  pub checkpoint_faults : checkpoints.faults ≤ checkpoints'.faults
+  pub cause : Fault → Rose journal.faults journal'.faults ⊎ Rose checkpoints.faults checkpoints'.faults
+  pub only_armed : Fault → IsTrue journal.is_steady → IsTrue checkpoints.is_steady → IsTrue journal.is_armed ⊎ IsTrue checkpoints.is_armed
+  pub journal_steady : IsTrue journal.is_steady → IsTrue journal'.is_steady
+  pub checkpoint_steady : IsTrue checkpoints.is_steady → IsTrue checkpoints'.is_steady
+
+-- a disk is armed only by an order
+abbrev pub ArmedBefore : State → State → Type 0
+ArmedBefore old new = IsTrue new.is_armed → IsTrue old.is_armed
+
+-- a disk is told to fail
+abbrev pub is_disk_fail : Command → Bool
+is_disk_fail (DiskFail node disk call pick) = true
+is_disk_fail _ = false
+
+-- the orders that a command gives to one of the disks: a crash that is answered so cuts the power of both
+abbrev pub orders_after : DiskName → Command → Reply → Orders → Orders
+orders_after name (Crash node pick) reply.Down orders = ordered (power_cut pick) orders
+orders_after disks.Journal (DiskFail node disks.Journal call pick) reply.Armed orders = ordered (arm call pick) orders
+orders_after disks.Checkpoint (DiskFail node disks.Checkpoint call pick) reply.Armed orders = ordered (arm call pick) orders
+orders_after name command answer orders = orders
+
+-- The two disks of a node, across a command with this reply: a fault comes only where one of their counts rose, only a
+-- `diskfail` arms them, and only a crash and a `diskfail` give them orders.
+pub record DisksActed (command : Command) (reply : Reply) (Fault : Type 0) (j j' c c' : State) : Type 0 where
+  pub fails : Fails Fault j j' c c'
+  pub journal_armed : is_disk_fail command ≡ false → ArmedBefore j j'
+  pub checkpoints_armed : is_disk_fail command ≡ false → ArmedBefore c c'
+  pub journal_orders : j'.orders ≡ orders_after disks.Journal command reply j.orders
+  pub checkpoints_orders : c'.orders ≡ orders_after disks.Checkpoint command reply c.orders
+
+-- Disks to which no orders were given, and none of which was armed. A fault comes only where one failed.
+pub record Runs (Fault : Type 0) (j j' c c' : State) : Type 0 where
+  pub fails : Fails Fault j j' c c'
+  pub journal_armed : ArmedBefore j j'
+  pub checkpoints_armed : ArmedBefore c c'
+  pub journal_orders : j'.orders ≡ j.orders
+  pub checkpoints_orders : c'.orders ≡ c.orders
+
+-- ---- what a call of a node comes to
+
+-- A command was done at a node with these two disks, which had been such before.
+pub record Acted (plan : Plan) (command : Command) (old new : Node) (j j' c c' : State) (done : Done) : Type 0 where
+  pub follows : Follows plan new done
+  pub settles : MaySettle old command done
+  pub stands : Stands new j' c'
+  pub disks : DisksActed command done.reply (IsSome done.failed) j j' c c'
+
+-- A message was taken.
+pub record Took (plan : Plan) (new : Node) (j j' c c' : State) (done : Done) : Type 0 where
+  pub follows : Follows plan new done
+  pub stands : Stands new j' c'
+  pub runs : Runs (IsSome done.failed) j j' c c'
+
+-- memory was wanting: the node is as it was
+pub record Unchanged (old new : Node) (j j' c c' : State) : Type 0 where
+  pub node : new ≡ old
+  pub stands : Stands new j' c'
+  pub runs : Runs ⊥ j j' c c'

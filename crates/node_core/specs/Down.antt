@@ -1,0 +1,37 @@
+-- A node that is down, and one that is up or down.
+use Rattle.std.specs.Prelude.{ℕ, Bool, true, false, List, Option}
+use Rattle.rs_optime.specs.declared.optime.OpTime.{OpTime}
+use Rattle.repl_msg.specs.declared.record.Record.{Record}
+use Rattle.set_model.specs.declared.store.Store.{Store}
+use Rattle.set_model.specs.Node.{Node, opening_node}
+use Rattle.node_core.specs.declared.node.Left.{Left as InMemory}
+
+-- what is left of a node that is down: beside its disks the clock, how often it rolled back or restarted, and what was being
+-- stored as a disk failed
+pub record Left : Type 0 where
+  pub clock : ℕ
+  pub stable : OpTime
+  pub rollback : ℕ
+  pub records : List Record
+  pub doubt : Option Store
+
+-- as the code has it
+abbrev pub left_in : InMemory → Left
+left_in left =
+    record { clock = left.clock; stable = left.stable; rollback = left.rollback; records = left.records.list; doubt = left.doubt }
+
+-- the node that was this one while it was up
+abbrev pub down_node : Node → Left → Node
+down_node node left =
+    record (opening_node node.first node.number) {
+      up = false;
+      doubt = left.doubt;
+      records = left.records;
+      stable = left.stable;
+      rollback = left.rollback;
+      clock = left.clock;
+    }
+
+abbrev pub seen_node : Bool → Node → Left → Node
+seen_node true node left = node
+seen_node false node left = down_node node left

@@ -1,0 +1,19 @@
+-- A node on its disks, as it is opened.
+use Rattle.std.specs.Prelude.{◌≡◌, Result, Ok, Err}
+use Rattle.record_file.specs.declared.error.FileError.{FileError}
+use Rattle.record_file.specs.declared.error.FileError.TheVariants.{Disk}
+use Rattle.set_model.specs.Node.{Node}
+
+-- the disks after an opening
+abbrev pub journal_after : {D : Type 0} → Result (Node × D × D) (D × D × FileError) → D
+journal_after (Ok opened) = opened.1
+journal_after (Err refused) = refused.0
+
+abbrev pub checkpoints_after : {D : Type 0} → Result (Node × D × D) (D × D × FileError) → D
+checkpoints_after (Ok opened) = opened.2
+checkpoints_after (Err refused) = refused.1
+
+-- a disk failed
+abbrev pub HasFailed : {D : Type 0} → Result (Node × D × D) (D × D × FileError) → Type 0
+HasFailed (Ok opened) = ⊥
+HasFailed (Err refused) = refused.2 ≡ Disk

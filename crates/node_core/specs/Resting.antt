@@ -1,0 +1,35 @@
+-- The two disks of a node between two of its steps.
+use Rattle.std.specs.Prelude.{◌≡◌, ◌<◌, ℕ, Bool, true, false, List, length, Option, None, Some, IfSome}
+use Rattle.rs_disk.specs.State.{State}
+use Rattle.rs_optime.specs.declared.optime.OpTime.{OpTime}
+use Rattle.member_config.specs.Rule.{rule}
+use Rattle.node_journal.specs.Files.{IsAtRest as JournalRests}
+use Rattle.checkpoint_store.specs.Files.{IsAtRest as CheckpointRests}
+use Rattle.set_model.specs.declared.store.Store.{Store}
+use Rattle.set_model.specs.Node.{Node}
+use Rattle.set_model.specs.Stores.{records_after, stable_after}
+use Rattle.node_core.specs.Down.{Left, down_node}
+use Rattle.node_core.specs.Stands.{Stands, documents_at}
+use Rattle.node_state.specs.WellKept.{IsWellKept}
+
+-- so many records stand in the journal, and the stable documents in the checkpoints, and every crash leaves them
+pub record Rests (node : Node) (count : ℕ) (journal checkpoints : State) : Type 0 where
+  pub counted : count ≡ length node.records
+  pub records : JournalRests journal node.records
+  pub documents : CheckpointRests checkpoints (documents_at node node.stable)
+
+-- whatever is found of what was in doubt, the node can come back with it
+abbrev pub IsWellKeptWith : Node → Store → Type 0
+IsWellKeptWith node item = IsWellKept (records_after node.records item) (stable_after node.stable item)
+
+-- a node that is down: so many of its records are known to stand in the journal
+pub record Lies (node : Node) (count : ℕ) (journal checkpoints : State) : Type 0 where
+  pub counted : count ≡ length node.records
+  pub stands : Stands node journal checkpoints
+  pub well : IsWellKept node.records node.stable
+  pub doubtful : IfSome node.doubt (λ item. IsWellKeptWith node item)
+
+-- a node that is up, or one that is down
+abbrev pub IsResting : Bool → Node → Left → ℕ → State → State → Type 0
+IsResting true node left count journal checkpoints = Rests node count journal checkpoints
+IsResting false node left count journal checkpoints = Lies (down_node node left) count journal checkpoints

@@ -1,0 +1,36 @@
+-- What stands on a node's two disks, now and after a crash.
+use Rattle.std.specs.Prelude.{◌≡◌, ◌⊎◌, ℕ, List, [], ◌∷◌, ◌++◌, Option, Some}
+use Rattle.rs_disk.specs.File.{LeavesOnly}
+use Rattle.rs_disk.specs.State.{State}
+use Rattle.rs_optime.specs.declared.optime.OpTime.{OpTime}
+use Rattle.oplog_entry.specs.Docs.{docs}
+use Rattle.oplog_entry.specs.Visible.{log_up_to}
+use Rattle.repl_msg.specs.declared.record.Record.{Record}
+use Rattle.repl_msg.specs.Kept.{kept}
+use Rattle.set_model.specs.declared.store.Store.TheVariants as stores
+use Rattle.set_model.specs.Node.{Node}
+use Rattle.node_journal.specs.Files.{HasJournal}
+use Rattle.checkpoint_store.specs.Files.{HasCheckpoint}
+use Rattle.checkpoint_store.specs.declared.stable.Stable.{Stable}
+
+-- these bytes are a journal with the node's records, or with one more that is in doubt
+abbrev pub HasRecordsOf : Node → List ℕ → Type 0
+HasRecordsOf node image =
+    HasJournal image node.records
+    ⊎ ((item : Record) × (node.doubt ≡ Some (stores.Record item)) × HasJournal image (node.records ++ item ∷ []))
+
+-- the documents at an optime, as the node's records keep its log
+abbrev pub documents_at : Node → OpTime → Stable
+documents_at node at = record { at = at; documents = docs (log_up_to at (kept node.records).entries) }
+
+-- these bytes are checkpoints of which the last is at the node's stable optime, or at one that is in doubt
+abbrev pub HasDocumentsOf : Node → List ℕ → Type 0
+HasDocumentsOf node image =
+    HasCheckpoint image (documents_at node node.stable)
+    ⊎ ((at : OpTime) × (node.doubt ≡ Some (stores.Checkpoint at)) × HasCheckpoint image (documents_at node at))
+
+-- A crash now leaves the node's records on the one disk and its documents on the other. So does no crash, since a disk as it
+-- reads is among what a crash may leave.
+pub record Stands (node : Node) (journal checkpoints : State) : Type 0 where
+  pub records : LeavesOnly (HasRecordsOf node) journal.file
+  pub documents : LeavesOnly (HasDocumentsOf node) checkpoints.file

@@ -1,0 +1,74 @@
+// A node's two disks.
+ghost use Rattle.std.specs.Prelude.{◌≡◌, ◌≢◌, ◌+◌, ◌≤◌, Err, OnOk, IsErrOf};
+ghost use Rattle.rs_disk.specs.State.{IsCut};
+ghost use Rattle.record_file.specs.Files.{spare};
+ghost use Rattle.node_core.specs.Acting.{Runs};
+ghost use Rattle.node_core.specs.Putting.{CanBePut, IsShortStore, Puts, SHORT};
+ghost use Rattle.node_core.specs.Resting.{Rests};
+ghost use Rattle.set_model.specs.Node.{Node};
+
+use node_state::State;
+use bson_doc::Mem;
+use checkpoint_store::Checkpoints;
+use node_journal::Journal;
+use record_file::FileError;
+use rs_disk::Disk;
+use set_model::Store;
+
+/// The journal and the checkpoints.
+#[derive(Drop)]
+pub(crate) struct Disks<D: Disk> {
+    pub(crate) journal: Journal<D>,
+    pub(crate) checkpoints: Checkpoints<D>,
+    /// How many records the journal has.
+    pub(crate) count: u64,
+}
+
+impl<D: Disk> Disks<D> {
+    /// Puts this on its disk, for the node of this state.
+    pub(crate) fn put(&mut self, item: &Store, state: &State) -> Result<(), FileError>
+        requires rests { Rests state.now.node self.old.count (D.state self.old.journal.0) (D.state self.old.checkpoints) }
+        requires can { CanBePut state.now.node item.now }
+        ensures puts { Puts result state.now.node item.now self.new.count (D.state self.new.journal.0) (D.state self.new.checkpoints) }
+        ensures runs { Runs (IsErrOf result FileError.Disk) (D.state self.old.journal.0) (D.state self.new.journal.0)
+            (D.state self.old.checkpoints) (D.state self.new.checkpoints) }
+        ensures room { IsShortStore item.now → SHORT ≤ spare (D.state self.old.journal.0) self.old.journal.1 → result ≢ Err FileError.Memory }
+        ensures spare { OnOk result (IsShortStore item.now → spare (D.state self.old.journal.0) self.old.journal.1
+            ≤ spare (D.state self.new.journal.0) self.new.journal.1 + SHORT) }
+    {
+        match item {
+            Store::Record(record) => {
+                self.journal.count_fits();
+                match self.journal.add(record) {
+                    Ok(()) => {
+                        self.count += 1;
+                        Ok(())
+                    }
+                    Err(error) => Err(error),
+                }
+            }
+            Store::Checkpoint(at) => self.checkpoints.save(*at, state.store()),
+        }
+    }
+
+    /// The power of both goes. The pick chooses among what may be left.
+    pub(crate) fn cut_power(&mut self, pick: u64)
+        ensures journal { IsCut pick (D.state self.old.journal.0) (D.state self.new.journal.0) }
+        ensures checkpoints { IsCut pick (D.state self.old.checkpoints) (D.state self.new.checkpoints) }
+        ensures count { self.new.count ≡ self.old.count }
+    {
+        self.journal.power_cut(pick);
+        self.checkpoints.power_cut(pick);
+    }
+
+    /// Takes the memory for two short records.
+    pub(crate) fn reserve(&mut self) -> Mem<()>
+        ensures rests { (node : Node) → Rests node self.old.count (D.state self.old.journal.0) (D.state self.old.checkpoints)
+            → Rests node self.new.count (D.state self.new.journal.0) (D.state self.new.checkpoints) }
+        ensures runs { Runs ⊥ (D.state self.old.journal.0) (D.state self.new.journal.0)
+            (D.state self.old.checkpoints) (D.state self.new.checkpoints) }
+        ensures room { OnOk result (SHORT + SHORT ≤ spare (D.state self.new.journal.0) self.new.journal.1) }
+    {
+        self.journal.reserve(946)
+    }
+}

@@ -1,0 +1,144 @@
+// A turn is carried out: what it stores is put on the disks, one after another, and then it goes on.
+ghost use Rattle.std.specs.Prelude.{◌≡◌, ◌+◌, ◌≤◌, ℕ, true, false, IfOk, OnErr};
+ghost use Rattle.record_file.specs.Files.{spare};
+ghost use Rattle.set_model.specs.Deliver.{deliver};
+ghost use Rattle.set_model.specs.Limits.{is_within};
+ghost use Rattle.set_model.specs.Node.{Node};
+ghost use Rattle.set_model.specs.Rows.{row};
+ghost use Rattle.node_state.specs.Bounds.{IsBounded, IsNumbered, is_own};
+ghost use Rattle.node_core.specs.Acting.{Runs};
+ghost use Rattle.node_core.specs.Putting.{EndsFrom, IsBrief, IsBroken, IsEnd, IsFault, IsLong, Leaves, NeedsRoom, SHORT, plan_of};
+ghost use Rattle.node_state.specs.Ready.{IsReadyTurn};
+ghost use Rattle.node_core.specs.Resting.{Rests};
+ghost use Rattle.set_model.specs.Taking.{CanTake};
+
+use node_state::State;
+use crate::disks::Disks;
+use node_state::Turn;
+use bson_doc::Mem;
+use record_file::FileError;
+use repl_msg::Message;
+use rs_disk::Disk;
+use set_model::{Command, Reply, Store};
+use std::alloc::AllocError;
+use std::thread::Threads;
+
+/// How a turn ended: it has its reply, or this store failed.
+#[derive(Drop)]
+pub(crate) enum Ended {
+    Said { reply: Reply, sent: Vec<Message> },
+    Broken { item: Store, number: u32 },
+}
+
+/// Carries a turn out. Memory is wanting only where its one store is a long one, and then nothing has changed.
+pub(crate) fn carry_out<D: Disk>(state: &mut State, disks: &mut Disks<D>, turn: Turn) -> Mem<Ended>
+    requires rests { Rests state.old.node disks.old.count (D.state disks.old.journal.0) (D.state disks.old.checkpoints) }
+    requires ready { IsReadyTurn turn state.old }
+    requires room { SHORT + SHORT ≤ spare (D.state disks.old.journal.0) disks.old.journal.1 }
+    ensures ends { IfOk result (λ ended. EndsFrom 0 (plan_of turn state.old.node) state.new.node ended) }
+    ensures leaves { IfOk result (λ ended. Leaves ended state.new.node disks.new.count (D.state disks.new.journal.0) (D.state disks.new.checkpoints)) }
+    ensures runs { Runs (IsFault result) (D.state disks.old.journal.0) (D.state disks.new.journal.0)
+        (D.state disks.old.checkpoints) (D.state disks.new.checkpoints) }
+    ensures long { OnErr result (IsLong turn) }
+    ensures same { OnErr result (state.new.node ≡ state.old.node) }
+    ensures left { OnErr result (Rests state.old.node disks.new.count (D.state disks.new.journal.0) (D.state disks.new.checkpoints)) }
+{
+    state.is_coherent();
+    match turn {
+        Turn::Finished { reply, sent } => Ok(Ended::Said { reply, sent }),
+        Turn::Storing { item, then } => match disks.put(&item, state) {
+            Ok(()) => {
+                let next = state.go_on(&item, then);
+                Ok(carry_on(state, disks, next))
+            }
+            Err(FileError::Memory) => Err(AllocError),
+            Err(FileError::Disk) => Ok(Ended::Broken { item, number: 0 }),
+        },
+    }
+}
+
+// What is left of a turn after its first store: at most one short record.
+fn carry_on<D: Disk>(state: &mut State, disks: &mut Disks<D>, turn: Turn) -> Ended
+    requires rests { Rests state.old.node disks.old.count (D.state disks.old.journal.0) (D.state disks.old.checkpoints) }
+    requires ready { IsReadyTurn turn state.old }
+    requires brief { IsBrief 1 (plan_of turn state.old.node) }
+    requires room { NeedsRoom turn (spare (D.state disks.old.journal.0) disks.old.journal.1) }
+    ensures ends { EndsFrom 1 (plan_of turn state.old.node) state.new.node result }
+    ensures leaves { Leaves result state.new.node disks.new.count (D.state disks.new.journal.0) (D.state disks.new.checkpoints) }
+    ensures runs { Runs (IsBroken result) (D.state disks.old.journal.0) (D.state disks.new.journal.0)
+        (D.state disks.old.checkpoints) (D.state disks.new.checkpoints) }
+{
+    state.is_coherent();
+    match turn {
+        Turn::Finished { reply, sent } => Ended::Said { reply, sent },
+        Turn::Storing { item, then } => match disks.put(&item, state) {
+            Ok(()) => {
+                let last = state.go_on(&item, then);
+                said(last)
+            }
+            Err(FileError::Memory) => unreachable!(),
+            Err(FileError::Disk) => Ended::Broken { item, number: 1 },
+        },
+    }
+}
+
+fn said(turn: Turn) -> Ended
+    requires { IsEnd turn }
+    ensures ends { (first : ℕ) (node : Node) → EndsFrom first (plan_of turn node) node result }
+    ensures whole { ¬ IsBroken result }
+{
+    match turn {
+        Turn::Finished { reply, sent } => Ended::Said { reply, sent },
+        Turn::Storing { .. } => unreachable!(),
+    }
+}
+
+/// Does what a command asks, in memory and on the disks. Only memory can be wanting, and then all is as it was.
+pub(crate) fn act_own<D: Disk, R: Threads + Sync>(
+    state: &mut State,
+    disks: &mut Disks<D>,
+    rt: &R,
+    nodes: u32,
+    next: u64,
+    command: &Command,
+) -> Mem<Ended>
+    requires rests { Rests state.old.node disks.old.count (D.state disks.old.journal.0) (D.state disks.old.checkpoints) }
+    requires bounds { IsBounded state.old.node }
+    requires next { IsNumbered next }
+    requires own { is_own command.now ≡ true }
+    requires within { is_within command.now ≡ true }
+    ensures ends { IfOk result (λ ended. EndsFrom 0 (row nodes next false state.old.node command.now) state.new.node ended) }
+    ensures leaves { IfOk result (λ ended. Leaves ended state.new.node disks.new.count (D.state disks.new.journal.0) (D.state disks.new.checkpoints)) }
+    ensures runs { Runs (IsFault result) (D.state disks.old.journal.0) (D.state disks.new.journal.0)
+        (D.state disks.old.checkpoints) (D.state disks.new.checkpoints) }
+    ensures same { OnErr result (state.new.node ≡ state.old.node) }
+    ensures left { OnErr result (Rests state.old.node disks.new.count (D.state disks.new.journal.0) (D.state disks.new.checkpoints)) }
+{
+    disks.reserve()?;
+    let turn = state.start(rt, nodes, next, command)?;
+    carry_out(state, disks, turn)
+}
+
+/// Takes a message, in memory and on the disks. Only memory can be wanting, and then all is as it was.
+pub(crate) fn take_in<D: Disk, R: Threads + Sync>(
+    state: &mut State,
+    disks: &mut Disks<D>,
+    rt: &R,
+    next: u64,
+    message: &Message,
+) -> Mem<Ended>
+    requires rests { Rests state.old.node disks.old.count (D.state disks.old.journal.0) (D.state disks.old.checkpoints) }
+    requires bounds { IsBounded state.old.node }
+    requires next { IsNumbered next }
+    requires message { CanTake state.old.node message.now }
+    ensures ends { IfOk result (λ ended. EndsFrom 0 (deliver next state.old.node message.now) state.new.node ended) }
+    ensures leaves { IfOk result (λ ended. Leaves ended state.new.node disks.new.count (D.state disks.new.journal.0) (D.state disks.new.checkpoints)) }
+    ensures runs { Runs (IsFault result) (D.state disks.old.journal.0) (D.state disks.new.journal.0)
+        (D.state disks.old.checkpoints) (D.state disks.new.checkpoints) }
+    ensures same { OnErr result (state.new.node ≡ state.old.node) }
+    ensures left { OnErr result (Rests state.old.node disks.new.count (D.state disks.new.journal.0) (D.state disks.new.checkpoints)) }
+{
+    disks.reserve()?;
+    let turn = state.take(rt, next, message)?;
+    carry_out(state, disks, turn)
+}

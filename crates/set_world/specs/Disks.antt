@@ -1,0 +1,99 @@
+-- What opening a set and each of its steps do to its disks.
+use Rattle.std.specs.Prelude.{◌≡◌, ◌⊎◌, ◌<◌, ◌≤◌, ◌+◌, ◌*◌, ◌++◌, ◌∷◌, [], ℕ, IsSome, IsTrue, List, Option, Some, length, drop, slice_get, slice_set}
+use Rattle.rs_io.specs.Fault.{Rose}
+use Rattle.rs_disk.specs.State.{State}
+use Rattle.set_model.specs.declared.command.Command.{Command}
+use Rattle.set_model.specs.declared.command.Event.{Event}
+use Rattle.set_model.specs.declared.reply.Reply.{Reply}
+use Rattle.set_model.specs.Node.{Node}
+use Rattle.set_model.specs.Run.{run}
+use Rattle.set_model.specs.World.{step, touched_node}
+use Rattle.node_core.specs.Acting.{DisksActed, Runs}
+use Rattle.node_core.specs.Stands.{Stands}
+use Rattle.set_world.specs.World.{Set}
+
+-- ---- the two disks of one node
+
+-- the node of this number has other disks, which changed so
+pub record OneActed {D : Type 0} (state : D → State) (Changed : State → State → State → State → Type 0) (number : ℕ) (old new : List (Node × D × D)) : Type 0 where
+  pub before : Node × D × D
+  pub after : Node × D × D
+  pub there : slice_get old number ≡ Some before
+  pub nodes : new ≡ slice_set old number after
+  pub disks : Changed (state before.1) (state after.1) (state before.2) (state after.2)
+
+-- Of all disks only the two of this node changed, and so.
+pub record OneChanged {D : Type 0} (state : D → State) (Changed : State → State → State → State → Type 0) (number : ℕ) (old new : List D) : Type 0 where
+  pub journal : D
+  pub journal' : D
+  pub checkpoints : D
+  pub checkpoints' : D
+  pub journal_at : slice_get old (2 * number) ≡ Some journal
+  pub checkpoints_at : slice_get old (2 * number + 1) ≡ Some checkpoints
+  pub disks : new ≡ slice_set (slice_set old (2 * number) journal') (2 * number + 1) checkpoints'
+  pub changed : Changed (state journal) (state journal') (state checkpoints) (state checkpoints')
+
+-- none changed, or those of one node
+abbrev pub AtMostOne : {A : Type 0} → List A → List A → Type 0 → Type 0
+AtMostOne old new One = (new ≡ old) ⊎ One
+
+-- on the two disks of a node of this number stands what the node is
+pub record StandsThere {D : Type 0} (state : D → State) (number : ℕ) (node : Node) (disks : List D) : Type 0 where
+  pub journal : D
+  pub checkpoints : D
+  pub journal_at : slice_get disks (2 * number) ≡ Some journal
+  pub checkpoints_at : slice_get disks (2 * number + 1) ≡ Some checkpoints
+  pub stands : Stands node (state journal) (state checkpoints)
+
+-- on the disks of each node stands what it is in the last world
+abbrev pub AllStand : {D : Type 0} → (D → State) → Set D → Type 0
+AllStand state set =
+    (number : ℕ) (node : Node) → slice_get (run set.sizes set.history).world.nodes number ≡ Some node
+    → StandsThere state number node set.disks
+
+-- ---- a step
+
+-- One event more stands in the history, of this line and command. It is answered as the model says, and of all disks only those
+-- of the node that it touches changed.
+pub record IsStep {D : Type 0} (state : D → State) (old new : Set D) (line : ℕ) (command : Command) (reply : Reply) : Type 0 where
+  pub event : Event
+  pub line_is : event.line ≡ line
+  pub command_is : event.command ≡ command
+  pub history : new.history ≡ old.history ++ event ∷ []
+  pub reply_is : reply ≡ (step (run old.sizes old.history).world event).reply
+  pub disks : AtMostOne old.disks new.disks
+      (OneChanged state (DisksActed command reply (IsSome event.failed)) (touched_node (run old.sizes old.history).world command) old.disks new.disks)
+
+-- Memory was wanting, and nothing was done. The disks of the node that would have been touched may have been opened.
+pub record IsUndone {D : Type 0} (state : D → State) (old new : Set D) (command : Command) : Type 0 where
+  pub history : new.history ≡ old.history
+  pub disks : AtMostOne old.disks new.disks
+      (OneChanged state (Runs ⊥) (touched_node (run old.sizes old.history).world command) old.disks new.disks)
+
+-- ---- the opening
+
+-- a disk that was used: no order was given to it
+pub record IsServed (old new : State) : Type 0 where
+  pub faults : old.faults ≤ new.faults
+  pub steady : IsTrue old.is_steady → IsTrue new.is_steady
+  pub armed : IsTrue new.is_armed → IsTrue old.is_armed
+  pub orders : new.orders ≡ old.orders
+
+-- the count of one of the first disks rose
+abbrev pub OneRose : {D : Type 0} → (D → State) → ℕ → List D → List D → Type 0
+OneRose {D} state first old new =
+    (place : ℕ) × (before : D) × (after : D) × (place < first) × (slice_get old place ≡ Some before) × (slice_get new place ≡ Some after)
+    × Rose (state before).faults (state after).faults
+
+-- Nodes were opened on the first disks, two for each, and the others stay. A fault comes only where one of the first ones failed,
+-- and on steady disks only where one was armed.
+pub record Opens {D : Type 0} (state : D → State) (nodes : ℕ) (Fault : Type 0) (old new : List D) : Type 0 where
+  pub count : length new ≡ length old
+  pub idle : drop (2 * nodes) new ≡ drop (2 * nodes) old
+  pub each :
+      (place : ℕ) (before after : D) → slice_get old place ≡ Some before → slice_get new place ≡ Some after
+      → IsServed (state before) (state after)
+  pub cause : Fault → OneRose state (2 * nodes) old new
+  pub only_armed :
+      Fault → ((place : ℕ) (disk : D) → slice_get old place ≡ Some disk → IsTrue (state disk).is_steady)
+      → (place : ℕ) × (disk : D) × (slice_get old place ≡ Some disk) × IsTrue (state disk).is_armed

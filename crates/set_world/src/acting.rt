@@ -1,0 +1,108 @@
+ghost use Rattle.std.specs.Prelude.{◌≡◌, ◌<◌, ◌≤◌, ◌^◌, ℕ, [], true, false, length, IfOk, OnErr, Some, slice_get, Contains};
+ghost use Rattle.repl_msg.specs.declared.message.Message.{Message as AMessage};
+ghost use Rattle.set_model.specs.Limits.{is_for, is_within};
+ghost use Rattle.set_model.specs.Node.{Node as Standing};
+ghost use Rattle.node_core.specs.Acting.{is_here};
+ghost use Rattle.node_state.specs.Bounds.{IsBounded, IsNumbered};
+ghost use Rattle.set_model.specs.Taking.{CanTake};
+ghost use Rattle.set_world.specs.Acting.{Acted, Took};
+ghost use Rattle.set_world.specs.Disks.{AtMostOne, NodeDisks, OneActed, QuietDisks};
+ghost use Rattle.set_model.specs.World.{touched_node};
+ghost use Rattle.set_world.specs.World.{Acts, nodes_in};
+
+use crate::command::{actor, delivered};
+use crate::pool::Pool;
+use bson_doc::Mem;
+use node_core::{Done, Node};
+use repl_msg::Message;
+use rs_disk::Disk;
+use set_model::{Command, Refusal, Reply};
+use std::alloc::Global;
+use std::thread::Threads;
+
+/// What a command comes to: its node does it, or the receiver takes the message that it delivers.
+pub(crate) fn act<D: Disk, R: Threads + Sync>(
+    nodes: &mut [Node<D>],
+    alloc: Global,
+    rt: &R,
+    pool: &Pool,
+    command: &Command,
+) -> Mem<Done>
+    requires size { pool.now.nodes ≡ length nodes.old }
+    requires few { length nodes.old ≤ 50 }
+    requires bounds { (number : ℕ) (node : Standing) → slice_get (nodes_in nodes.old) number ≡ Some node → IsBounded node }
+    requires next { IsNumbered (length pool.now.messages) }
+    requires messages { (message : AMessage) (node : Standing) → Contains pool.now.messages message → slice_get (nodes_in nodes.old) message.to ≡ Some node → node.up ≡ true → CanTake node message }
+    requires between { (message : AMessage) → Contains pool.now.messages message → message.to < length nodes.old }
+    requires command { is_for pool.now.nodes command.now ≡ true }
+    ensures ok { IfOk result (λ done. Acts (record { nodes = nodes_in nodes.old; messages = pool.now.messages }) command.now (nodes_in nodes.new) done) }
+    ensures disks { IfOk result (λ done. AtMostOne nodes.old nodes.new (OneActed D.state (NodeDisks command.now done.reply done.failed) (touched_node (record { nodes = nodes_in nodes.old; messages = pool.now.messages }) command.now) nodes.old nodes.new)) }
+    ensures err { OnErr result (nodes_in nodes.new ≡ nodes_in nodes.old) }
+    ensures len { length nodes.new ≡ length nodes.old }
+{
+    let next = pool.len() as u64;
+    match actor(command) {
+        Some(number) => act_on(nodes, number, rt, next, command),
+        None => match delivered(pool, command) {
+            Some(message) => take_at(nodes, rt, next, message),
+            None => Ok(nothing(alloc)),
+        },
+    }
+}
+
+/// A node does a command of its own.
+fn act_on<D: Disk, R: Threads + Sync>(
+    nodes: &mut [Node<D>],
+    number: u32,
+    rt: &R,
+    next: u64,
+    command: &Command,
+) -> Mem<Done>
+    requires known { number < length nodes.old }
+    requires size { length nodes.old < 2 ^ 32 }
+    requires bounds { (n : ℕ) (node : Standing) → slice_get (nodes_in nodes.old) n ≡ Some node → IsBounded node }
+    requires next { IsNumbered next }
+    requires here { is_here command.now ≡ true }
+    requires within { is_within command.now ≡ true }
+    ensures ok { IfOk result (λ done. Acted number next command.now (nodes_in nodes.old) (nodes_in nodes.new) done) }
+    ensures disks { IfOk result (λ done. OneActed D.state (NodeDisks command.now done.reply done.failed) number nodes.old nodes.new) }
+    ensures err { OnErr result (nodes_in nodes.new ≡ nodes_in nodes.old) }
+    ensures len { length nodes.new ≡ length nodes.old }
+{
+    let size = nodes.len() as u32;
+    nodes[number as usize].act(rt, size, next, command)
+}
+
+/// A node takes a message.
+fn take_at<D: Disk, R: Threads + Sync>(
+    nodes: &mut [Node<D>],
+    rt: &R,
+    next: u64,
+    message: &Message,
+) -> Mem<Done>
+    requires known { message.now.to < length nodes.old }
+    requires bounds { (n : ℕ) (node : Standing) → slice_get (nodes_in nodes.old) n ≡ Some node → IsBounded node }
+    requires next { IsNumbered next }
+    requires message { (node : Standing) → slice_get (nodes_in nodes.old) message.now.to ≡ Some node → node.up ≡ true → CanTake node message.now }
+    ensures ok { IfOk result (λ done. Took next message.now (nodes_in nodes.old) (nodes_in nodes.new) done) }
+    ensures disks { IfOk result (λ done. OneActed D.state (QuietDisks done.failed) message.now.to nodes.old nodes.new) }
+    ensures err { OnErr result (nodes_in nodes.new ≡ nodes_in nodes.old) }
+    ensures len { length nodes.new ≡ length nodes.old }
+{
+    nodes[message.to as usize].take(rt, next, message)
+}
+
+/// No such message was sent.
+fn nothing(alloc: Global) -> Done
+    ensures reply { result.reply ≡ Reply.Refused Refusal.NoSuchMessage }
+    ensures sent { result.sent.items ≡ [] }
+    ensures failed { result.failed ≡ None }
+    ensures kept { result.kept ≡ false }
+{
+    Done {
+        reply: Reply::Refused(Refusal::NoSuchMessage),
+        sent: Vec::new(alloc),
+        failed: None,
+        kept: false,
+    }
+}

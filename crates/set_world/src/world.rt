@@ -1,0 +1,196 @@
+ghost use Rattle.std.specs.Prelude.{◌≡◌, ◌<◌, ◌↔◌, [], true, All, length, vec_len, IfErr, IfOk, IfSome, IsErrOf, OnErr, Some, slice_get};
+ghost use Rattle.rs_disk.specs.File.{IsEmpty};
+ghost use Rattle.set_model.specs.Limits.{IsRun, is_for};
+ghost use Rattle.set_model.specs.Run.{AreSizes, run};
+ghost use Rattle.set_world.specs.declared.error.StepError.{StepError as AStepError};
+ghost use Rattle.set_world.specs.Disks.{AllStand, IsStep, IsUndone, Opens};
+ghost use Rattle.record_file.specs.declared.error.FileError.TheVariants.{Disk};
+
+use crate::StepError;
+use crate::acting::act;
+use crate::command::brings_sound;
+use crate::opening::{first_config, give_back, open_nodes};
+use crate::pool::Pool;
+use node_core::{Done, Node};
+use record_file::FileError;
+use rs_disk::Disk;
+use safety_laws::{configs_are_lawful, messages_can_be_taken, numbers_stay_small};
+use set_model::{Command, Event, Reply};
+use std::alloc::Global;
+use std::marker::Model;
+use std::thread::Threads;
+
+/// A history has at most so many events.
+const MOST_EVENTS: usize = 4_294_967_295;
+
+/// No event sends more messages.
+const MOST_SENT: usize = 7;
+
+/// A replica set on its disks, with the events that led there. Contracts see the events and the disks: the nodes and the
+/// messages are those of the last world of the events' run.
+#[derive(Drop)]
+pub struct World<D: Disk> {
+    alloc: Global,
+    size: u32,
+    members: u32,
+    nodes: Vec<Node<D>>,
+    pool: Pool,
+    history: Vec<Event>,
+    /// The disks without a node.
+    idle: Vec<D>,
+}
+
+impl<D: Disk> Model for World<D> {
+    ghost use Rattle.std.specs.Prelude.{◌++◌, vec_len};
+    ghost use Rattle.std.specs.Coded.{codes};
+    ghost use Rattle.set_model.specs.contracts.command.Event as event;
+    ghost use Rattle.set_world.specs.World.{Set, disks_in, nodes_in};
+
+    ghost Value = { Set D };
+
+    ghost coded = { Prim.hlevel (codes, event.the_row.coded) };
+
+    ghost use Rattle.set_world.specs.Disks.{DisksStep, StandsThere};
+    ghost use Rattle.set_world.specs.World.{CanTakeBack, IsStanding};
+
+    ghost view = { λ w. record { sizes = record { nodes = w.size; members = w.members }; history = w.history.items; disks = disks_in w.nodes.items ++ w.idle.items } };
+
+    ghost invariant = { λ w. IsStanding (record { nodes = w.size; members = w.members }) w.history.items (nodes_in w.nodes.items) w.pool × CanTakeBack (vec_len w.nodes) w.idle };
+}
+
+impl<D: Disk> World<D> {
+    /// A set of so many nodes, of which the first are members, on 100 empty disks. Its nodes are opened in order of number.
+    ///
+    /// # Errors
+    /// `Disk` where a disk of one of the nodes failed. Either error hands the disks back.
+    #[tactic(auto, using(crate::proofs::OpenLemmas::begins))]
+    pub fn open(
+        alloc: Global,
+        nodes: u32,
+        members: u32,
+        disks: Vec<D>,
+    ) -> Result<World<D>, (Vec<D>, FileError)>
+        requires sizes { AreSizes (record { nodes = nodes; members = members }) }
+        requires disks { vec_len disks ≡ 100 }
+        requires empty { All (λ (disk : D). IsEmpty (D.state disk).file) disks.items }
+        ensures sizes { IfOk result (λ world. world.sizes ≡ record { nodes = nodes; members = members }) }
+        ensures history { IfOk result (λ world. world.history ≡ []) }
+        ensures opened { IfOk result (λ world. Opens D.state nodes ⊥ disks.items world.disks) }
+        ensures refused { IfErr result (λ refused. Opens D.state nodes (refused.1 ≡ Disk) disks.items refused.0.items) }
+    {
+        configs_are_lawful();
+        let pool = match Pool::new(alloc, nodes) {
+            Ok(pool) => pool,
+            Err(_) => return Err((disks, FileError::Memory)),
+        };
+        let config = match first_config(alloc, members) {
+            Ok(config) => config,
+            Err(_) => return Err((disks, FileError::Memory)),
+        };
+        let mut idle = disks;
+        match open_nodes(alloc, nodes, &config, &mut idle) {
+            Ok(opened) => Ok(World {
+                alloc,
+                size: nodes,
+                members,
+                nodes: opened,
+                pool,
+                history: Vec::new(alloc),
+                idle,
+            }),
+            Err(error) => Err((idle, error)),
+        }
+    }
+
+    /// Does one command, and adds its event to the history. Want of memory leaves both as they were.
+    pub fn step<R: Threads + Sync>(
+        &mut self,
+        rt: &R,
+        line: u32,
+        command: &Command,
+    ) -> Result<Reply, StepError>
+        requires command { is_for self.old.sizes.nodes command.now ≡ true }
+        ensures step { IfOk result (λ reply. IsStep D.state self.old self.new line command.now reply) }
+        ensures full { IsErrOf result AStepError.HistoryFull ↔ length self.old.history ≡ 4294967295 }
+        ensures err { OnErr result (IsUndone D.state self.old self.new command.now) }
+        ensures sizes { self.new.sizes ≡ self.old.sizes }
+    {
+        if self.history.len() >= MOST_EVENTS {
+            return Err(StepError::HistoryFull);
+        }
+        numbers_stay_small();
+        messages_can_be_taken();
+        brings_sound(command);
+        self.history.reserve(1)?;
+        self.pool.reserve(MOST_SENT)?;
+        let copied = command.copy()?;
+        let Done {
+            reply,
+            sent,
+            failed,
+            kept,
+        } = act(&mut self.nodes, self.alloc, rt, &self.pool, command)?;
+        self.pool.add(sent);
+        let event = Event {
+            line,
+            command: copied,
+            failed,
+            kept,
+        };
+        match self.history.push(event) {
+            Ok(()) => {}
+            Err(_) => unreachable!(),
+        }
+        Ok(reply)
+    }
+
+    /// Hands back the history and the disks.
+    pub fn close(self) -> (Vec<Event>, Vec<D>)
+        ensures history { result.0.items ≡ self.history }
+        ensures disks { result.1.items ≡ self.disks }
+    {
+        let World {
+            alloc: _alloc,
+            size: _size,
+            members: _members,
+            nodes,
+            pool: _pool,
+            history,
+            idle,
+        } = self;
+        let mut disks = idle;
+        give_back(nodes, &mut disks);
+        (history, disks)
+    }
+
+    /// What was done, oldest first.
+    pub fn history(&self) -> &[Event]
+        ensures { result.now ≡ self.now.history }
+    {
+        &self.history
+    }
+
+    /// A node, as it is in the last world of the history.
+    pub fn node(&self, node: u32) -> &Node<D>
+        requires { node < self.now.sizes.nodes }
+        ensures { slice_get (run self.now.sizes self.now.history).world.nodes node ≡ Some result.now.0 }
+    {
+        numbers_stay_small();
+        &self.nodes[node as usize]
+    }
+
+    /// On the nodes' disks stands what they are in the last world: a fact for callers' proofs, which costs nothing.
+    pub fn stands(&self)
+        ensures { AllStand D.state self.now }
+    {
+        let _ = &self.nodes;
+    }
+
+    /// The history is a run that is defined: a fact for callers' proofs, which costs nothing.
+    pub fn is_run(&self)
+        ensures sizes { AreSizes self.now.sizes }
+        ensures run { IsRun self.now.sizes self.now.history }
+    {
+        let _ = &self.nodes;
+    }
+}
