@@ -81,10 +81,6 @@ refused_as nodes node config why primary is =
     ap (option_map refusal_of) (sym is) ∙ checked_agrees nodes node config
     ∙ ap (λ (role : Role). cond (not (is_primary role)) (Some refusal.NotPrimary) (row.unless_broken (rule config) (row.unless_unknown (unknown_member nodes config) (row.change_refusal node config)))) (sym primary)
 
-pub refused_other : (nodes : ℕ) (node : Node) (config : Config) → is_primary node.role ≡ false → Some refusal.NotPrimary ≡ row.reconfig_refusal nodes node config
-refused_other nodes node config other =
-    ap (λ b. cond (not b) (Some refusal.NotPrimary) (row.unless_broken (rule config) (row.unless_unknown (unknown_member nodes config) (row.change_refusal node config)))) (sym other)
-
 -- ---- a configuration that is taken
 
 primary_is : (role : Role) (why : Option Refusal) → None ≡ cond (not (is_primary role)) (Some refusal.NotPrimary) why → role ≡ Primary
@@ -99,13 +95,6 @@ not_broken Candidate broken why none = absurd (cc none)
 not_broken Draining broken why none = absurd (cc none)
 not_broken Primary (Some number) why none = absurd (cc none)
 not_broken Primary None why none = refl
-
-pub change_means : (nodes : ℕ) (node : Node) (config taken kept : Config) → None ≡ row.reconfig_refusal nodes node config → taken ≡ in_term config node.term → kept ≡ taken
-    → Means (turns.Storing (stores.Record (records.Config kept)) (thens.Reconfig taken)) node (row.reconfig nodes node config)
-change_means nodes node config taken kept none taken_is kept_is =
-    ap (λ (why : Option Refusal). unless_refused why node (then_stored node (config_record (in_term config node.term)) (λ n. finished (row.reconfigured n (in_term config n.term))))) (sym none)
-    ∙ ap (λ (c : Config). then_stored node (config_record c) (λ n. finished (row.reconfigured n c))) (sym taken_is)
-    ∙ ap (λ (c : Config). then_stored node (config_record c) (λ n. finished (row.reconfigured n taken))) (sym kept_is)
 
 pub change_ready : (nodes : ℕ) (standing : Standing) (config taken kept : Config) → None ≡ row.reconfig_refusal nodes standing.node config → taken ≡ in_term config standing.node.term → kept ≡ taken
     → IsReadyTurn (turns.Storing (stores.Record (records.Config kept)) (thens.Reconfig taken)) standing

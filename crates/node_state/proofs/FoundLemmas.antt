@@ -156,13 +156,6 @@ map-length : (xs : List Entry) → length (map (λ (e : Entry). e.optime) xs) �
 map-length [] = refl
 map-length (x ∷ xs) = ap (λ n. suc n) (map-length xs)
 
-pub next_durable-short : (node : Node) (optimes : List OpTime) → optimes ≡ map (λ (e : Entry). e.optime) (unkept node) → length optimes ≤ 2000 → next_durable node ≡ visible_point node
-next_durable-short node optimes is short =
-    let long : length optimes ≡ length (unkept node) = ap length is ∙ map-length (unkept node) in
-    let less : length (unkept node) ≤ 2000 = omega (arith, long, short) in
-    let test : nat_lt 2000 (length (unkept node)) ≡ false = grind arith in
-    ap (λ b. cond b (earlier_of (visible_point node) (last_of (next_entries node))) (visible_point node)) test
-
 pub next_durable-long : (node : Node) (optimes : List OpTime) (last : OpTime) → optimes ≡ map (λ (e : Entry). e.optime) (unkept node) → 2000 < length optimes → slice_get optimes 1999 ≡ Some last
     → next_durable node ≡ earlier_of (visible_point node) last
 next_durable-long node optimes last is long there =
@@ -205,9 +198,3 @@ none_of (x ∷ xs) none = absurd (cc none)
 some_of : (xs : List Entry) → (map (λ (e : Entry). e.optime) xs ≡ [] → ⊥) → (length xs == 0) ≡ false
 some_of [] some = absurd (some refl)
 some_of (x ∷ xs) some = let long : length (x ∷ xs) ≡ length xs + 1 = omega arith in grind (arith, nat_tests)
-
-pub is_flushed-none : (node : Node) (optimes : List OpTime) → optimes ≡ map (λ (e : Entry). e.optime) (unkept node) → optimes ≡ [] → same_optime node.durable (visible_point node) ≡ is_flushed node
-is_flushed-none node optimes is none = ap (λ b. b && same_optime node.durable (visible_point node)) (sym (none_of (unkept node) (sym is ∙ none)))
-
-pub is_flushed-some : (node : Node) (optimes : List OpTime) → optimes ≡ map (λ (e : Entry). e.optime) (unkept node) → (optimes ≡ [] → ⊥) → false ≡ is_flushed node
-is_flushed-some node optimes is some = ap (λ b. b && same_optime node.durable (visible_point node)) (sym (some_of (unkept node) (λ none. some (is ∙ none))))

@@ -131,11 +131,3 @@ shown_reply slot log order base commit primary = elim (front slot log order) [
   | inl none ↦ subst (λ (shown : List Entry). reply_of (log_up_to (last_of shown) log) (last_of shown) base commit primary ≡ reply_of shown (last_of shown) base commit primary) (sym none) (nothing_told log base commit primary)
   | inr same ↦ ap (λ (shown : List Entry). reply_of shown (last_of (entries_before slot log)) base commit primary) (sym same)
 ]
-
--- and so are the entries behind an optime
-pub shown_behind : (slot : Option OpTime) (log : List Entry) → AllPairs StandsBefore log → (after : OpTime)
-    → log_behind after (log_up_to (last_of (entries_before slot log)) log) ≡ log_behind after (entries_before slot log)
-shown_behind slot log order after = elim (front slot log order) [
-  | inl none ↦ subst (λ (shown : List Entry). log_behind after (log_up_to (last_of shown) log) ≡ log_behind after shown) (sym none) (none_behind log after)
-  | inr same ↦ ap (log_behind after) (sym same)
-]

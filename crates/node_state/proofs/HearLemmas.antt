@@ -56,11 +56,3 @@ pub coherent-given_way : (n m : Node) (rest : Rest) (tally : Option Tallied) (op
 coherent-given_way n m rest tally optimes is old =
     subst (λ (k : Node). IsCoherent (seen_node k (record rest { tally = None })) None optimes) (sym is)
     (coherent-turned (seen_node n rest) Secondary n.slots n.writers n.applied rest.progress [] rest.dry_tally tally None optimes (at_most_itself (visible_point n)) (λ role. absurd (cc role)) old)
-
--- a secondary's configuration is kept
-pub coherent-installed : (n : Node) (rest : Rest) (items : List Record) (config : Config) (tally : Option Tallied) (optimes : List OpTime)
-    → items ≡ rest.records ++ records.Config config ∷ [] → rule config ≡ None → n.role ≡ Secondary
-    → IsCoherent (seen_node n rest) tally optimes → IsCoherent (seen_node n (record rest { records = items; config = config })) tally optimes
-coherent-installed n rest items config tally optimes are lawful secondary old =
-    coherent-kept (seen_node n rest) items n.term rest.vote config tally optimes (with_config_kept (seen_node n rest) items config old.recorded are) old.vote lawful
-    (λ role. absurd (cc (role, secondary))) old

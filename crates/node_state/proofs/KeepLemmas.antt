@@ -52,12 +52,6 @@ flush-count n m item count point tally optimes same ready old =
     let less : length (next_entries n) ≤ length (map (λ (e : Entry). e.optime) (unkept n)) = length-taken (λ (e : Entry). e.optime) 2000 (unkept n) in
     omega (arith, is, long, less)
 
-pub flush-node : (n m : Node) (item : Store) (count : ℕ) (point : OpTime) → n ≡ m → IsFlush item count point m
-    → record n { records = records_after n.records item; durable = point } ≡ record (stored m item) { durable = point }
-flush-node n m item count point same ready =
-    ap (λ (k : Node). let x : Node = record k { records = records_after k.records item; durable = point } in x) same
-    ∙ ap (λ at. let x : Node = record m { records = records_after m.records item; stable = at; durable = point } in x) (sym (ap (stable_after m.stable) ready.item_is))
-
 -- ---- a checkpoint
 
 pub checkpoint-coherent : (n m : Node) (item : Store) (at : OpTime) (tally : Option Tallied) (optimes : List OpTime) → n ≡ m → IsCheckpoint item at m → IsCoherent n tally optimes
@@ -73,11 +67,6 @@ checkpoint-later n m item at same ready commit applied =
 pub checkpoint-applied : (n m : Node) (item : Store) (at : OpTime) → n ≡ m → IsCheckpoint item at m → AtMost at (applied_point n)
 checkpoint-applied n m item at same ready =
     subst (λ o. AtMost o (applied_point n)) (sym (ready.at_is ∙ ap (λ (k : Node). next_stable k) (sym same))) (earlier_right n.commit (applied_point n))
-
-pub checkpoint-node : (n m : Node) (item : Store) (at : OpTime) → n ≡ m → IsCheckpoint item at m → record n { records = records_after n.records item; stable = at } ≡ stored m item
-checkpoint-node n m item at same ready =
-    ap (λ (k : Node). let x : Node = record k { records = records_after k.records item; stable = at } in x) same
-    ∙ ap (λ o. let x : Node = record m { records = records_after m.records item; stable = o } in x) (sym (ap (stable_after m.stable) ready.item_is))
 
 -- ---- a batch
 

@@ -92,23 +92,6 @@ point_is true term node after optimes visible is late =
 point_is false term node after optimes visible is late =
     point_by (is_secondary node.role) (nat_lt term node.term) (not (is_of_later_branch node visible)) (is_common after optimes (last_point node)) (common_point node.log after optimes) is late
 
-pub point_role : (raised : Bool) (term : ℕ) (node : Node) (after : OpTime) (optimes : List OpTime) (visible point : OpTime)
-    → is_secondary (taking raised 0 node).role ≡ false → Err ignored.NotSecondary ≡ point_or (rollback_reason (taking raised term node) term after optimes visible) point
-point_role true term node after optimes visible point other = cc other
-point_role false term node after optimes visible point other =
-    sym (ap (λ b. point_or (cond (not b) (Some ignored.NotSecondary) (cond (nat_lt term node.term) (Some ignored.OldTerm)
-    (cond (not (is_of_later_branch node visible)) (Some ignored.NotOlder) (cond (is_common after optimes (last_point node)) (Some ignored.SameBranch) None)))) point) other)
-
-pub point_term : (raised : Bool) (term : ℕ) (node : Node) (after : OpTime) (optimes : List OpTime) (visible point : OpTime)
-    → is_secondary (taking raised 0 node).role ≡ true → nat_lt term (taking raised term node).term ≡ true
-    → Err ignored.OldTerm ≡ point_or (rollback_reason (taking raised term node) term after optimes visible) point
-point_term true term node after optimes visible point is old =
-    sym (ap (λ b. point_or (cond b (Some ignored.OldTerm)
-    (cond (not (is_of_later_branch (taking true term node) visible)) (Some ignored.NotOlder) (cond (is_common after optimes (last_point node)) (Some ignored.SameBranch) None))) point) old)
-point_term false term node after optimes visible point is old =
-    sym (ap (λ (p : Bool × Bool). point_or (cond (not p.0) (Some ignored.NotSecondary) (cond p.1 (Some ignored.OldTerm)
-    (cond (not (is_of_later_branch node visible)) (Some ignored.NotOlder) (cond (is_common after optimes (last_point node)) (Some ignored.SameBranch) None)))) point) (λ i. (is i, old i)))
-
 -- what a point or its want says of the reason
 pub no_reason : (reason : Option Ignored) (point found : OpTime) → Ok found ≡ point_or reason point → (reason ≡ None) × (found ≡ point)
 no_reason None point found is = (refl, cc is)

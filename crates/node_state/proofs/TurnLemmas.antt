@@ -19,7 +19,3 @@ while_up node plan up = ap (λ b. cond b plan (finished (refused NodeDown node))
 pub says_means : (turn : Turn) (reply : Reply) (node : Node) (plan : Plan) → Says turn reply [] → plan ≡ finished (replied reply node) → Means turn node plan
 says_means (Finished answer sent) reply node plan says is = cc
 says_means (Storing item then) reply node plan says is = absurd says
-
-pub says_ready : (turn : Turn) (reply : Reply) (standing : Standing) → Says turn reply [] → IsReadyTurn turn standing
-says_ready (Finished answer sent) reply standing says = tt
-says_ready (Storing item then) reply standing says = absurd says

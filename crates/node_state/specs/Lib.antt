@@ -7,6 +7,7 @@ pub mod Coherent
 pub mod Flushing
 pub mod Hearings
 pub mod Listing
+pub mod Plain
 pub mod Reading
 pub mod Ready
 pub mod Rolling

@@ -85,12 +85,6 @@ pub record IsVoteGiven (item : Store) (from : ℕ) (ask : VoteAsk) (why : Option
   pub from_is : from < 50
   pub sent_is : sent ≡ message_to node from (bodies.VoteReply ask.asked ask.dry why) ∷ []
 
--- the messages of an answer are those that the node then sends
-abbrev pub IsAnswer : Hearing → Node → Type 0
-IsAnswer hearing node =
-    IfSome hearing.answer (λ answer. answer.sent.items
-    ≡ message_to (heard_then hearing node).node hearing.from (bodies.HeartbeatReply (beat_of (heard_then hearing node).node)) ∷ [])
-
 pub record IsInstall (item : Store) (config : Config) (hearing : Hearing) (node : Node) : Type 0 where
   pub item_is : item ≡ config_record config
   pub lawful : rule config ≡ None

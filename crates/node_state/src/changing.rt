@@ -40,7 +40,7 @@ fn refusal_of(why: ConfigRefusal) -> Refusal
 }
 
 /// The same members in a configuration of this term.
-fn in_term(config: &Config, term: u64) -> Mem<Config>
+pub(crate) fn in_term(config: &Config, term: u64) -> Mem<Config>
     ensures { IfOk result (λ copy. copy ≡ in_term config.now term) }
 {
     let mut copy = config.copy()?;
@@ -101,7 +101,7 @@ impl State {
     }
 
     /// The node has a configuration, whose record stands.
-    fn have_config(&mut self, item: &Store, config: Config)
+    pub(crate) fn have_config(&mut self, item: &Store, config: Config)
         requires item { item.now ≡ config_record config }
         requires lawful { rule config ≡ None }
         requires role { self.old.node.role ≢ Candidate }

@@ -3,9 +3,9 @@ ghost use Rattle.std.specs.Prelude.{◌≡◌, true, false, IfOk, OnErr};
 ghost use Rattle.set_model.specs.Clock.{set_clock};
 ghost use Rattle.set_model.specs.Limits.{is_within};
 ghost use Rattle.set_model.specs.Outcome.{replied};
-ghost use Rattle.set_model.specs.Rows.{row};
 ghost use Rattle.set_model.specs.Stores.{finished};
 ghost use Rattle.node_state.specs.Bounds.{IsBounded, is_write, is_show};
+ghost use Rattle.node_state.specs.Plain.{plain_row};
 ghost use Rattle.node_state.specs.Ready.{IsReadyTurn};
 ghost use Rattle.node_state.specs.Turns.{Means};
 
@@ -21,7 +21,7 @@ impl State {
         requires bounds { IsBounded self.old.node }
         requires write { is_write command.now ≡ true }
         requires within { is_within command.now ≡ true }
-        ensures turn { IfOk result (λ turn. Means turn self.new.node (row 0 0 false self.old.node command.now)) }
+        ensures turn { IfOk result (λ turn. Means turn self.new.node (plain_row self.old.node command.now)) }
         ensures ready { IfOk result (λ turn. IsReadyTurn turn self.new) }
         ensures err { OnErr result (self.new.node ≡ self.old.node) }
     {
@@ -32,7 +32,7 @@ impl State {
     /// What the node shows of itself, and its clock.
     pub(crate) fn show(&mut self, command: &Command) -> Mem<Turn>
         requires show { is_show command.now ≡ true }
-        ensures turn { IfOk result (λ turn. Means turn self.new.node (row 0 0 false self.old.node command.now)) }
+        ensures turn { IfOk result (λ turn. Means turn self.new.node (plain_row self.old.node command.now)) }
         ensures ready { IfOk result (λ turn. IsReadyTurn turn self.new) }
         ensures err { OnErr result (self.new.node ≡ self.old.node) }
     {
@@ -45,7 +45,7 @@ impl State {
         requires bounds { IsBounded self.old.node }
         requires write { is_write command.now ≡ true }
         requires within { is_within command.now ≡ true }
-        ensures ok { IfOk result (λ reply. row 0 0 false self.old.node command.now ≡ finished (replied reply self.new.node)) }
+        ensures ok { IfOk result (λ reply. plain_row self.old.node command.now ≡ finished (replied reply self.new.node)) }
         ensures err { OnErr result (self.new.node ≡ self.old.node) }
     {
         self.stays_up();
@@ -92,7 +92,7 @@ impl State {
     #[tactic(auto, using(crate::proofs::TurnLemmas::while_up))]
     fn shown_by(&mut self, command: &Command) -> Mem<Reply>
         requires show { is_show command.now ≡ true }
-        ensures ok { IfOk result (λ reply. row 0 0 false self.old.node command.now ≡ finished (replied reply self.new.node)) }
+        ensures ok { IfOk result (λ reply. plain_row self.old.node command.now ≡ finished (replied reply self.new.node)) }
         ensures err { OnErr result (self.new.node ≡ self.old.node) }
     {
         self.stays_up();

@@ -3,9 +3,9 @@ ghost use Rattle.std.specs.Prelude.{◌≡◌, ◌<◌, ◌∷◌, [], nat_lt, N
 ghost use Rattle.member_config.specs.Rule.{rule};
 ghost use Rattle.repl_msg.specs.declared.message.Body.TheVariants as bodies;
 ghost use Rattle.set_model.specs.Beats as beats;
-ghost use Rattle.set_model.specs.Changes.{heard_of, installed};
+ghost use Rattle.set_model.specs.Changes.{heard_of};
 ghost use Rattle.set_model.specs.Outcome.{message_to};
-ghost use Rattle.set_model.specs.Stores.{config_record, finished, stored};
+ghost use Rattle.set_model.specs.Stores.{finished, stored};
 ghost use Rattle.set_model.specs.declared.role.Role.TheVariants.{Secondary};
 ghost use Rattle.node_state.specs.Ahead.{Foretells, ahead, taking};
 ghost use Rattle.node_state.specs.Hearings.{beat_after, commit_learnt, installs, told_of};
@@ -168,19 +168,8 @@ impl State {
         ensures turn { Means result self.new.node (rest_of (thens.Installed config hearing) (stored self.old.node item.now)) }
         ensures ready { IsReadyTurn result self.new }
     {
-        self.install(item, config);
+        self.have_config(item, config);
         self.heard(hearing)
-    }
-
-    /// A secondary has a configuration, whose record stands.
-    fn install(&mut self, item: &Store, config: Config)
-        requires item { item.now ≡ config_record config }
-        requires lawful { rule config ≡ None }
-        requires role { self.old.node.role ≡ Secondary }
-        ensures { self.new.node ≡ installed (stored self.old.node item.now) config }
-    {
-        self.records = self.records.with(item);
-        self.config = config;
     }
 
     /// A candidate that hears a primary is a secondary, and its votes are forgotten.

@@ -11,6 +11,7 @@ ghost use Rattle.set_model.specs.Stores.{stored, config_record};
 ghost use Rattle.set_model.specs.declared.role.Role.TheVariants.{Draining, Primary};
 
 use crate::State;
+use crate::changing::in_term;
 use bson_doc::Mem;
 use commit_point::Progress;
 use member_config::Config;
@@ -23,9 +24,7 @@ impl State {
     pub(crate) fn config_in_term(&self) -> Mem<Config>
         ensures { IfOk result (λ config. config ≡ in_term self.now.node.config self.now.node.term) }
     {
-        let mut config = self.config.copy()?;
-        config.term = self.ledger.term();
-        Ok(config)
+        in_term(&self.config, self.ledger.term())
     }
 
     /// Applies the whole log.

@@ -29,27 +29,6 @@ fn concern(level: ReadLevel) -> Level
     }
 }
 
-/// A document, where there is one, once more.
-fn copied(document: &Option<Doc>) -> Mem<Option<Doc>>
-    ensures { IfOk result (λ copy. copy ≡ document.now) }
-{
-    match document {
-        Some(document) => Ok(Some(document.copy()?)),
-        None => Ok(None),
-    }
-}
-
-/// The documents of a rollback once more.
-fn copied_lost(alloc: Global, lost: &[((Text, IdKey), Option<Doc>)]) -> Mem<LostList>
-    ensures { IfOk result (λ list. list ≡ lost.now) }
-{
-    let mut list = LostList::new(alloc);
-    for (place, document) in lost {
-        list.push((place.0.copy()?, place.1.copy()?), copied(document)?)?;
-    }
-    Ok(list)
-}
-
 impl State {
     fn is_primary(&self) -> bool
         ensures { result ≡ is_primary self.now.node.role }
@@ -129,6 +108,6 @@ impl State {
     pub(crate) fn rolled(&self) -> Mem<Reply>
         ensures { IfOk result (λ reply. rolled self.now.node ≡ replied reply self.now.node) }
     {
-        Ok(Reply::Rolled(copied_lost(self.alloc, self.lost.as_slice())?))
+        Ok(Reply::Rolled(self.lost.copy()?))
     }
 }
