@@ -21,13 +21,12 @@ use Rattle.set_model.specs.declared.store.Store.TheVariants as stores
 use Rattle.set_model.specs.Node.{Node}
 use Rattle.set_model.specs.Reconfig as row
 use Rattle.set_model.specs.Roles.{is_primary}
-use Rattle.set_model.specs.Stores.{finished, then_stored, unless_refused, config_record}
+use Rattle.set_model.specs.Stores.{config_record}
 use Rattle.node_state.specs.Changing.{refusal_of}
 use Rattle.node_state.specs.Coherent.{IsCoherent}
 use Rattle.node_state.specs.Ready.{IsReadyTurn}
 use Rattle.node_state.specs.Seen.{Rest, seen_node}
 use Rattle.node_state.specs.Standing.{Standing}
-use Rattle.node_state.specs.Turns.{Means}
 use Rattle.node_state.specs.declared.turn.Then.TheVariants as thens
 use Rattle.node_state.specs.declared.turn.Turn.TheVariants as turns
 use Rattle.node_state.proofs.TermLemmas.{coherent-kept, with_config_kept}

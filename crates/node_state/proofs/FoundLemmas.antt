@@ -1,6 +1,6 @@
 -- Entries of a log that are found by their optimes.
-use Rattle.std.proofs.Common.{◌≡◌, ◌≢◌, ◌∙◌, ◌<◌, ◌≤◌, ◌+◌, ◌++◌, nat_lt, add-one, ap, sym, subst, refl, arith, inl, inr, ℕ, zero, suc, Bool, true, false, cond, take, map, length, min, Option, None, Some, List, [], ◌∷◌}
-use Rattle.std.specs.Prelude.{slice_get, slice_index_or, is_some, IfSome, ◌==◌, ◌&&◌}
+use Rattle.std.proofs.Common.{◌≡◌, ◌≢◌, ◌∙◌, ◌<◌, ◌+◌, ◌++◌, nat_lt, add-one, ap, sym, subst, refl, arith, inl, inr, ℕ, zero, suc, Bool, true, false, cond, take, map, length, min, Option, None, Some, List, [], ◌∷◌}
+use Rattle.std.specs.Prelude.{slice_get, slice_index_or, is_some, IfSome, ◌==◌}
 use Rattle.std.proofs.Math.Seq.{take-suc}
 use Rattle.std.proofs.lemmas.List.Elements.{filter_map-append}
 use Rattle.std.proofs.lemmas.Bool.Decides.{nat_tests}
@@ -15,7 +15,7 @@ use Rattle.oplog_store.specs.Log.{IsOplog, StandsBefore, StandsAt}
 use Rattle.oplog_store.proofs.Keeps.{all_tail, pairs_tail, pairs_head}
 use Rattle.repl_msg.specs.Logs.{same_optime}
 use Rattle.repl_msg.proofs.HasLemmas.{same_is, same_itself}
-use Rattle.set_model.specs.Disk.{next_entries, next_durable, unkept, is_flushed}
+use Rattle.set_model.specs.Disk.{next_entries, next_durable, unkept}
 use Rattle.set_model.specs.Points.{visible_point, earlier_of}
 use Rattle.set_model.specs.Node.{Node}
 use Rattle.oplog_store.proofs.LogLemmas.{found_there}

@@ -1,15 +1,11 @@
 -- What is heard of other members keeps a node coherent.
-use Rattle.std.proofs.Common.{◌≡◌, sym, subst, Bool, true, false, cond, not, ◌&&◌, Option, None, Some, List, [], ◌∷◌, ◌++◌}
+use Rattle.std.proofs.Common.{◌≡◌, sym, subst, Bool, true, false, cond, not, ◌&&◌, Option, None, Some, List, []}
 use Rattle.std.specs.Prelude.{◌==◌}
 use Rattle.std.specs.Ordering.{nat_cmp}
 use Rattle.std.specs.FinMap as maps
 use Rattle.rs_optime.specs.declared.optime.OpTime.{OpTime}
-use Rattle.member_config.specs.Rule.{rule}
-use Rattle.member_config.specs.declared.config.Config.{Config}
 use Rattle.election_core.specs.Counting.{Tallied}
 use Rattle.repl_msg.specs.Points.{commit_after}
-use Rattle.repl_msg.specs.declared.record.Record.{Record}
-use Rattle.repl_msg.specs.declared.record.Record.TheVariants as records
 use Rattle.set_model.specs.declared.role.Role.TheVariants.{Secondary}
 use Rattle.set_model.specs.Node.{Node, Report, Heard}
 use Rattle.set_model.specs.Points.{last_point, visible_point}
@@ -19,7 +15,7 @@ use Rattle.node_state.specs.Hearings.{commit_learnt}
 use Rattle.node_state.specs.Seen.{Rest, seen_node}
 use Rattle.node_state.proofs.CommitLemmas.{IsBetween, coherent-commit, counted_between}
 use Rattle.node_state.proofs.EntryLemmas.{at_most_itself}
-use Rattle.node_state.proofs.TermLemmas.{coherent-kept, coherent-turned, with_config_kept}
+use Rattle.node_state.proofs.TermLemmas.{coherent-turned}
 
 -- other tables of what members reported, and of what was heard of them
 pub coherent-tables : (node : Node) (progress : maps.FinMap nat_cmp Report) (known : maps.FinMap nat_cmp Heard) (tally : Option Tallied) (optimes : List OpTime)

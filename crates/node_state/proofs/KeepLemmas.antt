@@ -15,7 +15,7 @@ use Rattle.set_model.specs.declared.reply.Refusal.TheVariants.{NothingToDo}
 use Rattle.set_model.specs.Node.{Node}
 use Rattle.set_model.specs.Points.{applied_point}
 use Rattle.set_model.specs.Safety.{AtMost}
-use Rattle.set_model.specs.Stores.{records_after, stable_after, stored}
+use Rattle.set_model.specs.Stores.{records_after}
 use Rattle.set_model.specs.declared.store.Store.{Store}
 use Rattle.set_model.specs.declared.store.Store.TheVariants as stores
 use Rattle.node_state.specs.Coherent.{IsCoherent}

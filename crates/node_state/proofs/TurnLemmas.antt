@@ -7,8 +7,6 @@ use Rattle.set_model.specs.Outcome.{replied, refused}
 use Rattle.set_model.specs.Stores.{Plan, finished, if_up}
 use Rattle.node_state.specs.declared.turn.Turn.{Turn}
 use Rattle.node_state.specs.declared.turn.Turn.TheVariants.{Finished, Storing}
-use Rattle.node_state.specs.Ready.{IsReadyTurn}
-use Rattle.node_state.specs.Standing.{Standing}
 use Rattle.node_state.specs.Turns.{Means, Says}
 
 -- what a command comes to on a node that is up

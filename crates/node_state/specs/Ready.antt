@@ -17,7 +17,7 @@ use Rattle.repl_msg.specs.declared.record.Record.TheVariants as records
 use Rattle.set_model.specs.declared.role.Role.TheVariants.{Draining, Primary, Secondary}
 use Rattle.set_model.specs.declared.store.Store.{Store}
 use Rattle.set_model.specs.declared.store.Store.TheVariants as stores
-use Rattle.set_model.specs.Beats.{beat_of, given_way}
+use Rattle.set_model.specs.Beats.{given_way}
 use Rattle.set_model.specs.Changes.{in_new_term}
 use Rattle.set_model.specs.Disk.{next_entries, next_durable, next_stable}
 use Rattle.set_model.specs.Elections.{candidate}
@@ -30,7 +30,7 @@ use Rattle.set_model.specs.Stores.{vote_record, config_record}
 use Rattle.set_model.specs.Votes.{asks, vote_for}
 use Rattle.node_state.specs.Standing.{Standing}
 use Rattle.set_model.specs.Taking.{CanTakeEntries}
-use Rattle.node_state.specs.Told.{beat_in, heard_then}
+use Rattle.node_state.specs.Told.{beat_in}
 use Rattle.node_state.specs.declared.turn.Hearing.{Hearing}
 use Rattle.node_state.specs.declared.turn.Then.{Then}
 use Rattle.node_state.specs.declared.turn.Then.TheVariants.{Campaign, Drain, Flush, Checkpoint, Reconfig, VoteInTerm, VoteGiven, TookTerm, Installed, Cut}
