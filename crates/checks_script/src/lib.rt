@@ -2,6 +2,10 @@
 #![tactic(auto)]
 
 #[cfg(test)]
+mod commands;
+#[cfg(test)]
+mod lines;
+#[cfg(test)]
 mod notation;
 #[cfg(test)]
 mod scripts;

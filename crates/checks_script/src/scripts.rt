@@ -1,4 +1,5 @@
 // Scripts with what is told of their first fault, and replies with their texts.
+use crate::lines::LINES;
 use fault_script::{ScriptError, parse};
 use rs_optime::OpTime;
 use set_model::{Refusal, Reply};
@@ -32,69 +33,64 @@ fn the_first_command_is_set(rt: HostRuntime) -> Result<(), Fail> {
     let alloc = rt.alloc();
     tells(alloc, b"", "line 1: NoSetLine\n")?;
     tells(alloc, b"\n# nothing\n", "line 3: NoSetLine\n")?;
-    tells(alloc, b"set 8", "line 1: BadNumber\n")?;
+    tells(alloc, b"set\t1", "line 1: NoSetLine\n")?;
     tells(alloc, b"set 1\nset 1", "line 2: UnknownCommand\n")?;
+    tells(alloc, b"# \xff\nset 1", "line 1: NotUtf8\n")?;
+    tells(alloc, b"set 1\r\r\n", "line 1: BadWord\n")?;
+    tells(alloc, b"set 1\r", "line 1: BadWord\n")?;
     tells(alloc, b"set 1\r\n\r\n# set\nlog n0", "")
 }
 
-/// Lines behind `set 1`, each with what is told of it: a rule of the grammar, or nothing.
-const LINES: &str = r#"campaign n0|
-# no command|
-foo n0|UnknownCommand
- |UnknownCommand
-Drain n0|UnknownCommand
-drain|WordCount
-drain n0 |WordCount
-drain n0 n0|WordCount
-insert n0 t|WordCount
-begin n0 w1 insert t|WordCount
-drain n1|BadNode
-drain n00|
-drain 0|BadNode
-commit n0 w007|
-commit n0 w1000|BadWord
-abort n0 x1|BadWord
-begin n0 w1 drop t {_id: 1}|BadWord
-begin n0 w insert t {_id: 1}|BadWord
-delete n0 1t 1|BadWord
-read n0 snapshot t 1|BadWord
-dump n0 all|BadWord
-clock n0 1s|BadWord
-clock n0 -1|BadWord
-clock n0 2147483647|
-clock n0 2147483648|BadNumber
-clock n1 2147483648|BadNode
-insert n0 t {_id: 1|BadText 1 Unexpected
-insert n0 t {_id: 1} |BadText 1 Unexpected
-insert n0 t  {_id: 1}|BadText 1 Unexpected
-insert n0 t {_id: 2147483648}|BadText 2 Number
-delete n0 t "\x"|BadText 3 Escape
-delete n0 t Id("0g")|BadText 4 Hex
-delete n0 t Id("00")|BadText 4 Hex
-insert n0 t {a: 1, a: 2}|BadText 5 DuplicateName
-insert n0 t {"\u0000": 1}|BadText 7 NameZero
-replace n0 t 1 {a: 1, a: 2}|BadText 5 DuplicateName
-thread|StrayLine
-thread n0|WordCount
-end|StrayLine"#;
+/// First lines, each with what is told of it, or nothing.
+const FIRST_LINES: &str = r#"set 1|
+set 7|
+set 007 01|
+set 7 7|
+set 3 1|
+log n0|NoSetLine
+ set 1|NoSetLine
+Set 1|NoSetLine
+set|WordCount
+set 3 2 1|WordCount
+set 1 |BadWord
+set  1|BadWord
+set n3|BadWord
+set -1|BadWord
+set 3 x|BadWord
+set 0|BadNumber
+set 8|BadNumber
+set 4294967297|BadNumber
+set 3 0|BadNumber
+set 3 4|BadNumber
+set 8 x|BadNumber"#;
 
 #[test]
-fn each_line_has_its_fault(rt: HostRuntime) -> Result<(), Fail> {
-    for row in LINES.lines() {
+fn the_first_line_names_the_sizes(rt: HostRuntime) -> Result<(), Fail> {
+    for row in FIRST_LINES.lines() {
         if let Some((line, rule)) = row.split_once('|') {
-            tells_of(rt.alloc(), line, rule)?;
+            tells_of(rt.alloc(), "", 1, line, rule)?;
         }
     }
     Ok(())
 }
 
-/// Fails where of a line behind `set 1` another rule is told.
-fn tells_of(alloc: Global, line: &str, rule: &str) -> Result<(), Fail> {
-    let mut script = String::from_str(alloc, "set 1\n")?;
+#[test]
+fn each_line_has_its_fault(rt: HostRuntime) -> Result<(), Fail> {
+    for row in LINES.lines() {
+        if let Some((line, rule)) = row.split_once('|') {
+            tells_of(rt.alloc(), "set 3 2\n", 2, line, rule)?;
+        }
+    }
+    Ok(())
+}
+
+/// Fails where of the line behind a front, which has this number, another rule is told.
+fn tells_of(alloc: Global, front: &str, number: u32, line: &str, rule: &str) -> Result<(), Fail> {
+    let mut script = String::from_str(alloc, front)?;
     script.push_str(line)?;
     let mut text = String::new(alloc);
     if !rule.is_empty() {
-        write!(text, "line 2: {rule}\n")?;
+        write!(text, "line {number}: {rule}\n")?;
     }
     tells(alloc, script.as_bytes(), &text)
 }
@@ -117,11 +113,15 @@ fn a_value_has_a_hundred_levels(rt: HostRuntime) -> Result<(), Fail> {
 #[test]
 fn blocks_have_their_faults(rt: HostRuntime) -> Result<(), Fail> {
     let alloc = rt.alloc();
-    tells(alloc, b"set 1\npar\nthread\nlog n0\nend", "")?;
-    tells(alloc, b"set 1\nend", "line 2: StrayLine\n")?;
-    tells(alloc, b"set 1\npar\ndrain n0", "line 3: StrayLine\n")?;
+    tells(alloc, b"set 1\npar\nend\npar\nthread\nlog n0\nend", "")?;
+    tells(alloc, b"set 1\npar\nend\nend", "line 4: StrayLine\n")?;
+    tells(alloc, b"set 1\npar\ndrain n9", "line 3: StrayLine\n")?;
+    tells(alloc, b"set 1\npar\nset 1", "line 3: UnknownCommand\n")?;
     tells(alloc, b"set 1\npar\npar", "line 3: NestedPar\n")?;
-    tells(alloc, b"set 1\npar", "line 3: OpenPar\n")
+    tells(alloc, b"set 1\npar\nthread\npar x", "line 4: WordCount\n")?;
+    tells(alloc, b"set 1\npar\nthread\npar\n", "line 4: NestedPar\n")?;
+    tells(alloc, b"set 1\npar", "line 3: OpenPar\n")?;
+    tells(alloc, b"set 1\npar\nthread\n", "line 4: OpenPar\n")
 }
 
 /// A front, and behind it so many times a byte.

@@ -1,4 +1,3 @@
-mod CommandsBuilt
 mod CommandsConfig
 mod CommandsFit
 mod Gets

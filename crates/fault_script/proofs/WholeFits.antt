@@ -1,4 +1,4 @@
--- The set of a script that is read has a lawful size, and takes each command.
+-- The set of a script that is read has lawful sizes, and each command is one of it.
 use Rattle.std.proofs.Common.{◌≡◌, ℕ, ◌+◌, Bool, true, false, ◌&&◌, List, [], ◌∷◌, ◌++◌, length, Option, None, Some, Result, Ok, Err, refl, sym, subst, arith, ◌∙◌}
 use Rattle.std.specs.Prelude.{nat_lt, codes}
 use Rattle.std.specs.Str.{bytes_eq}
@@ -6,7 +6,8 @@ use Rattle.std.specs.List.{list_all}
 use Rattle.std.specs.Str.Lines.{lines}
 use Rattle.std.proofs.lemmas.List.Folds.{list_all-append}
 use Rattle.set_model.specs.declared.command.Command.{Command}
-use Rattle.set_model.specs.Built.{takes}
+use Rattle.set_model.specs.Limits.{is_for}
+use Rattle.set_model.specs.Run.{Sizes, AreSizes}
 use Rattle.fault_script.specs.declared.reading.Reading.{Reading}
 use Rattle.fault_script.specs.declared.rule.ScriptFault.{ScriptFault}
 use Rattle.fault_script.specs.declared.rule.ScriptRule.{ScriptRule}
@@ -19,26 +20,27 @@ use Rattle.fault_script.specs.declared.shape.Shape.TheVariants.{Words}
 use Rattle.fault_script.specs.declared.verb.Keyword.{Keyword}
 use Rattle.fault_script.specs.declared.verb.Keyword.TheVariants as keywords
 use Rattle.fault_script.specs.Words.{Left, has_shape, word_at, number_at, optional_at}
-use Rattle.fault_script.specs.Built.{most_nodes}
 use Rattle.fault_script.specs.Set.{set_line, sizes_at}
 use Rattle.fault_script.specs.Lines.{text_of, is_passed_over}
 use Rattle.fault_script.specs.Commands.{keyword_at, words_at}
-use Rattle.fault_script.specs.Script.{Thread, in_last, start, with_part, with_block, begin_block, begin_thread, end_block, add_command, with_keyword, with_command, with_set, with_text, with_line, whole, and_then, script_from, script, is_part_for, AreSizes}
+use Rattle.fault_script.specs.Script.{Thread, in_last, start, with_part, with_block, begin_block, begin_thread, end_block, add_command, with_keyword, with_command, with_set, with_text, with_line, whole, and_then, script_from, script, is_part_for, sizes_of}
 use Rattle.fault_script.proofs.Gets.{Gets, bind_gets, bind_any, either, tested, ended_gets, both}
-use Rattle.fault_script.proofs.CommandsFit.{IsIn, number_within, optional_within}
-use Rattle.fault_script.proofs.CommandsBuilt.{IsListed, first_listed, words_taken}
+use Rattle.fault_script.proofs.CommandsFit.{IsIn, number_within, optional_within, words_within}
 
 abbrev is_thread_for : ℕ → Thread → Bool
-is_thread_for nodes = list_all (λ line. takes nodes line.1)
+is_thread_for nodes = list_all (λ line. is_for nodes line.1)
 
 abbrev threads_in : Option (List Thread) → List Thread
 threads_in None = []
 threads_in (Some threads) = threads
 
+abbrev line_sizes : SetLine → Sizes
+line_sizes set = record { nodes = set.nodes; members = set.members }
+
 -- behind the `set` line all commands are the set's, and before it there is none
 abbrev FitBehind : Option SetLine → List Part → Option (List Thread) → Type 0
 FitBehind None parts block = (parts ≡ []) × (block ≡ None)
-FitBehind (Some set) parts block = AreSizes set.nodes set.members × (list_all (is_part_for set.nodes) parts ≡ true) × (list_all (is_thread_for set.nodes) (threads_in block) ≡ true)
+FitBehind (Some set) parts block = AreSizes (line_sizes set) × (list_all (is_part_for set.nodes) parts ≡ true) × (list_all (is_thread_for set.nodes) (threads_in block) ≡ true)
 
 abbrev AreFit : Reading → Type 0
 AreFit reading = FitBehind reading.set reading.parts reading.block
@@ -46,9 +48,9 @@ AreFit reading = FitBehind reading.set reading.parts reading.block
 pushed : {A : Type 0} (p : A → Bool) (xs : List A) (x : A) → list_all p xs ≡ true → p x ≡ true → list_all p (xs ++ x ∷ []) ≡ true
 pushed p xs x all one = list_all-append p xs (x ∷ []) ∙ both (list_all p xs) (p x && true) all (both (p x) true one refl)
 
-last_fit : (nodes : ℕ) (threads : List Thread) (line : ℕ × Command) → list_all (is_thread_for nodes) threads ≡ true → takes nodes line.1 ≡ true → list_all (is_thread_for nodes) (in_last threads line) ≡ true
+last_fit : (nodes : ℕ) (threads : List Thread) (line : ℕ × Command) → list_all (is_thread_for nodes) threads ≡ true → is_for nodes line.1 ≡ true → list_all (is_thread_for nodes) (in_last threads line) ≡ true
 last_fit nodes [] line all one = refl
-last_fit nodes (own ∷ []) line all one = both (is_thread_for nodes (own ++ line ∷ [])) true (pushed (λ l. takes nodes l.1) own line (front (is_thread_for nodes own) true all) one) refl
+last_fit nodes (own ∷ []) line all one = both (is_thread_for nodes (own ++ line ∷ [])) true (pushed (λ l. is_for nodes l.1) own line (front (is_thread_for nodes own) true all) one) refl
   where
     front : (a b : Bool) → (a && b) ≡ true → a ≡ true
     front true b is = refl
@@ -70,7 +72,7 @@ last_fit nodes (own ∷ next ∷ threads) line all one =
 -- the facts of a reading with this `set` line
 record Behind (set : SetLine) (reading : Reading) : Type 0 where
   known : reading.set ≡ Some set
-  sizes : AreSizes set.nodes set.members
+  sizes : AreSizes (line_sizes set)
   parts : list_all (is_part_for set.nodes) reading.parts ≡ true
   block : list_all (is_thread_for set.nodes) (threads_in reading.block) ≡ true
 
@@ -97,53 +99,53 @@ end_block_fit set reading None fit all = tt
 end_block_fit set reading (Some threads) fit all = part_fit set reading (parts.Par threads) fit all
 
 command_fit : (set : SetLine) (number : ℕ) (reading : Reading) (block : Option (List Thread)) (read : Result Command ScriptRule) → Behind set reading → list_all (is_thread_for set.nodes) (threads_in block) ≡ true
-    → Gets read (λ command. takes set.nodes command ≡ true) → Gets (add_command number reading block read) AreFit
-command_fit set number reading None read fit all one = bind_gets read _ (λ command. takes set.nodes command ≡ true) AreFit one (λ command ours. part_fit set reading (parts.Line number command) fit ours)
+    → Gets read (λ command. is_for set.nodes command ≡ true) → Gets (add_command number reading block read) AreFit
+command_fit set number reading None read fit all one = bind_gets read _ (λ command. is_for set.nodes command ≡ true) AreFit one (λ command ours. part_fit set reading (parts.Line number command) fit ours)
 command_fit set number reading (Some []) read fit all one = tt
 command_fit set number reading (Some (thread ∷ threads)) read fit all one =
-    bind_gets read _ (λ command. takes set.nodes command ≡ true) AreFit one (λ command ours.
+    bind_gets read _ (λ command. is_for set.nodes command ≡ true) AreFit one (λ command ours.
     block_fit set reading (in_last (thread ∷ threads) (number, command)) fit (last_fit set.nodes (thread ∷ threads) (number, command) all ours))
 
-keyword_fit : (set : SetLine) (number : ℕ) (reading : Reading) (keyword : Keyword) (left : Left) → Behind set reading → IsListed keyword → Gets (with_keyword set.nodes number reading (keyword, left)) AreFit
-keyword_fit set number reading keywords.Par left fit listed = begin_block_fit set reading reading.block fit
-keyword_fit set number reading keywords.Thread left fit listed = begin_thread_fit set reading reading.block fit fit.block
-keyword_fit set number reading keywords.End left fit listed = end_block_fit set reading reading.block fit fit.block
-keyword_fit set number reading (keywords.Command verb) left fit listed = command_fit set number reading reading.block (words_at set.nodes verb left) fit fit.block (words_taken set.nodes verb left listed)
+keyword_fit : (set : SetLine) (number : ℕ) (reading : Reading) (keyword : Keyword) (left : Left) → Behind set reading → Gets (with_keyword set.nodes number reading (keyword, left)) AreFit
+keyword_fit set number reading keywords.Par left fit = begin_block_fit set reading reading.block fit
+keyword_fit set number reading keywords.Thread left fit = begin_thread_fit set reading reading.block fit fit.block
+keyword_fit set number reading keywords.End left fit = end_block_fit set reading reading.block fit fit.block
+keyword_fit set number reading (keywords.Command verb) left fit = command_fit set number reading reading.block (words_at set.nodes verb left) fit fit.block (words_within set.nodes verb left)
 
 -- ---- the `set` line
 
-itself : (nodes : ℕ) → IsIn 1 most_nodes nodes → IsIn 1 nodes nodes
+itself : (nodes : ℕ) → IsIn 1 7 nodes → IsIn 1 nodes nodes
 itself nodes within = grind arith
 
-sized : (nodes members : ℕ) → IsIn 1 most_nodes nodes → IsIn 1 nodes members → AreSizes nodes members
+sized : (nodes members : ℕ) → IsIn 1 7 nodes → IsIn 1 nodes members → AreSizes (record { nodes = nodes; members = members })
 sized nodes members some few = record { one = grind arith; within = grind arith; most = grind arith }
 
-sizes_sized : (left : Left) → Gets (sizes_at left) (λ set. AreSizes set.nodes set.members)
+sizes_sized : (left : Left) → Gets (sizes_at left) (λ set. AreSizes (line_sizes set))
 unfolding sizes_at
 sizes_sized left =
-    bind_gets (number_at 1 most_nodes left) _ (λ x. IsIn 1 most_nodes x.0) (λ set. AreSizes set.nodes set.members) (number_within 1 most_nodes left) (λ nodes some.
-    bind_gets (optional_at nodes.0 1 nodes.0 nodes.1) _ (λ x. IsIn 1 nodes.0 x.0) (λ set. AreSizes set.nodes set.members) (optional_within nodes.0 1 nodes.0 nodes.1 (itself nodes.0 some)) (λ members few.
-    ended_gets members.1 _ (λ set. AreSizes set.nodes set.members) (sized nodes.0 members.0 some few)))
+    bind_gets (number_at 1 7 left) _ (λ x. IsIn 1 7 x.0) (λ set. AreSizes (line_sizes set)) (number_within 1 7 left) (λ nodes some.
+    bind_gets (optional_at nodes.0 1 nodes.0 nodes.1) _ (λ x. IsIn 1 nodes.0 x.0) (λ set. AreSizes (line_sizes set)) (optional_within nodes.0 1 nodes.0 nodes.1 (itself nodes.0 some)) (λ members few.
+    ended_gets members.1 _ (λ set. AreSizes (line_sizes set)) (sized nodes.0 members.0 some few)))
 
-set_sized : (text : List ℕ) → Gets (set_line text) (λ set. AreSizes set.nodes set.members)
+set_sized : (text : List ℕ) → Gets (set_line text) (λ set. AreSizes (line_sizes set))
 unfolding set_line
 set_sized text =
-    bind_any (word_at (Some text)) _ (λ set. AreSizes set.nodes set.members) (λ first.
-    tested (bytes_eq first.0 (codes "set")) _ NoSetLine (λ set. AreSizes set.nodes set.members) (λ named.
-    tested (has_shape (Words 2 3) text) _ WordCount (λ set. AreSizes set.nodes set.members) (λ shaped. sizes_sized first.1)))
+    bind_any (word_at (Some text)) _ (λ set. AreSizes (line_sizes set)) (λ first.
+    tested (bytes_eq first.0 (codes "set")) _ NoSetLine (λ set. AreSizes (line_sizes set)) (λ named.
+    tested (has_shape (Words 2 3) text) _ WordCount (λ set. AreSizes (line_sizes set)) (λ shaped. sizes_sized first.1)))
 
 -- ---- any line
 
 set_fit : (reading : Reading) (text : List ℕ) → reading.parts ≡ [] → reading.block ≡ None → Gets (with_set reading text) AreFit
 set_fit reading text none closed =
-    bind_gets (set_line text) _ (λ set. AreSizes set.nodes set.members) AreFit (set_sized text) (λ set sizes. (sizes, rw none refl, rw closed refl))
+    bind_gets (set_line text) _ (λ set. AreSizes (line_sizes set)) AreFit (set_sized text) (λ set sizes. (sizes, rw none refl, rw closed refl))
 
 text_fit : (number : ℕ) (reading : Reading) (text : List ℕ) (set : Option SetLine) → reading.set ≡ set → FitBehind set reading.parts reading.block → Gets (with_text number reading text set) AreFit
 unfolding with_command
 text_fit number reading text None is fit = set_fit reading text fit.0 fit.1
 text_fit number reading text (Some set) is fit =
-    bind_gets (keyword_at text) _ (λ keyword. IsListed keyword.0) AreFit (first_listed text) (λ keyword listed.
-    keyword_fit set number reading keyword.0 keyword.1 (record { known = is; sizes = fit.0; parts = fit.1; block = fit.2 }) listed)
+    bind_any (keyword_at text) _ AreFit (λ keyword.
+    keyword_fit set number reading keyword.0 keyword.1 (record { known = is; sizes = fit.0; parts = fit.1; block = fit.2 }))
 
 line_fit : (number : ℕ) (reading : Reading) (line : List ℕ) → AreFit reading → Gets (with_line number reading line) AreFit
 unfolding with_line
@@ -154,7 +156,7 @@ line_fit number reading line fit =
 -- ---- the whole
 
 abbrev pub IsOfItsSet : Script → Type 0
-IsOfItsSet read = AreSizes read.nodes read.members × (list_all (is_part_for read.nodes) read.parts ≡ true)
+IsOfItsSet read = AreSizes (sizes_of read) × (list_all (is_part_for read.nodes) read.parts ≡ true)
 
 -- a fact of a script, if there is one
 abbrev Becomes : Result Script ScriptFault → Type 0

@@ -17,7 +17,6 @@ use Rattle.fault_script.specs.declared.verb.NodeVerb.{NodeVerb}
 use Rattle.fault_script.specs.declared.verb.NodeVerb.TheVariants as asks
 use Rattle.fault_script.specs.declared.verb.WriteKind.{WriteKind}
 use Rattle.fault_script.specs.declared.verb.WriteKind.TheVariants.{Insert, Replace, Update, Delete}
-use Rattle.fault_script.specs.Built.{is_built}
 use Rattle.fault_script.specs.Configs.{config_of}
 use Rattle.fault_script.specs.Words.{Left, ◌>>=◌, behind_word, has_shape, word_at, ended, number_at, optional_at, pick_at, node_at, other_node_at, writer_at, message_at, collection_at, target_at, concern_at, level_at, disk_at}
 use Rattle.fault_script.specs.Values.{value_of, text_at, value_at, behind_space, last_value, last_document}
@@ -111,10 +110,9 @@ abbrev pub shape_of : Verb → Shape
 shape_of verbs.Deliver = Words 2 3
 shape_of (verbs.Node verb) = node_shape verb
 
--- a command that is there
 abbrev pub as_command : Option Verb → Option Keyword
+as_command (Some verb) = Some (keywords.Command verb)
 as_command None = None
-as_command (Some verb) = if is_built verb then Some (keywords.Command verb) else None
 
 -- what a first word says
 abbrev pub keyword_of : List ℕ → Option Keyword

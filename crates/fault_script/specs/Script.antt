@@ -21,23 +21,24 @@
 --     par                            thread                      end
 --
 -- A number is one or more decimal digits. N is `n` and the number of a node of the set, and two nodes on a line differ; W is
--- `w` and a number up to 999; M is `m` and a number of 64 bits. NODES is at least 1, and MEMBERS is from 1 to NODES, or NODES
+-- `w` and a number up to 999; M is `m` and a number of 64 bits. NODES is from 1 to 7, and MEMBERS from 1 to NODES, or NODES
 -- where it isn't there. COLL is an ASCII letter and up to 63 letters, digits, `_` and `.`. TARGET is W or TERM/SECONDS/INCREMENT, of
 -- 64, 32 and 32 bits. CONCERN is `majority` or 1 to 50; LEVEL is `local` or `majority`; DISK is `journal` or `checkpoint`; WORKERS
 -- is 1 to 16, by default 4; PICK is of 64 bits, at `crash` by default 0; CALL is 1 to 1000; SECONDS is below 2^31. ID is a value and DOC a
 -- document in the notation of documents; an ID that a DOC follows has one space behind it. JSON is a configuration.
 --
 -- `par` begins a block and `end` ends it. In between each `thread` begins one of at most 16 threads, and the commands behind
--- it are that thread's. What isn't built yet is named in one place, `Built`.
+-- it are that thread's.
 --
 -- The first faulty line is told, with its first fault in this order: too many lines, too long, not UTF-8, an unknown first word (of
 -- the first command: not `set`), the number of words, a first word that may not stand there, and then the words from left to
 -- right. Behind the last line, and as its successor, are told that there was no `set`, and that a block is open.
-use Rattle.std.specs.Prelude.{ℕ, ◌≡◌, ◌+◌, ◌≤◌, Bool, nat_lt, List, [], ◌∷◌, ◌++◌, length, Option, None, Some, Result, Ok, Err, if◌then◌else◌}
+use Rattle.std.specs.Prelude.{ℕ, ◌≡◌, ◌+◌, Bool, nat_lt, List, [], ◌∷◌, ◌++◌, length, Option, None, Some, Result, Ok, Err, if◌then◌else◌}
 use Rattle.std.specs.List.{list_all, flat_map}
 use Rattle.std.specs.Str.Lines.{lines}
 use Rattle.set_model.specs.declared.command.Command.{Command}
-use Rattle.set_model.specs.Built.{takes}
+use Rattle.set_model.specs.Limits.{is_for}
+use Rattle.set_model.specs.Run.{Sizes}
 use Rattle.fault_script.specs.declared.reading.Reading.{Reading}
 use Rattle.fault_script.specs.declared.rule.ScriptError.{ScriptError}
 use Rattle.fault_script.specs.declared.rule.ScriptError.TheVariants.{Fault, Memory}
@@ -51,7 +52,6 @@ use Rattle.fault_script.specs.declared.set.SetLine.{SetLine}
 use Rattle.fault_script.specs.declared.verb.Keyword.{Keyword}
 use Rattle.fault_script.specs.declared.verb.Keyword.TheVariants as keywords
 use Rattle.fault_script.specs.Words.{Left, ◌>>=◌}
-use Rattle.fault_script.specs.Built.{most_nodes}
 use Rattle.fault_script.specs.Set.{set_line}
 use Rattle.fault_script.specs.Commands.{keyword_at, words_at}
 use Rattle.fault_script.specs.Lines.{text_of, is_passed_over}
@@ -152,10 +152,10 @@ script bytes = script_from 1 start (lines bytes)
 
 -- ---- whose commands they are
 
--- a set of so many nodes takes each command of a part
+-- each command of a part is one of a set of so many nodes
 abbrev pub is_part_for : ℕ → Part → Bool
-is_part_for nodes (parts.Line number command) = takes nodes command
-is_part_for nodes (parts.Par threads) = list_all (list_all (λ line. takes nodes line.1)) threads
+is_part_for nodes (parts.Line number command) = is_for nodes command
+is_part_for nodes (parts.Par threads) = list_all (list_all (λ line. is_for nodes line.1)) threads
 
 -- the threads' commands, one thread after another
 abbrev pub joined : List Thread → List (ℕ × Command)
@@ -170,11 +170,9 @@ lines_of (parts.Par threads) = joined threads
 abbrev pub lines_in : List Part → List (ℕ × Command)
 lines_in parts = flat_map lines_of parts
 
--- from one node to the most that a set may have, and from one member to all nodes
-pub record AreSizes (nodes members : ℕ) : Type 0 where
-  pub one : 1 ≤ members
-  pub within : members ≤ nodes
-  pub most : nodes ≤ most_nodes
+-- the sizes of a script's set
+abbrev pub sizes_of : Script → Sizes
+sizes_of read = record { nodes = read.nodes; members = read.members }
 
 -- ---- why nothing was read
 

@@ -5,12 +5,11 @@ use Rattle.fault_script.specs.declared.rule.ScriptRule.{ScriptRule}
 use Rattle.fault_script.specs.declared.rule.ScriptRule.TheVariants.{NoSetLine, WordCount}
 use Rattle.fault_script.specs.declared.set.SetLine.{SetLine}
 use Rattle.fault_script.specs.declared.shape.Shape.TheVariants.{Words}
-use Rattle.fault_script.specs.Built.{most_nodes}
 use Rattle.fault_script.specs.Words.{Left, ◌>>=◌, has_shape, word_at, ended, number_at, optional_at}
 
 unfoldable pub sizes_at : Left → Result SetLine ScriptRule
 sizes_at left = do
-  nodes ← number_at 1 most_nodes left
+  nodes ← number_at 1 7 left
   members ← optional_at nodes.0 1 nodes.0 nodes.1
   ended members.1 (record { nodes = nodes.0; members = members.0 })
 

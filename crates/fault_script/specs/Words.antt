@@ -16,7 +16,6 @@ use Rattle.set_model.specs.declared.command.Target.TheVariants as targets
 use Rattle.set_model.specs.Limits.{is_collection}
 use Rattle.fault_script.specs.declared.rule.ScriptRule.{ScriptRule}
 use Rattle.fault_script.specs.declared.rule.ScriptRule.TheVariants.{WordCount, BadNode, BadNumber, BadWord}
-use Rattle.fault_script.specs.Built.{is_level_built}
 use Rattle.fault_script.specs.declared.shape.Shape.{Shape}
 use Rattle.fault_script.specs.declared.shape.Shape.TheVariants.{Words, Value}
 
@@ -203,7 +202,7 @@ unfoldable pub level_at : Left → Read ReadLevel
 level_at left = do
   word ← word_at left
   level ← level_of word.0
-  if is_level_built level then Ok (level, word.1) else Err BadWord
+  Ok (level, word.1)
 
 unfoldable pub disk_at : Left → Read DiskName
 disk_at left = do

@@ -1,7 +1,6 @@
 //! Scripts: the bytes of a script as its commands, or its first faulty line with the rule that it breaks.
 #![tactic(auto)]
 
-mod built;
 mod choices;
 mod commands;
 mod configs;

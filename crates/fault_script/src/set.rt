@@ -3,10 +3,12 @@ ghost use Rattle.std.specs.Prelude.{◌≡◌};
 ghost use Rattle.std.specs.Option.{option_copied};
 ghost use Rattle.fault_script.specs.Set.{sizes_at, set_line};
 
-use crate::built::most_nodes;
 use crate::rule::ScriptRule;
 use crate::shape::Shape;
 use crate::words::{Left, has_shape, number, optional, word};
+
+/// How many nodes a set may have.
+const MAX_NODES: u32 = 7;
 
 /// The sizes that a `set` line names.
 #[derive(Clone, Copy, Debug, PartialEq, Eq)]
@@ -35,7 +37,7 @@ pub fn set_line(text: &str) -> Result<SetLine, ScriptRule>
 fn sizes(left: Left<'_>) -> Result<SetLine, ScriptRule>
     ensures { result ≡ sizes_at (option_copied left.entry) }
 {
-    let (nodes, left) = number(left, 1, most_nodes())?;
+    let (nodes, left) = number(left, 1, MAX_NODES)?;
     let (members, left) = optional(left, nodes, 1, nodes)?;
     match left {
         None => Ok(SetLine { nodes, members }),

@@ -2,7 +2,6 @@
 ghost use Rattle.std.specs.Prelude.{◌≡◌};
 ghost use Rattle.fault_script.specs.Commands.{write_kind, other_verb, node_verb, verb_of, node_shape, shape_of, as_command, keyword_of, keyword_shape};
 
-use crate::built::is_built;
 use crate::shape::Shape;
 
 /// The kind of a write.
@@ -207,12 +206,12 @@ impl Keyword {
     }
 }
 
-/// The command that a first word asks for, where it is there.
+/// The command that a first word asks for.
 fn command_named(word: &str) -> Option<Keyword>
     ensures { result ≡ as_command (verb_of word.now) }
 {
     match Verb::named(word) {
-        Some(verb) if is_built(verb) => Some(Keyword::Command(verb)),
-        _ => None,
+        Some(verb) => Some(Keyword::Command(verb)),
+        None => None,
     }
 }

@@ -1,7 +1,8 @@
 // A whole script.
 ghost use Rattle.std.specs.Prelude.{◌≡◌, ◌≤◌, length, true, Ok, IfOk, IfErr, MatchResult};
 ghost use Rattle.std.specs.List.{list_all};
-ghost use Rattle.fault_script.specs.Script.{is_part_for, lines_in, script, with_line, AreSizes, IsCause, StopsLine};
+ghost use Rattle.fault_script.specs.Script.{is_part_for, lines_in, script, sizes_of, with_line, IsCause, StopsLine};
+ghost use Rattle.set_model.specs.Run.{AreSizes};
 
 use crate::lines::next_line;
 use crate::reading::Reading;
@@ -11,10 +12,10 @@ use std::alloc::Global;
 
 /// The script that some bytes are, or the first faulty line with its first fault from left to right.
 ///
-/// A set of the script's size takes each of its commands, and there are at most 200,000.
+/// The sizes are lawful. Each command is one of a set of so many nodes, and there are at most 200,000.
 pub fn parse(alloc: Global, bytes: &[u8]) -> Result<Script, ScriptError>
     ensures ok { IfOk result (λ read. script bytes.now ≡ Ok read) }
-    ensures sizes { IfOk result (λ read. AreSizes read.nodes read.members) }
+    ensures sizes { IfOk result (λ read. AreSizes (sizes_of read)) }
     ensures fits { IfOk result (λ read. list_all (is_part_for read.nodes) read.parts ≡ true) }
     ensures few { IfOk result (λ read. length (lines_in read.parts) ≤ 200000) }
     ensures fault { IfErr result (IsCause bytes.now) }
