@@ -1,8 +1,8 @@
 use Rattle.std.proofs.Common.{◌≡◌, ◌∙◌, ◌<◌, ◌≤◌, ◌++◌, ◌∷◌, [], true, ap, subst, rules, arith, length, take, drop}
 use Rattle.set_model.specs.Limits.{is_for}
-use Rattle.set_world.specs.Disks.{DisksStep}
-use Rattle.set_world.specs.World.{Set, IsStep, disks_in, event_of, nodes_in}
-use Rattle.set_world.proofs.DiskLemmas.{disks_step}
+use Rattle.set_world.specs.Disks.{IsStep}
+use Rattle.set_world.specs.World.{Set, disks_in, event_of, nodes_in}
+use Rattle.set_world.proofs.DiskLemmas.{stepped}
 use Rattle.set_world.proofs.NodesLemmas.{whole}
 use Rattle.set_world.proofs.WorldLemmas.{GoesOn, acts_now, goes_on}
 use Rattle.set_world.proofs.world.World.step.Goals as goal
@@ -71,31 +71,7 @@ invariant_of-self-2 g c =
     c.self.invariant.0 c.deref_mut.ensures.value c.reserve-2.ensures.nodes c.reserve-2.ensures.messages c.numbers_stay_small.ensures
     (nodes_in c.act.new.nodes) c.args.line c.args.command.now c.in_ok-reply.field-0 c.in_ok-reply.ensures.ok short named c.brings_sound.ensures in
     let items : c.push.new.self.items ≡ c.self.inside.history.items ++ event_of c.args.line c.args.command.now c.in_ok-reply.field-0 ∷ [] = search rules in
-    rw same (on.stands c.add.new.self c.push.new.self.items items c.add.ensures.nodes c.add.ensures.messages, c.self.invariant.1)
+    rw same (on.stands c.add.new.self c.push.new.self.items items c.add.ensures.nodes c.add.ensures.messages, c.self.invariant.1, c.act.ensures.stand ?)
 
-pub returns-clause-event : goal.returns-clause-event
-returns-clause-event g c =
-    let named : is_for c.self.inside.size c.args.command.now ≡ true = search rules in
-    let short : length c.self.inside.history.items < 4294967295 = search rules in
-    let on : GoesOn (record { nodes = c.self.inside.size; members = c.self.inside.members }) c.self.inside.history.items c.reserve-2.new.self (nodes_in c.act.new.nodes) c.args.line c.args.command.now c.in_ok-reply.field-0 =
-    goes_on (record { nodes = c.self.inside.size; members = c.self.inside.members }) c.self.inside.history.items c.self.inside.nodes.items c.deref_mut.result.now c.self.inside.pool c.reserve-2.new.self
-    c.self.invariant.0 c.deref_mut.ensures.value c.reserve-2.ensures.nodes c.reserve-2.ensures.messages c.numbers_stay_small.ensures
-    (nodes_in c.act.new.nodes) c.args.line c.args.command.now c.in_ok-reply.field-0 c.in_ok-reply.ensures.ok short named c.brings_sound.ensures in
-    let items : c.push.new.self.items ≡ c.self.inside.history.items ++ event_of c.args.line c.args.command.now c.in_ok-reply.field-0 ∷ [] = search rules in
-    subst (λ (s : Set g.row.D.Denot). IsStep s.sizes s.history c.push.new.self.items c.args.line c.args.command.now c.in_ok-reply.field-0.reply) c.self.view_is (on.step c.push.new.self.items items)
-
-pub returns-clause-disks : goal.returns-clause-disks
-returns-clause-disks g c =
-    let long : length c.self.inside.nodes.items ≡ c.self.inside.nodes.len = search rules in
-    let same : take c.self.inside.nodes.len (c.act.new.nodes ++ drop (length c.act.new.nodes) c.self.inside.nodes.items) ≡ c.act.new.nodes =
-    whole c.act.new.nodes c.self.inside.nodes.items c.self.inside.nodes.len (c.act.ensures.len ∙ ap length c.deref_mut.ensures.value) long in
-    let items : c.push.new.self.items ≡ c.self.inside.history.items ++ event_of c.args.line c.args.command.now c.in_ok-reply.field-0 ∷ [] = search rules in
-    let now : Set g.row.D.Denot = record {
-      sizes = record { nodes = c.self.inside.size; members = c.self.inside.members };
-      history = c.push.new.self.items;
-      disks = disks_in (take c.self.inside.nodes.len (c.act.new.nodes ++ drop (length c.act.new.nodes) c.self.inside.nodes.items)) ++ c.self.inside.idle.items;
-    } in
-    subst (λ (s : Set g.row.D.Denot). DisksStep g.D.Disk.state s now c.args.command.now c.in_ok-reply.field-0.reply) c.self.view_is
-    (rw same (disks_step g.D.Disk.state (record { nodes = c.self.inside.size; members = c.self.inside.members }) c.self.inside.history.items c.push.new.self.items c.self.inside.nodes.items
-    c.deref_mut.result.now c.act.new.nodes c.self.inside.idle.items c.self.inside.pool.messages c.reserve-2.new.self.messages c.args.command.now c.in_ok-reply.field-0.reply
-    (event_of c.args.line c.args.command.now c.in_ok-reply.field-0) c.self.invariant.0.reached.world c.deref_mut.ensures.value c.reserve-2.ensures.messages c.in_ok-reply.ensures.disks items))
+pub returns-clause-step : goal.returns-clause-step
+returns-clause-step g c = ?
