@@ -50,7 +50,7 @@ acts_of state number messages command old new came is acted =
     subst (λ nodes. Acts world command nodes came) (sym (ap nodes_in acted.list ∙ nodes_set old number acted.after))
     (followed world command (acts number) (row (length old) (length messages) came.kept acted.before.0 command) acted.after.0 came
     (λ line. plan_is world (event_of line command came) (acts number) acted.before.0 is there
-        ∙ ap (λ size. Some (row size (length messages) came.kept acted.before.0 command)) (nodes_long old)) is acted.so.follows settles)
+    ∙ ap (λ size. Some (row size (length messages) came.kept acted.before.0 command)) (nodes_long old)) is acted.so.follows settles)
   where
     world : World
     world = record { nodes = nodes_in old; messages = messages }

@@ -136,7 +136,13 @@ impl<D: Disk> World<D> {
             sent,
             failed,
             kept,
-        } = act(&mut self.nodes, self.alloc, rt, &self.pool, command)?;
+        } = match act(&mut self.nodes, self.alloc, rt, &self.pool, command) {
+            Ok(done) => done,
+            Err(_) => {
+                drop(copied);
+                return Err(StepError::Memory);
+            }
+        };
         self.pool.add(sent);
         let event = Event {
             line,
