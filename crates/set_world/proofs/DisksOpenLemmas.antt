@@ -2,14 +2,13 @@
 use Rattle.std.proofs.Common.{◌≡◌, ◌∙◌, ◌<◌, ◌≤◌, ◌+◌, ◌*◌, ◌-◌, inl, inr, ap, sym, subst, refl, arith, length-append, ℕ, zero, suc, Some, length, drop, List, [], ◌∷◌, ◌++◌, slice_get}
 use Rattle.std.proofs.lemmas.List.{drop-drop}
 use Rattle.std.proofs.Math.Seq.{drop-append_seam, drop-append-add}
-use Rattle.std.specs.Prelude.{IsTrue}
 use Rattle.rs_disk.specs.State.{State}
 use Rattle.record_file.specs.declared.error.FileError.{FileError}
 use Rattle.record_file.specs.declared.error.FileError.TheVariants.{Disk, Memory}
 use Rattle.set_model.specs.Node.{Node}
 use Rattle.node_core.specs.Acting.{Runs}
 use Rattle.set_world.specs.Acting.{NodesStand, StandsOn}
-use Rattle.set_world.specs.Disks.{IsServed, OneRose, Opens, TwoBack, TwoRun}
+use Rattle.set_world.specs.Disks.{IsServed, Opens, TwoBack, TwoRun}
 use Rattle.set_world.specs.World.{disks_in}
 
 same_some : {A : Type 0} (x y : A) → Some x ≡ Some y → x ≡ y

@@ -1,5 +1,5 @@
 -- The nodes of a set, read and written at a place.
-use Rattle.std.proofs.Common.{◌≡◌, ◌∙◌, ◌<◌, ◌≤◌, ◌++◌, append-nil, append_assoc, take, drop, ap, sym, subst, refl, arith, ℕ, zero, suc, Bool, true, false, ◌&&◌, nat_lt, ltb-true, Some, Result, Ok, Err, length, List, [], ◌∷◌, slice_get, slice_set, slice_index_or}
+use Rattle.std.proofs.Common.{◌≡◌, ◌∙◌, ◌<◌, ◌≤◌, ◌++◌, append-nil, append_assoc, take, drop, ap, sym, refl, arith, ℕ, zero, suc, Bool, true, ◌&&◌, nat_lt, ltb-true, Some, length, List, [], ◌∷◌, slice_get, slice_set, slice_index_or}
 use Rattle.std.proofs.lemmas.Bool.{and_parts}
 use Rattle.std.specs.Prelude.{Contains}
 use Rattle.repl_msg.specs.declared.message.Message.{Message}

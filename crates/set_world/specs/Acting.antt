@@ -1,5 +1,5 @@
 -- What the node that a command is for came to, with its disks.
-use Rattle.std.specs.Prelude.{◌≡◌, ℕ, List, length, Some, slice_get, slice_set}
+use Rattle.std.specs.Prelude.{◌≡◌, ℕ, List, Some, slice_get, slice_set}
 use Rattle.repl_msg.specs.declared.message.Message.{Message}
 use Rattle.rs_disk.specs.State.{State}
 use Rattle.set_model.specs.declared.command.Command.{Command}

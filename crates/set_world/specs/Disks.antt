@@ -1,5 +1,5 @@
 -- What opening a set and each of its steps do to its disks.
-use Rattle.std.specs.Prelude.{◌≡◌, ◌⊎◌, ◌<◌, ◌≤◌, ◌+◌, ◌*◌, ◌++◌, ◌∷◌, [], ℕ, IsSome, IsTrue, List, Option, Some, length, drop, slice_get, slice_set}
+use Rattle.std.specs.Prelude.{◌≡◌, ◌⊎◌, ◌<◌, ◌≤◌, ◌+◌, ◌*◌, ◌++◌, ◌∷◌, [], ℕ, IsSome, IsTrue, List, Some, length, drop, slice_get, slice_set}
 use Rattle.rs_io.specs.Fault.{Rose}
 use Rattle.rs_disk.specs.State.{State}
 use Rattle.set_model.specs.declared.command.Command.{Command}
@@ -56,7 +56,8 @@ pub record IsStep {D : Type 0} (state : D → State) (old new : Set D) (line : �
   pub disks : AtMostOne old.disks new.disks
       (OneChanged state (DisksActed command reply (IsSome event.failed)) (touched_node (run old.sizes old.history).world command) old.disks new.disks)
 
--- Memory was wanting, and nothing was done. The disks of the node that would have been touched may have been opened.
+-- Nothing was done. Where memory was wanting, the disks of the node that would have been touched may have been used: no orders
+-- were given to them.
 pub record IsUndone {D : Type 0} (state : D → State) (old new : Set D) (command : Command) : Type 0 where
   pub history : new.history ≡ old.history
   pub disks : AtMostOne old.disks new.disks

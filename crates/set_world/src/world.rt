@@ -183,7 +183,7 @@ impl<D: Disk> World<D> {
         &self.history
     }
 
-    /// Lends a node, as it is in the last world of the history. The set has to have it.
+    /// Lends the node of this number, as it is in the last world of the history. The set has to have a node of that number.
     pub fn node(&self, node: u32) -> &Node<D>
         requires { node < self.now.sizes.nodes }
         ensures { slice_get (run self.now.sizes self.now.history).world.nodes node ≡ Some result.now.0 }

@@ -1,5 +1,5 @@
 use Rattle.std.proofs.Common.{◌≡◌, refl, false, length}
-use Rattle.set_model.specs.World.{World, acts, takes}
+use Rattle.set_model.specs.World.{World, takes}
 use Rattle.node_core.specs.Acting.{is_here}
 use Rattle.set_world.specs.World.{nodes_in}
 use Rattle.set_world.proofs.ActingLemmas.{own_acts, own_disks, taken_acts, taken_disks, undone_there}
