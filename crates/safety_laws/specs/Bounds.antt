@@ -1,5 +1,5 @@
 -- How large the numbers of a run get, which grow with its events, and that no node meets a configuration that breaks a rule.
-use Rattle.std.specs.Prelude.{◌≡◌, ◌<◌, ◌≤◌, ◌+◌, ◌*◌, ℕ, suc, List, length, Some, IfSome, All, Contains, slice_get}
+use Rattle.std.specs.Prelude.{◌≡◌, ◌<◌, ◌≤◌, ◌+◌, ◌*◌, ℕ, suc, List, length, None, Some, IfSome, All, Contains, slice_get}
 use Rattle.oplog_entry.specs.declared.entry.Entry.{Entry}
 use Rattle.member_config.specs.declared.config.Config.{Config}
 use Rattle.member_config.specs.Rule.{rule}

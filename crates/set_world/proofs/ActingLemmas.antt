@@ -1,6 +1,7 @@
 -- What a node came to is the model's step of the event.
-use Rattle.std.proofs.Common.{◌≡◌, ◌∙◌, ap, sym, subst, refl, append-nil, is_none, ℕ, true, false, not, ◌&&◌, ◌||◌, Option, None, Some, length, List, [], ◌++◌, slice_get, slice_set}
-use Rattle.std.specs.Prelude.{option_and_then}
+use Rattle.std.proofs.Common.{◌≡◌, ◌∙◌, inr, ap, sym, subst, refl, append-nil, is_none, ℕ, true, false, not, ◌&&◌, ◌||◌, Option, None, Some, Result, Ok, Err, length, List, [], ◌++◌, slice_get, slice_set}
+use Rattle.std.specs.Prelude.{IfOk, OnErr, IsSome, option_and_then}
+use Rattle.std.specs.declared.alloc.AllocError.{AllocError}
 use Rattle.std.specs.Option.{option_map_or}
 use Rattle.repl_msg.specs.declared.message.Message.{Message}
 use Rattle.set_model.specs.declared.command.Command.{Command}
@@ -12,11 +13,15 @@ use Rattle.set_model.specs.Node.{Node}
 use Rattle.set_model.specs.Rows.{row}
 use Rattle.set_model.specs.Deliver.{deliver}
 use Rattle.set_model.specs.Stores.{Plan, done}
-use Rattle.set_model.specs.World.{World, Task, acts, takes, nothing, actor, task, plan_of, event_plan, with_outcome, by_plan, step}
+use Rattle.set_model.specs.World.{World, Task, acts, takes, nothing, actor, task, touched_node, plan_of, event_plan, with_outcome, by_plan, step}
 use Rattle.node_core.specs.declared.done.Done.{Done}
-use Rattle.node_core.specs.Acting.{Follows}
-use Rattle.set_world.specs.Acting.{Acted, Took}
-use Rattle.set_world.specs.World.{Acts, event_of}
+use Rattle.node_core.specs.Acting.{Follows, DisksActed, is_here}
+use Rattle.rs_disk.specs.State.{State}
+use Rattle.set_world.specs.Acting.{OneOf, DisksSo, ActedSo, TookSo, UnchangedSo}
+use Rattle.set_world.specs.Disks.{AtMostOne}
+use Rattle.set_world.specs.World.{Acts, event_of, nodes_in}
+use Rattle.set_world.proofs.DiskLemmas.{disks_of_acted, disks_of_took}
+use Rattle.set_world.proofs.NodesLemmas.{get_in, nodes_set, nodes_long}
 
 -- an event's plan, by its task
 plan_is : (world : World) (event : Event) (what : Task) (node : Node) → task world event.command ≡ what → slice_get world.nodes (actor what) ≡ Some node
@@ -38,22 +43,36 @@ followed world command what plan after came has is follows settles = record {
   settled = settles;
 }
 
-pub acts_of : (world : World) (number : ℕ) (command : Command) (new : List Node) (came : Done) → task world command ≡ acts number → Acted number (length world.messages) command world.nodes new came → Acts world command new came
-acts_of world number command new came is acted =
-    subst (λ nodes. Acts world command nodes came) (sym acted.nodes)
-    (followed world command (acts number) (row (length world.nodes) (length world.messages) came.kept acted.node command) acted.after came
-    (λ line. plan_is world (event_of line command came) (acts number) acted.node is acted.there) is acted.follows settles)
+pub acts_of : {D : Type 0} (state : D → State) (number : ℕ) (messages : List Message) (command : Command) (old new : List (Node × D × D)) (came : Done)
+    → task (record { nodes = nodes_in old; messages = messages }) command ≡ acts number → OneOf number (ActedSo state (length old) (length messages) command came) old new
+    → Acts (record { nodes = nodes_in old; messages = messages }) command (nodes_in new) came
+acts_of state number messages command old new came is acted =
+    subst (λ nodes. Acts world command nodes came) (sym (ap nodes_in acted.list ∙ nodes_set old number acted.after))
+    (followed world command (acts number) (row (length old) (length messages) came.kept acted.before.0 command) acted.after.0 came
+    (λ line. plan_is world (event_of line command came) (acts number) acted.before.0 is there
+    ∙ ap (λ size. Some (row size (length messages) came.kept acted.before.0 command)) (nodes_long old)) is acted.so.follows settles)
   where
+    world : World
+    world = record { nodes = nodes_in old; messages = messages }
+
+    there : slice_get (nodes_in old) number ≡ Some acted.before.0
+    there = get_in old number acted.before acted.there
+
     settles : (line : ℕ) → (not came.kept || settles_doubt world (event_of line command came)) ≡ true
     settles line = ap (λ t. not came.kept || (is_restart command && passes_first came.failed && option_map_or is_in_doubt (slice_get world.nodes (actor t)) false)) is
-        ∙ ap (λ found. not came.kept || (is_restart command && passes_first came.failed && option_map_or is_in_doubt found false)) acted.there ∙ acted.settles
+        ∙ ap (λ found. not came.kept || (is_restart command && passes_first came.failed && option_map_or is_in_doubt found false)) there ∙ acted.so.settles
 
-pub acts_taken : (world : World) (message : Message) (command : Command) (new : List Node) (came : Done) → task world command ≡ takes message → Took (length world.messages) message world.nodes new came → Acts world command new came
-acts_taken world message command new came is took =
-    subst (λ nodes. Acts world command nodes came) (sym took.nodes)
-    (followed world command (takes message) (deliver (length world.messages) took.node message) took.after came
-    (λ line. plan_is world (event_of line command came) (takes message) took.node is took.there) is took.follows
-    (λ line. ap (λ b. not b || settles_doubt world (event_of line command came)) took.kept))
+pub acts_taken : {D : Type 0} (state : D → State) (messages : List Message) (message : Message) (command : Command) (old new : List (Node × D × D)) (came : Done)
+    → task (record { nodes = nodes_in old; messages = messages }) command ≡ takes message → came.kept ≡ false → OneOf message.to (TookSo state (length messages) message came) old new
+    → Acts (record { nodes = nodes_in old; messages = messages }) command (nodes_in new) came
+acts_taken state messages message command old new came is kept took =
+    subst (λ nodes. Acts world command nodes came) (sym (ap nodes_in took.list ∙ nodes_set old message.to took.after))
+    (followed world command (takes message) (deliver (length messages) took.before.0 message) took.after.0 came
+    (λ line. plan_is world (event_of line command came) (takes message) took.before.0 is (get_in old message.to took.before took.there)) is took.so.follows
+    (λ line. ap (λ b. not b || settles_doubt world (event_of line command came)) kept))
+  where
+    world : World
+    world = record { nodes = nodes_in old; messages = messages }
 
 pub acts_nothing : (world : World) (command : Command) (came : Done) → task world command ≡ nothing → came.reply ≡ Refused NoSuchMessage → came.sent.items ≡ [] → came.failed ≡ None → came.kept ≡ false → Acts world command world.nodes came
 acts_nothing world command came is reply sent failed kept = record {
@@ -71,3 +90,42 @@ acts_nothing world command came is reply sent failed kept = record {
 
     same : world.messages ≡ world.messages ++ came.sent.items
     same = sym (append-nil world.messages) ∙ ap (λ l. world.messages ++ l) (sym sent)
+
+-- ---- what a call of a node answers
+
+pub own_acts : {D : Type 0} (state : D → State) (number next : ℕ) (messages : List Message) (command : Command) (old new : List (Node × D × D)) (result : Result Done AllocError)
+    → task (record { nodes = nodes_in old; messages = messages }) command ≡ acts number → next ≡ length messages → IfOk result (λ done. OneOf number (ActedSo state (length old) next command done) old new)
+    → IfOk result (λ done. Acts (record { nodes = nodes_in old; messages = messages }) command (nodes_in new) done)
+own_acts state number next messages command old new (Err why) is long acted = tt
+own_acts state number next messages command old new (Ok done) is long acted =
+    acts_of state number messages command old new done is (subst (λ n. OneOf number (ActedSo state (length old) n command done) old new) long acted)
+
+pub own_disks : {D : Type 0} (state : D → State) (number next : ℕ) (messages : List Message) (command : Command) (old new : List (Node × D × D)) (result : Result Done AllocError)
+    → task (record { nodes = nodes_in old; messages = messages }) command ≡ acts number → IfOk result (λ done. OneOf number (ActedSo state (length old) next command done) old new)
+    → IfOk result (λ done. AtMostOne old new (OneOf (touched_node (record { nodes = nodes_in old; messages = messages }) command) (DisksSo state (DisksActed command done.reply (IsSome done.failed))) old new))
+own_disks state number next messages command old new (Err why) is acted = tt
+own_disks state number next messages command old new (Ok done) is acted =
+    inr (subst (λ n. OneOf n (DisksSo state (DisksActed command done.reply (IsSome done.failed))) old new) (sym (ap actor is))
+    (disks_of_acted state number (length old) next command old new done acted))
+
+pub taken_acts : {D : Type 0} (state : D → State) (next : ℕ) (messages : List Message) (message : Message) (command : Command) (old new : List (Node × D × D)) (result : Result Done AllocError)
+    → task (record { nodes = nodes_in old; messages = messages }) command ≡ takes message → next ≡ length messages → IfOk result (λ done. done.kept ≡ false)
+    → IfOk result (λ done. OneOf message.to (TookSo state next message done) old new)
+    → IfOk result (λ done. Acts (record { nodes = nodes_in old; messages = messages }) command (nodes_in new) done)
+taken_acts state next messages message command old new (Err why) is long kept took = tt
+taken_acts state next messages message command old new (Ok done) is long kept took =
+    acts_taken state messages message command old new done is kept (subst (λ n. OneOf message.to (TookSo state n message done) old new) long took)
+
+pub taken_disks : {D : Type 0} (state : D → State) (next : ℕ) (messages : List Message) (message : Message) (command : Command) (old new : List (Node × D × D)) (result : Result Done AllocError)
+    → task (record { nodes = nodes_in old; messages = messages }) command ≡ takes message → is_here command ≡ false → IfOk result (λ done. OneOf message.to (TookSo state next message done) old new)
+    → IfOk result (λ done. AtMostOne old new (OneOf (touched_node (record { nodes = nodes_in old; messages = messages }) command) (DisksSo state (DisksActed command done.reply (IsSome done.failed))) old new))
+taken_disks state next messages message command old new (Err why) is none took = tt
+taken_disks state next messages message command old new (Ok done) is none took =
+    inr (subst (λ n. OneOf n (DisksSo state (DisksActed command done.reply (IsSome done.failed))) old new) (sym (ap actor is))
+    (disks_of_took state message.to next message command old new done none took))
+
+-- at the node that the command touches
+pub undone_there : {D : Type 0} (state : D → State) (world : World) (what : Task) (command : Command) (old new : List (Node × D × D)) (result : Result Done AllocError)
+    → task world command ≡ what → OnErr result (OneOf (actor what) (UnchangedSo state) old new) → OnErr result (OneOf (touched_node world command) (UnchangedSo state) old new)
+undone_there state world what command old new (Ok done) is undone = tt
+undone_there state world what command old new (Err why) is undone = subst (λ n. OneOf n (UnchangedSo state) old new) (sym (ap actor is)) undone

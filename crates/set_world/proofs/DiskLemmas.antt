@@ -1,6 +1,6 @@
 -- The disks of nodes, two for each, in order of number.
-use Rattle.std.proofs.Common.{◌≡◌, ◌∙◌, ◌<◌, ◌+◌, ◌*◌, inl, inr, ap, sym, subst, refl, arith, ℕ, zero, suc, false, Option, Some, Result, Ok, Err, length, List, [], ◌∷◌, ◌++◌, slice_get, slice_set, slice_index_or}
-use Rattle.std.specs.Prelude.{IfOk, IfSome, IsSome}
+use Rattle.std.proofs.Common.{◌≡◌, ◌∙◌, ◌<◌, ◌+◌, ◌*◌, inl, inr, ap, sym, subst, refl, arith, ℕ, zero, suc, false, Some, Result, Ok, Err, length, List, [], ◌∷◌, ◌++◌, slice_get, slice_set, slice_index_or}
+use Rattle.std.specs.Prelude.{IfOk, OnErr, IsSome}
 use Rattle.std.specs.declared.alloc.AllocError.{AllocError}
 use Rattle.rs_disk.specs.State.{State}
 use Rattle.rs_disk.specs.Orders.{Orders}
@@ -11,14 +11,13 @@ use Rattle.set_model.specs.declared.reply.Reply.{Reply}
 use Rattle.set_model.specs.declared.command.Event.{Event}
 use Rattle.set_model.specs.Node.{Node}
 use Rattle.set_model.specs.Run.{Sizes, run}
-use Rattle.set_model.specs.World.{World, acts as acts_at, takes, actor, task, touched_node}
+use Rattle.set_model.specs.World.{World, step, touched_node}
 use Rattle.repl_msg.specs.declared.message.Message.{Message}
 use Rattle.node_core.specs.declared.done.Done.{Done}
-use Rattle.node_core.specs.Acting.{Fails, orders_after}
-use Rattle.node_state.specs.Bounds.{acts}
-use Rattle.node_core.specs.Stands.{Stands}
-use Rattle.set_world.specs.Disks.{NodeDisks, QuietDisks, OneActed, OneChanged, AtMostOne, DisksStep, StandsThere}
-use Rattle.set_world.specs.World.{disks_in, nodes_in}
+use Rattle.node_core.specs.Acting.{DisksActed, Runs, is_here, orders_after}
+use Rattle.set_world.specs.Acting.{OneOf, DisksSo, ActedSo, TookSo, UnchangedSo, StandsOn, NodesStand}
+use Rattle.set_world.specs.Disks.{OneChanged, AtMostOne, IsStep, IsUndone, StandsThere, AllStand}
+use Rattle.set_world.specs.World.{Set, disks_in, nodes_in, event_of}
 
 some_is : {A : Type 0} (x y : A) → Some x ≡ Some y → x ≡ y
 some_is x y same = cc same
@@ -48,122 +47,175 @@ set_disks (first ∷ nodes) idle (suc k) before after there =
     ∙ ap (λ n. slice_set (slice_set (disks_in (first ∷ nodes) ++ idle) n after.1) (suc (suc (2 * k + 1))) after.2) (sym (two_more k))
     ∙ ap (λ n. slice_set (slice_set (disks_in (first ∷ nodes) ++ idle) (2 * suc k) after.1) n after.2) (sym (one_more k))
 
-pub one_changed : {D : Type 0} (state : D → State) (Changed : State → State → State → State → Type 0) (number : ℕ) (old new : List (Node × D × D)) (idle : List D) → OneActed state Changed number old new
+pub one_changed : {D : Type 0} (state : D → State) (Changed : State → State → State → State → Type 0) (number : ℕ) (old new : List (Node × D × D)) (idle : List D) → OneOf number (DisksSo state Changed) old new
     → OneChanged state Changed number (disks_in old ++ idle) (disks_in new ++ idle)
-one_changed state Changed number old new idle acted = record {
-  journal = acted.before.1;
-  journal' = acted.after.1;
-  checkpoints = acted.before.2;
-  checkpoints' = acted.after.2;
-  journal_at = journal_of old idle number acted.before acted.there;
-  checkpoints_at = checkpoints_of old idle number acted.before acted.there;
-  disks = ap (λ l. disks_in l ++ idle) acted.nodes ∙ set_disks old idle number acted.before acted.after acted.there;
-  changed = acted.disks;
+one_changed state Changed number old new idle one = record {
+  journal = one.before.1;
+  journal' = one.after.1;
+  checkpoints = one.before.2;
+  checkpoints' = one.after.2;
+  journal_at = journal_of old idle number one.before one.there;
+  checkpoints_at = checkpoints_of old idle number one.before one.there;
+  disks = ap (λ l. disks_in l ++ idle) one.list ∙ set_disks old idle number one.before one.after one.there;
+  changed = one.so;
 }
+
+-- ---- one of a list
 
 pub get_at : {A : Type 0} (xs : List A) (k : ℕ) (d : A) → k < length xs → slice_get xs k ≡ Some (slice_index_or xs k d)
 get_at [] k d within = absurd (omega (arith, within))
 get_at (x ∷ xs) zero d within = refl
 get_at (x ∷ xs) (suc k) d within = get_at xs k d (omega (arith, within))
 
--- a node that did a command
-pub disks_acted : {D : Type 0} (state : D → State) (nodes : List (Node × D × D)) (k : ℕ) (command : Command) (d after : Node × D × D) (result : Result Done AllocError) → k < length nodes
-    → IfOk result (λ done. Fails (IsSome done.failed) (state (slice_index_or nodes k d).1) (state after.1) (state (slice_index_or nodes k d).2) (state after.2))
-    → IfOk result (λ done. (state after.1).orders ≡ orders_after names.Journal command done.reply (state (slice_index_or nodes k d).1).orders)
-    → IfOk result (λ done. (state after.2).orders ≡ orders_after names.Checkpoint command done.reply (state (slice_index_or nodes k d).2).orders)
-    → IfOk result (λ done. OneActed state (NodeDisks command done.reply done.failed) k nodes (slice_set nodes k after))
-disks_acted state nodes k command d after (Err why) within faults journal checkpoints = tt
-disks_acted state nodes k command d after (Ok done) within faults journal checkpoints = record {
-  before = slice_index_or nodes k d;
+pub one_of : {A : Type 0} (So : A → A → Type 0) (list : List A) (k : ℕ) (d after : A) → k < length list → So (slice_index_or list k d) after → OneOf k So list (slice_set list k after)
+one_of So list k d after within so = record {
+  before = slice_index_or list k d;
   after = after;
-  there = get_at nodes k d within;
-  nodes = refl;
-  disks = record { faults = faults; journal_orders = journal; checkpoint_orders = checkpoints };
+  there = get_at list k d within;
+  list = refl;
+  so = so;
 }
 
-pub disks_took : {D : Type 0} (state : D → State) (nodes : List (Node × D × D)) (k : ℕ) (d after : Node × D × D) (result : Result Done AllocError) → k < length nodes
-    → IfOk result (λ done. Fails (IsSome done.failed) (state (slice_index_or nodes k d).1) (state after.1) (state (slice_index_or nodes k d).2) (state after.2))
-    → IfOk result (λ done. (state after.1).orders ≡ (state (slice_index_or nodes k d).1).orders)
-    → IfOk result (λ done. (state after.2).orders ≡ (state (slice_index_or nodes k d).2).orders)
-    → IfOk result (λ done. OneActed state (QuietDisks done.failed) k nodes (slice_set nodes k after))
-disks_took state nodes k d after (Err why) within faults journal checkpoints = tt
-disks_took state nodes k d after (Ok done) within faults journal checkpoints = record {
-  before = slice_index_or nodes k d;
-  after = after;
-  there = get_at nodes k d within;
-  nodes = refl;
-  disks = record { faults = faults; journal_orders = journal; checkpoint_orders = checkpoints };
-}
+pub done_at : {A : Type 0} (So : Done → A → A → Type 0) (list : List A) (k : ℕ) (d after : A) (result : Result Done AllocError) → k < length list
+    → IfOk result (λ done. So done (slice_index_or list k d) after) → IfOk result (λ done. OneOf k (So done) list (slice_set list k after))
+done_at So list k d after (Err why) within so = tt
+done_at So list k d after (Ok done) within so = one_of (So done) list k d after within so
 
--- a delivery gives no orders
-journal_quiet : (command : Command) (reply : Reply) (orders : Orders) → acts command ≡ false → orders_after names.Journal command reply orders ≡ orders
+pub undone_at : {A : Type 0} (So : A → A → Type 0) (list : List A) (k : ℕ) (d after : A) (result : Result Done AllocError) → k < length list
+    → OnErr result (So (slice_index_or list k d) after) → OnErr result (OneOf k So list (slice_set list k after))
+undone_at So list k d after (Ok done) within so = tt
+undone_at So list k d after (Err why) within so = one_of So list k d after within so
+
+changed_so : {A : Type 0} (So Other : A → A → Type 0) (number : ℕ) (old new : List A) → ((before after : A) → So before after → Other before after) → OneOf number So old new → OneOf number Other old new
+changed_so So Other number old new then one = record { before = one.before; after = one.after; there = one.there; list = one.list; so = then one.before one.after one.so }
+
+-- ---- on the disks of each node stands what it is
+
+set_each : {A : Type 0} (P : A → Type 0) (xs : List A) (k : ℕ) (x : A) → ((n : ℕ) (y : A) → slice_get xs n ≡ Some y → P y) → P x → (n : ℕ) (y : A) → slice_get (slice_set xs k x) n ≡ Some y → P y
+set_each P [] k x each is n y there = absurd (cc there)
+set_each P (first ∷ xs) zero x each is zero y there = subst P (some_is x y there) is
+set_each P (first ∷ xs) zero x each is (suc n) y there = each (suc n) y there
+set_each P (first ∷ xs) (suc k) x each is zero y there = each zero y there
+set_each P (first ∷ xs) (suc k) x each is (suc n) y there = set_each P xs k x (λ m z at. each (suc m) z at) is n y there
+
+still_stand : {D : Type 0} (state : D → State) (So : Node × D × D → Node × D × D → Type 0) (number : ℕ) (old new : List (Node × D × D)) → ((before after : Node × D × D) → So before after → StandsOn state after)
+    → OneOf number So old new → NodesStand state old → NodesStand state new
+still_stand state So number old new stands one each n node there =
+    set_each (StandsOn state) old number one.after each (stands one.before one.after one.so) n node (ap (λ l. slice_get l n) (sym one.list) ∙ there)
+
+pub stand_acted : {D : Type 0} (state : D → State) (number size next : ℕ) (command : Command) (old new : List (Node × D × D)) (result : Result Done AllocError)
+    → IfOk result (λ done. OneOf number (ActedSo state size next command done) old new) → OnErr result (OneOf number (UnchangedSo state) old new) → NodesStand state old → NodesStand state new
+stand_acted state number size next command old new (Ok done) ok err = still_stand state (ActedSo state size next command done) number old new (λ before after so. so.stands) ok
+stand_acted state number size next command old new (Err why) ok err = still_stand state (UnchangedSo state) number old new (λ before after so. so.stands) err
+
+pub stand_took : {D : Type 0} (state : D → State) (number next : ℕ) (message : Message) (old new : List (Node × D × D)) (result : Result Done AllocError)
+    → IfOk result (λ done. OneOf number (TookSo state next message done) old new) → OnErr result (OneOf number (UnchangedSo state) old new) → NodesStand state old → NodesStand state new
+stand_took state number next message old new (Ok done) ok err = still_stand state (TookSo state next message done) number old new (λ before after so. so.stands) ok
+stand_took state number next message old new (Err why) ok err = still_stand state (UnchangedSo state) number old new (λ before after so. so.stands) err
+
+-- the node of a number, among those with their disks
+found : {D : Type 0} (nodes : List (Node × D × D)) (k : ℕ) (node : Node) → slice_get (nodes_in nodes) k ≡ Some node → (item : Node × D × D) × (slice_get nodes k ≡ Some item) × (item.0 ≡ node)
+found [] k node there = absurd (cc there)
+found (first ∷ nodes) zero node there = (first, refl, some_is first.0 node there)
+found (first ∷ nodes) (suc k) node there = found nodes k node there
+
+pub all_stand : {D : Type 0} (state : D → State) (sizes : Sizes) (history : List Event) (items : List (Node × D × D)) (idle : List D) (messages : List Message)
+    → (run sizes history).world ≡ record { nodes = nodes_in items; messages = messages } → NodesStand state items → AllStand state (record { sizes = sizes; history = history; disks = disks_in items ++ idle })
+all_stand {D} state sizes history items idle messages is each number node there =
+    let item = found items number node (ap (λ (w : World). slice_get w.nodes number) (sym is) ∙ there) in
+    subst (λ n. StandsThere state number n (disks_in items ++ idle)) item.2 (record {
+      journal = item.0.1;
+      checkpoints = item.0.2;
+      journal_at = journal_of items idle number item.0 item.1;
+      checkpoints_at = checkpoints_of items idle number item.0 item.1;
+      stands = each number item.0 item.1;
+    })
+
+-- ---- what a message does to disks is what its delivery does
+
+journal_quiet : (command : Command) (reply : Reply) (orders : Orders) → is_here command ≡ false → orders_after names.Journal command reply orders ≡ orders
 journal_quiet (commands.Deliver message) reply orders none = refl
 journal_quiet (commands.DeliverLatest from to) reply orders none = refl
 journal_quiet command reply orders none = absurd (cc none)
 
-checkpoint_quiet : (command : Command) (reply : Reply) (orders : Orders) → acts command ≡ false → orders_after names.Checkpoint command reply orders ≡ orders
+checkpoint_quiet : (command : Command) (reply : Reply) (orders : Orders) → is_here command ≡ false → orders_after names.Checkpoint command reply orders ≡ orders
 checkpoint_quiet (commands.Deliver message) reply orders none = refl
 checkpoint_quiet (commands.DeliverLatest from to) reply orders none = refl
 checkpoint_quiet command reply orders none = absurd (cc none)
 
--- what a message does is what its delivery does
-delivered_disks : {D : Type 0} (state : D → State) (number : ℕ) (command : Command) (reply : Reply) (failed : Option ℕ) (old new : List (Node × D × D)) → acts command ≡ false
-    → OneActed state (QuietDisks failed) number old new → OneActed state (NodeDisks command reply failed) number old new
-delivered_disks state number command reply failed old new none acted = record {
-  before = acted.before;
-  after = acted.after;
-  there = acted.there;
-  nodes = acted.nodes;
-  disks = record {
-    faults = acted.disks.faults;
-    journal_orders = acted.disks.journal_orders ∙ sym (journal_quiet command reply (state acted.before.1).orders none);
-    checkpoint_orders = acted.disks.checkpoint_orders ∙ sym (checkpoint_quiet command reply (state acted.before.2).orders none);
-  };
+pub delivered_disks : (command : Command) (reply : Reply) (Fault : Type 0) (j j' c c' : State) → is_here command ≡ false → Runs Fault j j' c c' → DisksActed command reply Fault j j' c c'
+delivered_disks command reply Fault j j' c c' none runs = record {
+  fails = runs.fails;
+  journal_armed = λ other. runs.journal_armed;
+  checkpoints_armed = λ other. runs.checkpoints_armed;
+  journal_orders = runs.journal_orders ∙ sym (journal_quiet command reply j.orders none);
+  checkpoints_orders = runs.checkpoints_orders ∙ sym (checkpoint_quiet command reply c.orders none);
 }
 
--- at the node that the event touches
-pub own_disks : {D : Type 0} (state : D → State) (world : World) (number : ℕ) (command : Command) (old new : List (Node × D × D)) (result : Result Done AllocError) → task world command ≡ acts_at number
-    → IfOk result (λ done. OneActed state (NodeDisks command done.reply done.failed) number old new)
-    → IfOk result (λ done. AtMostOne old new (OneActed state (NodeDisks command done.reply done.failed) (touched_node world command) old new))
-own_disks state world number command old new (Err why) is acted = tt
-own_disks state world number command old new (Ok done) is acted = inr (subst (λ n. OneActed state (NodeDisks command done.reply done.failed) n old new) (sym (ap actor is)) acted)
+pub disks_of_acted : {D : Type 0} (state : D → State) (number size next : ℕ) (command : Command) (old new : List (Node × D × D)) (done : Done) → OneOf number (ActedSo state size next command done) old new
+    → OneOf number (DisksSo state (DisksActed command done.reply (IsSome done.failed))) old new
+disks_of_acted state number size next command old new done one =
+    changed_so (ActedSo state size next command done) (DisksSo state (DisksActed command done.reply (IsSome done.failed))) number old new (λ before after so. so.disks) one
 
-pub taken_disks : {D : Type 0} (state : D → State) (world : World) (message : Message) (command : Command) (old new : List (Node × D × D)) (result : Result Done AllocError) → task world command ≡ takes message
-    → acts command ≡ false → IfOk result (λ done. OneActed state (QuietDisks done.failed) message.to old new)
-    → IfOk result (λ done. AtMostOne old new (OneActed state (NodeDisks command done.reply done.failed) (touched_node world command) old new))
-taken_disks state world message command old new (Err why) is none acted = tt
-taken_disks state world message command old new (Ok done) is none acted = inr (subst (λ n. OneActed state (NodeDisks command done.reply done.failed) n old new) (sym (ap actor is))
-    (delivered_disks state message.to command done.reply done.failed old new none acted))
+pub disks_of_took : {D : Type 0} (state : D → State) (number next : ℕ) (message : Message) (command : Command) (old new : List (Node × D × D)) (done : Done) → is_here command ≡ false → OneOf number (TookSo state next message done) old new
+    → OneOf number (DisksSo state (DisksActed command done.reply (IsSome done.failed))) old new
+disks_of_took state number next message command old new done none one =
+    changed_so (TookSo state next message done) (DisksSo state (DisksActed command done.reply (IsSome done.failed))) number old new
+    (λ before after so. delivered_disks command done.reply (IsSome done.failed) (state before.1) (state after.1) (state before.2) (state after.2) none so.runs) one
 
--- the disks of the set
-pub disks_step : {D : Type 0} (state : D → State) (sizes : Sizes) (history later : List Event) (items old new : List (Node × D × D)) (idle : List D) (messages now : List Message) (command : Command) (reply : Reply) (event : Event)
-    → (run sizes history).world ≡ record { nodes = nodes_in items; messages = messages } → old ≡ items → now ≡ messages
-    → AtMostOne old new (OneActed state (NodeDisks command reply event.failed) (touched_node (record { nodes = nodes_in old; messages = now }) command) old new) → later ≡ history ++ event ∷ []
-    → DisksStep state (record { sizes = sizes; history = history; disks = disks_in items ++ idle }) (record { sizes = sizes; history = later; disks = disks_in new ++ idle }) command reply
-disks_step {D} state sizes history later items old new idle messages now command reply event is same same_messages changed more = record {
-  event = event;
-  history = more;
-  disks = subst (λ (l : List (Node × D × D)). AtMostOne (disks_in l ++ idle) (disks_in new ++ idle) (OneChanged state (NodeDisks command reply event.failed) (touched_node (run sizes history).world command) (disks_in l ++ idle) (disks_in new ++ idle))) same here;
-}
-  where
-    world_is : (run sizes history).world ≡ record { nodes = nodes_in old; messages = now }
-    world_is = is ∙ (λ i. record { nodes = nodes_in (sym same i); messages = sym same_messages i })
+-- ---- the disks of the set
 
-    here : AtMostOne (disks_in old ++ idle) (disks_in new ++ idle) (OneChanged state (NodeDisks command reply event.failed) (touched_node (run sizes history).world command) (disks_in old ++ idle) (disks_in new ++ idle))
-    here = elim changed [
+module _ {D : Type 0} (state : D → State) (sizes : Sizes) (history : List Event) (items new : List (Node × D × D)) (idle : List D) (messages : List Message) (command : Command)
+    (is : (run sizes history).world ≡ record { nodes = nodes_in items; messages = messages }) where
+  -- at the node that the command touches
+  touched : (Changed : State → State → State → State → Type 0) → OneOf (touched_node (record { nodes = nodes_in items; messages = messages }) command) (DisksSo state Changed) items new
+      → OneChanged state Changed (touched_node (run sizes history).world command) (disks_in items ++ idle) (disks_in new ++ idle)
+  touched Changed one = one_changed state Changed (touched_node (run sizes history).world command) items new idle
+      (subst (λ w. OneOf (touched_node w command) (DisksSo state Changed) items new) (sym is) one)
+
+  pub is_step : (later : List Event) (line : ℕ) (came : Done) → later ≡ history ++ event_of line command came ∷ [] → came.reply ≡ (step (run sizes history).world (event_of line command came)).reply
+      → AtMostOne items new (OneOf (touched_node (record { nodes = nodes_in items; messages = messages }) command) (DisksSo state (DisksActed command came.reply (IsSome came.failed))) items new)
+      → IsStep state (record { sizes = sizes; history = history; disks = disks_in items ++ idle }) (record { sizes = sizes; history = later; disks = disks_in new ++ idle }) line command came.reply
+  is_step later line came more reply changed = record {
+    event = event_of line command came;
+    line_is = refl;
+    command_is = refl;
+    history = more;
+    reply_is = reply;
+    disks = elim changed [
       | inl none ↦ inl (ap (λ l. disks_in l ++ idle) none)
-      | inr one ↦ inr (one_changed state (NodeDisks command reply event.failed) (touched_node (run sizes history).world command) old new idle
-          (subst (λ w. OneActed state (NodeDisks command reply event.failed) (touched_node w command) old new) (sym world_is) one))
-    ]
+      | inr one ↦ inr (touched (DisksActed command came.reply (IsSome came.failed)) one)
+    ];
+  }
 
--- on the disks of a node stands what it is
-pub stands_at : {D : Type 0} (state : D → State) (nodes : List Node) (items : List (Node × D × D)) (idle : List D) (number : ℕ) (d : Node × D × D) → number < length items
-    → slice_get nodes number ≡ Some (slice_index_or items number d).0 → Stands (slice_index_or items number d).0 (state (slice_index_or items number d).1) (state (slice_index_or items number d).2)
-    → IfSome (slice_get nodes number) (λ standing. StandsThere state number standing (disks_in items ++ idle))
-stands_at {D} state nodes items idle number d within there stands = subst (λ (found : Option Node). IfSome found (λ standing. StandsThere state number standing (disks_in items ++ idle))) (sym there) (record {
-  journal = (slice_index_or items number d).1;
-  checkpoints = (slice_index_or items number d).2;
-  journal_at = journal_of items idle number (slice_index_or items number d) (get_at items number d within);
-  checkpoints_at = checkpoints_of items idle number (slice_index_or items number d) (get_at items number d within);
-  stands = stands;
-})
+  pub is_undone : (later : List Event) → later ≡ history → OneOf (touched_node (record { nodes = nodes_in items; messages = messages }) command) (UnchangedSo state) items new
+      → IsUndone state (record { sizes = sizes; history = history; disks = disks_in items ++ idle }) (record { sizes = sizes; history = later; disks = disks_in new ++ idle }) command
+  is_undone later same one = record {
+    history = same;
+    disks = inr (touched (Runs ⊥)
+        (changed_so (UnchangedSo state) (DisksSo state (Runs ⊥)) (touched_node (record { nodes = nodes_in items; messages = messages }) command) items new (λ before after so. so.runs) one));
+  }
+
+-- ---- the same, of the nodes and the messages as a step finds them
+
+module _ {D : Type 0} (state : D → State) (sizes : Sizes) (history : List Event) (items nodes new : List (Node × D × D)) (idle : List D) (messages now : List Message) (command : Command)
+    (is : (run sizes history).world ≡ record { nodes = nodes_in items; messages = messages }) (same : nodes ≡ items) (same_messages : now ≡ messages) where
+  world_is : (run sizes history).world ≡ record { nodes = nodes_in nodes; messages = now }
+  world_is = is ∙ (λ i. record { nodes = nodes_in (sym same i); messages = sym same_messages i })
+
+  pub stepped : (later : List Event) (line : ℕ) (came : Done) → later ≡ history ++ event_of line command came ∷ [] → came.reply ≡ (step (run sizes history).world (event_of line command came)).reply
+      → AtMostOne nodes new (OneOf (touched_node (record { nodes = nodes_in nodes; messages = now }) command) (DisksSo state (DisksActed command came.reply (IsSome came.failed))) nodes new)
+      → IsStep state (record { sizes = sizes; history = history; disks = disks_in items ++ idle }) (record { sizes = sizes; history = later; disks = disks_in new ++ idle }) line command came.reply
+  stepped later line came more reply changed =
+      subst (λ (l : List (Node × D × D)). IsStep state (record { sizes = sizes; history = history; disks = disks_in l ++ idle }) (record { sizes = sizes; history = later; disks = disks_in new ++ idle }) line command came.reply) same
+      (is_step state sizes history nodes new idle now command world_is later line came more reply changed)
+
+  pub undone : (later : List Event) → later ≡ history → OneOf (touched_node (record { nodes = nodes_in nodes; messages = now }) command) (UnchangedSo state) nodes new
+      → IsUndone state (record { sizes = sizes; history = history; disks = disks_in items ++ idle }) (record { sizes = sizes; history = later; disks = disks_in new ++ idle }) command
+  undone later still one =
+      subst (λ (l : List (Node × D × D)). IsUndone state (record { sizes = sizes; history = history; disks = disks_in l ++ idle }) (record { sizes = sizes; history = later; disks = disks_in new ++ idle }) command) same
+      (is_undone state sizes history nodes new idle now command world_is later still one)
+
+-- nothing was done, and no disk was touched
+pub untouched : {D : Type 0} (state : D → State) (old new : Set D) (command : Command) → new.history ≡ old.history → new.disks ≡ old.disks → IsUndone state old new command
+untouched state old new command history disks = record { history = history; disks = inl disks }

@@ -1,5 +1,6 @@
 mod ActingLemmas
 mod DiskLemmas
+mod DisksOpenLemmas
 mod NodesLemmas
 mod OpenLemmas
 mod PoolLemmas

@@ -1,16 +1,9 @@
 -- The nodes of a set, read and written at a place.
-use Rattle.std.proofs.Common.{◌≡◌, ◌∙◌, ◌<◌, ◌≤◌, ◌++◌, append-nil, append_assoc, take, drop, ap, sym, subst, refl, arith, ℕ, zero, suc, Bool, true, false, ◌&&◌, nat_lt, ltb-true, Some, Result, Ok, Err, length, List, [], ◌∷◌, slice_get, slice_set, slice_index_or}
+use Rattle.std.proofs.Common.{◌≡◌, ◌∙◌, ◌<◌, ◌≤◌, ◌++◌, append-nil, append_assoc, take, drop, ap, sym, refl, arith, ℕ, zero, suc, Bool, true, ◌&&◌, nat_lt, ltb-true, Some, length, List, [], ◌∷◌, slice_get, slice_set, slice_index_or}
 use Rattle.std.proofs.lemmas.Bool.{and_parts}
-use Rattle.std.specs.Prelude.{IfOk, OnErr, Contains}
-use Rattle.std.specs.declared.alloc.AllocError.{AllocError}
+use Rattle.std.specs.Prelude.{Contains}
 use Rattle.repl_msg.specs.declared.message.Message.{Message}
-use Rattle.set_model.specs.declared.command.Command.{Command}
 use Rattle.set_model.specs.Node.{Node}
-use Rattle.set_model.specs.Deliver.{deliver}
-use Rattle.set_model.specs.Rows.{row}
-use Rattle.node_core.specs.declared.done.Done.{Done}
-use Rattle.node_core.specs.Acting.{Follows, MaySettle}
-use Rattle.set_world.specs.Acting.{Acted, Took}
 use Rattle.set_world.specs.World.{nodes_in, disks_in}
 
 same_some : {A : Type 0} (x y : A) → Some x ≡ Some y → x ≡ y
@@ -18,11 +11,6 @@ same_some x y same = cc same
 
 abbrev Nodes : Type 0 → Type 0
 Nodes D = List (Node × D × D)
-
-set_again : (nodes : List Node) (k : ℕ) (node : Node) → slice_get nodes k ≡ Some node → slice_set nodes k node ≡ nodes
-set_again [] k node there = refl
-set_again (first ∷ nodes) zero node there = ap (λ n. n ∷ nodes) (same_some node first (sym there))
-set_again (first ∷ nodes) (suc k) node there = ap (λ l. first ∷ l) (set_again nodes k node there)
 
 module _ {D : Type 0} where
   pub node_at : (nodes : Nodes D) (k : ℕ) (d : Node × D × D) → k < length nodes → slice_get (nodes_in nodes) k ≡ Some (slice_index_or nodes k d).0
@@ -39,40 +27,16 @@ module _ {D : Type 0} where
   nodes_long [] = refl
   nodes_long (node ∷ nodes) = ap suc (nodes_long nodes)
 
+  pub get_in : (nodes : Nodes D) (k : ℕ) (node : Node × D × D) → slice_get nodes k ≡ Some node → slice_get (nodes_in nodes) k ≡ Some node.0
+  get_in [] k node there = absurd (cc there)
+  get_in (first ∷ nodes) zero node there = ap (λ (n : Node × D × D). Some n.0) (same_some first node there)
+  get_in (first ∷ nodes) (suc k) node there = get_in nodes k node there
+
   -- a node that is as it was leaves all as they were
-  pub same_nodes : (nodes : Nodes D) (k : ℕ) (d after : Node × D × D) (result : Result Done AllocError) → k < length nodes → OnErr result (after.0 ≡ (slice_index_or nodes k d).0)
-      → OnErr result (nodes_in (slice_set nodes k after) ≡ nodes_in nodes)
-  same_nodes nodes k d after (Ok done) within same = tt
-  same_nodes nodes k d after (Err why) within same =
-      nodes_set nodes k after ∙ ap (λ n. slice_set (nodes_in nodes) k n) same ∙ set_again (nodes_in nodes) k (slice_index_or nodes k d).0 (node_at nodes k d within)
-
-  pub acted_at : (nodes : Nodes D) (k next : ℕ) (command : Command) (d after : Node × D × D) (result : Result Done AllocError) → k < length nodes
-      → IfOk result (λ done. Follows (row (length nodes) next done.kept (slice_index_or nodes k d).0 command) after.0 done)
-      → IfOk result (λ done. MaySettle (slice_index_or nodes k d).0 command done)
-      → IfOk result (λ done. Acted k next command (nodes_in nodes) (nodes_in (slice_set nodes k after)) done)
-  acted_at nodes k next command d after (Err why) within follows settles = tt
-  acted_at nodes k next command d after (Ok done) within follows settles = record {
-    node = (slice_index_or nodes k d).0;
-    after = after.0;
-    there = node_at nodes k d within;
-    nodes = nodes_set nodes k after;
-    follows = subst (λ size. Follows (row size next done.kept (slice_index_or nodes k d).0 command) after.0 done) (sym (nodes_long nodes)) follows;
-    settles = settles;
-  }
-
-  pub took_at : (nodes : Nodes D) (next : ℕ) (message : Message) (d after : Node × D × D) (result : Result Done AllocError) → message.to < length nodes
-      → IfOk result (λ done. Follows (deliver next (slice_index_or nodes message.to d).0 message) after.0 done)
-      → IfOk result (λ done. done.kept ≡ false)
-      → IfOk result (λ done. Took next message (nodes_in nodes) (nodes_in (slice_set nodes message.to after)) done)
-  took_at nodes next message d after (Err why) within follows kept = tt
-  took_at nodes next message d after (Ok done) within follows kept = record {
-    node = (slice_index_or nodes message.to d).0;
-    after = after.0;
-    there = node_at nodes message.to d within;
-    nodes = nodes_set nodes message.to after;
-    follows = follows;
-    kept = kept;
-  }
+  pub same_nodes : (nodes : Nodes D) (k : ℕ) (before after : Node × D × D) → slice_get nodes k ≡ Some before → after.0 ≡ before.0 → nodes_in (slice_set nodes k after) ≡ nodes_in nodes
+  same_nodes [] k before after there same = refl
+  same_nodes (first ∷ nodes) zero before after there same = ap (λ n. n ∷ nodes_in nodes) (same ∙ ap (λ (n : Node × D × D). n.0) (sym (same_some first before there)))
+  same_nodes (first ∷ nodes) (suc k) before after there same = ap (λ l. first.0 ∷ l) (same_nodes nodes k before after there same)
 
 -- a command that names a node names one of the set
 pub named : (number size : ℕ) (others within : Bool) → ((nat_lt number size && others) && within) ≡ true → number < size

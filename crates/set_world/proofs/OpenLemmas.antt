@@ -1,5 +1,5 @@
 -- The set as it begins: its configuration's members, and its nodes, one after another.
-use Rattle.std.proofs.Common.{◌≡◌, ◌∙◌, ◌+◌, ◌≤◌, drop, slice_get, None, Some, ap, sym, subst, refl, arith, ℕ, zero, suc, true, List, [], ◌∷◌, ◌++◌}
+use Rattle.std.proofs.Common.{◌≡◌, ◌∙◌, ◌+◌, ◌≤◌, slice_get, None, Some, ap, sym, subst, refl, arith, ℕ, zero, suc, true, List, [], ◌∷◌, ◌++◌}
 use Rattle.member_config.specs.declared.config.Config.{Config}
 use Rattle.member_config.specs.declared.config.Member.{Member}
 use Rattle.std.specs.Prelude.{All}
@@ -65,10 +65,5 @@ first_rule law sizes are = ((law sizes [] are tt).nodes 0 0 (opening_node (first
     there zero none = absurd (omega (arith, none))
     there (suc count) more = refl
 
-pub all_behind : {A : Type 0} (P : A → Type 0) (xs ys : List A) → All P xs → ys ≡ drop 2 xs → All P ys
-all_behind {A = A} P xs ys each is = subst (λ l. All P l) (sym is) (go xs each)
-  where
-    go : (zs : List A) → All P zs → All P (drop 2 zs)
-    go [] all k d within = absurd (omega (arith, within))
-    go (x ∷ []) all k d within = absurd (omega (arith, within))
-    go (x ∷ y ∷ zs) all k d within = all (suc (suc k)) d (omega (arith, within))
+pub all_behind : {A : Type 0} (P : A → Type 0) (xs ys : List A) (x y : A) → xs ≡ x ∷ y ∷ ys → All P xs → All P ys
+all_behind P xs ys x y is each k d within = (subst (λ l. All P l) is each) (suc (suc k)) d (omega (arith, within))

@@ -1,12 +1,8 @@
 -- One event more, and what the laws of every run say of the set as it stands.
-use Rattle.std.proofs.Common.{◌≡◌, ◌∙◌, ◌<◌, ◌≤◌, ◌+◌, ◌*◌, ◌^◌, ap, sym, subst, refl, arith, length-append, ℕ, zero, suc, true, None, Some, length, fold, List, [], ◌∷◌, ◌++◌, slice_get}
+use Rattle.std.proofs.Common.{◌≡◌, ◌∙◌, ◌<◌, ◌≤◌, ◌+◌, ◌*◌, ap, sym, subst, refl, arith, length-append, ℕ, zero, suc, true, Some, length, fold, List, [], ◌∷◌, ◌++◌, slice_get}
 use Rattle.std.proofs.Math.Seq.{take-length, take-append_seam}
 use Rattle.std.specs.Prelude.{All, Contains, IfSome, slice_index_or}
 use Rattle.repl_msg.specs.declared.message.Message.{Message}
-use Rattle.repl_msg.specs.declared.message.Body.{Body}
-use Rattle.repl_msg.specs.declared.message.Body.TheVariants as bodies
-use Rattle.repl_msg.specs.declared.message.VoteAsk.{VoteAsk}
-use Rattle.member_config.specs.Rule.{rule}
 use Rattle.set_model.specs.declared.command.Command.{Command}
 use Rattle.set_model.specs.declared.command.Event.{Event}
 use Rattle.set_model.specs.Limits.{Fits, AllFit, IsSoundWrite, write_of, is_for}
@@ -14,15 +10,17 @@ use Rattle.set_model.specs.Node.{Node}
 use Rattle.set_model.specs.Run.{Run, Sizes, opening, after, run, world_at}
 use Rattle.set_model.specs.World.{World, Step, step}
 use Rattle.set_model.proofs.RunLemmas.{run-append}
-use Rattle.safety_laws.specs.Bounds.{NumbersStaySmall, IsSmallNode, IsSmallMessage, config_carried, term_asked}
+use Rattle.safety_laws.specs.Bounds.{NumbersStaySmall, IsSmallNode, IsSmallMessage}
 use Rattle.safety_laws.specs.Laws.{InEveryRun}
-use Rattle.safety_laws.specs.Taking as laws
+use Rattle.safety_laws.specs.Taking.{MessagesCanBeTaken}
 use Rattle.node_core.specs.declared.done.Done.{Done}
 use Rattle.node_state.specs.Bounds.{IsBounded, IsNumbered}
-use Rattle.set_model.specs.Taking as owed
+use Rattle.set_model.specs.Taking.{CanTake}
+use Rattle.rs_disk.specs.State.{State}
+use Rattle.set_world.specs.Acting.{OneOf, UnchangedSo}
 use Rattle.set_world.specs.Pool.{Pool, IsBetweenNodes}
-use Rattle.set_world.specs.World.{IsReached, IsStanding, IsStep, Acts, event_of, nodes_in}
-use Rattle.set_world.proofs.NodesLemmas.{node_at, nodes_long}
+use Rattle.set_world.specs.World.{IsReached, IsStanding, Acts, event_of, nodes_in}
+use Rattle.set_world.proofs.NodesLemmas.{node_at, nodes_long, same_nodes}
 
 -- a run goes on by an event that fits
 AllFit-more : (so_far : Run) (front : List Event) (event : Event) → AllFit so_far.world front → Fits (fold after so_far front).world event → AllFit so_far.world (front ++ event ∷ [])
@@ -77,42 +75,10 @@ module _ (sizes : Sizes) (history : List Event) (nodes : List Node) (messages : 
       refl_at (first ∷ items) zero d e within = refl
       refl_at (first ∷ items) (suc k) d e within = refl_at items k d e (omega (arith, within))
 
-  -- what a node owes of a message that it takes, as the node's calls say it
-  asked_of : (body : Body) → IfSome (term_asked body) (λ asked. asked < 2 ^ 63) → (ask : VoteAsk) → body ≡ bodies.VoteAsk ask → ask.asked < 2 ^ 63
-  asked_of body early ask is = subst (λ b. IfSome (term_asked b) (λ asked. asked < 2 ^ 63)) is early
-
-  config_of : (body : Body) → IfSome (config_carried body) (λ config. rule config ≡ None) → IfSome (owed.config_in body) (λ config. rule config ≡ None)
-  config_of (bodies.Fetch base) fine = tt
-  config_of (bodies.FetchReply reply) fine = tt
-  config_of (bodies.Report config durable) fine = tt
-  config_of (bodies.VoteAsk ask) fine = tt
-  config_of (bodies.VoteReply asked dry refused) fine = tt
-  config_of (bodies.Heartbeat beat) fine = fine
-  config_of (bodies.HeartbeatReply beat) fine = fine
-  config_of (bodies.CommonAsk commit) fine = tt
-  config_of (bodies.CommonReply after optimes visible) fine = tt
-
-  pub takeable : InEveryRun laws.MessagesCanBeTaken → (message : Message) (node : Node) → Contains messages message → slice_get nodes message.to ≡ Some node → node.up ≡ true → owed.CanTake node message
-  takeable taking message node sent there up = record {
-    sender = can.sender;
-    term = can.term;
-    asked = asked_of message.body can.asked;
-    config = config_of message.body can.config;
-    fetched = λ reply body.
-        let fetched : laws.CanTakeEntries node message.term reply = can.fetched reply body in
-        record {
-          order = fetched.order;
-          base = λ k d within. record { later = (fetched.base k d within).later; term = (fetched.base k d within).term };
-          entries = fetched.entries;
-          terms = fetched.terms;
-          documents = fetched.documents;
-        };
-    common = can.common;
-  }
-    where
-      can : laws.CanTake node message
-      can = taking sizes history reached.sizes_are reached.defined message node reached.short (subst (λ (w : World). Contains w.messages message) (sym reached.world) sent)
-          (record { there = ap (λ (w : World). slice_get w.nodes message.to) (last_world sizes history nodes messages reached) ∙ there; up = up })
+  pub takeable : InEveryRun MessagesCanBeTaken → (message : Message) (node : Node) → Contains messages message → slice_get nodes message.to ≡ Some node → node.up ≡ true → CanTake node message
+  takeable taking message node sent there up =
+      taking sizes history reached.sizes_are reached.defined message node reached.short (subst (λ (w : World). Contains w.messages message) (sym reached.world) sent)
+      (record { there = ap (λ (w : World). slice_get w.nodes message.to) (last_world sizes history nodes messages reached) ∙ there; up = up })
 
   -- ---- one event more
 
@@ -173,7 +139,7 @@ pub record MayAct {D : Type 0} (nodes : List (Node × D × D)) (pool : Pool) : T
   pub few : length nodes ≤ 50
   pub bounds : (number : ℕ) (node : Node) → slice_get (nodes_in nodes) number ≡ Some node → IsBounded node
   pub next : IsNumbered (length pool.messages)
-  pub messages : (message : Message) (node : Node) → Contains pool.messages message → slice_get (nodes_in nodes) message.to ≡ Some node → node.up ≡ true → owed.CanTake node message
+  pub messages : (message : Message) (node : Node) → Contains pool.messages message → slice_get (nodes_in nodes) message.to ≡ Some node → node.up ≡ true → CanTake node message
   pub between : (message : Message) → Contains pool.messages message → message.to < length nodes
 
 module _ {D : Type 0} (sizes : Sizes) (history : List Event) (nodes : List (Node × D × D)) (old pool : Pool) (stands : IsStanding sizes history (nodes_in nodes) old) (size : pool.nodes ≡ old.nodes)
@@ -184,7 +150,7 @@ module _ {D : Type 0} (sizes : Sizes) (history : List Event) (nodes : List (Node
   count : length nodes ≡ sizes.nodes
   count = sym (nodes_long nodes) ∙ as_many sizes history (nodes_in nodes) pool.messages reached_now law
 
-  pub may_act : InEveryRun laws.MessagesCanBeTaken → MayAct nodes pool
+  pub may_act : InEveryRun MessagesCanBeTaken → MayAct nodes pool
   may_act taking = record {
     size = size ∙ stands.size ∙ sym count;
     few =
@@ -220,13 +186,8 @@ module _ {D : Type 0} (sizes : Sizes) (history : List Event) (nodes : List (Node
       size = size_is ∙ size ∙ stands.size;
     }
 
-    pub step_then : (after : List Event) → after ≡ history ++ event_of line command came ∷ [] → IsStep sizes history after line command came.reply
-    step_then after is = record {
-      failed = came.failed;
-      kept = came.kept;
-      history = is;
-      reply_is = replied sizes history (nodes_in nodes) pool.messages reached_now law new line command came acts;
-    }
+    pub reply_then : came.reply ≡ (step (run sizes history).world (event_of line command came)).reply
+    reply_then = replied sizes history (nodes_in nodes) pool.messages reached_now law new line command came acts
 
 -- what a step may do once its command came to something
 pub record GoesOn (sizes : Sizes) (history : List Event) (pool : Pool) (new : List Node) (line : ℕ) (command : Command) (came : Done) : Type 0 where
@@ -234,7 +195,7 @@ pub record GoesOn (sizes : Sizes) (history : List Event) (pool : Pool) (new : Li
   pub between : All (IsBetweenNodes pool.nodes) came.sent.items
   pub stands : (after : Pool) (later : List Event) → later ≡ history ++ event_of line command came ∷ [] → after.nodes ≡ pool.nodes → after.messages ≡ pool.messages ++ came.sent.items
       → IsStanding sizes later new after
-  pub step : (later : List Event) → later ≡ history ++ event_of line command came ∷ [] → IsStep sizes history later line command came.reply
+  pub reply : came.reply ≡ (step (run sizes history).world (event_of line command came)).reply
 
 pub goes_on : {D : Type 0} (sizes : Sizes) (history : List Event) (items nodes : List (Node × D × D)) (old pool : Pool) → IsStanding sizes history (nodes_in items) old → nodes ≡ items
     → pool.nodes ≡ old.nodes → pool.messages ≡ old.messages → InEveryRun NumbersStaySmall → (new : List Node) (line : ℕ) (command : Command) (came : Done)
@@ -245,14 +206,14 @@ goes_on sizes history items nodes old pool stands same size messages law new lin
   between = between_then sizes history nodes old pool now_stands size messages law new line command came acts short named sound;
   stands = λ after later is size_is messages_are. subst (λ l. IsStanding sizes l new after) (sym is)
       (stands_then sizes history nodes old pool now_stands size messages law new line command came acts short named sound after size_is messages_are);
-  step = step_then sizes history nodes old pool now_stands size messages law new line command came acts short named sound;
+  reply = reply_then sizes history nodes old pool now_stands size messages law new line command came acts short named sound;
 }
   where
     now_stands : IsStanding sizes history (nodes_in nodes) old
     now_stands = subst (λ l. IsStanding sizes history (nodes_in l) old) (sym same) stands
 
 pub acts_now : {D : Type 0} (sizes : Sizes) (history : List Event) (items nodes : List (Node × D × D)) (old pool : Pool) → IsStanding sizes history (nodes_in items) old → nodes ≡ items
-    → pool.nodes ≡ old.nodes → pool.messages ≡ old.messages → InEveryRun NumbersStaySmall → InEveryRun laws.MessagesCanBeTaken → MayAct nodes pool
+    → pool.nodes ≡ old.nodes → pool.messages ≡ old.messages → InEveryRun NumbersStaySmall → InEveryRun MessagesCanBeTaken → MayAct nodes pool
 acts_now sizes history items nodes old pool stands same size messages law taking =
     may_act sizes history nodes old pool (subst (λ l. IsStanding sizes history (nodes_in l) old) (sym same) stands) size messages law taking
 
@@ -268,3 +229,16 @@ known_place sizes history items pool stands law number known =
 pub lent_node : {D : Type 0} (sizes : Sizes) (history : List Event) (items : List (Node × D × D)) (pool : Pool) → IsStanding sizes history (nodes_in items) pool
     → (number : ℕ) (d : Node × D × D) → number < length items → slice_get (run sizes history).world.nodes number ≡ Some (slice_index_or items number d).0
 lent_node sizes history items pool stands number d within = ap (λ (w : World). slice_get w.nodes number) stands.reached.world ∙ node_at items number d within
+
+-- ---- a step for which memory was wanting
+
+pub stands_still : {D : Type 0} (state : D → State) (sizes : Sizes) (history later : List Event) (items nodes new : List (Node × D × D)) (old pool : Pool) (number : ℕ) → IsStanding sizes history (nodes_in items) old → nodes ≡ items
+    → pool.nodes ≡ old.nodes → pool.messages ≡ old.messages → later ≡ history → OneOf number (UnchangedSo state) nodes new → IsStanding sizes later (nodes_in new) pool
+stands_still state sizes history later items nodes new old pool number stands same size messages still one = record {
+  reached = subst (λ l. IsReached sizes l (nodes_in new) pool.messages) (sym still)
+      (subst (λ l. IsReached sizes history l pool.messages) (sym here) (subst (λ l. IsReached sizes history (nodes_in items) l) (sym messages) stands.reached));
+  size = size ∙ stands.size;
+}
+  where
+    here : nodes_in new ≡ nodes_in items
+    here = ap nodes_in one.list ∙ same_nodes nodes number one.before one.after one.there one.so.node ∙ ap nodes_in same

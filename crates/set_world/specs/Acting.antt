@@ -1,27 +1,44 @@
--- What the node that a command is for came to.
-use Rattle.std.specs.Prelude.{◌≡◌, ℕ, false, List, length, Some, slice_get, slice_set}
+-- What the node that a command is for came to, with its disks.
+use Rattle.std.specs.Prelude.{◌≡◌, ℕ, List, Some, slice_get, slice_set}
 use Rattle.repl_msg.specs.declared.message.Message.{Message}
+use Rattle.rs_disk.specs.State.{State}
 use Rattle.set_model.specs.declared.command.Command.{Command}
 use Rattle.set_model.specs.Deliver.{deliver}
 use Rattle.set_model.specs.Node.{Node}
 use Rattle.set_model.specs.Rows.{row}
 use Rattle.node_core.specs.declared.done.Done.{Done}
-use Rattle.node_core.specs.Acting.{Follows, MaySettle}
+use Rattle.node_core.specs.Acting.{Acted, Took, Unchanged}
+use Rattle.node_core.specs.Stands.{Stands}
 
--- the node of this number did a command, and no other node changed
-pub record Acted (number next : ℕ) (command : Command) (old new : List Node) (done : Done) : Type 0 where
-  pub node : Node
-  pub after : Node
-  pub there : slice_get old number ≡ Some node
-  pub nodes : new ≡ slice_set old number after
-  pub follows : Follows (row (length old) next done.kept node command) after done
-  pub settles : MaySettle node command done
+-- what stands at this place changed so, and nothing else in the list
+pub record OneOf {A : Type 0} (number : ℕ) (So : A → A → Type 0) (old new : List A) : Type 0 where
+  pub before : A
+  pub after : A
+  pub there : slice_get old number ≡ Some before
+  pub list : new ≡ slice_set old number after
+  pub so : So before after
 
--- the receiver took a message, and no other node changed
-pub record Took (next : ℕ) (message : Message) (old new : List Node) (done : Done) : Type 0 where
-  pub node : Node
-  pub after : Node
-  pub there : slice_get old message.to ≡ Some node
-  pub nodes : new ≡ slice_set old message.to after
-  pub follows : Follows (deliver next node message) after done
-  pub kept : done.kept ≡ false
+-- the two disks of a node changed so
+abbrev pub DisksSo : {D : Type 0} → (D → State) → (State → State → State → State → Type 0) → Node × D × D → Node × D × D → Type 0
+DisksSo state Changed old new = Changed (state old.1) (state new.1) (state old.2) (state new.2)
+
+-- a node of a set of so many did a command
+abbrev pub ActedSo : {D : Type 0} → (D → State) → ℕ → ℕ → Command → Done → Node × D × D → Node × D × D → Type 0
+ActedSo state size next command done old new =
+    Acted (row size next done.kept old.0 command) command old.0 new.0 (state old.1) (state new.1) (state old.2) (state new.2) done
+
+-- a node took a message
+abbrev pub TookSo : {D : Type 0} → (D → State) → ℕ → Message → Done → Node × D × D → Node × D × D → Type 0
+TookSo state next message done old new = Took (deliver next old.0 message) new.0 (state old.1) (state new.1) (state old.2) (state new.2) done
+
+-- a node is as it was
+abbrev pub UnchangedSo : {D : Type 0} → (D → State) → Node × D × D → Node × D × D → Type 0
+UnchangedSo state old new = Unchanged old.0 new.0 (state old.1) (state new.1) (state old.2) (state new.2)
+
+-- on its disks stands what the node is
+abbrev pub StandsOn : {D : Type 0} → (D → State) → Node × D × D → Type 0
+StandsOn state node = Stands node.0 (state node.1) (state node.2)
+
+-- and so for each of these nodes
+abbrev pub NodesStand : {D : Type 0} → (D → State) → List (Node × D × D) → Type 0
+NodesStand {D} state nodes = (number : ℕ) (node : Node × D × D) → slice_get nodes number ≡ Some node → StandsOn state node

@@ -1,5 +1,5 @@
 -- What opening a set and each of its steps do to its disks.
-use Rattle.std.specs.Prelude.{◌≡◌, ◌⊎◌, ◌<◌, ◌≤◌, ◌+◌, ◌*◌, ◌++◌, ◌∷◌, [], ℕ, IsSome, IsTrue, List, Option, Some, length, drop, slice_get, slice_set}
+use Rattle.std.specs.Prelude.{◌≡◌, ◌⊎◌, ◌<◌, ◌≤◌, ◌+◌, ◌*◌, ◌++◌, ◌∷◌, [], ℕ, IsSome, IsTrue, List, Some, length, drop, slice_get, slice_set}
 use Rattle.rs_io.specs.Fault.{Rose}
 use Rattle.rs_disk.specs.State.{State}
 use Rattle.set_model.specs.declared.command.Command.{Command}
@@ -13,14 +13,6 @@ use Rattle.node_core.specs.Stands.{Stands}
 use Rattle.set_world.specs.World.{Set}
 
 -- ---- the two disks of one node
-
--- the node of this number has other disks, which changed so
-pub record OneActed {D : Type 0} (state : D → State) (Changed : State → State → State → State → Type 0) (number : ℕ) (old new : List (Node × D × D)) : Type 0 where
-  pub before : Node × D × D
-  pub after : Node × D × D
-  pub there : slice_get old number ≡ Some before
-  pub nodes : new ≡ slice_set old number after
-  pub disks : Changed (state before.1) (state after.1) (state before.2) (state after.2)
 
 -- Of all disks only the two of this node changed, and so.
 pub record OneChanged {D : Type 0} (state : D → State) (Changed : State → State → State → State → Type 0) (number : ℕ) (old new : List D) : Type 0 where
@@ -64,13 +56,31 @@ pub record IsStep {D : Type 0} (state : D → State) (old new : Set D) (line : �
   pub disks : AtMostOne old.disks new.disks
       (OneChanged state (DisksActed command reply (IsSome event.failed)) (touched_node (run old.sizes old.history).world command) old.disks new.disks)
 
--- Memory was wanting, and nothing was done. The disks of the node that would have been touched may have been opened.
+-- Nothing was done. Where memory was wanting, the disks of the node that would have been touched may have been used: no orders
+-- were given to them.
 pub record IsUndone {D : Type 0} (state : D → State) (old new : Set D) (command : Command) : Type 0 where
   pub history : new.history ≡ old.history
   pub disks : AtMostOne old.disks new.disks
       (OneChanged state (Runs ⊥) (touched_node (run old.sizes old.history).world command) old.disks new.disks)
 
--- ---- the opening
+-- ---- two disks on which a node is opened
+
+-- The first two disks of a list became these, and the rest stays.
+pub record TwoRun {D : Type 0} (state : D → State) (Fault : Type 0) (old : List D) (journal' checkpoints' : D) (rest : List D) : Type 0 where
+  pub journal : D
+  pub checkpoints : D
+  pub first : old ≡ journal ∷ checkpoints ∷ rest
+  pub runs : Runs Fault (state journal) (state journal') (state checkpoints) (state checkpoints')
+
+-- they stand in their places again
+pub record TwoBack {D : Type 0} (state : D → State) (Fault : Type 0) (old new : List D) : Type 0 where
+  pub journal' : D
+  pub checkpoints' : D
+  pub rest : List D
+  pub back : new ≡ journal' ∷ checkpoints' ∷ rest
+  pub two : TwoRun state Fault old journal' checkpoints' rest
+
+-- ---- the opening of a set
 
 -- a disk that was used: no order was given to it
 pub record IsServed (old new : State) : Type 0 where

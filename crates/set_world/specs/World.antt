@@ -1,9 +1,8 @@
 -- The set as it stands, the events that led there, and its disks.
-use Rattle.std.specs.Prelude.{◌≡◌, ◌≤◌, ◌+◌, ◌*◌, ℕ, Vec, vec_len, vec_capacity, Bool, true, not, ◌||◌, List, [], ◌∷◌, ◌++◌, length, map, Option}
+use Rattle.std.specs.Prelude.{◌≡◌, ◌≤◌, ◌+◌, ◌*◌, ℕ, Vec, vec_len, vec_capacity, true, not, ◌||◌, List, [], ◌∷◌, ◌++◌, length, map}
 use Rattle.std.specs.declared.alloc.Global.{Global}
 use Rattle.set_model.specs.declared.command.Command.{Command}
 use Rattle.set_model.specs.declared.command.Event.{Event}
-use Rattle.set_model.specs.declared.reply.Reply.{Reply}
 use Rattle.set_model.specs.Limits.{IsRun, plan_reaches, settles_doubt}
 use Rattle.set_model.specs.Node.{Node}
 use Rattle.set_model.specs.Run.{Sizes, AreSizes, run}

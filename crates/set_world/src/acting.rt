@@ -1,13 +1,13 @@
-ghost use Rattle.std.specs.Prelude.{◌≡◌, ◌<◌, ◌≤◌, ◌^◌, ℕ, [], true, false, length, IfOk, OnErr, Some, slice_get, Contains};
+ghost use Rattle.std.specs.Prelude.{◌≡◌, ◌<◌, ◌≤◌, ◌^◌, ℕ, [], true, false, length, IfOk, IsSome, OnErr, Some, slice_get, Contains};
 ghost use Rattle.repl_msg.specs.declared.message.Message.{Message as AMessage};
 ghost use Rattle.set_model.specs.Limits.{is_for, is_within};
 ghost use Rattle.set_model.specs.Node.{Node as Standing};
-ghost use Rattle.node_core.specs.Acting.{is_here};
-ghost use Rattle.node_state.specs.Bounds.{IsBounded, IsNumbered};
 ghost use Rattle.set_model.specs.Taking.{CanTake};
-ghost use Rattle.set_world.specs.Acting.{Acted, Took};
-ghost use Rattle.set_world.specs.Disks.{AtMostOne, NodeDisks, OneActed, QuietDisks};
 ghost use Rattle.set_model.specs.World.{touched_node};
+ghost use Rattle.node_state.specs.Bounds.{IsBounded, IsNumbered};
+ghost use Rattle.node_core.specs.Acting.{DisksActed, is_here};
+ghost use Rattle.set_world.specs.Acting.{ActedSo, DisksSo, NodesStand, OneOf, TookSo, UnchangedSo};
+ghost use Rattle.set_world.specs.Disks.{AtMostOne};
 ghost use Rattle.set_world.specs.World.{Acts, nodes_in};
 
 use crate::command::{actor, delivered};
@@ -20,7 +20,8 @@ use set_model::{Command, Refusal, Reply};
 use std::alloc::Global;
 use std::thread::Threads;
 
-/// What a command comes to: its node does it, or the receiver takes the message that it delivers.
+/// What a command comes to: its node does it, or the receiver takes the message that it delivers. Where memory is wanting,
+/// that node is as it was.
 pub(crate) fn act<D: Disk, R: Threads + Sync>(
     nodes: &mut [Node<D>],
     alloc: Global,
@@ -36,8 +37,9 @@ pub(crate) fn act<D: Disk, R: Threads + Sync>(
     requires between { (message : AMessage) → Contains pool.now.messages message → message.to < length nodes.old }
     requires command { is_for pool.now.nodes command.now ≡ true }
     ensures ok { IfOk result (λ done. Acts (record { nodes = nodes_in nodes.old; messages = pool.now.messages }) command.now (nodes_in nodes.new) done) }
-    ensures disks { IfOk result (λ done. AtMostOne nodes.old nodes.new (OneActed D.state (NodeDisks command.now done.reply done.failed) (touched_node (record { nodes = nodes_in nodes.old; messages = pool.now.messages }) command.now) nodes.old nodes.new)) }
-    ensures err { OnErr result (nodes_in nodes.new ≡ nodes_in nodes.old) }
+    ensures disks { IfOk result (λ done. AtMostOne nodes.old nodes.new (OneOf (touched_node (record { nodes = nodes_in nodes.old; messages = pool.now.messages }) command.now) (DisksSo D.state (DisksActed command.now done.reply (IsSome done.failed))) nodes.old nodes.new)) }
+    ensures err { OnErr result (OneOf (touched_node (record { nodes = nodes_in nodes.old; messages = pool.now.messages }) command.now) (UnchangedSo D.state) nodes.old nodes.new) }
+    ensures stand { NodesStand D.state nodes.old → NodesStand D.state nodes.new }
     ensures len { length nodes.new ≡ length nodes.old }
 {
     let next = pool.len() as u64;
@@ -64,9 +66,8 @@ fn act_on<D: Disk, R: Threads + Sync>(
     requires next { IsNumbered next }
     requires here { is_here command.now ≡ true }
     requires within { is_within command.now ≡ true }
-    ensures ok { IfOk result (λ done. Acted number next command.now (nodes_in nodes.old) (nodes_in nodes.new) done) }
-    ensures disks { IfOk result (λ done. OneActed D.state (NodeDisks command.now done.reply done.failed) number nodes.old nodes.new) }
-    ensures err { OnErr result (nodes_in nodes.new ≡ nodes_in nodes.old) }
+    ensures ok { IfOk result (λ done. OneOf number (ActedSo D.state (length nodes.old) next command.now done) nodes.old nodes.new) }
+    ensures err { OnErr result (OneOf number (UnchangedSo D.state) nodes.old nodes.new) }
     ensures len { length nodes.new ≡ length nodes.old }
 {
     let size = nodes.len() as u32;
@@ -84,9 +85,9 @@ fn take_at<D: Disk, R: Threads + Sync>(
     requires bounds { (n : ℕ) (node : Standing) → slice_get (nodes_in nodes.old) n ≡ Some node → IsBounded node }
     requires next { IsNumbered next }
     requires message { (node : Standing) → slice_get (nodes_in nodes.old) message.now.to ≡ Some node → node.up ≡ true → CanTake node message.now }
-    ensures ok { IfOk result (λ done. Took next message.now (nodes_in nodes.old) (nodes_in nodes.new) done) }
-    ensures disks { IfOk result (λ done. OneActed D.state (QuietDisks done.failed) message.now.to nodes.old nodes.new) }
-    ensures err { OnErr result (nodes_in nodes.new ≡ nodes_in nodes.old) }
+    ensures ok { IfOk result (λ done. OneOf message.now.to (TookSo D.state next message.now done) nodes.old nodes.new) }
+    ensures unkept { IfOk result (λ done. done.kept ≡ false) }
+    ensures err { OnErr result (OneOf message.now.to (UnchangedSo D.state) nodes.old nodes.new) }
     ensures len { length nodes.new ≡ length nodes.old }
 {
     nodes[message.to as usize].take(rt, next, message)

@@ -1,10 +1,13 @@
 // The nodes of a set, opened on its first disks and closed again.
-ghost use Rattle.std.specs.Prelude.{◌≡◌, ◌<◌, ◌≤◌, ◌+◌, ◌*◌, ◌++◌, ◌∷◌, [], All, drop, vec_len, vec_capacity, IfOk, IsErr, None, OnErr, OnOk};
+ghost use Rattle.std.specs.Prelude.{◌≡◌, ◌<◌, ◌≤◌, ◌+◌, ◌*◌, ◌++◌, ◌∷◌, [], All, vec_len, vec_capacity, IfErr, IfOk, None, OnErr, OnOk};
 ghost use Rattle.rs_disk.specs.File.{IsEmpty};
 ghost use Rattle.member_config.specs.Config.{first_config as begins_with};
 ghost use Rattle.member_config.specs.Rule.{rule};
 ghost use Rattle.set_model.specs.Node.{opening_node};
 ghost use Rattle.set_model.specs.World.{nodes_from};
+ghost use Rattle.record_file.specs.declared.error.FileError.TheVariants.{Disk as IsDisk};
+ghost use Rattle.set_world.specs.Acting.{NodesStand, StandsOn};
+ghost use Rattle.set_world.specs.Disks.{Opens, TwoBack, TwoRun};
 ghost use Rattle.set_world.specs.World.{CanTakeBack, disks_in, nodes_in};
 
 use bson_doc::Mem;
@@ -41,7 +44,8 @@ fn put_first<D: Disk>(disks: &mut Vec<D>, disk: D)
     }
 }
 
-/// Opens nodes on the first disks, two for each. Where one can't be opened, all disks stand in their places again.
+/// Opens nodes on the first disks, two for each. Where one can't be opened, all disks stand in their places again, as they
+/// are by then.
 pub(crate) fn open_nodes<D: Disk>(
     alloc: Global,
     count: u32,
@@ -54,7 +58,9 @@ pub(crate) fn open_nodes<D: Disk>(
     requires empty { All (λ (disk : D). IsEmpty (D.state disk).file) disks.old.items }
     ensures nodes { IfOk result (λ nodes. nodes_in nodes.items ≡ nodes_from config.now 0 count) }
     ensures room { IfOk result (λ nodes. CanTakeBack (vec_len nodes) disks.new) }
-    ensures all { IsErr result → vec_len disks.new ≡ vec_len disks.old }
+    ensures stand { IfOk result (λ nodes. NodesStand D.state nodes.items) }
+    ensures opened { IfOk result (λ nodes. Opens D.state count ⊥ disks.old.items (disks_in nodes.items ++ disks.new.items)) }
+    ensures refused { IfErr result (λ error. Opens D.state count (error ≡ IsDisk) disks.old.items disks.new.items) }
 {
     let mut nodes = Vec::with_capacity(alloc, count as usize)?;
     for number in 0..count {
@@ -81,7 +87,9 @@ fn open_next<D: Disk>(
     requires enough { 2 ≤ vec_len disks.old }
     requires empty { All (λ (disk : D). IsEmpty (D.state disk).file) disks.old.items }
     ensures node { IfOk result (λ node. node.0 ≡ opening_node config.now number) }
-    ensures rest { OnOk result (disks.new.items ≡ drop 2 disks.old.items) }
+    ensures stands { IfOk result (StandsOn D.state) }
+    ensures two { IfOk result (λ node. TwoRun D.state ⊥ disks.old.items node.1 node.2 disks.new.items) }
+    ensures back { IfErr result (λ error. TwoBack D.state (error ≡ IsDisk) disks.old.items disks.new.items) }
     ensures fewer { OnOk result (vec_len disks.new + 2 ≡ vec_len disks.old) }
     ensures all { OnErr result (vec_len disks.new ≡ vec_len disks.old) }
     ensures capacity { vec_capacity disks.new ≡ vec_capacity disks.old }

@@ -26,8 +26,8 @@ const MOST_EVENTS: usize = 4_294_967_295;
 /// No event sends more messages.
 const MOST_SENT: usize = 7;
 
-/// A replica set on its disks, with the events that led there. Contracts see the events and the disks: the nodes and the
-/// messages are those of the last world of the events' run.
+/// A replica set: its nodes on their disks, every message that was sent, and the events that led there. Contracts see the
+/// events and the disks: the nodes and the messages are those of the last world of the events' run.
 #[derive(Drop)]
 pub struct World<D: Disk> {
     alloc: Global,
@@ -50,19 +50,21 @@ impl<D: Disk> Model for World<D> {
 
     ghost coded = { Prim.hlevel (codes, event.the_row.coded) };
 
-    ghost use Rattle.set_world.specs.Disks.{DisksStep, StandsThere};
+    ghost use Rattle.set_world.specs.Acting.{NodesStand};
     ghost use Rattle.set_world.specs.World.{CanTakeBack, IsStanding};
 
     ghost view = { λ w. record { sizes = record { nodes = w.size; members = w.members }; history = w.history.items; disks = disks_in w.nodes.items ++ w.idle.items } };
 
-    ghost invariant = { λ w. IsStanding (record { nodes = w.size; members = w.members }) w.history.items (nodes_in w.nodes.items) w.pool × CanTakeBack (vec_len w.nodes) w.idle };
+    ghost invariant = { λ w. IsStanding (record { nodes = w.size; members = w.members }) w.history.items (nodes_in w.nodes.items) w.pool × CanTakeBack (vec_len w.nodes) w.idle × NodesStand D.state w.nodes.items };
 }
 
 impl<D: Disk> World<D> {
-    /// A set of so many nodes, of which the first are members, on 100 empty disks. Its nodes are opened in order of number.
+    /// A set of so many nodes, of which the first are members, on 100 empty disks. Its nodes are opened in order of number,
+    /// each on the next two disks: its journal, and then its checkpoints.
     ///
     /// # Errors
-    /// `Disk` where a disk of one of the nodes failed. Either error hands the disks back.
+    /// `Disk` where a disk of one of the nodes failed, and `Memory` where memory was wanting. Either hands back the disks, each
+    /// in its place, as the nodes that were opened by then have left them.
     #[tactic(auto, using(crate::proofs::OpenLemmas::begins))]
     pub fn open(
         alloc: Global,
@@ -102,7 +104,12 @@ impl<D: Disk> World<D> {
         }
     }
 
-    /// Does one command, and adds its event to the history. Want of memory leaves both as they were.
+    /// Does one command, and adds its event, of this line, to the history. A store that fails is no error: the event says
+    /// which one did.
+    ///
+    /// # Errors
+    /// `HistoryFull` where the history has 4,294,967,295 events, and `Memory` where memory was wanting. The nodes, the messages
+    /// and the history are then as they were; the disks of the node that would have acted may have been used.
     pub fn step<R: Threads + Sync>(
         &mut self,
         rt: &R,
@@ -129,7 +136,13 @@ impl<D: Disk> World<D> {
             sent,
             failed,
             kept,
-        } = act(&mut self.nodes, self.alloc, rt, &self.pool, command)?;
+        } = match act(&mut self.nodes, self.alloc, rt, &self.pool, command) {
+            Ok(done) => done,
+            Err(_) => {
+                drop(copied);
+                return Err(StepError::Memory);
+            }
+        };
         self.pool.add(sent);
         let event = Event {
             line,
@@ -144,7 +157,7 @@ impl<D: Disk> World<D> {
         Ok(reply)
     }
 
-    /// Hands back the history and the disks.
+    /// Hands back the history, and the disks in their places.
     pub fn close(self) -> (Vec<Event>, Vec<D>)
         ensures history { result.0.items ≡ self.history }
         ensures disks { result.1.items ≡ self.disks }
@@ -170,7 +183,7 @@ impl<D: Disk> World<D> {
         &self.history
     }
 
-    /// A node, as it is in the last world of the history.
+    /// Lends the node of this number, as it is in the last world of the history. The set has to have a node of that number.
     pub fn node(&self, node: u32) -> &Node<D>
         requires { node < self.now.sizes.nodes }
         ensures { slice_get (run self.now.sizes self.now.history).world.nodes node ≡ Some result.now.0 }

@@ -1,5 +1,6 @@
-use Rattle.set_world.proofs.DiskLemmas.{disks_took}
-use Rattle.set_world.proofs.NodesLemmas.{node_at, took_at, same_nodes}
+use Rattle.set_world.specs.Acting.{TookSo, UnchangedSo}
+use Rattle.set_world.proofs.DiskLemmas.{done_at, undone_at}
+use Rattle.set_world.proofs.NodesLemmas.{node_at}
 use Rattle.set_world.proofs.acting.take_at.Goals as goal
 
 pub take-requires-clause-bounds : goal.take-requires-clause-bounds
@@ -10,12 +11,7 @@ take-requires-clause-message g c κs within = c.requires.message _ (node_at c.ar
 
 pub returns-clause-ok : goal.returns-clause-ok
 returns-clause-ok g c =
-    took_at c.args.nodes.now c.args.next c.args.message.now c.index-nodes-message.result c.take.new.self c.take.result c.requires.known c.take.ensures.done c.take.ensures.kept
+    done_at (TookSo g.D.Disk.state c.args.next c.args.message.now) c.args.nodes.now c.args.message.now.to c.index-nodes-message.result c.take.new.self c.take.result c.requires.known c.take.ensures.ok
 
 pub returns-clause-err : goal.returns-clause-err
-returns-clause-err g c = same_nodes c.args.nodes.now c.args.message.now.to c.index-nodes-message.result c.take.new.self c.take.result c.requires.known c.take.ensures.err
-
-pub returns-clause-disks : goal.returns-clause-disks
-returns-clause-disks g c =
-    disks_took g.D.Disk.state c.args.nodes.now c.args.message.now.to c.index-nodes-message.result c.take.new.self c.take.result c.requires.known
-    c.take.ensures.faults c.take.ensures.journal_orders c.take.ensures.checkpoint_orders
+returns-clause-err g c = undone_at (UnchangedSo g.D.Disk.state) c.args.nodes.now c.args.message.now.to c.index-nodes-message.result c.take.new.self c.take.result c.requires.known c.take.ensures.err

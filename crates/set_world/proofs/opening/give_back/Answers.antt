@@ -12,8 +12,8 @@ loop-node-preserved g c =
     let wide_too : vec_capacity c.put_first-in-Some.new.disks ≡ vec_capacity c.put_first.new.disks = c.put_first-in-Some.ensures.capacity in
     let all = c.loop-node.invariant.2 in (
       last_back c.loop-node.nodes.items c.pop.new.self.items c.in-Some.node c.loop-node.disks.items c.put_first.new.disks.items c.put_first-in-Some.new.disks.items c.in-Some.ensures.items
-          (c.put_first.ensures.items ∙ ap (λ d. d ∷ c.loop-node.disks.items) c.close-journal.ensures.checkpoints)
-          (c.put_first-in-Some.ensures.items ∙ ap (λ d. d ∷ c.put_first.new.disks.items) c.close-journal.ensures.journal) ∙ c.loop-node.invariant.0,
+          (c.put_first.ensures.items ∙ ap (λ d. d ∷ c.loop-node.disks.items) (ap (λ (p : g.row.D.Denot × g.row.D.Denot). p.1) c.close-journal.ensures))
+          (c.put_first-in-Some.ensures.items ∙ ap (λ d. d ∷ c.put_first.new.disks.items) (ap (λ (p : g.row.D.Denot × g.row.D.Denot). p.0) c.close-journal.ensures)) ∙ c.loop-node.invariant.0,
       omega (arith, fewer, room, one, two, wide, wide_too),
       omega (arith, fewer, one, two, all),
     )

@@ -1,5 +1,9 @@
-use Rattle.std.proofs.Common.{◌≡◌, ◌∙◌, ◌≤◌, ◌+◌, ◌*◌, arith, vec_len, vec_capacity}
+use Rattle.std.proofs.Common.{◌≡◌, ◌∙◌, ◌≤◌, ◌+◌, ◌*◌, ◌++◌, arith, length, rules, subst, vec_len, vec_capacity}
+use Rattle.record_file.specs.declared.error.FileError.TheVariants.{Disk}
 use Rattle.rs_disk.specs.File.{IsEmpty}
+use Rattle.set_model.specs.World.{nodes_from}
+use Rattle.set_world.specs.World.{disks_in, nodes_in}
+use Rattle.set_world.proofs.DisksOpenLemmas.{more_stand, opens_more, opens_refused, opens_wide}
 use Rattle.set_world.proofs.OpenLemmas.{nodes_more, all_behind}
 use Rattle.set_world.proofs.opening.open_nodes.Goals as goal
 
@@ -8,6 +12,7 @@ loop-number-preserved g c =
     let so_far = c.loop-number.invariant in
     let len : vec_len c.keep.new.nodes ≡ vec_len c.loop-number.nodes + 1 = c.keep.ensures.len in
     let was : vec_len c.loop-number.nodes ≡ c.loop-number.number = so_far.1 in
+    let many : length c.loop-number.nodes.items ≡ vec_len c.loop-number.nodes = search rules in
     let wide : vec_capacity c.loop-number.nodes ≤ vec_capacity c.keep.new.nodes = c.keep.ensures.capacity in
     let room : c.args.count ≤ vec_capacity c.loop-number.nodes = so_far.2 in
     let left : vec_len c.loop-number.disks + 2 * c.loop-number.number ≡ vec_len c.args.disks.now = so_far.3 in
@@ -17,5 +22,25 @@ loop-number-preserved g c =
       omega (arith, wide, room),
       omega (arith, left, fewer),
       c.open_next.ensures.capacity ∙ so_far.4,
-      all_behind (λ disk. IsEmpty (g.D.Disk.state disk).file) c.loop-number.disks.items c.open_next.new.disks.items so_far.5 c.in-Ok.ensures.rest,
+      all_behind (λ disk. IsEmpty (g.D.Disk.state disk).file) c.loop-number.disks.items c.open_next.new.disks.items c.in-Ok.ensures.two.journal c.in-Ok.ensures.two.checkpoints c.in-Ok.ensures.two.first so_far.5,
+      more_stand g.D.Disk.state c.loop-number.nodes.items c.keep.new.nodes.items c.in-Ok.node so_far.6 c.in-Ok.ensures.stands c.keep.ensures.items,
+      opens_more g.D.Disk.state c.loop-number.number c.args.disks.now.items c.loop-number.nodes.items c.keep.new.nodes.items c.in-Ok.node c.loop-number.disks.items c.open_next.new.disks.items so_far.7
+          (many ∙ was) c.in-Ok.ensures.two c.keep.ensures.items,
     )
+
+pub returns-in-Err-clause-refused : goal.returns-in-Err-clause-refused
+returns-in-Err-clause-refused g c =
+    let many : length c.loop-number.nodes.items ≡ vec_len c.loop-number.nodes = search rules in
+    opens_refused g.D.Disk.state c.loop-number.number c.args.count (c.in-Err.error ≡ Disk) c.args.disks.now.items c.loop-number.nodes.items c.loop-number.disks.items c.open_next.new.disks.items c.give_back.new.disks.items
+    c.loop-number.invariant.7 (many ∙ c.loop-number.invariant.1) c.loop-number-test.true c.in-Err.ensures.back c.give_back.ensures.items
+
+pub returns-clause-nodes : goal.returns-clause-nodes
+returns-clause-nodes g c =
+    let least : c.args.count ≤ c.loop-number.number = c.loop-number-test.false in
+    let most : c.loop-number.number ≤ c.args.count = c.loop-number.auto.number-end in
+    let all : c.loop-number.number ≡ c.args.count = omega (arith, least, most) in
+    subst (λ n. nodes_in c.loop-number.nodes.items ≡ nodes_from c.args.config.now 0 n) all c.loop-number.invariant.0
+
+pub returns-clause-opened : goal.returns-clause-opened
+returns-clause-opened g c =
+    opens_wide g.D.Disk.state c.loop-number.number c.args.count ⊥ c.args.disks.now.items (disks_in c.loop-number.nodes.items ++ c.loop-number.disks.items) c.loop-number.auto.number-end c.loop-number.invariant.7
