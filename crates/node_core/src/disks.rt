@@ -7,10 +7,10 @@ ghost use Rattle.node_core.specs.Putting.{CanBePut, IsShortStore, Puts, SHORT};
 ghost use Rattle.node_core.specs.Resting.{Rests};
 ghost use Rattle.set_model.specs.Node.{Node};
 
-use node_state::State;
 use bson_doc::Mem;
 use checkpoint_store::Checkpoints;
 use node_journal::Journal;
+use node_state::State;
 use record_file::FileError;
 use rs_disk::Disk;
 use set_model::Store;

@@ -26,14 +26,14 @@ ghost use Rattle.rs_disk.specs.State.{State as OnDisk};
 ghost use Rattle.set_model.specs.Stores.{Plan};
 ghost use Rattle.set_model.specs.Taking.{CanTake};
 
+use crate::Done;
 use crate::disks::Disks;
 use crate::storing::{Ended, act_own, take_in};
-use crate::Done;
-use node_state::State;
 use bson_doc::Mem;
 use checkpoint_store::Checkpoints;
 use member_config::Config;
 use node_journal::Journal;
+use node_state::State;
 use node_tables::Records;
 use record_file::FileError;
 use repl_msg::Message;
@@ -181,7 +181,7 @@ impl<D: Disk> Node<D> {
             return Ok(self.answered(Reply::Refused(Refusal::NodeDown)));
         }
         let ended = take_in(&mut self.state, &mut self.disks, rt, next, message)?;
-        Ok(told(&self.state, &mut self.up, &mut self.left, ended))
+        Ok(told(self.alloc, &self.state, &mut self.up, &mut self.left, ended))
     }
 
     // A command that a node does in memory, storing as it goes.
@@ -205,7 +205,7 @@ impl<D: Disk> Node<D> {
             return Ok(self.act_down(command));
         }
         let ended = act_own(&mut self.state, &mut self.disks, rt, nodes, next, command)?;
-        Ok(told(&self.state, &mut self.up, &mut self.left, ended))
+        Ok(told(self.alloc, &self.state, &mut self.up, &mut self.left, ended))
     }
 
     // Only the clock of a node that is down is set.
@@ -216,7 +216,7 @@ impl<D: Disk> Node<D> {
             (D.state self.old.1) (D.state self.new.1) (D.state self.old.2) (D.state self.new.2) result }
         ensures unkept { result.kept ≡ false }
     {
-        self.state.is_coherent();
+        self.state.is_sound();
         match command {
             Command::Clock { seconds, .. } => {
                 self.left.clock = *seconds;
@@ -292,7 +292,7 @@ impl<D: Disk> Node<D> {
     pub fn is_up(&self) -> bool
         ensures { result ≡ self.now.0.up }
     {
-        self.state.is_coherent();
+        self.state.is_sound();
         self.up
     }
 
@@ -316,7 +316,7 @@ impl<D: Disk> Node<D> {
 }
 
 // What was done by how a turn ended. A node of which a store failed is down from there on.
-fn told(state: &State, up: &mut bool, left: &mut Left, ended: Ended) -> Done
+fn told(alloc: Global, state: &State, up: &mut bool, left: &mut Left, ended: Ended) -> Done
     requires { up.old ≡ true }
     ensures follows { (plan : Plan) → EndsFrom 0 plan state.now.node ended → Follows plan (seen_node up.new state.now.node (left_in left.new)) result }
     ensures rests { (count : ℕ) (journal checkpoints : OnDisk) → Leaves ended state.now.node count journal checkpoints
@@ -336,7 +336,7 @@ fn told(state: &State, up: &mut bool, left: &mut Left, ended: Ended) -> Done
             *left = left_of(state, Some(item));
             Done {
                 reply: Reply::Refused(Refusal::DiskFailed),
-                sent: Vec::new(state.alloc),
+                sent: Vec::new(alloc),
                 failed: Some(number),
                 kept: false,
             }
