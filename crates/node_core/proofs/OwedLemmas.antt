@@ -1,5 +1,5 @@
 -- What a sound node stores can be put on its disks, and it can come back with it.
-use Rattle.std.proofs.Common.{◌≡◌, ap, sym, ℕ, List, Option, None, Some, arith}
+use Rattle.std.proofs.Common.{◌≡◌, ap, sym, refl, ℕ, List, Option, None, Some, arith}
 use Rattle.std.specs.Prelude.{◌≢◌, ◌<◌, All, IfSome}
 use Rattle.oplog_entry.specs.Docs.{docs}
 use Rattle.oplog_entry.specs.declared.entry.Entry.{Entry}
@@ -16,6 +16,7 @@ use Rattle.node_state.specs.Ready.{CanBeStored}
 use Rattle.node_state.specs.WellKept.{StoresWell}
 use Rattle.node_state.proofs.VoterLemmas.{few_members}
 use Rattle.node_core.specs.Putting.{CanBePut}
+use Rattle.node_core.specs.Resting.{IsWellKeptWith}
 use Rattle.node_core.proofs.SavableLemmas.{savable}
 
 -- ---- what a journal takes
@@ -45,3 +46,9 @@ can_be_put node (stores.Checkpoint at) sound can well = record {
   kept_so = λ i. docs (sym well.shown i);
   each = savable node at sound;
 }
+
+-- ---- what it can come back with
+
+pub well_with : (node : Node) (item : Store) → StoresWell node item → IsWellKeptWith node item
+well_with node (stores.Record item) well = (well.well, well.same)
+well_with node (stores.Checkpoint at) well = (well.well, refl)
