@@ -1,6 +1,6 @@
 -- What a command or a message comes to at a node on its disks, by what was done in memory and on the disks.
 use Rattle.std.proofs.Common.{◌≡◌, ◌∙◌, inl, ap, sym, subst, refl, ℕ, Bool, true, false, not, ◌&&◌, ◌||◌, [], Option, None, if◌then◌else◌}
-use Rattle.std.specs.Prelude.{IsSome}
+use Rattle.std.specs.Prelude.{IsSome, IfOk, Result, Ok, Err}
 use Rattle.rs_disk.specs.Orders.{Orders}
 use Rattle.rs_disk.specs.State.{State}
 use Rattle.node_journal.proofs.DiskLemmas.{rest_only}
@@ -18,7 +18,7 @@ use Rattle.node_core.proofs.PuttingLemmas.{runs_as, runs_none}
 use Rattle.set_model.specs.Limits.{is_restart, passes_first, is_in_doubt}
 use Rattle.set_model.specs.Node.{Node}
 use Rattle.set_model.specs.Stores.{Plan, finished, done as comes_to, reaches, if_up}
-use Rattle.node_core.specs.Acting.{Acted, Follows, Runs, orders_after}
+use Rattle.node_core.specs.Acting.{Acted, Follows, Runs, Took, is_here, orders_after}
 use Rattle.node_state.specs.Bounds.{is_own}
 use Rattle.node_core.specs.Down.{Left, down_node, seen_node}
 use Rattle.node_core.specs.Resting.{IsResting, Rests}
@@ -51,24 +51,44 @@ own_orders name (DiskFail node disk call pick) answer orders own = absurd (own_n
 own_orders name _ answer orders own = refl
 
 -- nothing was in doubt
-unkept : (old : Node) (command : Command) (done : Done) → done.kept ≡ false
+pub unkept : (old : Node) (command : Command) (done : Done) → done.kept ≡ false
     → (not done.kept || (is_restart command && passes_first done.failed && is_in_doubt old)) ≡ true
 unkept old command done kept = ap (λ (k : Bool). not k || (is_restart command && passes_first done.failed && is_in_doubt old)) kept
 
-pub acted_own : (plan : Plan) (command : Command) (old new : Node) (j j' c c' : State) (done : Done) → is_own command ≡ true → Follows plan new done → done.kept ≡ false
-    → Stands new j' c' → Runs (IsSome done.failed) j j' c c' → Acted plan command old new j j' c c' done
-acted_own plan command old new j j' c c' done own follows kept stands runs = record {
-  follows = follows;
+-- a command of a node in memory, by what it came to there
+pub acted_own : (plan : Plan) (command : Command) (old new : Node) (j j' c c' : State) (done : Done) → is_own command ≡ true → done.kept ≡ false
+    → Took plan new j j' c c' done → Acted plan command old new j j' c c' done
+acted_own plan command old new j j' c c' done own kept took = record {
+  follows = took.follows;
   settles = unkept old command done kept;
-  stands = stands;
+  stands = took.stands;
   disks = record {
-    fails = runs.fails;
-    journal_armed = λ _. runs.journal_armed;
-    checkpoints_armed = λ _. runs.checkpoints_armed;
-    journal_orders = runs.journal_orders ∙ sym (own_orders disks.Journal command done.reply j.orders own);
-    checkpoints_orders = runs.checkpoints_orders ∙ sym (own_orders disks.Checkpoint command done.reply c.orders own);
+    fails = took.runs.fails;
+    journal_armed = λ _. took.runs.journal_armed;
+    checkpoints_armed = λ _. took.runs.checkpoints_armed;
+    journal_orders = took.runs.journal_orders ∙ sym (own_orders disks.Journal command done.reply j.orders own);
+    checkpoints_orders = took.runs.checkpoints_orders ∙ sym (own_orders disks.Checkpoint command done.reply c.orders own);
   };
 }
+
+-- as a result where memory may have been wanting
+pub own_acted : {E : Type 0} (result : Result Done E) (nodes next : ℕ) (command : Command) (old new : Node) (j j' c c' : State) → is_own command ≡ true
+    → IfOk result (λ done. Took (row nodes next false old command) new j j' c c' done) → IfOk result (λ done. done.kept ≡ false)
+    → IfOk result (λ done. Acted (row nodes next done.kept old command) command old new j j' c c' done)
+own_acted (Err error) nodes next command old new j j' c c' own took kept = tt
+own_acted (Ok done) nodes next command old new j j' c c' own took kept =
+    subst (λ (k : Bool). Acted (row nodes next k old command) command old new j j' c c' done) (sym kept)
+    (acted_own (row nodes next false old command) command old new j j' c c' done own kept took)
+
+-- which commands those are
+pub own_here : (command : Command) → is_here command ≡ true → ((n pick : ℕ) → command ≡ Crash n pick → ⊥) → ((n : ℕ) → command ≡ Restart n → ⊥)
+    → ((n : ℕ) (disk : DiskName) (call : ℕ) (pick : Option ℕ) → command ≡ DiskFail n disk call pick → ⊥) → is_own command ≡ true
+own_here (Deliver message) here crash restart fail = absurd (own_not here)
+own_here (DeliverLatest from to) here crash restart fail = absurd (own_not here)
+own_here (Crash n pick) here crash restart fail = absurd (crash n pick refl)
+own_here (Restart n) here crash restart fail = absurd (restart n refl)
+own_here (DiskFail n disk call pick) here crash restart fail = absurd (fail n disk call pick refl)
+own_here _ here crash restart fail = refl
 
 -- ---- commands that store nothing
 
@@ -81,7 +101,7 @@ answered_follows plan node answer done is reply sent failed = record {
 }
 
 -- no store failed
-unfailed : (failed : Option ℕ) → failed ≡ None → ¬ IsSome failed
+pub unfailed : (failed : Option ℕ) → failed ≡ None → ¬ IsSome failed
 unfailed failed none some = own_not (subst (λ (f : Option ℕ). IsSome f) none some)
 
 pub answered_runs : (j c : State) (done : Done) → done.failed ≡ None → Runs (IsSome done.failed) j j c c
@@ -102,25 +122,29 @@ down_row nodes next node (Restart n) own not down = absurd (own_not own)
 down_row nodes next node (DiskFail n disk call pick) own not down = absurd (own_not own)
 down_row nodes next node _ own not down = while_down node _ down
 
-module _ (node : Node) (left : Left) (count : ℕ) (j c : State) (done : Done) (kept : done.kept ≡ false) (failed : done.failed ≡ None) (sent : done.sent.items ≡ []) where
+module _ (node : Node) (left : Left) (count : ℕ) (j c : State) (done : Done) (failed : done.failed ≡ None) (sent : done.sent.items ≡ []) where
   -- it answers that it is down
-  pub acted_down : (up : Bool) → IsResting up node left count j c → (nodes next : ℕ) (command : Command) → is_own command ≡ true
+  pub took_down : (up : Bool) → IsResting up node left count j c → (nodes next : ℕ) (command : Command) → is_own command ≡ true
       → ((n seconds : ℕ) → command ≡ Clock n seconds → ⊥) → (seen_node up node left).up ≡ false → done.reply ≡ reply.Refused NodeDown
-      → Acted (row nodes next false (seen_node up node left) command) command (seen_node up node left) (seen_node up node left) j j c c done
-  acted_down up resting nodes next command own not down answer =
+      → Took (row nodes next false (seen_node up node left) command) (seen_node up node left) j j c c done
+  took_down up resting nodes next command own not down answer =
       let seen = seen_node up node left in
-      acted_own (row nodes next false seen command) command seen seen j j c c done own
-      (answered_follows (row nodes next false seen command) seen (reply.Refused NodeDown) done (down_row nodes next seen command own not down) answer sent failed)
-      kept (resting_stands up node left count j c resting) (answered_runs j c done failed)
+      record {
+        follows = answered_follows (row nodes next false seen command) seen (reply.Refused NodeDown) done (down_row nodes next seen command own not down) answer sent failed;
+        stands = resting_stands up node left count j c resting;
+        runs = answered_runs j c done failed;
+      }
 
   -- only its clock is set
-  pub acted_clock : (up : Bool) → IsResting up node left count j c → node.up ≡ true → (seen_node up node left).up ≡ false → (nodes next : ℕ) (command : Command) (n seconds : ℕ)
+  pub took_clock : (up : Bool) → IsResting up node left count j c → node.up ≡ true → (seen_node up node left).up ≡ false → (nodes next : ℕ) (command : Command) (n seconds : ℕ)
       → command ≡ Clock n seconds → done.reply ≡ reply.Clock seconds
-      → Acted (row nodes next false (seen_node up node left) command) command (seen_node up node left) (seen_node up node (record left { clock = seconds })) j j c c done
-  acted_clock true resting is_up down nodes next command n seconds is answer = absurd (own_not (sym down ∙ is_up))
-  acted_clock false lies is_up down nodes next command n seconds is answer =
+      → Took (row nodes next false (seen_node up node left) command) (seen_node up node (record left { clock = seconds })) j j c c done
+  took_clock true resting is_up down nodes next command n seconds is answer = absurd (own_not (sym down ∙ is_up))
+  took_clock false lies is_up down nodes next command n seconds is answer =
       let seen = down_node node left in
       let new = down_node node (record left { clock = seconds }) in
-      acted_own (row nodes next false seen command) command seen new j j c c done (ap (λ (x : Command). is_own x) is)
-      (answered_follows (row nodes next false seen command) new (reply.Clock seconds) done (ap (λ (x : Command). row nodes next false seen x) is) answer sent failed)
-      kept (record { records = lies.stands.records; documents = lies.stands.documents }) (answered_runs j c done failed)
+      record {
+        follows = answered_follows (row nodes next false seen command) new (reply.Clock seconds) done (ap (λ (x : Command). row nodes next false seen x) is) answer sent failed;
+        stands = record { records = lies.stands.records; documents = lies.stands.documents };
+        runs = answered_runs j c done failed;
+      }

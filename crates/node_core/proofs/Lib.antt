@@ -2,5 +2,8 @@ pub mod ActingLemmas
 pub mod CarryLemmas
 pub mod DeliverLemmas
 pub mod DoesLemmas
+pub mod OpeningLemmas
 pub mod OwedLemmas
+pub mod PowerLemmas
 pub mod PuttingLemmas
+pub mod SavableLemmas

@@ -26,14 +26,14 @@ ghost use Rattle.rs_disk.specs.State.{State as OnDisk};
 ghost use Rattle.set_model.specs.Stores.{Plan};
 ghost use Rattle.set_model.specs.Taking.{CanTake};
 
+use crate::Done;
 use crate::disks::Disks;
 use crate::storing::{Ended, act_own, take_in};
-use crate::Done;
-use node_state::State;
 use bson_doc::Mem;
 use checkpoint_store::Checkpoints;
 use member_config::Config;
 use node_journal::Journal;
+use node_state::State;
 use node_tables::Records;
 use record_file::FileError;
 use repl_msg::Message;
@@ -93,10 +93,10 @@ impl<D: Disk> Model for Node<D> {
 }
 
 impl<D: Disk> Node<D> {
-    /// A node as the set begins, on two empty disks.
+    /// A node as the set begins, on two empty disks: the journal's, and that of the checkpoints.
     ///
     /// # Errors
-    /// `Disk` where a disk failed. The disks are handed back, the journal's first.
+    /// `Memory`, or `Disk` where one of them failed. The disks are handed back in the same order.
     pub fn open(
         alloc: Global,
         number: u32,
@@ -138,7 +138,11 @@ impl<D: Disk> Node<D> {
         })
     }
 
-    /// Does what a command asks of this node, in a set of so many nodes, where the next message gets this number.
+    /// Does what a command asks of this node, in a set of so many nodes, where the next message gets this number. A store that
+    /// fails is no error: it has its number in `failed`, and the node is down then and sends nothing.
+    ///
+    /// # Errors
+    /// Only memory can be wanting. Then the node is as it was, and its disks keep what they kept.
     pub fn act<R: Threads + Sync>(
         &mut self,
         rt: &R,
@@ -167,7 +171,11 @@ impl<D: Disk> Node<D> {
         }
     }
 
-    /// Takes a message of the set, where the next message gets this number.
+    /// Takes a message of the set, where the next message gets this number. A node that is down refuses it. A store that fails is
+    /// no error: it has its number in `failed`, and the node is down then and sends nothing.
+    ///
+    /// # Errors
+    /// Only memory can be wanting. Then the node is as it was, and its disks keep what they kept.
     pub fn take<R: Threads + Sync>(&mut self, rt: &R, next: u64, message: &Message) -> Mem<Done>
         requires bounds { IsBounded self.old.0 }
         requires next { IsNumbered next }
@@ -177,11 +185,12 @@ impl<D: Disk> Node<D> {
         ensures unkept { IfOk result (λ done. done.kept ≡ false) }
         ensures err { OnErr result (Unchanged self.old.0 self.new.0 (D.state self.old.1) (D.state self.new.1) (D.state self.old.2) (D.state self.new.2)) }
     {
+        self.state.is_sound();
         if !self.up {
             return Ok(self.answered(Reply::Refused(Refusal::NodeDown)));
         }
         let ended = take_in(&mut self.state, &mut self.disks, rt, next, message)?;
-        Ok(told(&self.state, &mut self.up, &mut self.left, ended))
+        Ok(told(self.alloc, &self.state, &mut self.up, &mut self.left, ended))
     }
 
     // A command that a node does in memory, storing as it goes.
@@ -196,7 +205,7 @@ impl<D: Disk> Node<D> {
         requires next { IsNumbered next }
         requires own { is_own command.now ≡ true }
         requires within { is_within command.now ≡ true }
-        ensures ok { IfOk result (λ done. Acted (row nodes next false self.old.0 command.now) command.now self.old.0 self.new.0
+        ensures ok { IfOk result (λ done. Took (row nodes next false self.old.0 command.now) self.new.0
             (D.state self.old.1) (D.state self.new.1) (D.state self.old.2) (D.state self.new.2) done) }
         ensures unkept { IfOk result (λ done. done.kept ≡ false) }
         ensures err { OnErr result (Unchanged self.old.0 self.new.0 (D.state self.old.1) (D.state self.new.1) (D.state self.old.2) (D.state self.new.2)) }
@@ -205,18 +214,18 @@ impl<D: Disk> Node<D> {
             return Ok(self.act_down(command));
         }
         let ended = act_own(&mut self.state, &mut self.disks, rt, nodes, next, command)?;
-        Ok(told(&self.state, &mut self.up, &mut self.left, ended))
+        Ok(told(self.alloc, &self.state, &mut self.up, &mut self.left, ended))
     }
 
     // Only the clock of a node that is down is set.
     fn act_down(&mut self, command: &Command) -> Done
         requires down { self.old.0.up ≡ false }
         requires own { is_own command.now ≡ true }
-        ensures ok { (nodes next : ℕ) → Acted (row nodes next false self.old.0 command.now) command.now self.old.0 self.new.0
+        ensures ok { (nodes next : ℕ) → Took (row nodes next false self.old.0 command.now) self.new.0
             (D.state self.old.1) (D.state self.new.1) (D.state self.old.2) (D.state self.new.2) result }
         ensures unkept { result.kept ≡ false }
     {
-        self.state.is_coherent();
+        self.state.is_sound();
         match command {
             Command::Clock { seconds, .. } => {
                 self.left.clock = *seconds;
@@ -247,6 +256,8 @@ impl<D: Disk> Node<D> {
             (D.state self.old.1) (D.state self.new.1) (D.state self.old.2) (D.state self.new.2) result }
         ensures unkept { result.kept ≡ false }
     {
+        self.state.is_sound();
+        self.state.is_well_kept();
         if !self.up {
             return self.answered(Reply::Refused(Refusal::NodeDown));
         }
@@ -273,14 +284,11 @@ impl<D: Disk> Node<D> {
             (D.state self.old.1) (D.state self.new.1) (D.state self.old.2) (D.state self.new.2) result }
         ensures unkept { result.kept ≡ false }
     {
-        match disk {
-            DiskName::Journal => self.disks.journal.arm(call, pick),
-            DiskName::Checkpoint => self.disks.checkpoints.arm(call, pick),
-        }
+        self.disks.arm(disk, call, pick);
         self.answered(Reply::Armed)
     }
 
-    /// Lends the documents, while the node is up.
+    /// Lends the documents, while the node is up: those that its log leaves, as of each optime that can be read.
     pub fn store(&self) -> &VersionStore
         requires up { self.now.0.up ≡ true }
         ensures latest { (place : Place) → latest_of (versions_at result.now place) ≡ maps.get (local_documents self.now.0) place }
@@ -289,14 +297,15 @@ impl<D: Disk> Node<D> {
         self.state.store()
     }
 
+    /// It is up, and not down after a crash or a store that failed.
     pub fn is_up(&self) -> bool
         ensures { result ≡ self.now.0.up }
     {
-        self.state.is_coherent();
+        self.state.is_sound();
         self.up
     }
 
-    /// Hands the disks back, the journal's first.
+    /// Hands the disks back as they are, the journal's first.
     pub fn close(self) -> (D, D)
         ensures { result ≡ (self.1, self.2) }
     {
@@ -316,7 +325,7 @@ impl<D: Disk> Node<D> {
 }
 
 // What was done by how a turn ended. A node of which a store failed is down from there on.
-fn told(state: &State, up: &mut bool, left: &mut Left, ended: Ended) -> Done
+fn told(alloc: Global, state: &State, up: &mut bool, left: &mut Left, ended: Ended) -> Done
     requires { up.old ≡ true }
     ensures follows { (plan : Plan) → EndsFrom 0 plan state.now.node ended → Follows plan (seen_node up.new state.now.node (left_in left.new)) result }
     ensures rests { (count : ℕ) (journal checkpoints : OnDisk) → Leaves ended state.now.node count journal checkpoints
@@ -336,7 +345,7 @@ fn told(state: &State, up: &mut bool, left: &mut Left, ended: Ended) -> Done
             *left = left_of(state, Some(item));
             Done {
                 reply: Reply::Refused(Refusal::DiskFailed),
-                sent: Vec::new(state.alloc),
+                sent: Vec::new(alloc),
                 failed: Some(number),
                 kept: false,
             }

@@ -7,15 +7,15 @@ ghost use Rattle.set_model.specs.Node.{Node};
 ghost use Rattle.set_model.specs.Rows.{row};
 ghost use Rattle.node_state.specs.Bounds.{IsBounded, IsNumbered, is_own};
 ghost use Rattle.node_core.specs.Acting.{Runs};
-ghost use Rattle.node_core.specs.Putting.{EndsFrom, IsBrief, IsBroken, IsEnd, IsFault, IsLong, Leaves, NeedsRoom, SHORT, plan_of};
-ghost use Rattle.node_state.specs.Ready.{IsReadyTurn};
-ghost use Rattle.node_core.specs.Resting.{Rests};
+ghost use Rattle.node_core.specs.Putting.{CanBePut, EndsFrom, IsBrief, IsBroken, IsEnd, IsFault, IsLong, Leaves, NeedsRoom, SHORT, plan_of};
+ghost use Rattle.node_state.specs.Ready.{CanBeStored, IsReady, IsReadyTurn};
+ghost use Rattle.node_state.specs.WellKept.{IsWellKept};
+ghost use Rattle.node_core.specs.Resting.{IsWellKeptWith, Rests};
 ghost use Rattle.set_model.specs.Taking.{CanTake};
 
-use node_state::State;
 use crate::disks::Disks;
-use node_state::Turn;
 use bson_doc::Mem;
+use node_state::{State, Then, Turn};
 use record_file::FileError;
 use repl_msg::Message;
 use rs_disk::Disk;
@@ -43,17 +43,19 @@ pub(crate) fn carry_out<D: Disk>(state: &mut State, disks: &mut Disks<D>, turn: 
     ensures same { OnErr result (state.new.node ≡ state.old.node) }
     ensures left { OnErr result (Rests state.old.node disks.new.count (D.state disks.new.journal.0) (D.state disks.new.checkpoints)) }
 {
-    state.is_coherent();
     match turn {
         Turn::Finished { reply, sent } => Ok(Ended::Said { reply, sent }),
-        Turn::Storing { item, then } => match disks.put(&item, state) {
-            Ok(()) => {
-                let next = state.go_on(&item, then);
-                Ok(carry_on(state, disks, next))
+        Turn::Storing { item, then } => {
+            can_store(state, &item, &then);
+            match disks.put(&item, state) {
+                Ok(()) => {
+                    let next = state.go_on(&item, then);
+                    Ok(carry_on(state, disks, next))
+                }
+                Err(FileError::Memory) => Err(AllocError),
+                Err(FileError::Disk) => Ok(Ended::Broken { item, number: 0 }),
             }
-            Err(FileError::Memory) => Err(AllocError),
-            Err(FileError::Disk) => Ok(Ended::Broken { item, number: 0 }),
-        },
+        }
     }
 }
 
@@ -68,18 +70,33 @@ fn carry_on<D: Disk>(state: &mut State, disks: &mut Disks<D>, turn: Turn) -> End
     ensures runs { Runs (IsBroken result) (D.state disks.old.journal.0) (D.state disks.new.journal.0)
         (D.state disks.old.checkpoints) (D.state disks.new.checkpoints) }
 {
-    state.is_coherent();
     match turn {
         Turn::Finished { reply, sent } => Ended::Said { reply, sent },
-        Turn::Storing { item, then } => match disks.put(&item, state) {
-            Ok(()) => {
-                let last = state.go_on(&item, then);
-                said(last)
+        Turn::Storing { item, then } => {
+            can_store(state, &item, &then);
+            match disks.put(&item, state) {
+                Ok(()) => {
+                    let last = state.go_on(&item, then);
+                    said(last)
+                }
+                Err(FileError::Memory) => unreachable!(),
+                Err(FileError::Disk) => Ended::Broken { item, number: 1 },
             }
-            Err(FileError::Memory) => unreachable!(),
-            Err(FileError::Disk) => Ended::Broken { item, number: 1 },
-        },
+        }
     }
+}
+
+// What a turn stores can be put on the disks, and the node can come back whether it is there or not. It only reads.
+fn can_store(state: &State, item: &Store, then: &Then)
+    requires ready { IsReady item.now then.now state.now }
+    requires stored { CanBeStored item.now }
+    ensures can { CanBePut state.now.node item.now }
+    ensures well { IsWellKept state.now.node.records state.now.node.stable }
+    ensures doubtful { IsWellKeptWith state.now.node item.now }
+{
+    state.is_sound();
+    state.is_well_kept();
+    state.stores_well(item, then);
 }
 
 fn said(turn: Turn) -> Ended

@@ -1,0 +1,37 @@
+-- A node as the set begins, on two empty disks.
+use Rattle.std.proofs.Common.{◌≡◌, ◌∙◌, inl, inr, ap, sym, subst, refl, ℕ, List, [], length, arith}
+use Rattle.std.specs.Prelude.{Result, Ok, Err, IsErrOf}
+use Rattle.rs_disk.specs.File.{IsEmpty, contents}
+use Rattle.rs_disk.specs.State.{State}
+use Rattle.member_config.specs.declared.config.Config.{Config}
+use Rattle.oplog_entry.specs.Visible.{ZERO}
+use Rattle.node_journal.specs.Files.{HasJournal, IsAtRest as JournalRests}
+use Rattle.checkpoint_store.specs.Checkpoint.{no_stable}
+use Rattle.checkpoint_store.specs.Files.{HasCheckpoint, IsAtRest as CheckpointRests}
+use Rattle.checkpoint_store.specs.declared.stable.Stable.{Stable}
+use Rattle.checkpoint_store.proofs.OnceLemmas.{checkpoint_once}
+use Rattle.repl_msg.specs.declared.record.Record.{Record}
+use Rattle.set_model.specs.Node.{Node, opening_node}
+use Rattle.node_core.specs.Resting.{Rests}
+use Rattle.node_core.specs.Stands.{documents_at}
+
+-- an empty file has no records
+pub empty_journal : (state : State) → IsEmpty state.file → HasJournal (contents state.file) []
+empty_journal state empty = record { each = λ k d within. absurd (omega arith); has = inl (omega (arith, ap length empty.reads), refl) }
+
+-- and no checkpoint
+pub empty_checkpoint : (state : State) → IsEmpty state.file → HasCheckpoint (contents state.file) no_stable
+empty_checkpoint state empty = record {
+  records = [];
+  list = record { each = λ k d within. absurd (omega arith); has = inl (omega (arith, ap length empty.reads), refl) };
+  last = refl;
+}
+
+pub opens_rested : (config : Config) (number : ℕ) (node : Node) (j c c' : State) (stable : Stable) → node ≡ opening_node config number → JournalRests j [] → IsEmpty c.file
+    → HasCheckpoint (contents c.file) stable → CheckpointRests c' stable → Rests node 0 j c'
+opens_rested config number node j c c' stable is records empty has documents =
+    subst (λ (n : Node). Rests n 0 j c') (sym is) (record {
+      counted = refl;
+      records = records;
+      documents = subst (λ (s : Stable). CheckpointRests c' s) (checkpoint_once (contents c.file) stable no_stable has (empty_checkpoint c empty)) documents;
+    })
