@@ -1,6 +1,8 @@
 //! Runs each example script of the folder and compares what it prints with what is written beside it.
 #![tactic(auto)]
 
+mod batches;
+
 use anyhow::{Context, Result};
 use rs_io::{MemSink, MemSource};
 use std::alloc::Global;
@@ -24,6 +26,12 @@ fn main(rt: HostRuntime) -> Result<ExitCode> {
     if !draws_the_line(rt.alloc())? {
         as_written = false;
         println!(rt; "the largest document is another")?;
+    }
+    if !comes_in_batches(rt.alloc(), batches::THREE, batches::THREE_ENDS)?
+        || !comes_in_batches(rt.alloc(), batches::ONE, batches::ONE_ENDS)?
+    {
+        as_written = false;
+        println!(rt; "more than a batch comes otherwise")?;
     }
     Ok(if as_written {
         ExitCode::SUCCESS
@@ -79,6 +87,13 @@ fn draws_the_line(alloc: Global) -> Result<bool> {
     let script = format!(in alloc; "{opening}insert n0 t {{_id: 1, s: \"{longest}s\"}}\n")?;
     let refused = transcript(alloc, script.into_bytes())?.ends_with(b"4: refused 9 DocTooLarge\n");
     Ok(stored && refused)
+}
+
+/// Whether a log of more than a batch comes to another node in two fetches and two batches, by one worker and by many.
+fn comes_in_batches(alloc: Global, opening: &str, ending: &str) -> Result<bool> {
+    let one = transcript(alloc, batches::script(alloc, opening, 1)?)?;
+    let many = transcript(alloc, batches::script(alloc, opening, 16)?)?;
+    Ok(one.ends_with(ending.as_bytes()) && many.ends_with(ending.as_bytes()))
 }
 
 /// The number of the first line in which the texts differ.
