@@ -3,8 +3,8 @@
 use anyhow::Result;
 use std::alloc::Global;
 
-/// How many documents are inserted, and how often the first of them is updated.
-const INSERTED: u32 = 4_700;
+/// The documents have the `_id`s from 1 up to before this one, and the first of them is updated so often.
+const PAST: u32 = 4_701;
 
 const UPDATED: u32 = 300;
 
@@ -30,9 +30,8 @@ pub const ONE_ENDS: &str =
 /// The primary writes 5,000 entries behind its no-op, and node 1 fetches them and applies them with so many workers.
 pub fn script(alloc: Global, opening: &str, workers: u32) -> Result<Vec<u8>> {
     let mut script = String::from_str(alloc, opening)?;
-    for id in 0..INSERTED {
-        let number = id + 1;
-        let line = format!(in alloc; "insert n0 t {{_id: {number}, n: 0}}\n")?;
+    for id in 1..PAST {
+        let line = format!(in alloc; "insert n0 t {{_id: {id}, n: 0}}\n")?;
         script.push_str(line.as_str())?;
     }
     for _ in 0..UPDATED {
