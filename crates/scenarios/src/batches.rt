@@ -3,9 +3,10 @@
 use anyhow::Result;
 use std::alloc::Global;
 
-/// The documents have the `_id`s from 1 up to before this one, and the first of them is updated so often.
+/// The documents have the `_id`s from 1 up to before this one.
 const PAST: u32 = 4_701;
 
+/// How often the first of them is updated.
 const UPDATED: u32 = 300;
 
 /// Node 1 fetches from node 0 what comes next.
