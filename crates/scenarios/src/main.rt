@@ -1,18 +1,21 @@
 //! Runs each example script of the folder and compares what it prints with what is written beside it.
 #![tactic(auto)]
 
+mod batches;
+
 use anyhow::{Context, Result};
 use rs_io::{MemSink, MemSource};
 use std::alloc::Global;
 use std::fs;
 use std::process::ExitCode;
+use std::thread::Threads;
 
 fn main(rt: HostRuntime) -> Result<ExitCode> {
     let mut as_written = true;
     for name in names(&rt)? {
         let script = read(&rt, &name, "replset")?;
         let written = read(&rt, &name, "out")?;
-        let printed = transcript(rt.alloc(), script)?;
+        let printed = transcript(&rt, rt.alloc(), script)?;
         match first_difference(&written, &printed) {
             None => println!(rt; "{name}: as written")?,
             Some(line) => {
@@ -21,9 +24,15 @@ fn main(rt: HostRuntime) -> Result<ExitCode> {
             }
         }
     }
-    if !draws_the_line(rt.alloc())? {
+    if !draws_the_line(&rt, rt.alloc())? {
         as_written = false;
         println!(rt; "the largest document is another")?;
+    }
+    if !comes_in_batches(&rt, batches::THREE, batches::THREE_ENDS)?
+        || !comes_in_batches(&rt, batches::ONE, batches::ONE_ENDS)?
+    {
+        as_written = false;
+        println!(rt; "more than a batch comes otherwise")?;
     }
     Ok(if as_written {
         ExitCode::SUCCESS
@@ -55,11 +64,12 @@ fn read(rt: &HostRuntime, name: &str, ending: &str) -> Result<Vec<u8>> {
 }
 
 /// What the script prints.
-fn transcript(alloc: Global, script: Vec<u8>) -> Result<Vec<u8>> {
+fn transcript<R: Threads + Sync>(rt: &R, alloc: Global, script: Vec<u8>) -> Result<Vec<u8>> {
     let words = vec![in alloc; String::from_str(alloc, "run")?]?;
     let mut source = MemSource::new(script, Vec::new(alloc));
     let mut sink = MemSink::new(alloc, Vec::new(alloc));
-    let _ = set_program::run_set(alloc, &words, &mut source, &mut sink);
+    let disks = set_program::empty_disks(alloc)?;
+    let _ = set_program::run_set(rt, alloc, &words, &mut source, &mut sink, disks);
     Ok(sink.bytes().to_vec(alloc)?)
 }
 
@@ -68,17 +78,26 @@ fn transcript(alloc: Global, script: Vec<u8>) -> Result<Vec<u8>> {
 const LONGEST: usize = 262_122;
 
 /// Whether the largest string that fits a document is stored, and one byte more is refused.
-fn draws_the_line(alloc: Global) -> Result<bool> {
+fn draws_the_line<R: Threads + Sync>(rt: &R, alloc: Global) -> Result<bool> {
     let mut longest = String::new(alloc);
     for _ in 0..LONGEST {
         longest.push('s')?;
     }
     let opening = "set 1\ncampaign n0\ndrain n0\n";
     let script = format!(in alloc; "{opening}insert n0 t {{_id: 1, s: \"{longest}\"}}\n")?;
-    let stored = transcript(alloc, script.into_bytes())?.ends_with(b"4: written 1/0/2\n");
+    let stored = transcript(rt, alloc, script.into_bytes())?.ends_with(b"4: written 1/0/2\n");
     let script = format!(in alloc; "{opening}insert n0 t {{_id: 1, s: \"{longest}s\"}}\n")?;
-    let refused = transcript(alloc, script.into_bytes())?.ends_with(b"4: refused 9 DocTooLarge\n");
+    let refused = transcript(rt, alloc, script.into_bytes())?.ends_with(
+        b"4: refused 9 DocTooLarge\n",
+    );
     Ok(stored && refused)
+}
+
+/// Whether a log of more than a batch comes to another node in two fetches and two batches, by one worker and by many.
+fn comes_in_batches(rt: &HostRuntime, opening: &str, ending: &str) -> Result<bool> {
+    let one = transcript(rt, rt.alloc(), batches::script(rt.alloc(), opening, 1)?)?;
+    let many = transcript(rt, rt.alloc(), batches::script(rt.alloc(), opening, 16)?)?;
+    Ok(one.ends_with(ending.as_bytes()) && many.ends_with(ending.as_bytes()))
 }
 
 /// The number of the first line in which the texts differ.
