@@ -3,7 +3,6 @@
 
 use anyhow::{Context, Result};
 use rs_io::{MemSink, MemSource};
-use std::alloc::Global;
 use std::fs;
 use std::process::ExitCode;
 
@@ -12,7 +11,7 @@ fn main(rt: HostRuntime) -> Result<ExitCode> {
     for name in names(&rt)? {
         let script = read(&rt, &name, "replset")?;
         let written = read(&rt, &name, "out")?;
-        let printed = transcript(rt.alloc(), script)?;
+        let printed = transcript(&rt, script)?;
         match first_difference(&written, &printed) {
             None => println!(rt; "{name}: as written")?,
             Some(line) => {
@@ -21,7 +20,7 @@ fn main(rt: HostRuntime) -> Result<ExitCode> {
             }
         }
     }
-    if !draws_the_line(rt.alloc())? {
+    if !draws_the_line(&rt)? {
         as_written = false;
         println!(rt; "the largest document is another")?;
     }
@@ -55,11 +54,13 @@ fn read(rt: &HostRuntime, name: &str, ending: &str) -> Result<Vec<u8>> {
 }
 
 /// What the script prints.
-fn transcript(alloc: Global, script: Vec<u8>) -> Result<Vec<u8>> {
+fn transcript(rt: &HostRuntime, script: Vec<u8>) -> Result<Vec<u8>> {
+    let alloc = rt.alloc();
     let words = vec![in alloc; String::from_str(alloc, "run")?]?;
     let mut source = MemSource::new(script, Vec::new(alloc));
     let mut sink = MemSink::new(alloc, Vec::new(alloc));
-    let _ = set_program::run_set(alloc, &words, &mut source, &mut sink);
+    let disks = set_program::empty_disks(alloc)?;
+    let _ = set_program::run_set(rt, alloc, &words, &mut source, &mut sink, disks);
     Ok(sink.bytes().to_vec(alloc)?)
 }
 
@@ -68,16 +69,17 @@ fn transcript(alloc: Global, script: Vec<u8>) -> Result<Vec<u8>> {
 const LONGEST: usize = 262_122;
 
 /// Whether the largest string that fits a document is stored, and one byte more is refused.
-fn draws_the_line(alloc: Global) -> Result<bool> {
+fn draws_the_line(rt: &HostRuntime) -> Result<bool> {
+    let alloc = rt.alloc();
     let mut longest = String::new(alloc);
     for _ in 0..LONGEST {
         longest.push('s')?;
     }
     let opening = "set 1\ncampaign n0\ndrain n0\n";
     let script = format!(in alloc; "{opening}insert n0 t {{_id: 1, s: \"{longest}\"}}\n")?;
-    let stored = transcript(alloc, script.into_bytes())?.ends_with(b"4: written 1/0/2\n");
+    let stored = transcript(rt, script.into_bytes())?.ends_with(b"4: written 1/0/2\n");
     let script = format!(in alloc; "{opening}insert n0 t {{_id: 1, s: \"{longest}s\"}}\n")?;
-    let refused = transcript(alloc, script.into_bytes())?.ends_with(b"4: refused 9 DocTooLarge\n");
+    let refused = transcript(rt, script.into_bytes())?.ends_with(b"4: refused 9 DocTooLarge\n");
     Ok(stored && refused)
 }
 

@@ -16,8 +16,8 @@ use Rattle.set_program.specs.declared.stop.Stop.TheVariants.{Memory, Usage, Scri
 use Rattle.set_program.specs.Causes.{of_read}
 use Rattle.set_program.specs.Headline.{AnyFront, AsksRun, Answers, Ends, IfRead, Nothing, StopsIn, limit}
 use Rattle.set_program.specs.Plays.{Plays}
-use Rattle.set_program.specs.World.{event_of}
-use Rattle.set_program.proofs.PlayLemmas.{Appends-nothing, Keeps-same, follows_so}
+use Rattle.set_program.specs.World.{one_set}
+use Rattle.set_program.proofs.PlayLemmas.{Appends-nothing, Keeps-same, follows_so, orders_of}
 
 Appends-same : (held : Option (List ℕ)) → Appends held held []
 Appends-same None = tt
@@ -29,11 +29,12 @@ at_once : (held now : Option (List ℕ)) (events : List Event) (read : Result Sc
 at_once held now events (Ok read) none kept = record {
   done = 0;
   earlier = [];
-  follows = ([], refl, refl);
-  next = map event_of (lines_in (take 1 (drop 0 read.parts)));
-  follows_next = follows_so (take 1 (drop 0 read.parts));
-  count = 0;
+  follows = refl;
+  later = [];
   events_are = none;
+  next = lines_in (take 1 (drop 0 read.parts));
+  follows_next = orders_of (take 1 (drop 0 read.parts));
+  front = refl;
   told = record { whole = 0; put = (0, refl, Appends-nothing held now kept) };
   least = omega arith;
   waits = inr (Appends-nothing held now kept);
@@ -88,9 +89,9 @@ within (Some before) (Some after) held now events bytes reads stops = (λ over. 
 
 -- a script was played
 pub plays_end : (words : List (String Global)) (left rest held now : Option (List ℕ)) (events : List Event) (bytes : Vec ℕ Global) (read : Script) (result : Result (Unit {0}) Stop)
-    → AsksRun words → ReadsAll limit left rest (Ok bytes) → script bytes.items ≡ Ok read → Plays read.parts held now events result → Ends words left rest held now result events
+    → AsksRun words → ReadsAll limit left rest (Ok bytes) → script bytes.items ≡ Ok read → Plays one_set read.parts held now events result → Ends words left rest held now result events
 plays_end words left rest held now events bytes read (Ok done) asks reads is played =
-    (asks, if_read left rest bytes _ reads (read, is, rw played.events_are (follows_so read.parts)), played.put)
+    (asks, if_read left rest bytes _ reads (read, is, follows_so read.parts events played.lines_are), played.put)
 plays_end words left rest held now events bytes read (Err Memory) asks reads is stopped =
     (λ wrong. absurd (wrong asks), λ _. within left rest held now events bytes reads (of_script Nothing held now events (script bytes.items) (Ok read) is stopped))
 plays_end words left rest held now events bytes read (Err WriteFault) asks reads is stopped =

@@ -170,7 +170,7 @@ AllFit-more so_far [] event fit fits = (fits, tt)
 AllFit-more so_far (first ∷ front) event fit fits = (fit.0, AllFit-more (after so_far first) front event fit.1 fits)
 
 -- what an event of the one node is answered
-pub reply_of : (old new : Node) (history : List Event) (number : ℕ) (command : Command) (reply : Reply) → IsReached old history → is_taken command ≡ true → outcome_of old command ≡ replied reply new → reply ≡ reply_to history (event_of (number, command))
+pub reply_of : (old new : Node) (history : List Event) (number : ℕ) (command : Command) (reply : Reply) → IsReached old history → is_taken command ≡ true → outcome_of old command ≡ replied reply new → reply ≡ reply_to one_set history (event_of (number, command))
 reply_of old new history number command reply reached taken is =
     sym (ap (λ (w : World). (step w (event_of (number, command))).reply) reached.reached ∙ ap (λ (s : Step). s.reply) (next_step old new number command reply taken is))
 

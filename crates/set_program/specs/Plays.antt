@@ -5,15 +5,14 @@ use Rattle.std.specs.Io.KnownBytes.{Appends, Keeps}
 use Rattle.set_model.specs.declared.command.Command.{Command}
 use Rattle.set_model.specs.declared.command.Event.{Event}
 use Rattle.set_model.specs.declared.reply.Reply.{Reply}
-use Rattle.set_model.specs.Run.{run}
+use Rattle.set_model.specs.Run.{Sizes, run}
 use Rattle.fault_script.specs.declared.script.Part.{Part}
 use Rattle.fault_script.specs.Script.{lines_in}
 use Rattle.transcript.specs.Replies.{line_text, text}
 use Rattle.set_program.specs.declared.stop.Stop.{Stop}
-use Rattle.set_program.specs.declared.stop.Stop.TheVariants.{Memory, Usage, Script as NoScript, ReadFault, WriteFault, TooLong}
+use Rattle.set_program.specs.declared.stop.Stop.TheVariants.{Memory, Usage, Script as NoScript, ReadFault, WriteFault, TooLong, DiskFault}
 use Rattle.set_program.specs.Headline.{AnyFront, GoesToAPoint, Nothing, PutsReplies}
-use Rattle.set_program.specs.Steps.{GoesOn}
-use Rattle.set_program.specs.World.{one_set, event_of}
+use Rattle.set_program.specs.Steps.{Adds, GoesOn, line_of}
 
 -- ---- texts
 
@@ -26,6 +25,7 @@ PutsText held now piece (Err Usage) = ⊥
 PutsText held now piece (Err NoScript) = ⊥
 PutsText held now piece (Err ReadFault) = ⊥
 PutsText held now piece (Err TooLong) = ⊥
+PutsText held now piece (Err DiskFault) = ⊥
 
 -- replies are put one after another
 abbrev pub PutsEach : Option (List ℕ) → Option (List ℕ) → List (ℕ × Reply) → Result (Unit {0}) Stop → Type 0
@@ -36,48 +36,51 @@ PutsEach held now replies (Err Usage) = ⊥
 PutsEach held now replies (Err NoScript) = ⊥
 PutsEach held now replies (Err ReadFault) = ⊥
 PutsEach held now replies (Err TooLong) = ⊥
+PutsEach held now replies (Err DiskFault) = ⊥
 
 -- ---- a part
 
 -- its lines are played, and then their replies put
-pub record PlayedPart (lines : List (ℕ × Command)) (held now : Option (List ℕ)) (old new : List Event) : Type 0 where
-  pub events : new ≡ old ++ map event_of lines
+pub record PlayedPart (sizes : Sizes) (lines : List (ℕ × Command)) (held now : Option (List ℕ)) (old new : List Event) : Type 0 where
+  pub adds : Adds lines old new
   pub replies : List (ℕ × Reply)
-  pub told : GoesOn old new replies
+  pub told : GoesOn sizes old new replies
   pub put : Appends held now (flat_map line_text replies)
 
 -- some first lines are played, and some first replies put: none before all lines are played
-pub record CutPart (MayBe : ℕ → Type 0) (lines : List (ℕ × Command)) (held now : Option (List ℕ)) (old new : List Event) : Type 0 where
+pub record CutPart (sizes : Sizes) (MayBe : ℕ → Type 0) (lines : List (ℕ × Command)) (held now : Option (List ℕ)) (old new : List Event) : Type 0 where
   pub played : List (ℕ × Command)
   pub later : List (ℕ × Command)
   pub lines_are : lines ≡ played ++ later
-  pub events : new ≡ old ++ map event_of played
+  pub adds : Adds played old new
   pub replies : List (ℕ × Reply)
-  pub told : GoesOn old new replies
+  pub told : GoesOn sizes old new replies
   pub put : PutsReplies MayBe held now replies
   pub waits : (later ≡ []) ⊎ Keeps held now
 
-abbrev pub PlaysPart : List (ℕ × Command) → Option (List ℕ) → Option (List ℕ) → List Event → List Event → Result (Unit {0}) Stop → Type 0
-PlaysPart lines held now old new (Ok done) = PlayedPart lines held now old new
-PlaysPart lines held now old new (Err Memory) = CutPart Nothing lines held now old new
-PlaysPart lines held now old new (Err WriteFault) = CutPart AnyFront lines held now old new
-PlaysPart lines held now old new (Err Usage) = ⊥
-PlaysPart lines held now old new (Err NoScript) = ⊥
-PlaysPart lines held now old new (Err ReadFault) = ⊥
-PlaysPart lines held now old new (Err TooLong) = ⊥
+abbrev pub PlaysPart : Sizes → List (ℕ × Command) → Option (List ℕ) → Option (List ℕ) → List Event → List Event → Result (Unit {0}) Stop → Type 0
+PlaysPart sizes lines held now old new (Ok done) = PlayedPart sizes lines held now old new
+PlaysPart sizes lines held now old new (Err Memory) = CutPart sizes Nothing lines held now old new
+PlaysPart sizes lines held now old new (Err WriteFault) = CutPart sizes AnyFront lines held now old new
+PlaysPart sizes lines held now old new (Err Usage) = ⊥
+PlaysPart sizes lines held now old new (Err NoScript) = ⊥
+PlaysPart sizes lines held now old new (Err ReadFault) = ⊥
+PlaysPart sizes lines held now old new (Err TooLong) = ⊥
+PlaysPart sizes lines held now old new (Err DiskFault) = ⊥
 
 -- ---- all parts
 
 -- all parts are played, and their replies are put
-pub record Played (parts : List Part) (held now : Option (List ℕ)) (events : List Event) : Type 0 where
-  pub events_are : events ≡ map event_of (lines_in parts)
-  pub put : Appends held now (text (run one_set events))
+pub record Played (sizes : Sizes) (parts : List Part) (held now : Option (List ℕ)) (events : List Event) : Type 0 where
+  pub lines_are : map line_of events ≡ lines_in parts
+  pub put : Appends held now (text (run sizes events))
 
-abbrev pub Plays : List Part → Option (List ℕ) → Option (List ℕ) → List Event → Result (Unit {0}) Stop → Type 0
-Plays parts held now events (Ok done) = Played parts held now events
-Plays parts held now events (Err Memory) = GoesToAPoint Nothing parts held now events
-Plays parts held now events (Err WriteFault) = GoesToAPoint AnyFront parts held now events
-Plays parts held now events (Err Usage) = ⊥
-Plays parts held now events (Err NoScript) = ⊥
-Plays parts held now events (Err ReadFault) = ⊥
-Plays parts held now events (Err TooLong) = ⊥
+abbrev pub Plays : Sizes → List Part → Option (List ℕ) → Option (List ℕ) → List Event → Result (Unit {0}) Stop → Type 0
+Plays sizes parts held now events (Ok done) = Played sizes parts held now events
+Plays sizes parts held now events (Err Memory) = GoesToAPoint sizes Nothing parts held now events
+Plays sizes parts held now events (Err WriteFault) = GoesToAPoint sizes AnyFront parts held now events
+Plays sizes parts held now events (Err Usage) = ⊥
+Plays sizes parts held now events (Err NoScript) = ⊥
+Plays sizes parts held now events (Err ReadFault) = ⊥
+Plays sizes parts held now events (Err TooLong) = ⊥
+Plays sizes parts held now events (Err DiskFault) = ⊥

@@ -1,0 +1,53 @@
+// What a call leaves.
+ghost use Rattle.std.specs.Prelude.{◌≡◌};
+ghost use Rattle.set_model.specs.Limits.{IsRun};
+ghost use Rattle.set_model.specs.Run.{AreSizes};
+ghost use Rattle.set_world.specs.Disks.{AllStand};
+ghost use Rattle.set_program.specs.Left.{IfSet, events_of};
+
+use rs_disk::Disk;
+use set_model::Event;
+use set_world::World;
+
+#[derive(Drop)]
+pub struct Outcome<D: Disk> {
+    pub status: u8,
+    pub left: Left<D>,
+}
+
+/// The set as far as it was run, or its disks where it wasn't run.
+#[derive(Drop)]
+pub enum Left<D: Disk> {
+    World(World<D>),
+    /// No events, and the disks.
+    Parts(Vec<Event>, Vec<D>),
+}
+
+impl<D: Disk> Outcome<D> {
+    /// What was done, oldest first.
+    pub fn events(&self) -> &[Event]
+        ensures { result.now ≡ events_of self.now.left }
+    {
+        match &self.left {
+            Left::World(world) => world.history(),
+            Left::Parts(events, _) => events,
+        }
+    }
+}
+
+impl<D: Disk> Left<D> {
+    /// A set is sound and stands on its disks: a fact for proofs, which costs nothing.
+    pub(crate) fn is_sound(&self)
+        ensures sizes { IfSet self.now (λ set. AreSizes set.sizes) }
+        ensures run { IfSet self.now (λ set. IsRun set.sizes set.history) }
+        ensures stands { IfSet self.now (AllStand D.state) }
+    {
+        match self {
+            Left::World(world) => {
+                world.is_run();
+                world.stands();
+            }
+            Left::Parts(..) => {}
+        }
+    }
+}
