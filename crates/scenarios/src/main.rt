@@ -3,15 +3,17 @@
 
 use anyhow::{Context, Result};
 use rs_io::{MemSink, MemSource};
+use std::alloc::Global;
 use std::fs;
 use std::process::ExitCode;
+use std::thread::Threads;
 
 fn main(rt: HostRuntime) -> Result<ExitCode> {
     let mut as_written = true;
     for name in names(&rt)? {
         let script = read(&rt, &name, "replset")?;
         let written = read(&rt, &name, "out")?;
-        let printed = transcript(&rt, script)?;
+        let printed = transcript(&rt, rt.alloc(), script)?;
         match first_difference(&written, &printed) {
             None => println!(rt; "{name}: as written")?,
             Some(line) => {
@@ -20,7 +22,7 @@ fn main(rt: HostRuntime) -> Result<ExitCode> {
             }
         }
     }
-    if !draws_the_line(&rt)? {
+    if !draws_the_line(&rt, rt.alloc())? {
         as_written = false;
         println!(rt; "the largest document is another")?;
     }
@@ -54,8 +56,7 @@ fn read(rt: &HostRuntime, name: &str, ending: &str) -> Result<Vec<u8>> {
 }
 
 /// What the script prints.
-fn transcript(rt: &HostRuntime, script: Vec<u8>) -> Result<Vec<u8>> {
-    let alloc = rt.alloc();
+fn transcript<R: Threads + Sync>(rt: &R, alloc: Global, script: Vec<u8>) -> Result<Vec<u8>> {
     let words = vec![in alloc; String::from_str(alloc, "run")?]?;
     let mut source = MemSource::new(script, Vec::new(alloc));
     let mut sink = MemSink::new(alloc, Vec::new(alloc));
@@ -69,17 +70,18 @@ fn transcript(rt: &HostRuntime, script: Vec<u8>) -> Result<Vec<u8>> {
 const LONGEST: usize = 262_122;
 
 /// Whether the largest string that fits a document is stored, and one byte more is refused.
-fn draws_the_line(rt: &HostRuntime) -> Result<bool> {
-    let alloc = rt.alloc();
+fn draws_the_line<R: Threads + Sync>(rt: &R, alloc: Global) -> Result<bool> {
     let mut longest = String::new(alloc);
     for _ in 0..LONGEST {
         longest.push('s')?;
     }
     let opening = "set 1\ncampaign n0\ndrain n0\n";
     let script = format!(in alloc; "{opening}insert n0 t {{_id: 1, s: \"{longest}\"}}\n")?;
-    let stored = transcript(rt, script.into_bytes())?.ends_with(b"4: written 1/0/2\n");
+    let stored = transcript(rt, alloc, script.into_bytes())?.ends_with(b"4: written 1/0/2\n");
     let script = format!(in alloc; "{opening}insert n0 t {{_id: 1, s: \"{longest}s\"}}\n")?;
-    let refused = transcript(rt, script.into_bytes())?.ends_with(b"4: refused 9 DocTooLarge\n");
+    let refused = transcript(rt, alloc, script.into_bytes())?.ends_with(
+        b"4: refused 9 DocTooLarge\n",
+    );
     Ok(stored && refused)
 }
 

@@ -15,7 +15,7 @@ use Rattle.set_world.specs.Disks.{AtMostOne, OneChanged}
 abbrev pub DisksStep : {D : Type 0} → (D → State) → World → Event → List D → List D → Type 0
 DisksStep state world event old new =
     AtMostOne old new
-        (OneChanged state (DisksActed event.command (step world event).reply (IsSome event.failed)) (touched_node world event.command) old new)
+    (OneChanged state (DisksActed event.command (step world event).reply (IsSome event.failed)) (touched_node world event.command) old new)
 
 -- events, each at the world that it meets
 abbrev pub DisksPlay : {D : Type 0} → (D → State) → World → List Event → List D → List D → Type 0
@@ -31,8 +31,8 @@ DisksPlayed state first set = DisksPlay state (opening set.sizes).world set.hist
 abbrev pub DisksUndone : {D : Type 0} → (D → State) → Set D → List D → Type 0
 DisksUndone state set last =
     AtMostOne last set.disks
-        ((command : Command) × (is_for set.sizes.nodes command ≡ true)
-        × OneChanged state (Runs ⊥) (touched_node (run set.sizes set.history).world command) last set.disks)
+    ((command : Command) × (is_for set.sizes.nodes command ≡ true)
+    × OneChanged state (Runs ⊥) (touched_node (run set.sizes set.history).world command) last set.disks)
 
 -- the same, and behind the last event maybe a command that wasn't done
 abbrev pub DisksRan : {D : Type 0} → (D → State) → List D → Set D → Type 0
