@@ -1,102 +1,135 @@
 -- How a call ends.
-use Rattle.std.proofs.Common.{ℕ, ◌≡◌, ◌<◌, List, [], length, take, drop, Option, None, Some, Result, Ok, Err, String, refl, ap, sym, arith, inr}
-use Rattle.std.specs.Prelude.{IfSome, Vec, map}
+use Rattle.std.proofs.Common.{ℕ, ◌≡◌, ◌≤◌, ◌<◌, List, [], ◌∷◌, length, Option, None, Some, Result, Ok, Err, String, refl, ap, sym, subst, arith, inl, inr, ⊎_elim, ◌∙◌}
+use Rattle.std.specs.Prelude.{◌≢◌, ◌⊎◌, IfSome, Vec}
 use Rattle.std.specs.declared.alloc.Global.{Global}
 use Rattle.std.specs.Io.KnownBytes.{Appends, Keeps}
-use Rattle.std.proofs.lemmas.List.{append-nil}
+use Rattle.rs_io.specs.Fault.{Rose}
 use Rattle.rs_io.specs.ReadAll.{ReadsAll}
 use Rattle.rs_io.specs.declared.reading.ReadAllError.{ReadAllError}
 use Rattle.rs_io.specs.declared.reading.ReadAllError.TheVariants.{ReadFault as SourceFailed, TooLong as OverLimit, Memory as NoMemory}
 use Rattle.set_model.specs.declared.command.Event.{Event}
+use Rattle.set_model.specs.Limits.{IsRun}
+use Rattle.set_model.specs.Run.{Sizes, AreSizes, run}
+use Rattle.set_model.specs.Safety.{Safe}
+use Rattle.safety_laws.specs.Laws.{InEveryRun}
 use Rattle.fault_script.specs.declared.rule.ScriptFault.{ScriptFault}
+use Rattle.fault_script.specs.declared.script.Part.{Part}
 use Rattle.fault_script.specs.declared.script.Script.{Script}
-use Rattle.fault_script.specs.Script.{script, lines_in, AreSizes}
+use Rattle.fault_script.specs.Script.{script, sizes_of}
+use Rattle.transcript.specs.Replies.{text}
+use Rattle.set_world.specs.World.{Set}
+use Rattle.set_program.specs.declared.outcome.Left.{Left}
+use Rattle.set_program.specs.declared.outcome.Left.TheVariants.{World, Parts}
 use Rattle.set_program.specs.declared.stop.Stop.{Stop}
-use Rattle.set_program.specs.declared.stop.Stop.TheVariants.{Memory, Usage, Script as NoScript, ReadFault, WriteFault, TooLong}
+use Rattle.set_program.specs.declared.stop.Stop.TheVariants.{Memory, Usage, Script as NoScript, ReadFault, WriteFault, TooLong, DiskFault}
+use Rattle.set_program.specs.Asking.{RunsScript}
 use Rattle.set_program.specs.Causes.{of_read}
-use Rattle.set_program.specs.Headline.{AnyFront, AsksRun, Answers, Ends, IfRead, Nothing, StopsIn, limit}
+use Rattle.set_program.specs.Headline.{AsksRun, Ends, EndsRun, EndsUnrun, HasNoFault, IfRead, IsFaulty, IsOneOf, IsRead, IsReadable, limit, status_of}
+use Rattle.set_program.specs.Left.{IfSet}
 use Rattle.set_program.specs.Plays.{Plays}
-use Rattle.set_program.specs.World.{one_set}
-use Rattle.set_program.proofs.PlayLemmas.{Appends-nothing, Keeps-same, follows_so, orders_of}
+use Rattle.set_program.proofs.PlayLemmas.{Keeps-same, follows_so}
 
-Appends-same : (held : Option (List ℕ)) → Appends held held []
-Appends-same None = tt
-Appends-same (Some a) = sym (append-nil a)
+-- ---- the script is read
 
--- ---- nothing was played
-
-at_once : (held now : Option (List ℕ)) (events : List Event) (read : Result Script ScriptFault) → events ≡ [] → Keeps held now → StopsIn Nothing held now events read
-at_once held now events (Ok read) none kept = record {
-  done = 0;
-  earlier = [];
-  follows = refl;
-  later = [];
-  events_are = none;
-  next = lines_in (take 1 (drop 0 read.parts));
-  follows_next = orders_of (take 1 (drop 0 read.parts));
-  front = refl;
-  told = record { whole = 0; put = (0, refl, Appends-nothing held now kept) };
-  least = omega arith;
-  waits = inr (Appends-nothing held now kept);
-}
-at_once held now events (Err fault) none kept = (none, (0, refl, Appends-nothing held now kept))
-
--- memory is wanting before the first event
-pub no_memory : (words : List (String Global)) (left rest held now : Option (List ℕ)) (events : List Event) → AsksRun words → events ≡ [] → Keeps held now → Ends words left rest held now (Err Memory) events
-no_memory words left rest held now events asks none kept = (λ wrong. absurd (wrong asks), λ _. told left)
-  where
-    told : (l : Option (List ℕ)) → IfSome l (λ bytes. (limit < length bytes → (events ≡ []) × Keeps held now) × StopsIn Nothing held now events (script bytes))
-    told None = tt
-    told (Some bytes) = (λ over. (none, kept), at_once held now events (script bytes) none kept)
-
--- or before the words are looked at
-pub no_world : (words : List (String Global)) (left held : Option (List ℕ)) (events : List Event) → events ≡ [] → Answers words left left held held 1 events
-no_world words left held events none = (Err Memory, refl, (λ wrong. (none, (0, refl, Appends-same held)), λ _. told left))
-  where
-    told : (l : Option (List ℕ)) → IfSome l (λ bytes. (limit < length bytes → (events ≡ []) × Keeps held held) × StopsIn Nothing held held events (script bytes))
-    told None = tt
-    told (Some bytes) = (λ over. (none, Keeps-same held), at_once held held events (script bytes) none (Keeps-same held))
-
-pub read_stops : (words : List (String Global)) (left rest held : Option (List ℕ)) (events : List Event) (error : ReadAllError) → AsksRun words → events ≡ [] → ReadsAll limit left rest (Err error) → Ends words left rest held held (Err (of_read error)) events
-read_stops words left rest held events SourceFailed asks none reads = (asks, none, Keeps-same held)
-read_stops words left rest held events NoMemory asks none reads = no_memory words left rest held held events asks none (Keeps-same held)
-read_stops words left rest held events OverLimit asks none reads = (asks, none, Keeps-same held, over left rest reads)
+pub read_stops : (words : List (String Global)) (left rest held : Option (List ℕ)) (error : ReadAllError) → AsksRun words → ReadsAll limit left rest (Err error)
+    → EndsUnrun words left rest held held (Err (of_read error))
+read_stops words left rest held SourceFailed asks reads = (asks, Keeps-same held)
+read_stops words left rest held NoMemory asks reads = Keeps-same held
+read_stops words left rest held OverLimit asks reads = (asks, Keeps-same held, over left rest reads)
   where
     over : (l r : Option (List ℕ)) → ReadsAll limit l r (Err OverLimit) → IfSome l (λ bytes. limit < length bytes)
     over None r reads = tt
     over (Some before) None reads = absurd reads
     over (Some before) (Some after) reads = omega (arith, reads)
 
--- ---- the bytes were read
-
--- a set that may have one node has one
-pub one_node : (nodes members : ℕ) → AreSizes nodes members → nodes ≡ 1
-one_node nodes members sizes = omega (arith, sizes.one, sizes.within, sizes.most)
-
-if_read : (left rest : Option (List ℕ)) (bytes : Vec ℕ Global) (P : List ℕ → Type 0) → ReadsAll limit left rest (Ok bytes) → P bytes.items → IfRead left rest P
+pub if_read : (left rest : Option (List ℕ)) (bytes : Vec ℕ Global) (P : List ℕ → Type 0) → ReadsAll limit left rest (Ok bytes) → P bytes.items → IfRead left rest P
 if_read None rest bytes P reads holds = tt
 if_read (Some before) None bytes P reads holds = absurd reads
 if_read (Some before) (Some after) bytes P reads holds = (reads.2, ap Some reads.1, rw reads.0 at holds)
 
-of_script : (MayBe : ℕ → Type 0) (held now : Option (List ℕ)) (events : List Event) (read result : Result Script ScriptFault) → read ≡ result → StopsIn MayBe held now events result → StopsIn MayBe held now events read
-of_script MayBe held now events read result is stops = rw is stops
+-- ---- it is run
 
-within : (left rest held now : Option (List ℕ)) (events : List Event) (bytes : Vec ℕ Global) → ReadsAll limit left rest (Ok bytes) → StopsIn Nothing held now events (script bytes.items)
-    → IfSome left (λ told. (limit < length told → (events ≡ []) × Keeps held now) × StopsIn Nothing held now events (script told))
-within None rest held now events bytes reads stops = tt
-within (Some before) None held now events bytes reads stops = absurd reads
-within (Some before) (Some after) held now events bytes reads stops = (λ over. absurd (omega (arith, over, reads.2)), rw reads.0 at stops)
+plays_at : {D : Type 0} (parts : List Part) (held now : Option (List ℕ)) (set : Set D) (result : Result (Unit {0}) Stop)
+    → Plays set.sizes parts held now set.history result → EndsRun parts held now result set
+plays_at parts held now set (Ok done) played = (follows_so parts set.history played.lines_are, played.put)
+plays_at parts held now set (Err Memory) stopped = stopped
+plays_at parts held now set (Err WriteFault) stopped = stopped
+plays_at parts held now set (Err Usage) never = absurd never
+plays_at parts held now set (Err NoScript) never = absurd never
+plays_at parts held now set (Err ReadFault) never = absurd never
+plays_at parts held now set (Err TooLong) never = absurd never
+plays_at parts held now set (Err DiskFault) never = absurd never
 
--- a script was played
-pub plays_end : (words : List (String Global)) (left rest held now : Option (List ℕ)) (events : List Event) (bytes : Vec ℕ Global) (read : Script) (result : Result (Unit {0}) Stop)
-    → AsksRun words → ReadsAll limit left rest (Ok bytes) → script bytes.items ≡ Ok read → Plays one_set read.parts held now events result → Ends words left rest held now result events
-plays_end words left rest held now events bytes read (Ok done) asks reads is played =
-    (asks, if_read left rest bytes _ reads (read, is, follows_so read.parts events played.lines_are), played.put)
-plays_end words left rest held now events bytes read (Err Memory) asks reads is stopped =
-    (λ wrong. absurd (wrong asks), λ _. within left rest held now events bytes reads (of_script Nothing held now events (script bytes.items) (Ok read) is stopped))
-plays_end words left rest held now events bytes read (Err WriteFault) asks reads is stopped =
-    (λ wrong. absurd (wrong asks), λ _. if_read left rest bytes _ reads (of_script AnyFront held now events (script bytes.items) (Ok read) is stopped))
-plays_end words left rest held now events bytes read (Err Usage) asks reads is never = absurd never
-plays_end words left rest held now events bytes read (Err NoScript) asks reads is never = absurd never
-plays_end words left rest held now events bytes read (Err ReadFault) asks reads is never = absurd never
-plays_end words left rest held now events bytes read (Err TooLong) asks reads is never = absurd never
+-- a set of these sizes played the parts
+pub plays_end : {D : Type 0} (sizes : Sizes) (parts : List Part) (held now : Option (List ℕ)) (set : Set D) (result : Result (Unit {0}) Stop) → set.sizes ≡ sizes
+    → Plays sizes parts held now set.history result → EndsRun parts held now result set
+plays_end sizes parts held now set result same played =
+    plays_at parts held now set result (subst (λ (s : Sizes). Plays s parts held now set.history result) (sym same) played)
+
+-- what was asked for was run
+pub run_ends : {D : Type 0} (words : List (String Global)) (left rest old new : Option (List ℕ)) (read : Script) (ended : Result (Unit {0}) Stop) (outcome : Left D)
+    → AsksRun words → IsRead left rest read → RunsScript read old new ended outcome → Ends words left rest old new ended outcome
+run_ends words left rest old new read ended (World set) asks is runs = (asks, read, is, runs.0, runs.1)
+run_ends words left rest old new read ended (Parts events disks) asks is (none, kept, one) = (none, ⊎_elim no_memory failed one)
+  where
+    no_memory : ended ≡ Err Memory → EndsUnrun words left rest old new ended
+    no_memory same = rw same kept
+
+    failed : ended ≡ Err DiskFault → EndsUnrun words left rest old new ended
+    failed same = rw same (asks, kept, read, is)
+
+-- ---- what holds of what is left
+
+pub safe_here : {D : Type 0} → InEveryRun Safe → (outcome : Left D) → IfSet outcome (λ set. AreSizes set.sizes) → IfSet outcome (λ set. IsRun set.sizes set.history)
+    → IfSet outcome (λ set. Safe set.sizes set.history)
+safe_here law (World set) sizes defined = law set.sizes set.history sizes defined
+safe_here law (Parts events disks) sizes defined = tt
+
+-- ---- a readable script is run
+
+-- a fault has its cause
+no_fault : (Steady : Type 0) (before now : ℕ) → HasNoFault Steady before now → ¬ Steady → Rose before now → ⊥
+no_fault Steady before now (inl steady) unsteady rose = unsteady steady
+no_fault Steady before now (inr still) unsteady rose = still rose
+
+-- a source's bytes that are no script aren't readable
+faulty : (left rest : Option (List ℕ)) (fault : ScriptFault) (P : Type 0) → IsFaulty left rest fault → IfSome left (λ bytes. IsReadable bytes → P)
+faulty None rest fault P is = tt
+faulty (Some bytes) rest fault P (within, whole, is) = λ readable. absurd (apart readable.1 (sym readable.2 ∙ is))
+  where
+    apart : (read : Script) → Ok read ≡ Err fault → ⊥
+    apart read same = cc same
+
+over_limit : (left : Option (List ℕ)) (P : Type 0) → IfSome left (λ bytes. limit < length bytes) → IfSome left (λ bytes. IsReadable bytes → P)
+over_limit None P over = tt
+over_limit (Some bytes) P over = λ readable. absurd (omega (arith, over, readable.0))
+
+whatever : (left : Option (List ℕ)) (P : Type 0) → P → IfSome left (λ bytes. IsReadable bytes → P)
+whatever None P holds = tt
+whatever (Some bytes) P holds = λ readable. holds
+
+-- what was run doesn't end so, and what wasn't ends so
+only_unrun : {D : Type 0} (P : Type 0) (words : List (String Global)) (left rest old new : Option (List ℕ)) (ended : Result (Unit {0}) Stop) (outcome : Left D)
+    → ((parts : List Part) (set : Set D) → EndsRun parts old new ended set → P) → (EndsUnrun words left rest old new ended → P) → Ends words left rest old new ended outcome → P
+only_unrun P words left rest old new ended (World set) run unrun (asks, read, is, sizes, ends) = run read.parts set ends
+only_unrun P words left rest old new ended (Parts events disks) run unrun (none, ends) = unrun ends
+
+pub completes : {D : Type 0} (words : List (String Global)) (left rest old new : Option (List ℕ)) (ended : Result (Unit {0}) Stop) (outcome : Left D)
+    (SteadySource SteadySink : Type 0) (reads reads' writes writes' : ℕ)
+    → Ends words left rest old new ended outcome → (status_of ended ≡ 4 → Rose reads reads') → (status_of ended ≡ 5 → Rose writes writes')
+    → (SteadySource → status_of ended ≢ 4) → (SteadySink → status_of ended ≢ 5)
+    → AsksRun words → HasNoFault SteadySource reads reads' → HasNoFault SteadySink writes writes'
+    → IfSome left (λ bytes. IsReadable bytes → IsOneOf (0 ∷ 1 ∷ 7 ∷ []) (status_of ended))
+completes words left rest old new (Ok done) outcome SteadySource SteadySink reads reads' writes writes' ends read_fault write_fault steady_source steady_sink asks source sink = whatever left _ refl
+completes words left rest old new (Err Memory) outcome SteadySource SteadySink reads reads' writes writes' ends read_fault write_fault steady_source steady_sink asks source sink = whatever left _ refl
+completes words left rest old new (Err DiskFault) outcome SteadySource SteadySink reads reads' writes writes' ends read_fault write_fault steady_source steady_sink asks source sink = whatever left _ refl
+completes words left rest old new (Err ReadFault) outcome SteadySource SteadySink reads reads' writes writes' ends read_fault write_fault steady_source steady_sink asks source sink =
+    absurd (no_fault SteadySource reads reads' source (λ steady. steady_source steady refl) (read_fault refl))
+completes words left rest old new (Err WriteFault) outcome SteadySource SteadySink reads reads' writes writes' ends read_fault write_fault steady_source steady_sink asks source sink =
+    absurd (no_fault SteadySink writes writes' sink (λ steady. steady_sink steady refl) (write_fault refl))
+completes words left rest old new (Err Usage) outcome SteadySource SteadySink reads reads' writes writes' ends read_fault write_fault steady_source steady_sink asks source sink =
+    only_unrun _ words left rest old new (Err Usage) outcome (λ parts set never. absurd never) (λ unrun. absurd (unrun.0 asks)) ends
+completes words left rest old new (Err NoScript) outcome SteadySource SteadySink reads reads' writes writes' ends read_fault write_fault steady_source steady_sink asks source sink =
+    only_unrun _ words left rest old new (Err NoScript) outcome (λ parts set never. absurd never) (λ unrun. faulty left rest unrun.1 _ unrun.2) ends
+completes words left rest old new (Err TooLong) outcome SteadySource SteadySink reads reads' writes writes' ends read_fault write_fault steady_source steady_sink asks source sink =
+    only_unrun _ words left rest old new (Err TooLong) outcome (λ parts set never. absurd never) (λ unrun. over_limit left _ unrun.2) ends

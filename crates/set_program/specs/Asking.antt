@@ -1,5 +1,5 @@
 -- The two halves of a call: a script is read, and it is run.
-use Rattle.std.specs.Prelude.{ℕ, ◌≡◌, ◌≢◌, ◌⊎◌, Option, Result, Ok, Err, List, [], ◌∷◌, String}
+use Rattle.std.specs.Prelude.{ℕ, ◌≡◌, ◌⊎◌, Option, Result, Ok, Err, List, [], ◌∷◌, String}
 use Rattle.std.specs.Io.KnownBytes.{Keeps}
 use Rattle.std.specs.declared.alloc.Global.{Global}
 use Rattle.rs_disk.specs.State.{State}
@@ -16,13 +16,13 @@ use Rattle.set_program.specs.Headline.{AsksRun, EndsRun, EndsUnrun, IsOneOf, IsR
 -- the words ask for this script, or nothing is run
 abbrev pub Reads : List (String Global) → Option (List ℕ) → Option (List ℕ) → Option (List ℕ) → Option (List ℕ) → Result Script Stop → Type 0
 Reads words left rest old new (Ok read) = AsksRun words × IsRead left rest read
-Reads words left rest old new (Err stop) = EndsUnrun words left rest old new stop
+Reads words left rest old new (Err stop) = EndsUnrun words left rest old new (Err stop)
 
 -- a set of the script's sizes was run, or it couldn't be opened
 abbrev pub RunsScript : {D : Type 0} → Script → Option (List ℕ) → Option (List ℕ) → Result (Unit {0}) Stop → Left D → Type 0
 RunsScript read old new ended (World set) = (set.sizes ≡ sizes_of read) × EndsRun read.parts old new ended set
 RunsScript read old new ended (Parts events disks) =
-    (events.items ≡ []) × ((ended ≡ Err Memory) ⊎ (ended ≡ Err DiskFault)) × Keeps old new
+    (events.items ≡ []) × Keeps old new × ((ended ≡ Err Memory) ⊎ (ended ≡ Err DiskFault))
 
 -- and these disks are left
 abbrev pub OpensScript : {D : Type 0} → (D → State) → Script → List D → ℕ → Left D → Type 0

@@ -37,6 +37,7 @@ pub fn read_script<S: Source, K: Sink>(
     ensures write_fault { status_of result ≡ 5 → Rose (K.faults sink.old) (K.faults sink.new) }
     ensures steady_source { S.steady source.old → status_of result ≢ 4 }
     ensures steady_sink { K.steady sink.old → status_of result ≢ 5 }
+    ensures no_disk { status_of result ≢ 7 }
 {
     if !asks_run(words) {
         sink.put(USAGE.as_bytes())?;

@@ -1,15 +1,17 @@
-use Rattle.std.proofs.Common.{[], ◌∷◌, refl}
 use Rattle.std.proofs.lemmas.Result.{err_from_is_err_and}
-use Rattle.set_program.specs.World.{event_of, one_set}
-use Rattle.set_program.proofs.PlayLemmas.{line_stepped, one_added}
+use Rattle.set_program.proofs.StepLemmas.{line_stepped, line_undone, line_untold}
 use Rattle.set_program.proofs.steps.step_line.Goals as goal
 
-pub returns-in_err-push : goal.returns-in_err-push
-returns-in_err-push c =
-    let p = err_from_is_err_and c.from_residual-in_err-push.result c.from_residual-in_err-push.ensures.1 in
-    rw p.1 ((c.args.line, c.args.command.now) ∷ [], [], refl, one_added (event_of (c.args.line, c.args.command.now)) c.args.world.now c.step.new.self c.in_ok-reply.ensures.event)
+pub returns-in_err-push-in-Ok : goal.returns-in_err-push-in-Ok
+returns-in_err-push-in-Ok g c =
+    let p = err_from_is_err_and c.from_residual.result c.from_residual.ensures.1 in
+    rw p.1 (line_untold g.D.Disk.state c.args.line c.args.command.now c.in-Ok.reply c.args.world.now c.step.new.self c.in-Ok.ensures.step c.in-Ok.ensures.sizes)
 
-pub returns : goal.returns
-returns c =
-    line_stepped one_set (event_of (c.args.line, c.args.command.now)) c.in_ok-reply.reply c.args.world.now c.step.new.self c.args.replies.now.items c.push.new.self.items
-    c.in_ok-reply.ensures.event c.in_ok-reply.ensures.reply c.in_ok-push.ensures.items
+pub returns-in_ok-push-in-Ok : goal.returns-in_ok-push-in-Ok
+returns-in_ok-push-in-Ok g c =
+    line_stepped g.D.Disk.state c.args.line c.args.command.now c.in-Ok.reply c.args.world.now c.step.new.self c.args.replies.now.items c.push.new.self.items
+    c.in-Ok.ensures.step c.in-Ok.ensures.sizes c.in_ok-push-in-Ok.ensures.items
+
+pub returns-in-Err-Memory : goal.returns-in-Err-Memory
+returns-in-Err-Memory g c =
+    line_undone g.D.Disk.state c.args.line c.args.command.now c.args.world.now c.step.new.self c.requires.fits c.in-Err-Memory.ensures.err c.in-Err-Memory.ensures.sizes

@@ -1,7 +1,6 @@
 use Rattle.std.proofs.Common.{take}
 use Rattle.set_program.specs.Steps.{Stepped}
-use Rattle.set_program.specs.World.{one_set}
 use Rattle.set_program.proofs.steps.step_lines.Given as goal
 
 abbrev pub invariant-loop-line : goal.invariant-loop-line
-invariant-loop-line l = Stepped one_set (take l.line-index l.lines) l.initial.world l.world l.initial.replies.items l.replies.items
+invariant-loop-line g l = Stepped g.D.Disk.state (take l.line-index l.lines) l.initial.world l.world l.initial.replies.items l.replies.items

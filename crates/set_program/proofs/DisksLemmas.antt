@@ -1,0 +1,67 @@
+-- How a set's disks go on, event by event.
+use Rattle.std.proofs.Common.{ℕ, ◌≡◌, true, List, [], ◌∷◌, ◌++◌, refl, sym, subst, inl, inr}
+use Rattle.std.specs.Prelude.{◌⊎◌, IsSome, Result, Ok, Err, fold}
+use Rattle.rs_disk.specs.State.{State}
+use Rattle.set_model.specs.declared.command.Command.{Command}
+use Rattle.set_model.specs.declared.command.Event.{Event}
+use Rattle.set_model.specs.declared.reply.Reply.{Reply}
+use Rattle.set_model.specs.Limits.{is_for}
+use Rattle.set_model.specs.Run.{Run, Sizes, after, opening, run}
+use Rattle.set_model.specs.World.{World, step, touched_node}
+use Rattle.node_core.specs.Acting.{DisksActed, Runs}
+use Rattle.set_world.specs.World.{Set}
+use Rattle.set_world.specs.Disks.{AtMostOne, IsStep, IsUndone, OneChanged}
+use Rattle.set_program.specs.Disks.{DisksPlay, DisksPlayed, DisksRan, DisksStep, DisksUndone}
+
+-- an event more is played
+play_more : {D : Type 0} (state : D → State) (so_far : Run) (events : List Event) (event : Event) (first old new : List D)
+    → DisksPlay state so_far.world events first old → DisksStep state (fold after so_far events).world event old new
+    → DisksPlay state so_far.world (events ++ event ∷ []) first new
+play_more {D} state so_far [] event first old new played more = (new, subst (λ (ds : List D). DisksStep state so_far.world event ds new) played more, refl)
+play_more state so_far (earlier ∷ events) event first old new played more =
+    (played.0, played.1, play_more state (after so_far earlier) events event played.0 old new played.2 more)
+
+-- the disks of a command are those of its event
+of_event : {D : Type 0} (state : D → State) (world : World) (event : Event) (command : Command) (reply : Reply) (old new : List D)
+    → command ≡ event.command → reply ≡ (step world event).reply
+    → AtMostOne old new (OneChanged state (DisksActed command reply (IsSome event.failed)) (touched_node world command) old new)
+    → DisksStep state world event old new
+of_event state world event command reply old new command_is reply_is changed =
+    subst (λ (r : Reply). AtMostOne old new (OneChanged state (DisksActed event.command r (IsSome event.failed)) (touched_node world event.command) old new)) reply_is
+        (subst (λ (c : Command). AtMostOne old new (OneChanged state (DisksActed c reply (IsSome event.failed)) (touched_node world c) old new)) command_is changed)
+
+-- a set goes on by a step
+pub step_played : {D : Type 0} (state : D → State) (old new : Set D) (line : ℕ) (command : Command) (reply : Reply) → IsStep state old new line command reply
+    → new.sizes ≡ old.sizes → (first : List D) → DisksPlayed state first old → DisksPlayed state first new
+step_played state old new line command reply is sizes first played =
+    let changed = of_event state (run old.sizes old.history).world is.event command reply old.disks new.disks (sym is.command_is) is.reply_is is.disks in
+    let more = play_more state (opening old.sizes) old.history is.event first old.disks new.disks played changed in
+    subst (λ (es : List Event). DisksPlay state (opening new.sizes).world es first new.disks) (sym is.history)
+        (subst (λ (s : Sizes). DisksPlay state (opening s).world (old.history ++ is.event ∷ []) first new.disks) (sym sizes) more)
+
+-- what was played ran, and no command behind it
+pub played_ran : {D : Type 0} (state : D → State) (set : Set D) (first : List D) → DisksPlayed state first set → DisksRan state first set
+played_ran state set first played = (set.disks, played, inl refl)
+
+undone_at : {D : Type 0} (state : D → State) (sizes sizes' : Sizes) (history history' : List Event) (command : Command) (old new : List D)
+    → sizes ≡ sizes' → history ≡ history' → is_for sizes.nodes command ≡ true
+    → AtMostOne old new (OneChanged state (Runs ⊥) (touched_node (run sizes history).world command) old new)
+    → AtMostOne old new ((c : Command) × (is_for sizes'.nodes c ≡ true) × OneChanged state (Runs ⊥) (touched_node (run sizes' history').world c) old new)
+undone_at state sizes sizes' history history' command old new sizes_are history_is fits (inl same) = inl same
+undone_at state sizes sizes' history history' command old new sizes_are history_is fits (inr one) =
+    inr (
+      command,
+      subst (λ (s : Sizes). is_for s.nodes command ≡ true) sizes_are fits,
+      subst (λ (es : List Event). OneChanged state (Runs ⊥) (touched_node (run sizes' es).world command) old new) history_is
+          (subst (λ (s : Sizes). OneChanged state (Runs ⊥) (touched_node (run s history).world command) old new) sizes_are one),
+    )
+
+-- a command wasn't done
+pub undone_ran : {D : Type 0} (state : D → State) (old new : Set D) (command : Command) → is_for old.sizes.nodes command ≡ true → IsUndone state old new command
+    → new.sizes ≡ old.sizes → (first : List D) → DisksPlayed state first old → DisksRan state first new
+undone_ran state old new command fits is sizes first played = (
+  old.disks,
+  subst (λ (es : List Event). DisksPlay state (opening new.sizes).world es first old.disks) (sym is.history)
+      (subst (λ (s : Sizes). DisksPlay state (opening s).world old.history first old.disks) (sym sizes) played),
+  undone_at state old.sizes new.sizes old.history new.history command old.disks new.disks (sym sizes) (sym is.history) fits is.disks,
+)

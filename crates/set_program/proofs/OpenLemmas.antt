@@ -1,0 +1,123 @@
+-- The disks that a call leaves.
+use Rattle.std.proofs.Common.{ℕ, ◌≡◌, ◌*◌, List, [], ◌∷◌, Option, Some, Result, Ok, Err, String, refl, subst, sym, ap, inl, inr, ◌∙◌}
+use Rattle.std.specs.Prelude.{◌≢◌, ◌⊎◌, All, Vec, slice_get}
+use Rattle.std.specs.declared.alloc.Global.{Global}
+use Rattle.std.proofs.lemmas.List.Elements.{All-get_or}
+use Rattle.std.proofs.lemmas.Option.{get_or_from_slice_get, slice_get_within}
+use Rattle.rs_disk.specs.State.{State}
+use Rattle.record_file.specs.declared.error.FileError.{FileError}
+use Rattle.record_file.specs.declared.error.FileError.TheVariants.{Disk, Memory as NoBytes}
+use Rattle.set_model.specs.declared.command.Event.{Event}
+use Rattle.set_model.specs.Run.{Sizes, opening}
+use Rattle.fault_script.specs.declared.script.Part.{Part}
+use Rattle.fault_script.specs.declared.script.Script.{Script}
+use Rattle.fault_script.specs.Script.{sizes_of}
+use Rattle.set_world.specs.World.{Set}
+use Rattle.set_world.specs.Disks.{Opens, OneRose}
+use Rattle.set_program.specs.declared.outcome.Left.{Left}
+use Rattle.set_program.specs.declared.outcome.Left.TheVariants.{World, Parts}
+use Rattle.set_program.specs.declared.stop.Stop.{Stop}
+use Rattle.set_program.specs.declared.stop.Stop.TheVariants.{Memory, Usage, Script as NoScript, ReadFault, WriteFault, TooLong, DiskFault}
+use Rattle.set_program.specs.Asking.{OpensScript, RunsScript}
+use Rattle.set_program.specs.Causes.{of_file}
+use Rattle.set_program.specs.Disks.{DisksPlay, DisksPlayed, DisksRan, GoOn}
+use Rattle.set_program.specs.Headline.{Ends, EndsRun, IsRead, IsUnarmed, LeavesDisks, status_of, status_of_stop}
+use Rattle.set_program.specs.Left.{disks_of}
+use Rattle.set_program.proofs.DisksLemmas.{played_ran}
+use Rattle.set_program.proofs.PlayLemmas.{Keeps-same}
+
+-- ---- a set was opened, and went on
+
+-- the disks that it had ran
+opened_ran : {D : Type 0} (state : D → State) (old new : Set D) (result : Result (Unit {0}) Stop) → old.history ≡ [] → GoOn state old new result → DisksRan state old.disks new
+opened_ran {D} state old new result none goes = ran result goes
+  where
+    began : DisksPlayed state old.disks old
+    began = subst (λ (es : List Event). DisksPlay state (opening old.sizes).world es old.disks old.disks) (sym none) refl
+
+    ran : (r : Result (Unit {0}) Stop) → GoOn state old new r → DisksRan state old.disks new
+    ran (Ok done) played = played_ran state new old.disks (played old.disks began)
+    ran (Err stop) played = played old.disks began
+
+pub set_leaves : {D : Type 0} (state : D → State) (read : Script) (handed : List D) (status : ℕ) (old new : Set D) (result : Result (Unit {0}) Stop)
+    → old.history ≡ [] → old.sizes ≡ sizes_of read → new.sizes ≡ old.sizes → Opens state read.nodes ⊥ handed old.disks → GoOn state old new result
+    → OpensScript state read handed status (World new)
+set_leaves {D} state read handed status old new result none sizes same opens goes = (
+  old.disks,
+  subst (λ (n : ℕ). Opens state n ⊥ handed old.disks) (sym (ap (λ (s : Sizes). s.nodes) (same ∙ sizes))) opens,
+  opened_ran state old new result none goes,
+)
+
+-- ---- it couldn't be opened
+
+with_fault : {D : Type 0} (state : D → State) (nodes : ℕ) (P Q : Type 0) (old new : List D) → (Q → P) → Opens state nodes P old new → Opens state nodes Q old new
+with_fault state nodes P Q old new back opens = record {
+  count = opens.count;
+  idle = opens.idle;
+  each = opens.each;
+  cause = λ fault. opens.cause (back fault);
+  only_armed = λ fault. opens.only_armed (back fault);
+}
+
+refuses : {D : Type 0} (state : D → State) (read : Script) (handed : List D) (error : FileError) (events : Vec Event Global) (disks : Vec D Global)
+    → Opens state read.nodes (error ≡ Disk) handed disks.items → OpensScript state read handed (status_of_stop (of_file error)) (Parts events disks)
+refuses state read handed Disk events disks opens = (refl, with_fault state read.nodes (Disk ≡ Disk) (7 ≡ 7) handed disks.items (λ seven. refl) opens)
+refuses state read handed NoBytes events disks opens = (refl, with_fault state read.nodes (NoBytes ≡ Disk) (1 ≡ 7) handed disks.items (λ seven. absurd (cc seven)) opens)
+
+pub refused_leaves : {D : Type 0} (state : D → State) (read : Script) (handed : List D) (error : FileError) (stop : Stop) (events : Vec Event Global) (disks : Vec D Global)
+    → stop ≡ of_file error → Opens state read.nodes (error ≡ Disk) handed disks.items → OpensScript state read handed (status_of_stop stop) (Parts events disks)
+refused_leaves state read handed error stop events disks is opens =
+    subst (λ (s : Stop). OpensScript state read handed (status_of_stop s) (Parts events disks)) (sym is) (refuses state read handed error events disks opens)
+
+stops : (error : FileError) (stop : Stop) → stop ≡ of_file error → (Err {Unit {0}} stop ≡ Err Memory) ⊎ (Err {Unit {0}} stop ≡ Err DiskFault)
+stops Disk stop is = inr (ap Err is)
+stops NoBytes stop is = inl (ap Err is)
+
+pub refused_runs : {D : Type 0} (read : Script) (held : Option (List ℕ)) (error : FileError) (stop : Stop) (events : Vec Event Global) (disks : Vec D Global)
+    → stop ≡ of_file error → events.items ≡ [] → RunsScript read held held (Err stop) (Parts events disks)
+refused_runs read held error stop events disks is none = (none, Keeps-same held, stops error stop is)
+
+-- ---- what the whole call leaves
+
+pub asked_leaves : {D : Type 0} (state : D → State) (left rest : Option (List ℕ)) (read : Script) (handed : List D) (status : ℕ) (outcome : Left D)
+    → IsRead left rest read → OpensScript state read handed status outcome → LeavesDisks state left rest handed status outcome
+asked_leaves state left rest read handed status (World set) is opens = opens
+asked_leaves state left rest read handed status (Parts events disks) is (one, opens) = inr (one, read, is, opens)
+
+-- a set that was opened doesn't end with a fault of a disk
+not_opening : {D : Type 0} (parts : List Part) (old new : Option (List ℕ)) (ended : Result (Unit {0}) Stop) (set : Set D) → EndsRun parts old new ended set → status_of ended ≢ 7
+not_opening parts old new (Ok done) set ends seven = cc seven
+not_opening parts old new (Err Memory) set ends seven = cc seven
+not_opening parts old new (Err WriteFault) set ends seven = cc seven
+not_opening parts old new (Err Usage) set ends seven = ends
+not_opening parts old new (Err NoScript) set ends seven = ends
+not_opening parts old new (Err ReadFault) set ends seven = ends
+not_opening parts old new (Err TooLong) set ends seven = ends
+not_opening parts old new (Err DiskFault) set ends seven = ends
+
+-- what holds of the opening of a script's set holds where a disk failed
+when_failed : {D : Type 0} (state : D → State) (words : List (String Global)) (left rest old new : Option (List ℕ)) (handed : List D) (ended : Result (Unit {0}) Stop) (outcome : Left D)
+    → Ends words left rest old new ended outcome → LeavesDisks state left rest handed (status_of ended) outcome → status_of ended ≡ 7
+    → (read : Script) × IsRead left rest read × Opens state read.nodes (status_of ended ≡ 7) handed (disks_of outcome)
+when_failed state words left rest old new handed ended (World set) (asks, read, is, sizes, runs) leaves seven = absurd (not_opening read.parts old new ended set runs seven)
+when_failed state words left rest old new handed ended (Parts events disks) ends (inl (other, same)) seven = absurd (other seven)
+when_failed state words left rest old new handed ended (Parts events disks) ends (inr (one, opens)) seven = opens
+
+pub disk_failed : {D : Type 0} (state : D → State) (words : List (String Global)) (left rest old new : Option (List ℕ)) (handed : List D) (ended : Result (Unit {0}) Stop) (outcome : Left D)
+    → Ends words left rest old new ended outcome → LeavesDisks state left rest handed (status_of ended) outcome → status_of ended ≡ 7
+    → (read : Script) × IsRead left rest read × OneRose state (2 * read.nodes) handed (disks_of outcome)
+disk_failed state words left rest old new handed ended outcome ends leaves seven =
+    let failed = when_failed state words left rest old new handed ended outcome ends leaves seven in
+    (failed.0, failed.1, failed.2.cause seven)
+
+pub none_failed : {D : Type 0} (state : D → State) (words : List (String Global)) (left rest old new : Option (List ℕ)) (handed : List D) (ended : Result (Unit {0}) Stop) (outcome : Left D)
+    → Ends words left rest old new ended outcome → LeavesDisks state left rest handed (status_of ended) outcome → All (λ (disk : D). IsUnarmed (state disk)) handed → status_of ended ≢ 7
+none_failed {D} state words left rest old new handed ended outcome ends leaves unarmed seven =
+    let failed = when_failed state words left rest old new handed ended outcome ends leaves seven in
+    let armed = failed.2.only_armed seven (λ place disk at. (is_unarmed place disk at).0) in
+    (is_unarmed armed.0 armed.1 armed.2).1 armed.3
+  where
+    is_unarmed : (place : ℕ) (disk : D) → slice_get handed place ≡ Some disk → IsUnarmed (state disk)
+    is_unarmed place disk at =
+        subst (λ (d : D). IsUnarmed (state d)) (get_or_from_slice_get handed place disk disk at)
+            (All-get_or (λ (d : D). IsUnarmed (state d)) handed place disk (slice_get_within handed place disk at) unarmed)

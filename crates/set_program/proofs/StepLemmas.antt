@@ -1,0 +1,175 @@
+-- The lines of a part, played one after another.
+use Rattle.std.proofs.Common.{ℕ, ◌≡◌, ◌+◌, ◌≤◌, ◌<◌, Bool, true, List, [], ◌∷◌, ◌++◌, length, length-append, take, drop, get_or, append_assoc, refl, ap, sym, subst, arith, ◌∙◌}
+use Rattle.std.specs.Prelude.{map}
+use Rattle.std.specs.List.{flat_map, AllPass}
+use Rattle.std.proofs.lemmas.List.Elements.{All-get_or}
+use Rattle.std.proofs.lemmas.List.{append-nil, map-append, take_more, take-append-drop, length-map}
+use Rattle.std.proofs.lemmas.List.Concat.{flat_map-append}
+use Rattle.rs_disk.specs.State.{State}
+use Rattle.set_model.specs.declared.command.Command.{Command}
+use Rattle.set_model.specs.declared.command.Event.{Event}
+use Rattle.set_model.specs.declared.reply.Reply.{Reply}
+use Rattle.set_model.specs.Limits.{is_for}
+use Rattle.set_model.specs.Run.{Sizes, run}
+use Rattle.set_model.proofs.RunLemmas.{run-append}
+use Rattle.set_world.specs.World.{Set}
+use Rattle.set_world.specs.Disks.{IsStep, IsUndone}
+use Rattle.set_program.specs.Steps.{Adds, GoesOn, Stepped, SteppedSome, line_of, reply_to}
+use Rattle.set_program.proofs.DisksLemmas.{played_ran, step_played, undone_ran}
+
+-- ---- replies
+
+-- one event more is one reply more
+replies-append : (sizes : Sizes) (events : List Event) (event : Event) → (run sizes (events ++ event ∷ [])).replies ≡ (run sizes events).replies ++ (event.line, reply_to sizes events event) ∷ []
+replies-append sizes events event = ap (λ r. r.replies) (run-append sizes events event)
+
+-- more events have more replies
+pub replies-more : (sizes : Sizes) (events more : List Event) → (replies : List (ℕ × Reply)) × ((run sizes (events ++ more)).replies ≡ (run sizes events).replies ++ replies)
+replies-more sizes events [] = ([], ap (λ (es : List Event). (run sizes es).replies) (append-nil events) ∙ sym (append-nil (run sizes events).replies))
+replies-more sizes events (event ∷ more) =
+    let later = replies-more sizes (events ++ event ∷ []) more in (
+      (event.line, reply_to sizes events event) ∷ later.0,
+      ap (λ (es : List Event). (run sizes es).replies) (sym (append_assoc events (event ∷ []) more)) ∙ later.1
+          ∙ ap (λ (rs : List (ℕ × Reply)). rs ++ later.0) (replies-append sizes events event)
+          ∙ append_assoc (run sizes events).replies ((event.line, reply_to sizes events event) ∷ []) later.0,
+    )
+
+-- ---- lines
+
+pub adds_more : (xs ys : List (ℕ × Command)) (old mid new : List Event) → Adds xs old mid → Adds ys mid new → Adds (xs ++ ys) old new
+adds_more xs ys old mid new first second = record {
+  added = first.added ++ second.added;
+  events = second.events ∙ ap (λ (es : List Event). es ++ second.added) first.events ∙ append_assoc old first.added second.added;
+  lines_are = map-append line_of first.added second.added ∙ ap (λ (ls : List (ℕ × Command)). ls ++ map line_of second.added) first.lines_are
+      ∙ ap (λ (ls : List (ℕ × Command)). xs ++ ls) second.lines_are;
+}
+
+adds_none : (old new : List Event) → new ≡ old → Adds [] old new
+adds_none old new same = record { added = []; events = same ∙ sym (append-nil old); lines_are = refl }
+
+-- replies of a set whose sizes stayed
+told_at : (sizes sizes' : Sizes) (old new : List Event) (replies : List (ℕ × Reply)) → sizes' ≡ sizes → GoesOn sizes' old new replies → GoesOn sizes old new replies
+told_at sizes sizes' old new replies same told = subst (λ (s : Sizes). GoesOn s old new replies) same told
+
+pub stepped_none : {D : Type 0} (state : D → State) (set : Set D) (replies : List (ℕ × Reply)) → Stepped state [] set set replies replies
+stepped_none state set replies = record {
+  sizes = refl;
+  adds = adds_none set.history set.history refl;
+  replies = [];
+  told = record { longer = sym (append-nil (run set.sizes set.history).replies) };
+  kept = sym (append-nil replies);
+  disks = λ first played. played;
+}
+
+pub stepped_more : {D : Type 0} (state : D → State) (xs ys : List (ℕ × Command)) (old mid new : Set D) (before between after : List (ℕ × Reply))
+    → Stepped state xs old mid before between → Stepped state ys mid new between after → Stepped state (xs ++ ys) old new before after
+stepped_more state xs ys old mid new before between after first second =
+    let told = told_at old.sizes mid.sizes mid.history new.history second.replies first.sizes second.told in
+    record {
+      sizes = second.sizes ∙ first.sizes;
+      adds = adds_more xs ys old.history mid.history new.history first.adds second.adds;
+      replies = first.replies ++ second.replies;
+      told = record {
+        longer = told.longer ∙ ap (λ (rs : List (ℕ × Reply)). rs ++ second.replies) first.told.longer
+            ∙ append_assoc (run old.sizes old.history).replies first.replies second.replies;
+      };
+      kept = second.kept ∙ ap (λ (rs : List (ℕ × Reply)). rs ++ second.replies) first.kept ∙ append_assoc before first.replies second.replies;
+      disks = λ disks played. second.disks disks (first.disks disks played);
+    }
+
+-- some of the later lines
+pub some_more : {D : Type 0} (state : D → State) (whole xs ys later : List (ℕ × Command)) (old mid new : Set D) (before between : List (ℕ × Reply))
+    → whole ≡ (xs ++ ys) ++ later → Stepped state xs old mid before between → SteppedSome state ys mid new → SteppedSome state whole old new
+some_more state whole xs ys later old mid new before between is first some = record {
+  sizes = some.sizes ∙ first.sizes;
+  played = xs ++ some.played;
+  later = some.later ++ later;
+  lines_are = is ∙ ap (λ (ls : List (ℕ × Command)). (xs ++ ls) ++ later) some.lines_are ∙ append_assoc xs (some.played ++ some.later) later
+      ∙ ap (λ (ls : List (ℕ × Command)). xs ++ ls) (append_assoc some.played some.later later) ∙ sym (append_assoc xs some.played (some.later ++ later));
+  adds = adds_more xs some.played old.history mid.history new.history first.adds some.adds;
+  disks = λ disks played. some.disks disks (first.disks disks played);
+}
+
+-- a line is played
+one_added : {D : Type 0} (state : D → State) (line : ℕ) (command : Command) (reply : Reply) (old new : Set D) → IsStep state old new line command reply
+    → Adds ((line, command) ∷ []) old.history new.history
+one_added state line command reply old new is = record {
+  added = is.event ∷ [];
+  events = is.history;
+  lines_are = ap (λ (n : ℕ). (n, is.event.command) ∷ []) is.line_is ∙ ap (λ (c : Command). (line, c) ∷ []) is.command_is;
+}
+
+pub line_stepped : {D : Type 0} (state : D → State) (line : ℕ) (command : Command) (reply : Reply) (old new : Set D) (before after : List (ℕ × Reply))
+    → IsStep state old new line command reply → new.sizes ≡ old.sizes → after ≡ before ++ (line, reply) ∷ [] → Stepped state ((line, command) ∷ []) old new before after
+line_stepped state line command reply old new before after is sizes kept = record {
+  sizes = sizes;
+  adds = one_added state line command reply old new is;
+  replies = (line, reply) ∷ [];
+  told = record {
+    longer = ap (λ (es : List Event). (run old.sizes es).replies) is.history ∙ replies-append old.sizes old.history is.event
+        ∙ ap (λ (n : ℕ). (run old.sizes old.history).replies ++ (n, reply_to old.sizes old.history is.event) ∷ []) is.line_is
+        ∙ ap (λ (r : Reply). (run old.sizes old.history).replies ++ (line, r) ∷ []) (sym is.reply_is);
+  };
+  kept = kept;
+  disks = step_played state old new line command reply is sizes;
+}
+
+-- it is played, and there is no memory for its reply
+pub line_untold : {D : Type 0} (state : D → State) (line : ℕ) (command : Command) (reply : Reply) (old new : Set D) → IsStep state old new line command reply
+    → new.sizes ≡ old.sizes → SteppedSome state ((line, command) ∷ []) old new
+line_untold state line command reply old new is sizes = record {
+  sizes = sizes;
+  played = (line, command) ∷ [];
+  later = [];
+  lines_are = refl;
+  adds = one_added state line command reply old new is;
+  disks = λ first played. played_ran state new first (step_played state old new line command reply is sizes first played);
+}
+
+-- it isn't played
+pub line_undone : {D : Type 0} (state : D → State) (line : ℕ) (command : Command) (old new : Set D) → is_for old.sizes.nodes command ≡ true → IsUndone state old new command
+    → new.sizes ≡ old.sizes → SteppedSome state ((line, command) ∷ []) old new
+line_undone state line command old new fits is sizes = record {
+  sizes = sizes;
+  played = [];
+  later = (line, command) ∷ [];
+  lines_are = refl;
+  adds = adds_none old.history new.history is.history;
+  disks = undone_ran state old new command fits is sizes;
+}
+
+-- a list at one of its places
+pub around : {A : Type 0} (xs : List A) (i : ℕ) (x : A) → i < length xs → x ≡ get_or xs i x → xs ≡ (take i xs ++ x ∷ []) ++ drop (i + 1) xs
+around {A} xs i x within is =
+    sym (take-append-drop (i + 1) xs) ∙ ap (λ (ys : List A). ys ++ drop (i + 1) xs) (take_more xs i x within ∙ ap (λ (y : A). take i xs ++ y ∷ []) (sym is))
+
+pub next_take : {A : Type 0} (xs : List A) (i : ℕ) (x : A) → i < length xs → x ≡ get_or xs i x → take (i + 1) xs ≡ take i xs ++ x ∷ []
+next_take {A} xs i x within is = take_more xs i x within ∙ ap (λ (y : A). take i xs ++ y ∷ []) (sym is)
+
+-- the pieces of a list's items, one after another
+pub next_pieces : {A B : Type 0} (f : A → List B) (xs : List A) (i : ℕ) (x : A) → i < length xs → x ≡ get_or xs i x → flat_map f (take (i + 1) xs) ≡ flat_map f (take i xs) ++ f x
+next_pieces {A} {B} f xs i x within is =
+    ap (flat_map f) (next_take xs i x within is) ∙ flat_map-append f (take i xs) (x ∷ []) ∙ ap (λ (ys : List B). flat_map f (take i xs) ++ ys) (append-nil (f x))
+
+pub around_pieces : {A B : Type 0} (f : A → List B) (xs : List A) (i : ℕ) (x : A) → i < length xs → x ≡ get_or xs i x → flat_map f xs ≡ (flat_map f (take i xs) ++ f x) ++ flat_map f (drop (i + 1) xs)
+around_pieces {A} {B} f xs i x within is =
+    ap (flat_map f) (sym (take-append-drop (i + 1) xs)) ∙ flat_map-append f (take (i + 1) xs) (drop (i + 1) xs)
+    ∙ ap (λ (ys : List B). ys ++ flat_map f (drop (i + 1) xs)) (next_pieces f xs i x within is)
+
+-- a test that all items pass
+pub item_passes : {A : Type 0} (p : A → Bool) (xs : List A) (i : ℕ) (x : A) → i < length xs → x ≡ get_or xs i x → AllPass p xs → p x ≡ true
+item_passes p xs i x within is all = ap p is ∙ All-get_or (λ y. p y ≡ true) xs i x within all
+
+-- how long a history is behind some lines
+pub longer_by : (lines : List (ℕ × Command)) (old new : List Event) → Adds lines old new → length new ≡ length old + length lines
+longer_by lines old new adds =
+    ap (λ (es : List Event). length es) adds.events ∙ length-append old adds.added
+    ∙ ap (λ (n : ℕ). length old + n) (sym (length-map adds.added line_of) ∙ ap (λ (ls : List (ℕ × Command)). length ls) adds.lines_are)
+
+-- there is room for the next piece
+pub room : {A B : Type 0} (f : A → List B) (xs : List A) (i : ℕ) (x : A) (before : ℕ) → i < length xs → x ≡ get_or xs i x → before + length (flat_map f xs) ≤ 200000 → before + length (flat_map f (take i xs)) + length (f x) ≤ 200000
+room {A} {B} f xs i x before within is few =
+    let one = length-append (flat_map f (take i xs)) (f x) in
+    let two = length-append (flat_map f (take i xs) ++ f x) (flat_map f (drop (i + 1) xs)) in
+    let three : length (flat_map f xs) ≡ length ((flat_map f (take i xs) ++ f x) ++ flat_map f (drop (i + 1) xs)) = ap (λ (ys : List B). length ys) (around_pieces f xs i x within is) in
+    omega (arith, one, two, three, few)
