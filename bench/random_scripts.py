@@ -155,6 +155,21 @@ class Author:
             self.put(f"flush n{x}")
         self.primary = x
 
+    def contest(self):
+        """Two candidates of one term, and voters that crash between the two askings."""
+        x, y = self.two()
+        voters = [k for k in range(self.nodes) if k not in (x, y)]
+        self.put(f"heartbeat n{x} n{y}", f"deliver n{x} n{y}", f"deliver n{y} n{x}", f"campaign n{x}", f"campaign n{y}")
+        for k in voters:
+            if k != voters[0] and self.dice.random() < 0.5:  # who hears of the term before it is asked
+                self.put(f"heartbeat n{voters[0]} n{k}", f"deliver n{voters[0]} n{k}")
+            self.put(f"deliver n{x} n{k}", f"deliver n{k} n{x}")
+        restarted = [k for k in [x] + voters if self.dice.random() < 0.7]
+        self.put(*(line for k in restarted for line in (f"crash n{k}", f"restart n{k}")))
+        for k in [x] + voters:
+            self.put(f"deliver n{y} n{k}", f"deliver n{k} n{y}")
+        self.put(f"drain n{y}", f"drain n{x}")
+
     def writes(self):
         for _ in range(self.dice.randint(1, 5)):
             self.put(self.write_at(self.leader()))
@@ -251,7 +266,7 @@ class Author:
         version = self.version + self.dice.choice([0, 1, 1, 1, 1, 1, 2])
         settings = self.dice.choice(["", "", "", ',"settings":{"chainingAllowed":false}'])
         self.put(f'reconfig n{p} {{"version":{version},"members":[{",".join(texts)}]{settings}}}')
-        for k in range(self.nodes):
+        for k in self.dice.sample(range(self.nodes), self.dice.choice([self.nodes // 2, self.nodes])):
             if k != p:
                 self.put(f"heartbeat n{p} n{k}", f"deliver n{p} n{k}", f"report n{k} n{p}", f"deliver n{k} n{p}")
 
@@ -343,6 +358,7 @@ class Author:
 # The steps, each with how often it is taken.
 STEPS = [
     (Author.elect, 5),
+    (Author.contest, 3),
     (Author.writes, 10),
     (Author.writers, 6),
     (Author.pull, 8),
