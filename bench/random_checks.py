@@ -162,8 +162,9 @@ class Checker:
         self.armed = [0] * nodes
         self.winners = {}
         self.texts = {}  # of each optime, the entry
+        self.before = {}  # of each optime, that of the entry before it
         self.logs = []  # each log that was printed, with its place and node
-        self.acked = {}
+        self.committed = {}  # what was acknowledged at majority, and the commit points that were told
         self.told = [(0, 0, 0)] * nodes  # the greatest commit point that a node told since it came up
         self.ever_told = [(0, 0, 0)] * nodes
         self.durable = [(0, 0, 0)] * nodes
@@ -248,7 +249,7 @@ class Checker:
         elif told[0] == "acked":
             self.counts["acknowledged at majority" if words[3] == "majority" else "acknowledged at a count"] += 1
             if words[3] == "majority":
-                self.acked.setdefault(optime(told[1]), self.place)
+                self.committed.setdefault(optime(told[1]), self.place)
         elif told[0] == "counted":
             self.commit(node, optime(told[2]))
         elif told[0] == "rolled":
@@ -270,6 +271,8 @@ class Checker:
     def commit(self, node, at):
         if at < self.told[node]:
             self.fault(f"the commit point was {self.told[node]} before")
+        if at != (0, 0, 0):
+            self.committed.setdefault(at, self.place)
         self.told[node] = at
         self.ever_told[node] = max(at, self.ever_told[node])
 
@@ -319,6 +322,10 @@ class Checker:
         for point, entry in zip(points, entries):
             if self.texts.setdefault(point, entry) != entry:
                 self.fault(f"{entry} was {self.texts[point]} before")
+        if self.view.get("node") == node and self.view["state"]["role"] != "Primary":  # it has no hole then
+            for before, point in zip([(0, 0, 0)] + points, points):
+                if self.before.setdefault(point, before) != before:
+                    self.fault(f"{before} stands before {point}, and {self.before[point]} did")
         self.logs.append((self.place, node, set(points), max(points, default=(0, 0, 0))))
 
     def dump(self, level, documents):
@@ -334,7 +341,7 @@ class Checker:
 
     def end(self, lines, answers):
         """What holds of the whole script, and of the settled set at its end."""
-        for point, place in self.acked.items():
+        for point, place in self.committed.items():
             for log_place, _, points, last in self.logs:
                 if last[0] > point[0] and point not in points:
                     self.faults.append(f"{log_place}: without {point}, of {place}")
@@ -342,7 +349,7 @@ class Checker:
         for j, name in enumerate(("documents at majority", "documents", "log")):
             if len(set(final[j * self.nodes : (j + 1) * self.nodes])) != 1:
                 self.faults.append(f"the nodes end with different {name}")
-        for point, place in self.acked.items():
+        for point, place in self.committed.items():
             if point not in self.logs[-1][2]:
                 self.faults.append(f"the settled logs are without {point}, of {place}")
         states = [answers[len(lines) - 4 * k - 3].split(" ") for k in range(self.nodes)]
