@@ -1,6 +1,9 @@
 pub mod ActingLemmas
 pub mod CarryLemmas
+pub mod ComingLemmas
 pub mod DeliverLemmas
 pub mod DoesLemmas
+pub mod OpeningLemmas
 pub mod OwedLemmas
 pub mod PuttingLemmas
+pub mod RisingLemmas

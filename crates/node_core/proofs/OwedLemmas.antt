@@ -82,7 +82,12 @@ module _ (standing : Standing) (item : Store) (then : Then) (sound : IsSound sta
   can_be_put = put_from standing.node item sound can stored_well
 
   pub well_with : IsWellKeptWith standing.node item
-  well_with = stored_well.well
+  well_with = (stored_well.well, same_after item stored_well)
+    where
+      same_after : (item : Store) → StoresWell standing.node item
+          → log_up_to (stable_after standing.node.stable item) (kept (records_after standing.node.records item)).entries ≡ log_up_to (stable_after standing.node.stable item) (kept standing.node.records).entries
+      same_after (stores.Record record_kept) well = well.same
+      same_after (stores.Checkpoint at) well = refl
 
 pub well_kept : (node : Node) → IsSound node → HasCoherence node → IsWellKept node.records node.stable
 well_kept node sound coherent = kept_so.well_kept node coherent.0 coherent.1 sound coherent.2

@@ -3,6 +3,8 @@ use Rattle.std.specs.Prelude.{◌≡◌, ◌<◌, ℕ, Bool, true, false, List, 
 use Rattle.rs_disk.specs.State.{State}
 use Rattle.rs_optime.specs.declared.optime.OpTime.{OpTime}
 use Rattle.member_config.specs.Rule.{rule}
+use Rattle.oplog_entry.specs.Visible.{log_up_to}
+use Rattle.repl_msg.specs.Kept.{kept}
 use Rattle.node_journal.specs.Files.{IsAtRest as JournalRests}
 use Rattle.checkpoint_store.specs.Files.{IsAtRest as CheckpointRests}
 use Rattle.set_model.specs.declared.store.Store.{Store}
@@ -18,9 +20,11 @@ pub record Rests (node : Node) (count : ℕ) (journal checkpoints : State) : Typ
   pub records : JournalRests journal node.records
   pub documents : CheckpointRests checkpoints (documents_at node node.stable)
 
--- whatever is found of what was in doubt, the node can come back with it
+-- A node that finds what was in doubt can come back with it, and its documents are then those of what it kept before.
 abbrev pub IsWellKeptWith : Node → Store → Type 0
-IsWellKeptWith node item = IsWellKept (records_after node.records item) (stable_after node.stable item)
+IsWellKeptWith node item =
+    IsWellKept (records_after node.records item) (stable_after node.stable item)
+    × (log_up_to (stable_after node.stable item) (kept (records_after node.records item)).entries ≡ log_up_to (stable_after node.stable item) (kept node.records).entries)
 
 -- a node that is down: so many of its records are known to stand in the journal
 pub record Lies (node : Node) (count : ℕ) (journal checkpoints : State) : Type 0 where

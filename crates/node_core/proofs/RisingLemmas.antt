@@ -1,0 +1,109 @@
+-- What a node that comes up does of its row, and how its disks then are.
+use Rattle.std.proofs.Common.{◌≡◌, ◌∙◌, ap, sym, subst, refl, ℕ, ◌+◌, Bool, true, false, not, cond, nat_lt, List, [], ◌∷◌, ◌++◌, Option, Some, None, length, arith}
+use Rattle.std.specs.Prelude.{IsSome, if◌then◌else◌}
+use Rattle.rs_disk.specs.State.{State}
+use Rattle.rs_optime.specs.declared.optime.OpTime.{OpTime}
+use Rattle.oplog_entry.specs.Docs.{docs}
+use Rattle.oplog_entry.specs.Visible.{last_of, log_up_to}
+use Rattle.repl_msg.specs.Kept.{kept}
+use Rattle.repl_msg.specs.declared.record.Record.{Record}
+use Rattle.repl_msg.specs.declared.record.Record.TheVariants as records
+use Rattle.set_model.specs.declared.command.Command.TheVariants.{Restart}
+use Rattle.set_model.specs.declared.reply.Refusal.TheVariants.{DiskFailed}
+use Rattle.set_model.specs.declared.reply.Reply.TheVariants as reply
+use Rattle.set_model.specs.declared.store.Store.{Store}
+use Rattle.set_model.specs.declared.store.Store.TheVariants as stores
+use Rattle.set_model.specs.Disk.{came_back, come_back, has_more, recovered}
+use Rattle.set_model.specs.Node.{Node}
+use Rattle.set_model.specs.Outcome.{Outcome, refused}
+use Rattle.set_model.specs.Rollback.{cut_record}
+use Rattle.set_model.specs.Stores.{Plan, finished, storing, done as comes_to, reaches, in_doubt, stored}
+use Rattle.node_core.specs.Acting.{Follows}
+use Rattle.node_core.specs.Coming.{IsFound, IsPrepared, cut_node, cut_point, cut_records, is_there}
+use Rattle.node_core.specs.Putting.{IsKeepable}
+use Rattle.node_core.specs.Resting.{IsWellKeptWith, Lies, Rests}
+use Rattle.node_core.specs.Stands.{Stands}
+use Rattle.node_core.specs.declared.coming_up.Found.{Found}
+use Rattle.node_core.specs.declared.coming_up.Prepared.{Prepared}
+use Rattle.node_core.specs.declared.done.Done.{Done}
+use Rattle.node_core.proofs.ComingLemmas.{ComesWith, comes_with}
+use Rattle.node_core.proofs.PuttingLemmas.{rests_same}
+use Rattle.node_state.specs.WellKept.{IsWellKept}
+
+-- ---- it is up
+
+recovers : (node : Node) → comes_to (recovered node) None ≡ came_back (cut_node (cut_point (kept node.records)) node)
+recovers node =
+    elim (has_more (kept node.records)) as (λ b. comes_to (if b then storing (in_doubt node (cut_record (kept node.records).point)) (finished (came_back (stored node (cut_record (kept node.records).point)))) else finished (came_back node)) None
+    ≡ came_back (cut_node (if b then Some (kept node.records).point else None) node)) [ true ↦ refl | false ↦ refl ]
+
+module _ (node : Node) (prepared : Prepared) (is : IsPrepared node prepared) where
+  pub up_follows : (broken new : Node) (done : Done) → new ≡ prepared.state.node → done.reply ≡ reply.Up prepared.last → done.sent.items ≡ [] → done.failed ≡ None
+      → Follows (storing broken (recovered node)) new done
+  up_follows broken new done new_is answer sent failed = record {
+    outcome = ap (λ (f : Option ℕ). comes_to (storing broken (recovered node)) f) failed
+        ∙ recovers node
+        ∙ ap (λ (cut : Option OpTime). came_back (cut_node cut node)) (sym is.cut)
+        ∙ (λ i. record { reply = (ap (λ (o : OpTime). reply.Up o) (sym is.last) ∙ sym answer) i; node = (sym is.state ∙ sym new_is) i; sent = sym sent i });
+    reached = ap (λ (f : Option ℕ). reaches (storing broken (recovered node)) f) failed;
+  }
+
+  pub up_rests : (new : Node) (count : ℕ) (j c : State) → new ≡ prepared.state.node → Rests (cut_node prepared.cut node) count j c → Rests new count j c
+  up_rests new count j c new_is rests =
+      rests_same (cut_node prepared.cut node) new count j c (ap (λ (n : Node). n.records) (new_is ∙ is.state)) (ap (λ (n : Node). n.stable) (new_is ∙ is.state)) rests
+
+-- ---- a cut
+
+module _ (node : Node) (at : OpTime) (is : Some at ≡ cut_point (kept node.records)) (well : IsWellKept node.records node.stable) where
+  with_it : ComesWith node.records node.stable (Some at)
+  with_it = subst (λ (cut : Option OpTime). ComesWith node.records node.stable cut) (sym is) (comes_with node.records node.stable well)
+
+  pub can_cut : IsKeepable node (records.Cut at)
+  can_cut = record { bounds = tt; same = λ i. record { at = node.stable; documents = docs (with_it.same i) } }
+
+  pub cut_well : IsWellKeptWith node (stores.Record (records.Cut at))
+  cut_well = (with_it.well, with_it.same)
+
+  recovered_cut : recovered node ≡ storing (in_doubt node (cut_record at)) (finished (came_back (stored node (cut_record at))))
+  recovered_cut = go (has_more (kept node.records)) is
+    where
+      go : (b : Bool) → Some at ≡ cond b (Some (kept node.records).point) None
+          → cond b (storing (in_doubt node (cut_record (kept node.records).point)) (finished (came_back (stored node (cut_record (kept node.records).point))))) (finished (came_back node))
+          ≡ storing (in_doubt node (cut_record at)) (finished (came_back (stored node (cut_record at))))
+      go true same =
+          let point : (kept node.records).point ≡ at = cc in
+          ap (λ (o : OpTime). storing (in_doubt node (cut_record o)) (finished (came_back (stored node (cut_record o))))) point
+      go false same = absurd (cc same)
+
+  -- it failed
+  pub cut_follows : (broken : Node) (done : Done) → done.reply ≡ reply.Refused DiskFailed → done.sent.items ≡ [] → done.failed ≡ Some 1
+      → Follows (storing broken (recovered node)) (in_doubt node (cut_record at)) done
+  cut_follows broken done answer sent failed = record {
+    outcome = ap (λ (f : Option ℕ). comes_to (storing broken (recovered node)) f) failed
+        ∙ ap (λ (p : Plan). comes_to (storing broken p) (Some 1)) recovered_cut
+        ∙ (λ i. record { reply = sym answer i; node = in_doubt node (cut_record at); sent = sym sent i });
+    reached = ap (λ (f : Option ℕ). reaches (storing broken (recovered node)) f) failed
+        ∙ ap (λ (p : Plan). reaches (storing broken p) (Some 1)) recovered_cut;
+  }
+
+  pub cut_lies : (count : ℕ) (j c : State) → count ≡ length node.records → Stands (in_doubt node (stores.Record (records.Cut at))) j c
+      → Lies (in_doubt node (stores.Record (records.Cut at))) count j c
+  cut_lies count j c counted stands = record { counted = counted; stands = stands; well = well; doubtful = cut_well }
+
+-- ---- the row
+
+-- the disks failed as they were opened
+pub opening_follows : (node : Node) (plan : Plan) (done : Done) → done.reply ≡ reply.Refused DiskFailed → done.sent.items ≡ [] → done.failed ≡ Some 0
+    → Follows (storing node plan) node done
+opening_follows node plan done answer sent failed = record {
+  outcome = ap (λ (f : Option ℕ). comes_to (storing node plan) f) failed ∙ (λ i. record { reply = sym answer i; node = node; sent = sym sent i });
+  reached = ap (λ (f : Option ℕ). reaches (storing node plan) f) failed ∙ within (Rattle.set_model.specs.Stores.store_count plan);
+}
+  where
+    within : (n : ℕ) → nat_lt 0 (n + 1) ≡ true
+    within n = grind arith
+
+-- only what was in doubt is found
+pub there_doubted : (doubt : Option Store) (count : ℕ) (found : Found) → is_there doubt count found ≡ true → IsSome doubt
+there_doubted None count found there = absurd (cc there)
+there_doubted (Some item) count found there = tt
