@@ -18,7 +18,7 @@ use Rattle.node_core.proofs.PuttingLemmas.{runs_as, runs_none}
 use Rattle.set_model.specs.Limits.{is_restart, passes_first, is_in_doubt}
 use Rattle.set_model.specs.Node.{Node}
 use Rattle.set_model.specs.Stores.{Plan, finished, done as comes_to, reaches, if_up}
-use Rattle.node_core.specs.Acting.{Acted, Follows, Runs, orders_after}
+use Rattle.node_core.specs.Acting.{Acted, Follows, Runs, Took, orders_after}
 use Rattle.node_state.specs.Bounds.{is_own}
 use Rattle.node_core.specs.Down.{Left, down_node, seen_node}
 use Rattle.node_core.specs.Resting.{IsResting, Rests}
@@ -51,22 +51,23 @@ own_orders name (DiskFail node disk call pick) answer orders own = absurd (own_n
 own_orders name _ answer orders own = refl
 
 -- nothing was in doubt
-unkept : (old : Node) (command : Command) (done : Done) → done.kept ≡ false
+pub unkept : (old : Node) (command : Command) (done : Done) → done.kept ≡ false
     → (not done.kept || (is_restart command && passes_first done.failed && is_in_doubt old)) ≡ true
 unkept old command done kept = ap (λ (k : Bool). not k || (is_restart command && passes_first done.failed && is_in_doubt old)) kept
 
-pub acted_own : (plan : Plan) (command : Command) (old new : Node) (j j' c c' : State) (done : Done) → is_own command ≡ true → Follows plan new done → done.kept ≡ false
-    → Stands new j' c' → Runs (IsSome done.failed) j j' c c' → Acted plan command old new j j' c c' done
-acted_own plan command old new j j' c c' done own follows kept stands runs = record {
-  follows = follows;
+-- a command of a node in memory, by what it came to there
+pub acted_own : (plan : Plan) (command : Command) (old new : Node) (j j' c c' : State) (done : Done) → is_own command ≡ true → done.kept ≡ false
+    → Took plan new j j' c c' done → Acted plan command old new j j' c c' done
+acted_own plan command old new j j' c c' done own kept took = record {
+  follows = took.follows;
   settles = unkept old command done kept;
-  stands = stands;
+  stands = took.stands;
   disks = record {
-    fails = runs.fails;
-    journal_armed = λ _. runs.journal_armed;
-    checkpoints_armed = λ _. runs.checkpoints_armed;
-    journal_orders = runs.journal_orders ∙ sym (own_orders disks.Journal command done.reply j.orders own);
-    checkpoints_orders = runs.checkpoints_orders ∙ sym (own_orders disks.Checkpoint command done.reply c.orders own);
+    fails = took.runs.fails;
+    journal_armed = λ _. took.runs.journal_armed;
+    checkpoints_armed = λ _. took.runs.checkpoints_armed;
+    journal_orders = took.runs.journal_orders ∙ sym (own_orders disks.Journal command done.reply j.orders own);
+    checkpoints_orders = took.runs.checkpoints_orders ∙ sym (own_orders disks.Checkpoint command done.reply c.orders own);
   };
 }
 
@@ -81,7 +82,7 @@ answered_follows plan node answer done is reply sent failed = record {
 }
 
 -- no store failed
-unfailed : (failed : Option ℕ) → failed ≡ None → ¬ IsSome failed
+pub unfailed : (failed : Option ℕ) → failed ≡ None → ¬ IsSome failed
 unfailed failed none some = own_not (subst (λ (f : Option ℕ). IsSome f) none some)
 
 pub answered_runs : (j c : State) (done : Done) → done.failed ≡ None → Runs (IsSome done.failed) j j c c
@@ -102,25 +103,29 @@ down_row nodes next node (Restart n) own not down = absurd (own_not own)
 down_row nodes next node (DiskFail n disk call pick) own not down = absurd (own_not own)
 down_row nodes next node _ own not down = while_down node _ down
 
-module _ (node : Node) (left : Left) (count : ℕ) (j c : State) (done : Done) (kept : done.kept ≡ false) (failed : done.failed ≡ None) (sent : done.sent.items ≡ []) where
+module _ (node : Node) (left : Left) (count : ℕ) (j c : State) (done : Done) (failed : done.failed ≡ None) (sent : done.sent.items ≡ []) where
   -- it answers that it is down
-  pub acted_down : (up : Bool) → IsResting up node left count j c → (nodes next : ℕ) (command : Command) → is_own command ≡ true
+  pub took_down : (up : Bool) → IsResting up node left count j c → (nodes next : ℕ) (command : Command) → is_own command ≡ true
       → ((n seconds : ℕ) → command ≡ Clock n seconds → ⊥) → (seen_node up node left).up ≡ false → done.reply ≡ reply.Refused NodeDown
-      → Acted (row nodes next false (seen_node up node left) command) command (seen_node up node left) (seen_node up node left) j j c c done
-  acted_down up resting nodes next command own not down answer =
+      → Took (row nodes next false (seen_node up node left) command) (seen_node up node left) j j c c done
+  took_down up resting nodes next command own not down answer =
       let seen = seen_node up node left in
-      acted_own (row nodes next false seen command) command seen seen j j c c done own
-      (answered_follows (row nodes next false seen command) seen (reply.Refused NodeDown) done (down_row nodes next seen command own not down) answer sent failed)
-      kept (resting_stands up node left count j c resting) (answered_runs j c done failed)
+      record {
+        follows = answered_follows (row nodes next false seen command) seen (reply.Refused NodeDown) done (down_row nodes next seen command own not down) answer sent failed;
+        stands = resting_stands up node left count j c resting;
+        runs = answered_runs j c done failed;
+      }
 
   -- only its clock is set
-  pub acted_clock : (up : Bool) → IsResting up node left count j c → node.up ≡ true → (seen_node up node left).up ≡ false → (nodes next : ℕ) (command : Command) (n seconds : ℕ)
+  pub took_clock : (up : Bool) → IsResting up node left count j c → node.up ≡ true → (seen_node up node left).up ≡ false → (nodes next : ℕ) (command : Command) (n seconds : ℕ)
       → command ≡ Clock n seconds → done.reply ≡ reply.Clock seconds
-      → Acted (row nodes next false (seen_node up node left) command) command (seen_node up node left) (seen_node up node (record left { clock = seconds })) j j c c done
-  acted_clock true resting is_up down nodes next command n seconds is answer = absurd (own_not (sym down ∙ is_up))
-  acted_clock false lies is_up down nodes next command n seconds is answer =
+      → Took (row nodes next false (seen_node up node left) command) (seen_node up node (record left { clock = seconds })) j j c c done
+  took_clock true resting is_up down nodes next command n seconds is answer = absurd (own_not (sym down ∙ is_up))
+  took_clock false lies is_up down nodes next command n seconds is answer =
       let seen = down_node node left in
       let new = down_node node (record left { clock = seconds }) in
-      acted_own (row nodes next false seen command) command seen new j j c c done (ap (λ (x : Command). is_own x) is)
-      (answered_follows (row nodes next false seen command) new (reply.Clock seconds) done (ap (λ (x : Command). row nodes next false seen x) is) answer sent failed)
-      kept (record { records = lies.stands.records; documents = lies.stands.documents }) (answered_runs j c done failed)
+      record {
+        follows = answered_follows (row nodes next false seen command) new (reply.Clock seconds) done (ap (λ (x : Command). row nodes next false seen x) is) answer sent failed;
+        stands = record { records = lies.stands.records; documents = lies.stands.documents };
+        runs = answered_runs j c done failed;
+      }

@@ -8,9 +8,12 @@ use Rattle.repl_msg.specs.declared.record.Record.{Record}
 use Rattle.oplog_entry.specs.declared.entry.Entry.{Entry}
 use Rattle.vote_store.specs.declared.vote.Vote.{Vote}
 use Rattle.repl_msg.specs.declared.record.Record.TheVariants as records
+use Rattle.set_model.specs.declared.command.Command.{Command}
+use Rattle.set_model.specs.declared.command.Command.TheVariants.{Flush, Checkpoint}
 use Rattle.set_model.specs.declared.store.Store.{Store}
 use Rattle.set_model.specs.declared.store.Store.TheVariants as stores
 use Rattle.set_model.specs.Outcome.{Outcome}
+use Rattle.node_state.specs.Bounds.{is_long}
 use Rattle.node_state.specs.Ready.{IsReady}
 use Rattle.node_state.specs.Standing.{Standing}
 use Rattle.node_state.specs.declared.turn.Then.TheVariants as thens
@@ -26,7 +29,7 @@ use Rattle.node_core.specs.declared.storing.Ended.TheVariants.{Said, Broken}
 use Rattle.node_state.specs.declared.turn.Then.{Then}
 use Rattle.node_state.specs.declared.turn.Turn.{Turn}
 use Rattle.node_state.specs.declared.turn.Turn.TheVariants.{Finished, Storing}
-use Rattle.node_core.proofs.DoesLemmas.{Does, rest_does, turn_kept, turn_stores}
+use Rattle.node_core.proofs.DoesLemmas.{Does, MayPut, rest_does, turn_kept, turn_stores}
 use Rattle.node_core.proofs.PuttingLemmas.{rests_same}
 
 -- a turn is its plan
@@ -170,6 +173,22 @@ module _ (standing : Standing) (next : Turn) (node new : Node) (room left : ℕ)
 pub not_long : (m : ℕ) (turn : Turn) (new : Node) (plan : Plan) (r : List Record) (s : OpTime) → Means turn new plan → Does IsShortStore (suc m) r s plan → ¬ IsLong turn
 not_long m (Finished answer sent) new plan r s means does long = long
 not_long m (Storing item then) new plan r s means does long = long (turn_stores IsShortStore m item then new plan r s means does)
+
+-- only a long command begins with a long store
+pub long_only : (command : Command) (turn : Turn) (new : Node) (plan : Plan) (r : List Record) (s : OpTime) → Means turn new plan → Does (MayPut command) 1 r s plan → IsLong turn
+    → is_long command ≡ true
+long_only command (Finished answer sent) new plan r s means does long = absurd long
+long_only command (Storing item then) new plan r s means does long =
+    by_command command (turn_stores (MayPut command) 0 item then new plan r s means does)
+  where
+    by_command : (command : Command) → MayPut command item → is_long command ≡ true
+    by_command (Flush number) may = refl
+    by_command (Checkpoint number) may = refl
+    by_command _ may = absurd (long may)
+
+pub err_both : {T E : Type 0} (result : Result T E) (A B C : Type 0) → OnErr result A → OnErr result B → (A → B → C) → OnErr result C
+err_both (Ok value) A B C one two both = tt
+err_both (Err error) A B C one two both = both one two
 
 pub never_err : {T E : Type 0} (result : Result T E) (A B : Type 0) → OnErr result A → ¬ A → OnErr result B
 never_err (Ok value) A B on never = tt

@@ -5,5 +5,8 @@ pub mod DeliverLemmas
 pub mod DoesLemmas
 pub mod OpeningLemmas
 pub mod OwedLemmas
+pub mod PowerLemmas
 pub mod PuttingLemmas
+pub mod ReopeningLemmas
 pub mod RisingLemmas
+pub mod SavableLemmas

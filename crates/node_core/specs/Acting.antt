@@ -2,7 +2,7 @@
 use Rattle.std.specs.Prelude.{◌≡◌, ◌⊎◌, ◌≤◌, ℕ, Bool, true, false, not, ◌&&◌, ◌||◌, IsTrue, IsSome, Option, None, Some}
 use Rattle.rs_io.specs.Fault.{Rose}
 use Rattle.rs_disk.specs.Orders.{Orders, ordered, arm, power_cut}
-use Rattle.rs_disk.specs.State.{State}
+use Rattle.rs_disk.specs.State.{State, IsArmed}
 use Rattle.set_model.specs.declared.command.Command.{Command}
 use Rattle.set_model.specs.declared.command.Command.TheVariants.{Deliver, DeliverLatest, Crash, DiskFail}
 use Rattle.set_model.specs.declared.command.DiskName.{DiskName}
@@ -57,6 +57,11 @@ orders_after name (Crash node pick) reply.Down orders = ordered (power_cut pick)
 orders_after disks.Journal (DiskFail node disks.Journal call pick) reply.Armed orders = ordered (arm call pick) orders
 orders_after disks.Checkpoint (DiskFail node disks.Checkpoint call pick) reply.Armed orders = ordered (arm call pick) orders
 orders_after name command answer orders = orders
+
+-- one of two disks was asked to fail, and the other is as it was
+abbrev pub Arms : DiskName → ℕ → Option ℕ → State → State → State → State → Type 0
+Arms disks.Journal call pick j j' c c' = IsArmed call pick j j' × (c' ≡ c)
+Arms disks.Checkpoint call pick j j' c c' = (j' ≡ j) × IsArmed call pick c c'
 
 -- The two disks of a node, across a command with this reply: a fault comes only where one of their counts rose, only a
 -- `diskfail` arms them, and only a crash and a `diskfail` give them orders.

@@ -230,7 +230,10 @@ fn has_more(kept: &Kept) -> bool
     ensures { result ≡ is_more kept.now }
 {
     let point = kept.point;
-    kept.entries.as_slice().iter().any(|entry| point < entry.optime)
+    kept.entries
+        .as_slice()
+        .iter()
+        .any(|entry| point < entry.optime)
 }
 
 // The records with a cut there.
@@ -301,13 +304,7 @@ fn add_cut<D: Disk>(disks: &mut Disks<D>, at: OpTime) -> Result<(), FileError>
 }
 
 // The node is up.
-fn is_up(
-    alloc: Global,
-    state: &mut State,
-    up: &mut bool,
-    there: bool,
-    prepared: Prepared,
-) -> Done
+fn is_up(alloc: Global, state: &mut State, up: &mut bool, there: bool, prepared: Prepared) -> Done
     ensures state { state.new.node ≡ prepared.state.node }
     ensures up { up.new ≡ true }
     ensures reply { result.reply ≡ Reply.Up prepared.last }

@@ -2,7 +2,7 @@
 ghost use Rattle.std.specs.Prelude.{◌≡◌, ◌≢◌, ◌+◌, ◌≤◌, Err, OnOk, IsErrOf};
 ghost use Rattle.rs_disk.specs.State.{IsCut};
 ghost use Rattle.record_file.specs.Files.{spare};
-ghost use Rattle.node_core.specs.Acting.{Runs};
+ghost use Rattle.node_core.specs.Acting.{Arms, Runs};
 ghost use Rattle.node_core.specs.Putting.{CanBePut, IsShortStore, Puts, SHORT};
 ghost use Rattle.node_core.specs.Resting.{Rests};
 ghost use Rattle.set_model.specs.Node.{Node};
@@ -13,7 +13,7 @@ use node_journal::Journal;
 use node_state::State;
 use record_file::FileError;
 use rs_disk::Disk;
-use set_model::Store;
+use set_model::{DiskName, Store};
 
 /// The journal and the checkpoints.
 #[derive(Drop)]
@@ -48,6 +48,18 @@ impl<D: Disk> Disks<D> {
                 }
             }
             Store::Checkpoint(at) => self.checkpoints.save(*at, state.store()),
+        }
+    }
+
+    /// One of them is asked to fail at its `call`-th call from now on, with a power cut where there is a pick.
+    pub(crate) fn arm(&mut self, disk: DiskName, call: u32, pick: Option<u64>)
+        ensures armed { Arms disk call pick (D.state self.old.journal.0) (D.state self.new.journal.0)
+            (D.state self.old.checkpoints) (D.state self.new.checkpoints) }
+        ensures count { self.new.count ≡ self.old.count }
+    {
+        match disk {
+            DiskName::Journal => self.journal.arm(call, pick),
+            DiskName::Checkpoint => self.checkpoints.arm(call, pick),
         }
     }
 

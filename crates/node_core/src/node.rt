@@ -178,6 +178,7 @@ impl<D: Disk> Node<D> {
         ensures unkept { IfOk result (λ done. done.kept ≡ false) }
         ensures err { OnErr result (Unchanged self.old.0 self.new.0 (D.state self.old.1) (D.state self.new.1) (D.state self.old.2) (D.state self.new.2)) }
     {
+        self.state.is_sound();
         if !self.up {
             return Ok(self.answered(Reply::Refused(Refusal::NodeDown)));
         }
@@ -197,7 +198,7 @@ impl<D: Disk> Node<D> {
         requires next { IsNumbered next }
         requires own { is_own command.now ≡ true }
         requires within { is_within command.now ≡ true }
-        ensures ok { IfOk result (λ done. Acted (row nodes next false self.old.0 command.now) command.now self.old.0 self.new.0
+        ensures ok { IfOk result (λ done. Took (row nodes next false self.old.0 command.now) self.new.0
             (D.state self.old.1) (D.state self.new.1) (D.state self.old.2) (D.state self.new.2) done) }
         ensures unkept { IfOk result (λ done. done.kept ≡ false) }
         ensures err { OnErr result (Unchanged self.old.0 self.new.0 (D.state self.old.1) (D.state self.new.1) (D.state self.old.2) (D.state self.new.2)) }
@@ -213,7 +214,7 @@ impl<D: Disk> Node<D> {
     fn act_down(&mut self, command: &Command) -> Done
         requires down { self.old.0.up ≡ false }
         requires own { is_own command.now ≡ true }
-        ensures ok { (nodes next : ℕ) → Acted (row nodes next false self.old.0 command.now) command.now self.old.0 self.new.0
+        ensures ok { (nodes next : ℕ) → Took (row nodes next false self.old.0 command.now) self.new.0
             (D.state self.old.1) (D.state self.new.1) (D.state self.old.2) (D.state self.new.2) result }
         ensures unkept { result.kept ≡ false }
     {
@@ -248,6 +249,8 @@ impl<D: Disk> Node<D> {
             (D.state self.old.1) (D.state self.new.1) (D.state self.old.2) (D.state self.new.2) result }
         ensures unkept { result.kept ≡ false }
     {
+        self.state.is_sound();
+        self.state.is_well_kept();
         if !self.up {
             return self.answered(Reply::Refused(Refusal::NodeDown));
         }
@@ -283,10 +286,7 @@ impl<D: Disk> Node<D> {
             (D.state self.old.1) (D.state self.new.1) (D.state self.old.2) (D.state self.new.2) result }
         ensures unkept { result.kept ≡ false }
     {
-        match disk {
-            DiskName::Journal => self.disks.journal.arm(call, pick),
-            DiskName::Checkpoint => self.disks.checkpoints.arm(call, pick),
-        }
+        self.disks.arm(disk, call, pick);
         self.answered(Reply::Armed)
     }
 

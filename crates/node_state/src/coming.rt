@@ -88,10 +88,11 @@ impl State {
 
 // Facts of a node in memory, for the proofs of who stores for it.
 impl State {
-    /// It is up, its log is sound, and it knows who it is.
+    /// It is up, with nothing in doubt, its log is sound, and it knows who it is.
     pub fn is_sound(&self)
         ensures sound { IsSound self.now.node }
         ensures up { self.now.node.up ≡ true }
+        ensures settled { self.now.node.doubt ≡ None }
         ensures number { self.now.node.number < 50 }
         ensures first { rule self.now.node.first ≡ None }
     {

@@ -1,5 +1,8 @@
+use Rattle.std.proofs.Common.{◌≡◌, ◌∙◌, false, ap, sym, subst}
+use Rattle.set_model.specs.Node.{Node}
 use Rattle.set_model.specs.Rows.{row}
-use Rattle.std.proofs.Common.{false}
+use Rattle.node_core.specs.Resting.{Rests}
+use Rattle.node_core.proofs.CarryLemmas.{err_both, long_only}
 use Rattle.node_core.proofs.DoesLemmas.{MayPut, row_does, turn_kept}
 use Rattle.node_core.proofs.PuttingLemmas.{rests_same}
 use Rattle.node_core.proofs.storing.act_own.Goals as goal
@@ -13,3 +16,23 @@ carry_out-requires-clause-rests g c =
     (row_does c.args.nodes c.args.next old c.args.command.now c.requires.own) in
     rests_same old new c.reserve.new.self.count (g.D.Disk.state c.reserve.new.self.journal.0) (g.D.Disk.state c.reserve.new.self.checkpoints)
     kept.0 kept.1 (c.reserve.ensures.rests old c.requires.rests)
+
+pub returns-clause-same : goal.returns-clause-same
+returns-clause-same g c =
+    let old = c.args.state.now.node in
+    let new = c.start.new.self.node in
+    let plan = row c.args.nodes c.args.next false old c.args.command.now in
+    err_both c.carry_out.result _ _ _ c.carry_out.ensures.long c.carry_out.ensures.same
+    (λ long same. same ∙ c.start.ensures.quiet (long_only c.args.command.now c.in_ok-turn.turn new plan old.records old.stable c.in_ok-turn.ensures.turn
+    (row_does c.args.nodes c.args.next old c.args.command.now c.requires.own) long))
+
+pub returns-clause-left : goal.returns-clause-left
+returns-clause-left g c =
+    let old = c.args.state.now.node in
+    let new = c.start.new.self.node in
+    let plan = row c.args.nodes c.args.next false old c.args.command.now in
+    let disks = c.carry_out.new.disks in
+    err_both c.carry_out.result _ _ _ c.carry_out.ensures.long c.carry_out.ensures.left
+    (λ long left. subst (λ (n : Node). Rests n disks.count (g.D.Disk.state disks.journal.0) (g.D.Disk.state disks.checkpoints))
+    (c.start.ensures.quiet (long_only c.args.command.now c.in_ok-turn.turn new plan old.records old.stable c.in_ok-turn.ensures.turn
+    (row_does c.args.nodes c.args.next old c.args.command.now c.requires.own) long)) left)

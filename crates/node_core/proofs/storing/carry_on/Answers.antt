@@ -5,14 +5,8 @@ use Rattle.node_state.specs.Ready.{IsReadyTurn}
 use Rattle.node_state.specs.declared.turn.Turn.{Turn}
 use Rattle.node_core.specs.declared.storing.Ended.TheVariants.{Broken}
 use Rattle.node_core.proofs.CarryLemmas.{ends_here, goes_on, leaves_broken, leaves_whole, rests_on}
-use Rattle.node_core.proofs.OwedLemmas.{can_be_put, well_kept, well_with}
 use Rattle.node_core.proofs.PuttingLemmas.{runs_as}
 use Rattle.node_core.proofs.storing.carry_on.Goals as goal
-
-pub put-requires-clause-can : goal.put-requires-clause-can
-put-requires-clause-can g c =
-    let r = subst (λ (t : Turn). IsReadyTurn t c.args.state.now) c.in-Storing.is c.requires.ready in
-    can_be_put c.args.state.now c.in-Storing.item c.in-Storing.then c.is_coherent.ensures.sound c.is_coherent.ensures.coherent r.0 r.1
 
 pub returns-in-Ok-clause-ends : goal.returns-in-Ok-clause-ends
 returns-in-Ok-clause-ends g c =
@@ -47,13 +41,9 @@ returns-in-Err-Disk-clause-leaves g c =
     let old = c.args.state.now.node in
     let j = g.D.Disk.state c.put.new.self.journal.0 in
     let k = g.D.Disk.state c.put.new.self.checkpoints in
-    let r = subst (λ (t : Turn). IsReadyTurn t c.args.state.now) c.in-Storing.is c.requires.ready in
-    let sound = c.is_coherent.ensures.sound in
-    let coherent = c.is_coherent.ensures.coherent in
     leaves_broken c.in-Storing.item 1 old c.put.new.self.count j k c.in-Err-Disk.ensures.puts.uncounted
     (c.in-Err-Disk.ensures.puts.broken (ap (λ (e : FileError). Err e) c.in-Err-Disk.field-0-is))
-    (well_kept old sound coherent)
-    (well_with c.args.state.now c.in-Storing.item c.in-Storing.then sound coherent r.0 r.1)
+    c.can_store.ensures.well c.can_store.ensures.doubtful
 
 pub returns-in-Err-Disk-clause-runs : goal.returns-in-Err-Disk-clause-runs
 returns-in-Err-Disk-clause-runs g c =
