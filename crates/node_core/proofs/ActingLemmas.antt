@@ -1,6 +1,6 @@
 -- What a command or a message comes to at a node on its disks, by what was done in memory and on the disks.
 use Rattle.std.proofs.Common.{◌≡◌, ◌∙◌, inl, ap, sym, subst, refl, ℕ, Bool, true, false, not, ◌&&◌, ◌||◌, [], Option, None, if◌then◌else◌}
-use Rattle.std.specs.Prelude.{IsSome}
+use Rattle.std.specs.Prelude.{IsSome, IfOk, Result, Ok, Err}
 use Rattle.rs_disk.specs.Orders.{Orders}
 use Rattle.rs_disk.specs.State.{State}
 use Rattle.node_journal.proofs.DiskLemmas.{rest_only}
@@ -18,7 +18,7 @@ use Rattle.node_core.proofs.PuttingLemmas.{runs_as, runs_none}
 use Rattle.set_model.specs.Limits.{is_restart, passes_first, is_in_doubt}
 use Rattle.set_model.specs.Node.{Node}
 use Rattle.set_model.specs.Stores.{Plan, finished, done as comes_to, reaches, if_up}
-use Rattle.node_core.specs.Acting.{Acted, Follows, Runs, Took, orders_after}
+use Rattle.node_core.specs.Acting.{Acted, Follows, Runs, Took, is_here, orders_after}
 use Rattle.node_state.specs.Bounds.{is_own}
 use Rattle.node_core.specs.Down.{Left, down_node, seen_node}
 use Rattle.node_core.specs.Resting.{IsResting, Rests}
@@ -70,6 +70,25 @@ acted_own plan command old new j j' c c' done own kept took = record {
     checkpoints_orders = took.runs.checkpoints_orders ∙ sym (own_orders disks.Checkpoint command done.reply c.orders own);
   };
 }
+
+-- as a result where memory may have been wanting
+pub own_acted : {E : Type 0} (result : Result Done E) (nodes next : ℕ) (command : Command) (old new : Node) (j j' c c' : State) → is_own command ≡ true
+    → IfOk result (λ done. Took (row nodes next false old command) new j j' c c' done) → IfOk result (λ done. done.kept ≡ false)
+    → IfOk result (λ done. Acted (row nodes next done.kept old command) command old new j j' c c' done)
+own_acted (Err error) nodes next command old new j j' c c' own took kept = tt
+own_acted (Ok done) nodes next command old new j j' c c' own took kept =
+    subst (λ (k : Bool). Acted (row nodes next k old command) command old new j j' c c' done) (sym kept)
+    (acted_own (row nodes next false old command) command old new j j' c c' done own kept took)
+
+-- which commands those are
+pub own_here : (command : Command) → is_here command ≡ true → ((n pick : ℕ) → command ≡ Crash n pick → ⊥) → ((n : ℕ) → command ≡ Restart n → ⊥)
+    → ((n : ℕ) (disk : DiskName) (call : ℕ) (pick : Option ℕ) → command ≡ DiskFail n disk call pick → ⊥) → is_own command ≡ true
+own_here (Deliver message) here crash restart fail = absurd (own_not here)
+own_here (DeliverLatest from to) here crash restart fail = absurd (own_not here)
+own_here (Crash n pick) here crash restart fail = absurd (crash n pick refl)
+own_here (Restart n) here crash restart fail = absurd (restart n refl)
+own_here (DiskFail n disk call pick) here crash restart fail = absurd (fail n disk call pick refl)
+own_here _ here crash restart fail = refl
 
 -- ---- commands that store nothing
 

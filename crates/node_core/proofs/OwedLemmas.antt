@@ -47,7 +47,8 @@ can_be_put node (stores.Checkpoint at) sound can well = record {
   each = savable node at sound;
 }
 
--- it can come back with that
+-- ---- what it can come back with
+
 pub well_with : (node : Node) (item : Store) → StoresWell node item → IsWellKeptWith node item
 well_with node (stores.Record item) well = (well.well, well.same)
 well_with node (stores.Checkpoint at) well = (well.well, refl)

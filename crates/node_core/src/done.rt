@@ -5,6 +5,7 @@ use set_model::Reply;
 #[derive(Drop)]
 pub struct Done {
     pub reply: Reply,
+    /// The messages that it sent, in order.
     pub sent: Vec<Message>,
     /// The number of the store that failed in this step, counted from 0.
     pub failed: Option<u32>,

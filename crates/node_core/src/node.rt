@@ -94,10 +94,10 @@ impl<D: Disk> Model for Node<D> {
 }
 
 impl<D: Disk> Node<D> {
-    /// A node as the set begins, on two empty disks.
+    /// A node as the set begins, on two empty disks: the journal's, and that of the checkpoints.
     ///
     /// # Errors
-    /// `Disk` where a disk failed. The disks are handed back, the journal's first.
+    /// `Memory`, or `Disk` where one of them failed. The disks are handed back in the same order.
     pub fn open(
         alloc: Global,
         number: u32,
@@ -139,7 +139,11 @@ impl<D: Disk> Node<D> {
         })
     }
 
-    /// Does what a command asks of this node, in a set of so many nodes, where the next message gets this number.
+    /// Does what a command asks of this node, in a set of so many nodes, where the next message gets this number. A store that
+    /// fails is no error: it has its number in `failed`, and the node is down then and sends nothing.
+    ///
+    /// # Errors
+    /// Only memory can be wanting. Then the node is as it was, and its disks keep what they kept.
     pub fn act<R: Threads + Sync>(
         &mut self,
         rt: &R,
@@ -168,7 +172,11 @@ impl<D: Disk> Node<D> {
         }
     }
 
-    /// Takes a message of the set, where the next message gets this number.
+    /// Takes a message of the set, where the next message gets this number. A node that is down refuses it. A store that fails is
+    /// no error: it has its number in `failed`, and the node is down then and sends nothing.
+    ///
+    /// # Errors
+    /// Only memory can be wanting. Then the node is as it was, and its disks keep what they kept.
     pub fn take<R: Threads + Sync>(&mut self, rt: &R, next: u64, message: &Message) -> Mem<Done>
         requires bounds { IsBounded self.old.0 }
         requires next { IsNumbered next }
@@ -290,7 +298,7 @@ impl<D: Disk> Node<D> {
         self.answered(Reply::Armed)
     }
 
-    /// Lends the documents, while the node is up.
+    /// Lends the documents, while the node is up: those that its log leaves, as of each optime that can be read.
     pub fn store(&self) -> &VersionStore
         requires up { self.now.0.up ≡ true }
         ensures latest { (place : Place) → latest_of (versions_at result.now place) ≡ maps.get (local_documents self.now.0) place }
@@ -299,6 +307,7 @@ impl<D: Disk> Node<D> {
         self.state.store()
     }
 
+    /// It is up, and not down after a crash or a store that failed.
     pub fn is_up(&self) -> bool
         ensures { result ≡ self.now.0.up }
     {
@@ -306,7 +315,7 @@ impl<D: Disk> Node<D> {
         self.up
     }
 
-    /// Hands the disks back, the journal's first.
+    /// Hands the disks back as they are, the journal's first.
     pub fn close(self) -> (D, D)
         ensures { result ≡ (self.1, self.2) }
     {
