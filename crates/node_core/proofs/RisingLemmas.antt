@@ -1,6 +1,6 @@
 -- What a node that comes up does of its row, and how its disks then are.
-use Rattle.std.proofs.Common.{◌≡◌, ◌∙◌, ap, sym, subst, refl, ℕ, ◌+◌, Bool, true, false, not, cond, nat_lt, List, [], ◌∷◌, ◌++◌, Option, Some, None, length, arith}
-use Rattle.std.specs.Prelude.{IsSome, if◌then◌else◌}
+use Rattle.std.proofs.Common.{◌≡◌, ◌∙◌, ap, sym, subst, refl, ℕ, ◌+◌, Bool, true, false, not, ◌&&◌, ◌||◌, cond, nat_lt, List, [], ◌∷◌, ◌++◌, Option, Some, None, length, arith}
+use Rattle.std.specs.Prelude.{IsSome, is_some, if◌then◌else◌}
 use Rattle.rs_disk.specs.State.{State}
 use Rattle.rs_optime.specs.declared.optime.OpTime.{OpTime}
 use Rattle.oplog_entry.specs.Docs.{docs}
@@ -9,16 +9,18 @@ use Rattle.repl_msg.specs.Kept.{kept}
 use Rattle.repl_msg.specs.declared.record.Record.{Record}
 use Rattle.repl_msg.specs.declared.record.Record.TheVariants as records
 use Rattle.set_model.specs.declared.command.Command.TheVariants.{Restart}
-use Rattle.set_model.specs.declared.reply.Refusal.TheVariants.{DiskFailed}
+use Rattle.set_model.specs.declared.reply.Refusal.TheVariants.{DiskFailed, NotDown}
 use Rattle.set_model.specs.declared.reply.Reply.TheVariants as reply
 use Rattle.set_model.specs.declared.store.Store.{Store}
 use Rattle.set_model.specs.declared.store.Store.TheVariants as stores
-use Rattle.set_model.specs.Disk.{came_back, come_back, has_more, recovered}
+use Rattle.set_model.specs.Disk.{came_back, come_back, has_more, recovered, restart, settled_doubt}
+use Rattle.set_model.specs.Limits.{is_in_doubt, is_restart, passes_first}
 use Rattle.set_model.specs.Node.{Node}
 use Rattle.set_model.specs.Outcome.{Outcome, refused}
 use Rattle.set_model.specs.Rollback.{cut_record}
+use Rattle.set_model.specs.Rows.{row}
 use Rattle.set_model.specs.Stores.{Plan, finished, storing, done as comes_to, reaches, in_doubt, stored}
-use Rattle.node_core.specs.Acting.{Follows}
+use Rattle.node_core.specs.Acting.{Acted, Follows, Runs}
 use Rattle.node_core.specs.Coming.{IsFound, IsPrepared, cut_node, cut_point, cut_records, is_there}
 use Rattle.node_core.specs.Putting.{IsKeepable}
 use Rattle.node_core.specs.Resting.{IsWellKeptWith, Lies, Rests}
@@ -26,6 +28,7 @@ use Rattle.node_core.specs.Stands.{Stands}
 use Rattle.node_core.specs.declared.coming_up.Found.{Found}
 use Rattle.node_core.specs.declared.coming_up.Prepared.{Prepared}
 use Rattle.node_core.specs.declared.done.Done.{Done}
+use Rattle.node_core.proofs.ActingLemmas.{answered_follows, answered_runs}
 use Rattle.node_core.proofs.ComingLemmas.{ComesWith, comes_with}
 use Rattle.node_core.proofs.PuttingLemmas.{rests_same}
 use Rattle.node_state.specs.WellKept.{IsWellKept}
@@ -106,4 +109,44 @@ opening_follows node plan done answer sent failed = record {
 -- only what was in doubt is found
 pub there_doubted : (doubt : Option Store) (count : ℕ) (found : Found) → is_there doubt count found ≡ true → IsSome doubt
 there_doubted None count found there = absurd (cc there)
-there_doubted (Some item) count found there = tt
+there_doubted (Some item) count found there = refl
+
+pub acted_restart : (nodes next number : ℕ) (old new : Node) (j j' c c' : State) (done : Done) → old.up ≡ false → Follows (restart old done.kept) new done
+    → (done.kept ≡ true → IsSome old.doubt × (passes_first done.failed ≡ true)) → Stands new j' c' → Runs (IsSome done.failed) j j' c c'
+    → Acted (row nodes next done.kept old (Restart number)) (Restart number) old new j j' c c' done
+acted_restart nodes next number old new j j' c c' done down follows settles stands runs = record {
+  follows = follows;
+  settles = may_settle done.kept settles;
+  stands = stands;
+  disks = record {
+    fails = runs.fails;
+    journal_armed = λ _. runs.journal_armed;
+    checkpoints_armed = λ _. runs.checkpoints_armed;
+    journal_orders = runs.journal_orders;
+    checkpoints_orders = runs.checkpoints_orders;
+  };
+}
+  where
+    may_settle : (kept : Bool) → (kept ≡ true → IsSome old.doubt × (passes_first done.failed ≡ true))
+        → (not kept || (is_restart (Restart number) && passes_first done.failed && is_in_doubt old)) ≡ true
+    may_settle false settled = refl
+    may_settle true settled =
+        let both = settled refl in
+        ap (λ (b : Bool). b && is_in_doubt old) both.1 ∙ ap (λ (b : Bool). not b && is_some old.doubt) down ∙ both.0
+
+-- a node that is up refuses
+pub acted_not_down : (nodes next number : ℕ) (old : Node) (j c : State) (done : Done) → old.up ≡ true → done.reply ≡ reply.Refused NotDown → done.sent.items ≡ [] → done.failed ≡ None
+    → done.kept ≡ false → Stands old j c → Acted (row nodes next done.kept old (Restart number)) (Restart number) old old j j c c done
+acted_not_down nodes next number old j c done up answer sent failed kept stands = record {
+  follows = answered_follows (restart old done.kept) old (reply.Refused NotDown) done
+      (ap (λ (b : Bool). if b then finished (refused NotDown old) else storing old (recovered (settled_doubt old old.doubt done.kept))) up) answer sent failed;
+  settles = ap (λ (k : Bool). not k || (is_restart (Restart number) && passes_first done.failed && is_in_doubt old)) kept;
+  stands = stands;
+  disks = record {
+    fails = (answered_runs j c done failed).fails;
+    journal_armed = λ _ is. is;
+    checkpoints_armed = λ _ is. is;
+    journal_orders = refl;
+    checkpoints_orders = refl;
+  };
+}

@@ -24,11 +24,11 @@ use Rattle.node_state.specs.WellKept.{IsWellKept}
 -- ---- what is found
 
 -- both disks were read, and what was read of them stands there now
-pub record IsRead (found : Found) (journal journal' checkpoints checkpoints' : State) : Type 0 where
-  pub kept_is : (items : List Record) → HasJournal (contents journal.file) items → found.kept ≡ kept items
-  pub journal : (items : List Record) → HasJournal (contents journal.file) items → JournalRests journal' items
-  pub stable_is : HasCheckpoint (contents checkpoints.file) found.stable
-  pub checkpoints : CheckpointRests checkpoints' found.stable
+pub record IsRead (found : Found) (j j' c c' : State) : Type 0 where
+  pub kept_is : (items : List Record) → HasJournal (contents j.file) items → found.kept ≡ kept items
+  pub journal : (items : List Record) → HasJournal (contents j.file) items → JournalRests j' items
+  pub stable_is : HasCheckpoint (contents c.file) found.stable
+  pub checkpoints : CheckpointRests c' found.stable
 
 -- Whether what was in doubt is there, beside so many records: the journal has one more, or the last checkpoint is the one
 -- that was being saved.

@@ -43,6 +43,10 @@ pub(crate) struct Found {
 pub(crate) struct Prepared {
     /// The node in memory, as it comes up.
     pub(crate) state: State,
+    /// What it kept while it was down, with what was in doubt where that is there.
+    pub(crate) left: Left,
+    /// What was in doubt is there.
+    pub(crate) kept: bool,
     /// How many records its journal has.
     pub(crate) count: u64,
     /// The journal's point, where entries stand behind it.
@@ -74,7 +78,10 @@ pub(crate) fn come_up<D: Disk, R: Threads + Sync>(
         (D.state disks.old.checkpoints) (D.state disks.new.checkpoints)) }
 {
     match open_both(disks) {
-        Ok(found) => settle(alloc, rt, state, disks, up, left, found),
+        Ok(found) => {
+            let prepared = prepare(alloc, rt, state, left, disks.count, found)?;
+            Ok(go_up(alloc, state, disks, up, left, prepared))
+        }
         Err(FileError::Memory) => Err(AllocError),
         Err(FileError::Disk) => Ok(disk_failed(alloc, 0, false)),
     }
@@ -99,35 +106,23 @@ fn open_both<D: Disk>(disks: &mut Disks<D>) -> Result<Found, FileError>
     Ok(Found { kept, stable })
 }
 
-// Settles what was in doubt, and comes up.
-fn settle<D: Disk, R: Threads + Sync>(
+// Settles what was in doubt, and takes the memory for a node that comes up with that.
+fn prepare<R: Threads + Sync>(
     alloc: Global,
     rt: &R,
-    state: &mut State,
-    disks: &mut Disks<D>,
-    up: &mut bool,
-    left: &mut Left,
+    state: &State,
+    left: &Left,
+    count: u64,
     found: Found,
-) -> Mem<Done>
-    requires down { up.old ≡ false }
-    requires rollback { left.old.rollback < 2 ^ 64 - 1 }
-    requires found { IsFound (settled_node (down_node state.old.node (left_in left.old)) disks.old.count found) found }
-    requires rests { Rests (settled_node (down_node state.old.node (left_in left.old)) disks.old.count found) found.kept.count
-        (D.state disks.old.journal.0) (D.state disks.old.checkpoints) }
-    requires room { SHORT ≤ spare (D.state disks.old.journal.0) disks.old.journal.1 }
-    ensures follows { IfOk result (λ done. Follows (restart (down_node state.old.node (left_in left.old)) done.kept) (seen_node up.new state.new.node (left_in left.new)) done) }
-    ensures settles { IfOk result (λ done. done.kept ≡ true → (IsSome left.old.doubt × (passes_first done.failed ≡ true))) }
-    ensures rests { IfOk result (λ done. IsResting up.new state.new.node (left_in left.new) disks.new.count (D.state disks.new.journal.0) (D.state disks.new.checkpoints)) }
-    ensures runs { IfOk result (λ done. Runs (IsSome done.failed) (D.state disks.old.journal.0) (D.state disks.new.journal.0)
-        (D.state disks.old.checkpoints) (D.state disks.new.checkpoints)) }
-    ensures same { OnErr result (seen_node up.new state.new.node (left_in left.new) ≡ down_node state.old.node (left_in left.old)) }
-    ensures unopened { OnErr result (disks.new ≡ disks.old) }
+) -> Mem<Prepared>
+    requires rollback { left.now.rollback < 2 ^ 64 - 1 }
+    requires found { IsFound (settled_node (down_node state.now.node (left_in left.now)) count found) found }
+    ensures kept { IfOk result (λ prepared. prepared.kept ≡ is_kept left.now.doubt count found) }
+    ensures left { IfOk result (λ prepared. down_node state.now.node (left_in prepared.left) ≡ settled_node (down_node state.now.node (left_in left.now)) count found) }
+    ensures prepared { IfOk result (λ prepared. IsPrepared (down_node state.now.node (left_in prepared.left)) prepared) }
 {
-    let there = is_there(&left.doubt, disks.count, &found);
-    let settled = settled(left, there);
-    let prepared = prepare(alloc, rt, state, &settled, found)?;
-    *left = settled;
-    Ok(go_up(alloc, state, disks, up, left, there, prepared))
+    let there = is_there(&left.doubt, count, &found);
+    restore(alloc, rt, state, settled(left, there), there, found)
 }
 
 // Whether what was in doubt is there, beside so many records.
@@ -144,7 +139,6 @@ fn is_there(doubt: &Option<Store>, count: u64, found: &Found) -> bool
 // What is left of the node once that is known.
 fn settled(left: &Left, there: bool) -> Left
     ensures settled { (node : Node) → down_node node (left_in result) ≡ settled_doubt (down_node node (left_in left.now)) left.now.doubt there }
-    ensures doubt { result.doubt ≡ None }
     ensures rollback { result.rollback ≡ left.now.rollback }
 {
     if !there {
@@ -181,24 +175,27 @@ fn settled(left: &Left, there: bool) -> Left
     }
 }
 
-// Takes the memory for a node that comes up with what was found.
-fn prepare<R: Threads + Sync>(
+// The node that comes up with what was found.
+fn restore<R: Threads + Sync>(
     alloc: Global,
     rt: &R,
     state: &State,
-    left: &Left,
+    left: Left,
+    kept: bool,
     found: Found,
 ) -> Mem<Prepared>
-    requires rollback { left.now.rollback < 2 ^ 64 - 1 }
-    requires found { IsFound (down_node state.now.node (left_in left.now)) found }
-    ensures { IfOk result (λ prepared. IsPrepared (down_node state.now.node (left_in left.now)) prepared) }
+    requires rollback { left.rollback < 2 ^ 64 - 1 }
+    requires found { IsFound (down_node state.now.node (left_in left)) found }
+    ensures kept { IfOk result (λ prepared. prepared.kept ≡ kept) }
+    ensures left { IfOk result (λ prepared. left_in prepared.left ≡ left_in left) }
+    ensures prepared { IfOk result (λ prepared. IsPrepared (down_node state.now.node (left_in left)) prepared) }
 {
     state.is_sound();
-    let Found { kept, stable } = found;
+    let Found { kept: read, stable } = found;
     let Stable { at, documents } = stable;
-    let count = kept.count;
-    let last = kept.point;
-    let cut = point_to_cut(&kept);
+    let count = read.count;
+    let last = read.point;
+    let cut = point_to_cut(&read);
     let coming = Coming {
         number: state.number(),
         first: state.first(),
@@ -206,9 +203,11 @@ fn prepare<R: Threads + Sync>(
         rollback: left.rollback,
         records: records_cut(&left.records, cut),
     };
-    let state = State::restored(rt, alloc, coming, kept, at, documents.into_map())?;
+    let state = State::restored(rt, alloc, coming, read, at, documents.into_map())?;
     Ok(Prepared {
         state,
+        left,
+        kept,
         count,
         cut,
         last,
@@ -253,33 +252,45 @@ fn go_up<D: Disk>(
     disks: &mut Disks<D>,
     up: &mut bool,
     left: &mut Left,
-    there: bool,
     prepared: Prepared,
 ) -> Done
     requires down { up.old ≡ false }
-    requires doubt { left.old.doubt ≡ None }
-    requires prepared { IsPrepared (down_node state.old.node (left_in left.old)) prepared }
-    requires well { IsWellKept left.old.records.list left.old.stable }
-    requires rests { Rests (down_node state.old.node (left_in left.old)) prepared.count (D.state disks.old.journal.0) (D.state disks.old.checkpoints) }
+    requires prepared { IsPrepared (down_node state.old.node (left_in prepared.left)) prepared }
+    requires well { IsWellKept prepared.left.records.list prepared.left.stable }
+    requires rests { Rests (down_node state.old.node (left_in prepared.left)) prepared.count (D.state disks.old.journal.0) (D.state disks.old.checkpoints) }
     requires room { SHORT ≤ spare (D.state disks.old.journal.0) disks.old.journal.1 }
-    ensures follows { (broken : Node) → Follows (storing broken (recovered (down_node state.old.node (left_in left.old)))) (seen_node up.new state.new.node (left_in left.new)) result }
+    ensures follows { (broken : Node) → Follows (storing broken (recovered (down_node state.old.node (left_in prepared.left)))) (seen_node up.new state.new.node (left_in left.new)) result }
     ensures rests { IsResting up.new state.new.node (left_in left.new) disks.new.count (D.state disks.new.journal.0) (D.state disks.new.checkpoints) }
-    ensures kept { result.kept ≡ there }
+    ensures kept { result.kept ≡ prepared.kept }
     ensures passes { passes_first result.failed ≡ true }
     ensures runs { Runs (IsSome result.failed) (D.state disks.old.journal.0) (D.state disks.new.journal.0)
         (D.state disks.old.checkpoints) (D.state disks.new.checkpoints) }
 {
     disks.count = prepared.count;
     let Some(at) = prepared.cut else {
-        return is_up(alloc, state, up, there, prepared);
+        return is_up(alloc, state, up, prepared);
     };
     match add_cut(disks, at) {
-        Ok(()) => is_up(alloc, state, up, there, prepared),
+        Ok(()) => is_up(alloc, state, up, prepared),
         Err(_) => {
-            left.doubt = Some(Store::Record(Record::Cut(at)));
-            disk_failed(alloc, 1, there)
+            let Prepared {
+                left: settled,
+                kept,
+                ..
+            } = prepared;
+            *left = doubting(settled, at);
+            disk_failed(alloc, 1, kept)
         }
     }
+}
+
+// What is left of the node where a cut may be there or not.
+fn doubting(left: Left, at: OpTime) -> Left
+    ensures { left_in result ≡ record (left_in left) { doubt = Some (Store.Record (Record.Cut at)) } }
+{
+    let mut left = left;
+    left.doubt = Some(Store::Record(Record::Cut(at)));
+    left
 }
 
 // Cuts the journal, for which there is memory.
@@ -304,19 +315,19 @@ fn add_cut<D: Disk>(disks: &mut Disks<D>, at: OpTime) -> Result<(), FileError>
 }
 
 // The node is up.
-fn is_up(alloc: Global, state: &mut State, up: &mut bool, there: bool, prepared: Prepared) -> Done
+fn is_up(alloc: Global, state: &mut State, up: &mut bool, prepared: Prepared) -> Done
     ensures state { state.new.node ≡ prepared.state.node }
     ensures up { up.new ≡ true }
     ensures reply { result.reply ≡ Reply.Up prepared.last }
     ensures sent { result.sent.items ≡ [] }
     ensures failed { result.failed ≡ None }
-    ensures kept { result.kept ≡ there }
+    ensures kept { result.kept ≡ prepared.kept }
 {
     let Prepared {
         state: restored,
-        count: _,
-        cut: _,
+        kept,
         last,
+        ..
     } = prepared;
     *state = restored;
     *up = true;
@@ -324,21 +335,21 @@ fn is_up(alloc: Global, state: &mut State, up: &mut bool, there: bool, prepared:
         reply: Reply::Up(last),
         sent: Vec::new(alloc),
         failed: None,
-        kept: there,
+        kept,
     }
 }
 
 // The store of this number failed.
-fn disk_failed(alloc: Global, number: u32, there: bool) -> Done
+fn disk_failed(alloc: Global, number: u32, kept: bool) -> Done
     ensures reply { result.reply ≡ Reply.Refused Refusal.DiskFailed }
     ensures sent { result.sent.items ≡ [] }
     ensures failed { result.failed ≡ Some number }
-    ensures kept { result.kept ≡ there }
+    ensures kept { result.kept ≡ kept }
 {
     Done {
         reply: Reply::Refused(Refusal::DiskFailed),
         sent: Vec::new(alloc),
         failed: Some(number),
-        kept: there,
+        kept,
     }
 }
