@@ -1,7 +1,8 @@
 -- What a node comes to whose disks lose their power, or are told to fail.
-use Rattle.std.proofs.Common.{◌≡◌, ◌∙◌, ⊎_elim, inl, inr, ap, sym, subst, refl, ℕ, Bool, true, false, Option, None, Some, List, if◌then◌else◌, arith}
+use Rattle.std.proofs.Common.{◌≡◌, ◌∙◌, inl, ap, sym, subst, refl, ℕ, Bool, true, false, Option, None, Some, List, if◌then◌else◌, arith}
 use Rattle.std.specs.Prelude.{IsSome, IsTrue}
 use Rattle.record_file.proofs.CutLemmas.{cut_leaves}
+use Rattle.rs_disk.specs.File.{File, LeavesOnly}
 use Rattle.rs_disk.specs.Orders.{Orders, ordered, arm, power_cut}
 use Rattle.rs_disk.specs.State.{State, IsArmed, IsCut}
 use Rattle.node_journal.specs.Files.{HasJournal}
@@ -26,7 +27,7 @@ use Rattle.node_state.specs.WellKept.{IsWellKept}
 use Rattle.node_core.specs.Acting.{Acted, Arms, ArmedBefore, DisksActed, Fails, orders_after}
 use Rattle.node_core.specs.Down.{Left, down_node, seen_node}
 use Rattle.node_core.specs.Resting.{IsResting, Lies, Rests}
-use Rattle.node_core.specs.Stands.{Stands, documents_at}
+use Rattle.node_core.specs.Stands.{HasDocumentsOf, HasRecordsOf, Stands, documents_at}
 use Rattle.node_core.specs.declared.done.Done.{Done}
 use Rattle.node_core.proofs.ActingLemmas.{answered_follows, resting_stands, unfailed, unkept, while_down}
 
@@ -62,24 +63,32 @@ same_armed old new same is = subst (λ (b : Bool). IsTrue b) same is
 
 -- ---- the power goes
 
-module _ (pick : ℕ) (node : Node) (left : Left) (count : ℕ) (j j' c c' : State) (rests : Rests node count j c) (one : IsCut pick j j') (two : IsCut pick c c')
+up_not : false ≡ true → ⊥
+up_not h = cc
+
+module _ (pick : ℕ) (node : Node) (left : Left) (j j' c c' : State) (one : IsCut pick j j') (two : IsCut pick c c')
     (is : down_node node left ≡ record (down node) { doubt = None }) where
-  cut_stands : Stands (record (down node) { doubt = None }) j' c'
-  cut_stands = record {
+  cut_stands : (count : ℕ) → Rests node count j c → Stands (record (down node) { doubt = None }) j' c'
+  cut_stands count rests = record {
     records = λ image leaves. inl (cut_leaves (λ (bytes : List ℕ). HasJournal bytes node.records) pick j j' one (rest_only j node.records rests.records) image leaves);
     documents = λ image leaves. inl (cut_leaves (λ (bytes : List ℕ). HasCheckpoint bytes (documents_at node node.stable)) pick c c' two (rest_has c (documents_at node node.stable) rests.documents) image leaves);
   }
 
   -- how its disks then are
-  pub cut_lies : IsWellKept node.records node.stable → Lies (down_node node left) count j' c'
-  cut_lies well = subst (λ (n : Node). Lies n count j' c') (sym is) (record { counted = rests.counted; stands = cut_stands; well = well; doubtful = tt })
+  pub cut_lies : (up : Bool) (before : Left) (count later : ℕ) → up ≡ true → IsResting up node before count j c → later ≡ count → IsWellKept node.records node.stable
+      → IsResting false node left later j' c'
+  cut_lies true before count later is_up rests same well =
+      subst (λ (n : Node). Lies n later j' c') (sym is) (record { counted = same ∙ rests.counted; stands = cut_stands count rests; well = well; doubtful = tt })
+  cut_lies false before count later is_up lies same well = absurd (up_not is_up)
 
-  pub acted_crash : (nodes next number : ℕ) (done : Done) → node.up ≡ true → node.doubt ≡ None → done.reply ≡ reply.Down → done.sent.items ≡ [] → done.failed ≡ None → done.kept ≡ false
-      → Acted (row nodes next false node (Crash number pick)) (Crash number pick) node (down_node node left) j j' c c' done
-  acted_crash nodes next number done up settled answer sent failed kept = record {
+  pub acted_crash : (up : Bool) (before : Left) (count : ℕ) → up ≡ true → IsResting up node before count j c → (nodes next number : ℕ) (done : Done) → node.up ≡ true → node.doubt ≡ None
+      → done.reply ≡ reply.Down → done.sent.items ≡ [] → done.failed ≡ None → done.kept ≡ false
+      → Acted (row nodes next false (seen_node up node before) (Crash number pick)) (Crash number pick) (seen_node up node before) (down_node node left) j j' c c' done
+  acted_crash false before count is_up lies nodes next number done up settled answer sent failed kept = absurd (up_not is_up)
+  acted_crash true before count is_up rests nodes next number done up settled answer sent failed kept = record {
     follows = answered_follows (row nodes next false node (Crash number pick)) (down_node node left) reply.Down done plan_is answer sent failed;
     settles = unkept node (Crash number pick) done kept;
-    stands = subst (λ (n : Node). Stands n j' c') (sym is) cut_stands;
+    stands = subst (λ (n : Node). Stands n j' c') (sym is) (cut_stands count rests);
     disks = record {
       fails = fails_not (IsSome done.failed) j j' c c' (unfailed done.failed failed) (cut_faulty pick j j' one) (cut_faulty pick c c' two);
       journal_armed = λ _. same_armed j j' (ap (λ (s : State). s.is_armed) one.rest);
@@ -134,29 +143,29 @@ documents_stay old new stable same rests = record {
 
 stands_still : (node : Node) (j j' c c' : State) → j'.file ≡ j.file → c'.file ≡ c.file → Stands node j c → Stands node j' c'
 stands_still node j j' c c' one two stands = record {
-  records = subst (λ file. Rattle.rs_disk.specs.File.LeavesOnly (Rattle.node_core.specs.Stands.HasRecordsOf node) file) (sym one) stands.records;
-  documents = subst (λ file. Rattle.rs_disk.specs.File.LeavesOnly (Rattle.node_core.specs.Stands.HasDocumentsOf node) file) (sym two) stands.documents;
+  records = subst (λ (file : File). LeavesOnly (HasRecordsOf node) file) (sym one) stands.records;
+  documents = subst (λ (file : File). LeavesOnly (HasDocumentsOf node) file) (sym two) stands.documents;
 }
 
 module _ (disk : DiskName) (call : ℕ) (pick : Option ℕ) (node : Node) (left : Left) (count : ℕ) (j j' c c' : State) (arms : Arms disk call pick j j' c c') where
-  pub armed_rests : (up : Bool) → IsResting up node left count j c → IsResting up node left count j' c'
-  armed_rests true rests =
+  pub armed_rests : (up : Bool) (later : ℕ) → later ≡ count → IsResting up node left count j c → IsResting up node left later j' c'
+  armed_rests true later same rests =
       let files = arms_files disk call pick j j' c c' arms in
       record {
-        counted = rests.counted;
+        counted = same ∙ rests.counted;
         records = rest_stays j j' node.records files.0 rests.records;
         documents = documents_stay c c' (documents_at node node.stable) files.1 rests.documents;
       }
-  armed_rests false lies =
+  armed_rests false later same lies =
       let files = arms_files disk call pick j j' c c' arms in
-      record { counted = lies.counted; stands = stands_still (down_node node left) j j' c c' files.0 files.1 lies.stands; well = lies.well; doubtful = lies.doubtful }
+      record { counted = same ∙ lies.counted; stands = stands_still (down_node node left) j j' c c' files.0 files.1 lies.stands; well = lies.well; doubtful = lies.doubtful }
 
   pub acted_fail : (up : Bool) → IsResting up node left count j c → (nodes next number : ℕ) (done : Done) → done.reply ≡ reply.Armed → done.sent.items ≡ [] → done.failed ≡ None → done.kept ≡ false
       → Acted (row nodes next false (seen_node up node left) (DiskFail number disk call pick)) (DiskFail number disk call pick) (seen_node up node left) (seen_node up node left) j j' c c' done
   acted_fail up resting nodes next number done answer sent failed kept = record {
     follows = answered_follows (row nodes next false seen (DiskFail number disk call pick)) seen reply.Armed done refl answer sent failed;
     settles = unkept seen (DiskFail number disk call pick) done kept;
-    stands = resting_stands up node left count j' c' (armed_rests up resting);
+    stands = resting_stands up node left count j' c' (armed_rests up count refl resting);
     disks = go disk arms;
   }
     where

@@ -3,7 +3,7 @@ mod PartLemmas
 mod TurnLemmas
 mod LoopLemmas
 mod OrderLemmas
-mod SizeLemmas
+pub mod SizeLemmas
 mod JournalLemmas
 pub mod ApartLemmas
 pub mod DiskLemmas
