@@ -4,7 +4,7 @@ use Rattle.std.specs.Prelude.{◌⊎◌}
 use Rattle.rs_disk.specs.File.{LeavesOnly, contents}
 use Rattle.rs_disk.specs.Images.{read_is_image}
 use Rattle.rs_disk.specs.Moments.{EachMoment}
-use Rattle.rs_disk.specs.State.{State, SameButRoom}
+use Rattle.rs_disk.specs.State.{State, Keeps, SameButRoom}
 use Rattle.rs_optime.specs.Later.{same_optime}
 use Rattle.rs_optime.specs.declared.optime.OpTime.{OpTime}
 use Rattle.oplog_entry.specs.Docs.{docs}
@@ -23,11 +23,14 @@ use Rattle.set_model.specs.declared.store.Store.TheVariants as stores
 use Rattle.set_model.specs.Disk.{settled_doubt}
 use Rattle.set_model.specs.Node.{Node}
 use Rattle.set_model.specs.Stores.{stored}
+use Rattle.node_core.specs.Acting.{Runs}
 use Rattle.node_core.specs.Coming.{IsFound, IsRead, is_there, settled}
-use Rattle.node_core.specs.Resting.{IsWellKeptWith, Lies, Rests}
+use Rattle.node_core.specs.Down.{Left, down_node}
+use Rattle.node_core.specs.Resting.{IsResting, IsWellKeptWith, Lies, Rests}
 use Rattle.node_core.specs.Stands.{HasDocumentsOf, HasRecordsOf, Stands, documents_at}
 use Rattle.node_core.specs.declared.coming_up.Found.{Found}
 use Rattle.node_state.specs.WellKept.{IsWellKept}
+use Rattle.node_core.proofs.PuttingLemmas.{runs_checkpoints, runs_journal, runs_reserved, runs_then}
 
 -- ---- disks that can be opened
 
@@ -75,6 +78,13 @@ pub read_both : (found : Found) (j j1 j2 c c' : State) → SameButRoom j1 j2 →
 read_both found j j1 j2 c c' same kept rests stable checkpoints =
     record { kept_is = kept; journal = λ items has. rest_reserved j1 j2 items same (rests items has); stable_is = stable; checkpoints = checkpoints }
 
+-- no fault came of it
+pub runs_opened : {F G : Type 0} (H : Type 0) (j j1 j2 c c' : State) → (H → ⊥) → Keeps F j j1 → Keeps G c c' → SameButRoom j1 j2 → Runs H j j2 c c'
+runs_opened {F} {G} H j j1 j2 c c' none journal checkpoints same =
+    runs_then {F = ⊥} {G = ⊥} {H = H} j j1 j2 c c' c' (λ fault. absurd (none fault))
+    (runs_then {F = F} {G = G} {H = ⊥} j j1 j1 c c c' (λ fault. absurd fault) (runs_journal j j1 c journal) (runs_checkpoints j1 c c' checkpoints))
+    (runs_reserved j1 j2 c' same)
+
 -- ---- what was in doubt is there, or it isn't
 
 same_record : (one two : Record) → Some (stores.Record one) ≡ Some (stores.Record two) → one ≡ two
@@ -85,6 +95,9 @@ same_checkpoint one two same = cc
 
 not_none : (item : Store) → None ≡ Some item → ⊥
 not_none item same = cc
+
+not_so : false ≡ true → ⊥
+not_so same = cc
 
 not_both : (item : Record) (at : OpTime) → Some (stores.Record item) ≡ Some (stores.Checkpoint at) → ⊥
 not_both item at same = cc
@@ -97,7 +110,7 @@ one_more n m same = grind arith
 
 module _ (node : Node) (count : ℕ) (j j' c c' : State) (found : Found) (lies : Lies node count j c) (read : IsRead found j j' c c') where
   -- this is what the node keeps
-  Settles : Node → Type 0
+  abbrev Settles : Node → Type 0
   Settles n = IsFound n found × Rests n found.kept.count j' c'
 
   counted_so : (items : List Record) → HasJournal (contents j.file) items → found.kept.count ≡ length items
@@ -172,9 +185,6 @@ module _ (node : Node) (count : ℕ) (j j' c c' : State) (found : Found) (lies :
           (⊎_elim (λ old. old) (λ new. absurd (not_so (sym other ∙ ap (λ (s : Stable). same_optime s.at at) new ∙ same_itself at))) either)
           lies.well
 
-      not_so : false ≡ true → ⊥
-      not_so same = cc
-
   -- by what was found the node is settled
   pub found_settles : IsFound (settled node count found) found × Rests (settled node count found) found.kept.count j' c'
   found_settles = go node.doubt refl
@@ -185,3 +195,20 @@ module _ (node : Node) (count : ℕ) (j j' c c' : State) (found : Found) (lies :
           (only_documents (λ at other. not_none (stores.Checkpoint at) (sym is ∙ other))) lies.well
       go (Some (stores.Record item)) is = record_settles item is
       go (Some (stores.Checkpoint at)) is = checkpoint_settles at is
+
+-- ---- a node that comes up, or stays as it was
+
+-- it is ready for that
+pub goes_up : (old new : Node) (count more : ℕ) (found : Found) (j j' c c' : State) → Lies old count j c → IsRead found j j' c c' → new ≡ settled old count found
+    → more ≡ length new.records → IsWellKept new.records new.stable × Rests new more j' c'
+goes_up old new count more found j j' c c' lies read is counted =
+    let both = found_settles old count j j' c c' found lies read in
+    subst (λ (n : Node). more ≡ length n.records → IsWellKept n.records n.stable × Rests n more j' c') (sym is)
+    (λ long. (both.0.well, record { counted = long; records = both.1.records; documents = both.1.documents })) counted
+
+-- it still lies there
+pub lies_on : (up : Bool) (node : Node) (left : Left) (count more : ℕ) (j j' c c' : State) → up ≡ false → more ≡ count → Lies (down_node node left) count j c
+    → Stands (down_node node left) j' c' → IsResting up node left more j' c'
+lies_on up node left count more j j' c c' down same lies stands =
+    subst (λ (b : Bool). IsResting b node left more j' c') (sym down)
+    (record { counted = same ∙ lies.counted; stands = stands; well = lies.well; doubtful = lies.doubtful })

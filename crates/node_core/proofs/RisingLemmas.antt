@@ -1,10 +1,12 @@
 -- What a node that comes up does of its row, and how its disks then are.
 use Rattle.std.proofs.Common.{◌≡◌, ◌∙◌, ap, sym, subst, refl, ℕ, ◌+◌, Bool, true, false, not, ◌&&◌, ◌||◌, cond, nat_lt, List, [], ◌∷◌, ◌++◌, Option, Some, None, length, arith}
-use Rattle.std.specs.Prelude.{IsSome, is_some, if◌then◌else◌}
+use Rattle.std.specs.Prelude.{IsSome, is_some, if◌then◌else◌, Result, Ok, Err}
 use Rattle.rs_disk.specs.State.{State}
 use Rattle.rs_optime.specs.declared.optime.OpTime.{OpTime}
 use Rattle.oplog_entry.specs.Docs.{docs}
-use Rattle.oplog_entry.specs.Visible.{last_of, log_up_to}
+use Rattle.oplog_entry.specs.Visible.{last_of}
+use Rattle.record_file.specs.declared.error.FileError.{FileError}
+use Rattle.record_file.specs.declared.error.FileError.TheVariants.{Disk, Memory}
 use Rattle.repl_msg.specs.Kept.{kept}
 use Rattle.repl_msg.specs.declared.record.Record.{Record}
 use Rattle.repl_msg.specs.declared.record.Record.TheVariants as records
@@ -21,9 +23,10 @@ use Rattle.set_model.specs.Rollback.{cut_record}
 use Rattle.set_model.specs.Rows.{row}
 use Rattle.set_model.specs.Stores.{Plan, finished, storing, done as comes_to, reaches, in_doubt, stored}
 use Rattle.node_core.specs.Acting.{Acted, Follows, Runs}
-use Rattle.node_core.specs.Coming.{IsFound, IsPrepared, cut_node, cut_point, cut_records, is_there}
-use Rattle.node_core.specs.Putting.{IsKeepable}
-use Rattle.node_core.specs.Resting.{IsWellKeptWith, Lies, Rests}
+use Rattle.node_core.specs.Coming.{IsPrepared, cut_node, cut_point, cut_records, is_there}
+use Rattle.node_core.specs.Down.{Left, down_node, seen_node}
+use Rattle.node_core.specs.Putting.{IsKeepable, Puts}
+use Rattle.node_core.specs.Resting.{IsResting, IsWellKeptWith, Lies, Rests}
 use Rattle.node_core.specs.Stands.{Stands}
 use Rattle.node_core.specs.declared.coming_up.Found.{Found}
 use Rattle.node_core.specs.declared.coming_up.Prepared.{Prepared}
@@ -89,9 +92,41 @@ module _ (node : Node) (at : OpTime) (is : Some at ≡ cut_point (kept node.reco
         ∙ ap (λ (p : Plan). reaches (storing broken p) (Some 1)) recovered_cut;
   }
 
-  pub cut_lies : (count : ℕ) (j c : State) → count ≡ length node.records → Stands (in_doubt node (stores.Record (records.Cut at))) j c
-      → Lies (in_doubt node (stores.Record (records.Cut at))) count j c
-  cut_lies count j c counted stands = record { counted = counted; stands = stands; well = well; doubtful = cut_well }
+-- with the cut
+pub cut_up : (node : Node) (prepared : Prepared) (at : OpTime) (up : Bool) (new : Node) (left : Left) (count : ℕ) (j c : State) → IsPrepared node prepared → prepared.cut ≡ Some at → up ≡ true
+    → new ≡ prepared.state.node → Rests (stored node (stores.Record (records.Cut at))) count j c → IsResting up new left count j c
+cut_up node prepared at up new left count j c is cut_is up_is new_is rests =
+    subst (λ (b : Bool). IsResting b new left count j c) (sym up_is)
+    (up_rests node prepared is new count j c new_is
+    (subst (λ (o : Option OpTime). Rests (cut_node o node) count j c) (sym cut_is)
+    (rests_same (stored node (stores.Record (records.Cut at))) (cut_node (Some at) node) count j c refl refl rests)))
+
+-- whether it is there is in doubt
+abbrev pub failed_by : FileError → Result (Unit {0}) FileError
+failed_by error = Err error
+
+stands_doubted : (node : Node) (item : Store) (error : FileError) (count : ℕ) (j c : State) → (failed_by error ≡ Err Memory → ⊥) → Puts (failed_by error) node item count j c → Stands (in_doubt node item) j c
+stands_doubted node item Disk count j c whole puts = puts.broken refl
+stands_doubted node item Memory count j c whole puts = absurd (whole refl)
+
+module _ (up : Bool) (memory : Node) (left doubting : Left) (at : OpTime) (down : up ≡ false) (doubt : doubting ≡ record left { doubt = Some (stores.Record (records.Cut at)) })
+    (is : Some at ≡ cut_point (kept left.records)) (well : IsWellKept left.records left.stable) where
+  pub doubted_follows : (broken : Node) (done : Done) → done.reply ≡ reply.Refused DiskFailed → done.sent.items ≡ [] → done.failed ≡ Some 1
+      → Follows (storing broken (recovered (down_node memory left))) (seen_node up memory doubting) done
+  doubted_follows broken done answer sent failed =
+      let same : in_doubt (down_node memory left) (cut_record at) ≡ seen_node up memory doubting = λ i. seen_node (sym down i) memory (sym doubt i) in
+      subst (λ (n : Node). Follows (storing broken (recovered (down_node memory left))) n done) same
+      (cut_follows (down_node memory left) at is well broken done answer sent failed)
+
+  pub doubted_lies : (error : FileError) (count : ℕ) (j c : State) → (failed_by error ≡ Err Memory → ⊥)
+      → Puts (failed_by error) (down_node memory left) (stores.Record (records.Cut at)) count j c → IsResting up memory doubting count j c
+  doubted_lies error count j c whole puts =
+      subst (λ (k : Bool × Left). IsResting k.0 memory k.1 count j c) (λ i. (sym down i, sym doubt i)) (record {
+        counted = puts.uncounted;
+        stands = stands_doubted (down_node memory left) (stores.Record (records.Cut at)) error count j c whole puts;
+        well = well;
+        doubtful = cut_well (down_node memory left) at is well;
+      })
 
 -- ---- the row
 
