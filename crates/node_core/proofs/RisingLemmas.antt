@@ -1,6 +1,6 @@
 -- What a node that comes up does of its row, and how its disks then are.
 use Rattle.std.proofs.Common.{◌≡◌, ◌∙◌, ap, sym, subst, refl, ℕ, ◌+◌, Bool, true, false, not, ◌&&◌, ◌||◌, cond, nat_lt, List, [], ◌∷◌, ◌++◌, Option, Some, None, length, arith}
-use Rattle.std.specs.Prelude.{IsSome, is_some, if◌then◌else◌, Result, Ok, Err}
+use Rattle.std.specs.Prelude.{IfOk, IsSome, OnErr, is_some, if◌then◌else◌, Result, Ok, Err}
 use Rattle.rs_disk.specs.State.{State}
 use Rattle.rs_optime.specs.declared.optime.OpTime.{OpTime}
 use Rattle.oplog_entry.specs.Docs.{docs}
@@ -22,7 +22,7 @@ use Rattle.set_model.specs.Outcome.{Outcome, refused}
 use Rattle.set_model.specs.Rollback.{cut_record}
 use Rattle.set_model.specs.Rows.{row}
 use Rattle.set_model.specs.Stores.{Plan, finished, storing, done as comes_to, reaches, in_doubt, stored}
-use Rattle.node_core.specs.Acting.{Acted, Follows, Runs}
+use Rattle.node_core.specs.Acting.{Acted, Follows, Runs, Unchanged}
 use Rattle.node_core.specs.Coming.{IsPrepared, cut_node, cut_point, cut_records, is_there}
 use Rattle.node_core.specs.Down.{Left, down_node, seen_node}
 use Rattle.node_core.specs.Putting.{IsKeepable, Puts}
@@ -31,7 +31,7 @@ use Rattle.node_core.specs.Stands.{Stands}
 use Rattle.node_core.specs.declared.coming_up.Found.{Found}
 use Rattle.node_core.specs.declared.coming_up.Prepared.{Prepared}
 use Rattle.node_core.specs.declared.done.Done.{Done}
-use Rattle.node_core.proofs.ActingLemmas.{answered_follows, answered_runs}
+use Rattle.node_core.proofs.ActingLemmas.{answered_follows, answered_runs, resting_stands}
 use Rattle.node_core.proofs.ComingLemmas.{ComesWith, comes_with}
 use Rattle.node_core.proofs.PuttingLemmas.{rests_same}
 use Rattle.node_state.specs.WellKept.{IsWellKept}
@@ -185,3 +185,36 @@ acted_not_down nodes next number old j c done up answer sent failed kept stands 
     checkpoints_orders = refl;
   };
 }
+
+module _ (up up' : Bool) (memory memory' : Node) (left left' : Left) (count' : ℕ) (j j' c c' : State) (down : up ≡ false) where
+  -- it was done
+  pub acted_come : {E : Type 0} (result : Result Done E)
+      → IfOk result (λ done. Follows (restart (down_node memory left) done.kept) (seen_node up' memory' left') done)
+      → IfOk result (λ done. done.kept ≡ true → (IsSome left.doubt × (passes_first done.failed ≡ true)))
+      → IfOk result (λ done. IsResting up' memory' left' count' j' c')
+      → IfOk result (λ done. Runs (IsSome done.failed) j j' c c')
+      → (nodes next number : ℕ)
+      → IfOk result (λ done. Acted (row nodes next done.kept (seen_node up memory left) (Restart number)) (Restart number) (seen_node up memory left) (seen_node up' memory' left') j j' c c' done)
+  acted_come (Err error) follows settles rests runs nodes next number = tt
+  acted_come (Ok done) follows settles rests runs nodes next number =
+      subst (λ (b : Bool). Acted (row nodes next done.kept (seen_node b memory left) (Restart number)) (Restart number) (seen_node b memory left) (seen_node up' memory' left') j j' c c' done) (sym down)
+      (acted_restart nodes next number (down_node memory left) (seen_node up' memory' left') j j' c c' done refl follows settles
+      (resting_stands up' memory' left' count' j' c' rests) runs)
+
+  -- memory was wanting
+  pub unchanged_come : {T E : Type 0} (result : Result T E) → OnErr result (seen_node up' memory' left' ≡ down_node memory left) → OnErr result (IsResting up' memory' left' count' j' c')
+      → OnErr result (Runs ⊥ j j' c c') → OnErr result (Unchanged (seen_node up memory left) (seen_node up' memory' left') j j' c c')
+  unchanged_come (Ok value) same rests runs = tt
+  unchanged_come (Err error) same rests runs = record {
+    node = same ∙ (λ i. seen_node (sym down i) memory left);
+    stands = resting_stands up' memory' left' count' j' c' rests;
+    runs = runs;
+  }
+
+-- it was up
+pub acted_up : (up : Bool) (memory : Node) (left : Left) (count : ℕ) (j c : State) (done : Done) → up ≡ true → memory.up ≡ true → IsResting up memory left count j c
+    → done.reply ≡ reply.Refused NotDown → done.sent.items ≡ [] → done.failed ≡ None → done.kept ≡ false → (nodes next number : ℕ)
+    → Acted (row nodes next done.kept (seen_node up memory left) (Restart number)) (Restart number) (seen_node up memory left) (seen_node up memory left) j j c c done
+acted_up up memory left count j c done is memory_up rests answer sent failed kept nodes next number =
+    acted_not_down nodes next number (seen_node up memory left) j c done (ap (λ (b : Bool). (seen_node b memory left).up) is ∙ memory_up) answer sent failed kept
+    (resting_stands up memory left count j c rests)

@@ -275,6 +275,7 @@ impl<D: Disk> Node<D> {
             (D.state self.old.1) (D.state self.new.1) (D.state self.old.2) (D.state self.new.2) done) }
         ensures err { OnErr result (Unchanged self.old.0 self.new.0 (D.state self.old.1) (D.state self.new.1) (D.state self.old.2) (D.state self.new.2)) }
     {
+        self.state.is_sound();
         if !self.up {
             return come_up(
                 self.alloc,
