@@ -2,6 +2,7 @@ pub mod ActingLemmas
 pub mod CarryLemmas
 pub mod DeliverLemmas
 pub mod DoesLemmas
+pub mod EndingLemmas
 pub mod OpeningLemmas
 pub mod OwedLemmas
 pub mod PowerLemmas
