@@ -1,4 +1,4 @@
-use Rattle.std.proofs.Common.{◌≡◌, false}
+use Rattle.std.proofs.Common.{false}
 use Rattle.set_model.specs.Rows.{row}
 use Rattle.node_core.specs.Down.{left_in}
 use Rattle.node_core.proofs.EndingLemmas.{took_ended, unchanged}

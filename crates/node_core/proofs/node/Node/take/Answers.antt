@@ -1,4 +1,3 @@
-use Rattle.std.proofs.Common.{◌≡◌}
 use Rattle.set_model.specs.Deliver.{deliver}
 use Rattle.node_core.specs.Down.{left_in}
 use Rattle.node_core.proofs.EndingLemmas.{took_ended, unchanged}
