@@ -142,36 +142,25 @@ fn settled(left: &Left, there: bool) -> Left
     ensures rollback { result.rollback ≡ left.now.rollback }
 {
     if !there {
-        return Left {
-            clock: left.clock,
-            stable: left.stable,
-            rollback: left.rollback,
-            records: left.records.same(),
-            doubt: None,
-        };
+        return undoubted(left, left.stable, left.records.same());
     }
     match &left.doubt {
-        Some(Store::Checkpoint(at)) => Left {
-            clock: left.clock,
-            stable: *at,
-            rollback: left.rollback,
-            records: left.records.same(),
-            doubt: None,
-        },
-        Some(item) => Left {
-            clock: left.clock,
-            stable: left.stable,
-            rollback: left.rollback,
-            records: left.records.with(item),
-            doubt: None,
-        },
-        None => Left {
-            clock: left.clock,
-            stable: left.stable,
-            rollback: left.rollback,
-            records: left.records.same(),
-            doubt: None,
-        },
+        Some(Store::Checkpoint(at)) => undoubted(left, *at, left.records.same()),
+        Some(item) => undoubted(left, left.stable, left.records.with(item)),
+        None => undoubted(left, left.stable, left.records.same()),
+    }
+}
+
+// The same with other documents and records, and nothing in doubt.
+fn undoubted(left: &Left, stable: OpTime, records: Records) -> Left
+    ensures { left_in result ≡ record (left_in left.now) { stable = stable; records = records.list; doubt = None } }
+{
+    Left {
+        clock: left.clock,
+        stable,
+        rollback: left.rollback,
+        records,
+        doubt: None,
     }
 }
 
