@@ -3,6 +3,7 @@ pub mod CarryLemmas
 pub mod ComingLemmas
 pub mod DeliverLemmas
 pub mod DoesLemmas
+pub mod EndingLemmas
 pub mod OpeningLemmas
 pub mod OwedLemmas
 pub mod PowerLemmas

@@ -1,5 +1,5 @@
 -- What a node comes to whose disks lose their power, or are told to fail.
-use Rattle.std.proofs.Common.{◌≡◌, ◌∙◌, inl, ap, sym, subst, refl, ℕ, Bool, true, false, Option, None, Some, List, if◌then◌else◌, arith}
+use Rattle.std.proofs.Common.{◌≡◌, ◌∙◌, [], inl, ap, sym, subst, refl, ℕ, Bool, true, false, Option, None, Some, List, if◌then◌else◌, arith}
 use Rattle.std.specs.Prelude.{IsSome, IsTrue}
 use Rattle.record_file.proofs.CutLemmas.{cut_leaves}
 use Rattle.rs_disk.specs.File.{File, LeavesOnly}

@@ -1,4 +1,3 @@
-use Rattle.std.proofs.Common.{◌≡◌}
 use Rattle.node_core.specs.Down.{left_in}
 use Rattle.node_core.proofs.PowerLemmas.{acted_crash, cut_lies}
 use Rattle.node_core.proofs.node.Node.crash.Goals as goal

@@ -1,6 +1,5 @@
 use Rattle.std.proofs.Common.{[]}
 use Rattle.checkpoint_store.specs.Files.{empty_disk}
-use Rattle.node_core.specs.Resting.{Rests}
 use Rattle.node_core.proofs.ActingLemmas.{rests_stand}
 use Rattle.node_core.proofs.OpeningLemmas.{empty_journal, opens_rested}
 use Rattle.node_core.proofs.node.Node.open.Goals as goal
