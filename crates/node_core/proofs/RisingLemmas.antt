@@ -7,7 +7,6 @@ use Rattle.oplog_entry.specs.Docs.{docs}
 use Rattle.record_file.specs.declared.error.FileError.{FileError}
 use Rattle.record_file.specs.declared.error.FileError.TheVariants.{Disk, Memory}
 use Rattle.repl_msg.specs.Kept.{kept}
-use Rattle.repl_msg.specs.declared.record.Record.{Record}
 use Rattle.repl_msg.specs.declared.record.Record.TheVariants as records
 use Rattle.set_model.specs.declared.command.Command.TheVariants.{Restart}
 use Rattle.set_model.specs.declared.reply.Refusal.TheVariants.{DiskFailed, NotDown}
