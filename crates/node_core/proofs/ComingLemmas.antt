@@ -1,5 +1,5 @@
 -- How a node comes up with what was found: its records with a cut at the point, where entries stand behind it, and the row.
-use Rattle.std.proofs.Common.{◌≡◌, ◌∙◌, inl, inr, ap, sym, subst, refl, ℕ, Bool, true, false, not, cond, List, [], ◌∷◌, ◌++◌, Option, Some, None, arith}
+use Rattle.std.proofs.Common.{◌≡◌, ◌∙◌, inl, inr, ap, sym, subst, refl, ℕ, Bool, true, false, not, cond, List, Option, Some, None, arith}
 use Rattle.rs_optime.specs.declared.optime.OpTime.{OpTime}
 use Rattle.oplog_entry.specs.Docs.{docs}
 use Rattle.oplog_entry.specs.Visible.{is_before, last_of, log_up_to}

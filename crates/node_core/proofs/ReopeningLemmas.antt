@@ -1,5 +1,5 @@
 -- What stands on a node's two disks while they are opened anew, and what is then known of what was in doubt.
-use Rattle.std.proofs.Common.{◌≡◌, ◌∙◌, ⊎_elim, inl, inr, ap, sym, subst, refl, ℕ, ◌+◌, Bool, true, false, nat_lt, List, [], ◌∷◌, ◌++◌, Option, Some, None, IfSome, length, arith}
+use Rattle.std.proofs.Common.{◌≡◌, ◌∙◌, ⊎_elim, inl, inr, ap, sym, subst, refl, ℕ, ◌+◌, Bool, true, false, nat_lt, List, [], ◌∷◌, ◌++◌, Option, Some, None, IfSome, length, length-append, arith}
 use Rattle.std.specs.Prelude.{◌⊎◌}
 use Rattle.rs_disk.specs.File.{LeavesOnly, contents}
 use Rattle.rs_disk.specs.Images.{read_is_image}
@@ -8,7 +8,7 @@ use Rattle.rs_disk.specs.State.{State, Keeps, SameButRoom}
 use Rattle.rs_optime.specs.Later.{same_optime}
 use Rattle.rs_optime.specs.declared.optime.OpTime.{OpTime}
 use Rattle.oplog_entry.specs.Docs.{docs}
-use Rattle.oplog_entry.specs.declared.entry.Entry.{Entry}
+use Rattle.repl_msg.specs.Kept.{kept}
 use Rattle.repl_msg.specs.declared.record.Kept.{Kept}
 use Rattle.repl_msg.specs.declared.record.Record.{Record}
 use Rattle.repl_msg.proofs.HasLemmas.{same_is, same_itself}
@@ -73,7 +73,7 @@ stands_both node j j' c c' moments others stands =
     record { records = records_opened node j j' stands.records moments; documents = documents_opened node c c' stands.documents others }
 
 -- both were read, and memory for a record was taken
-pub read_both : (found : Found) (j j1 j2 c c' : State) → SameButRoom j1 j2 → ((items : List Record) → HasJournal (contents j.file) items → found.kept ≡ Rattle.repl_msg.specs.Kept.kept items)
+pub read_both : (found : Found) (j j1 j2 c c' : State) → SameButRoom j1 j2 → ((items : List Record) → HasJournal (contents j.file) items → found.kept ≡ kept items)
     → ((items : List Record) → HasJournal (contents j.file) items → JournalRests j1 items) → HasCheckpoint (contents c.file) found.stable → CheckpointRests c' found.stable → IsRead found j j2 c c'
 read_both found j j1 j2 c c' same kept rests stable checkpoints =
     record { kept_is = kept; journal = λ items has. rest_reserved j1 j2 items same (rests items has); stable_is = stable; checkpoints = checkpoints }
@@ -158,7 +158,7 @@ module _ (node : Node) (count : ℕ) (j j' c c' : State) (found : Found) (lies :
       (lies.stands.records (contents j.file) (read_is_image j.file))
     where
       longer : HasJournal (contents j.file) (node.records ++ item ∷ []) → count + 1 ≡ found.kept.count
-      longer has = omega (arith, lies.counted, counted_so (node.records ++ item ∷ []) has, Rattle.std.proofs.Common.length-append node.records (item ∷ []))
+      longer has = omega (arith, lies.counted, counted_so (node.records ++ item ∷ []) has, length-append node.records (item ∷ []))
 
   -- a checkpoint is in doubt
   checkpoint_settles : (at : OpTime) → node.doubt ≡ Some (stores.Checkpoint at) → Settles (settled_doubt node (Some (stores.Checkpoint at)) (is_there (Some (stores.Checkpoint at)) count found))

@@ -1,32 +1,30 @@
 -- What a node that comes up does of its row, and how its disks then are.
-use Rattle.std.proofs.Common.{◌≡◌, ◌∙◌, ap, sym, subst, refl, ℕ, ◌+◌, Bool, true, false, not, ◌&&◌, ◌||◌, cond, nat_lt, List, [], ◌∷◌, ◌++◌, Option, Some, None, length, arith}
+use Rattle.std.proofs.Common.{◌≡◌, ◌∙◌, ap, sym, subst, refl, ℕ, ◌+◌, Bool, true, false, not, ◌&&◌, ◌||◌, cond, nat_lt, [], Option, Some, None, arith}
 use Rattle.std.specs.Prelude.{IfOk, IsSome, OnErr, is_some, if◌then◌else◌, Result, Ok, Err}
 use Rattle.rs_disk.specs.State.{State}
 use Rattle.rs_optime.specs.declared.optime.OpTime.{OpTime}
 use Rattle.oplog_entry.specs.Docs.{docs}
-use Rattle.oplog_entry.specs.Visible.{last_of}
 use Rattle.record_file.specs.declared.error.FileError.{FileError}
 use Rattle.record_file.specs.declared.error.FileError.TheVariants.{Disk, Memory}
 use Rattle.repl_msg.specs.Kept.{kept}
-use Rattle.repl_msg.specs.declared.record.Record.{Record}
 use Rattle.repl_msg.specs.declared.record.Record.TheVariants as records
 use Rattle.set_model.specs.declared.command.Command.TheVariants.{Restart}
 use Rattle.set_model.specs.declared.reply.Refusal.TheVariants.{DiskFailed, NotDown}
 use Rattle.set_model.specs.declared.reply.Reply.TheVariants as reply
 use Rattle.set_model.specs.declared.store.Store.{Store}
 use Rattle.set_model.specs.declared.store.Store.TheVariants as stores
-use Rattle.set_model.specs.Disk.{came_back, come_back, has_more, recovered, restart, settled_doubt}
+use Rattle.set_model.specs.Disk.{came_back, has_more, recovered, restart, settled_doubt}
 use Rattle.set_model.specs.Limits.{is_in_doubt, is_restart, passes_first}
 use Rattle.set_model.specs.Node.{Node}
-use Rattle.set_model.specs.Outcome.{Outcome, refused}
+use Rattle.set_model.specs.Outcome.{refused}
 use Rattle.set_model.specs.Rollback.{cut_record}
 use Rattle.set_model.specs.Rows.{row}
-use Rattle.set_model.specs.Stores.{Plan, finished, storing, done as comes_to, reaches, in_doubt, stored}
+use Rattle.set_model.specs.Stores.{Plan, finished, storing, done as comes_to, reaches, in_doubt, store_count, stored}
 use Rattle.node_core.specs.Acting.{Acted, Follows, Runs, Unchanged}
-use Rattle.node_core.specs.Coming.{IsPrepared, cut_node, cut_point, cut_records, is_there}
+use Rattle.node_core.specs.Coming.{IsPrepared, cut_node, cut_point, is_there}
 use Rattle.node_core.specs.Down.{Left, down_node, seen_node}
 use Rattle.node_core.specs.Putting.{IsKeepable, Puts}
-use Rattle.node_core.specs.Resting.{IsResting, IsWellKeptWith, Lies, Rests}
+use Rattle.node_core.specs.Resting.{IsResting, IsWellKeptWith, Rests}
 use Rattle.node_core.specs.Stands.{Stands}
 use Rattle.node_core.specs.declared.coming_up.Found.{Found}
 use Rattle.node_core.specs.declared.coming_up.Prepared.{Prepared}
@@ -135,7 +133,7 @@ pub opening_follows : (node : Node) (plan : Plan) (done : Done) → done.reply �
     → Follows (storing node plan) node done
 opening_follows node plan done answer sent failed = record {
   outcome = ap (λ (f : Option ℕ). comes_to (storing node plan) f) failed ∙ (λ i. record { reply = sym answer i; node = node; sent = sym sent i });
-  reached = ap (λ (f : Option ℕ). reaches (storing node plan) f) failed ∙ within (Rattle.set_model.specs.Stores.store_count plan);
+  reached = ap (λ (f : Option ℕ). reaches (storing node plan) f) failed ∙ within (store_count plan);
 }
   where
     within : (n : ℕ) → nat_lt 0 (n + 1) ≡ true

@@ -1,5 +1,5 @@
 // A node that is down opens its disks anew, learns what is there of what was in doubt, and comes up with that.
-ghost use Rattle.std.specs.Prelude.{◌≡◌, ◌≢◌, ◌<◌, ◌≤◌, ◌-◌, ◌^◌, ℕ, Bool, List, [], ◌∷◌, Option, None, Some, true, false, length, Err, IfOk, OnOk, OnErr, IsErrOf, IsSome};
+ghost use Rattle.std.specs.Prelude.{◌≡◌, ◌≢◌, ◌<◌, ◌≤◌, ◌-◌, ◌^◌, List, [], Option, None, Some, true, false, length, Err, IfOk, OnOk, OnErr, IsErrOf, IsSome};
 ghost use Rattle.record_file.specs.Files.{spare};
 ghost use Rattle.repl_msg.specs.declared.record.Record.{Record as ARecord};
 ghost use Rattle.node_journal.specs.Files.{IsAtRest as JournalRests, IsJournalDisk};
