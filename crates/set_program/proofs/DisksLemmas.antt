@@ -1,6 +1,6 @@
 -- How a set's disks go on, event by event.
 use Rattle.std.proofs.Common.{ℕ, ◌≡◌, true, List, [], ◌∷◌, ◌++◌, refl, sym, subst, inl, inr}
-use Rattle.std.specs.Prelude.{◌⊎◌, IsSome, Result, Ok, Err, fold}
+use Rattle.std.specs.Prelude.{IsSome, fold}
 use Rattle.rs_disk.specs.State.{State}
 use Rattle.set_model.specs.declared.command.Command.{Command}
 use Rattle.set_model.specs.declared.command.Event.{Event}
@@ -11,7 +11,7 @@ use Rattle.set_model.specs.World.{World, step, touched_node}
 use Rattle.node_core.specs.Acting.{DisksActed, Runs}
 use Rattle.set_world.specs.World.{Set}
 use Rattle.set_world.specs.Disks.{AtMostOne, IsStep, IsUndone, OneChanged}
-use Rattle.set_program.specs.Disks.{DisksPlay, DisksPlayed, DisksRan, DisksStep, DisksUndone}
+use Rattle.set_program.specs.Disks.{DisksPlay, DisksPlayed, DisksRan, DisksStep}
 
 -- an event more is played
 play_more : {D : Type 0} (state : D → State) (so_far : Run) (events : List Event) (event : Event) (first old new : List D)

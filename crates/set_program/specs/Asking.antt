@@ -11,7 +11,7 @@ use Rattle.set_program.specs.declared.outcome.Left.TheVariants.{World, Parts}
 use Rattle.set_program.specs.declared.stop.Stop.{Stop}
 use Rattle.set_program.specs.declared.stop.Stop.TheVariants.{Memory, DiskFault}
 use Rattle.set_program.specs.Disks.{DisksRan}
-use Rattle.set_program.specs.Headline.{AsksRun, EndsRun, EndsUnrun, IsOneOf, IsRead, status_of}
+use Rattle.set_program.specs.Headline.{AsksRun, EndsRun, EndsUnrun, IsOneOf, IsRead}
 
 -- the words ask for this script, or nothing is run
 abbrev pub Reads : List (String Global) → Option (List ℕ) → Option (List ℕ) → Option (List ℕ) → Option (List ℕ) → Result Script Stop → Type 0

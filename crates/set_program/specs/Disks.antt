@@ -1,5 +1,5 @@
 -- What a run does to the set's disks.
-use Rattle.std.specs.Prelude.{ℕ, ◌≡◌, true, IsSome, List, [], ◌∷◌, Result, Ok, Err}
+use Rattle.std.specs.Prelude.{◌≡◌, true, IsSome, List, [], ◌∷◌, Result, Ok, Err}
 use Rattle.rs_disk.specs.State.{State}
 use Rattle.set_model.specs.declared.command.Command.{Command}
 use Rattle.set_model.specs.declared.command.Event.{Event}
