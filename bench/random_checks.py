@@ -302,9 +302,12 @@ class Checker:
     def shown(self, command, words, node, told, answer):
         if command == "state":
             state = dict(zip(told[2::2], told[3::2]), role=told[1])
-            self.commit(node, optime(state["commit"]))
+            last, durable, applied, commit = (optime(state[name]) for name in ("last", "durable", "applied", "commit"))
+            if not commit <= durable <= last or applied > last:
+                self.fault("these points can't be")
+            self.commit(node, commit)
             self.view = {"node": node, "state": state}
-            if optime(state["durable"]) != self.durable[node]:
+            if durable != self.durable[node]:
                 self.fault(f"the log was durable up to {self.durable[node]}")
         elif command == "log":
             entries = [tuple(line.split(" ", 2)) for line in answer.split("\n")[1:]]
