@@ -1,9 +1,8 @@
-"""Random scripts for `bench/random`: what an author writes who knows the answers to what stands already.
+"""Random scripts for `bench/random`, by an author who knows the answers to what stands already.
 
 A script has some parts of random steps, each a sequence that may well succeed (an election, a pull, a write that a
 majority gets), with lines left out, said twice or put between. After each part the program is run, so that the next
-one knows who is primary, how many messages there are and which writes can be asked for. The last part settles the set:
-one primary, whom all others follow to its last entry.
+one knows who is primary and how many messages there are. The last part settles the set: one primary, whom all follow.
 """
 import re
 
@@ -180,7 +179,8 @@ class Author:
         """Writers that end in another order, some of them only steps later; others pull meanwhile."""
         k = self.leader()
         names = [f"w{self.dice.randint(0, 4)}" for _ in range(self.dice.randint(1, 4))]
-        self.put(*(f"begin n{k} {w} {self.write()}" for w in names))
+        op = self.write()
+        self.put(*(f"begin n{k} {w} {op if self.dice.random() < 0.4 else self.write()}" for w in names))
         open_ones = self.left_open + [(k, w) for w in names]
         self.dice.shuffle(open_ones)
         count = len(open_ones) if self.dice.random() < 0.5 else len(open_ones) // 2
@@ -298,7 +298,7 @@ class Author:
         self.put(f"flush n{self.leader()}", f"checkpoint n{self.leader()}", f"checkpoint n{self.some()}")
 
     def step_down_or_clock(self):
-        seconds = 2147483647 if self.dice.random() < 0.02 else self.dice.randint(0, 7)
+        seconds = self.dice.choice([0, 1, 3, 5, 7, 7, 2147483647])
         self.put(self.dice.choice([f"stepdown n{self.leader()}", f"clock n{self.some()} {seconds}"]))
 
     def astray(self):
