@@ -69,8 +69,6 @@ class Author:
         if answer.startswith("config "):
             self.members = [int(k) for k in re.findall(r'"_id":(\d+)', line)]
 
-    # What is written.
-
     def say(self, *lines):
         self.player.lines += lines
 
