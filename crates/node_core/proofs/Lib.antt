@@ -1,9 +1,13 @@
 pub mod ActingLemmas
 pub mod CarryLemmas
+pub mod ComingLemmas
 pub mod DeliverLemmas
 pub mod DoesLemmas
+pub mod EndingLemmas
 pub mod OpeningLemmas
 pub mod OwedLemmas
 pub mod PowerLemmas
 pub mod PuttingLemmas
+pub mod ReopeningLemmas
+pub mod RisingLemmas
 pub mod SavableLemmas

@@ -1,5 +1,5 @@
 -- What a node comes to whose disks lose their power, or are told to fail.
-use Rattle.std.proofs.Common.{◌≡◌, ◌∙◌, inl, ap, sym, subst, refl, ℕ, Bool, true, false, Option, None, Some, List, if◌then◌else◌, arith}
+use Rattle.std.proofs.Common.{◌≡◌, ◌∙◌, [], inl, ap, sym, subst, refl, ℕ, Bool, true, false, Option, None, Some, List, if◌then◌else◌, arith}
 use Rattle.std.specs.Prelude.{IsSome, IsTrue}
 use Rattle.record_file.proofs.CutLemmas.{cut_leaves}
 use Rattle.rs_disk.specs.File.{File, LeavesOnly}
@@ -103,26 +103,6 @@ module _ (pick : ℕ) (node : Node) (left : Left) (j j' c c' : State) (one : IsC
           ap (λ (b : Bool). if b then finished (crash node) else finished (refused NodeDown node)) up
           ∙ (λ i. finished (replied reply.Down (record (down node) { doubt = settled i })))
           ∙ ap (λ (n : Node). finished (replied reply.Down n)) (sym is)
-
--- a node that is down has no power to lose
-pub refused_crash : (node : Node) (left : Left) (count pick : ℕ) (j c : State) (done : Done) → done.reply ≡ reply.Refused NodeDown → done.sent.items ≡ [] → done.failed ≡ None → done.kept ≡ false
-    → (up : Bool) → IsResting up node left count j c → (seen_node up node left).up ≡ false → (nodes next number : ℕ)
-    → Acted (row nodes next false (seen_node up node left) (Crash number pick)) (Crash number pick) (seen_node up node left) (seen_node up node left) j j c c done
-refused_crash node left count pick j c done answer sent failed kept up resting is_down nodes next number = record {
-  follows = answered_follows (row nodes next false seen (Crash number pick)) seen (reply.Refused NodeDown) done (while_down seen _ is_down) answer sent failed;
-  settles = unkept seen (Crash number pick) done kept;
-  stands = resting_stands up node left count j c resting;
-  disks = record {
-    fails = fails_not (IsSome done.failed) j j c c (unfailed done.failed failed) (same_faulty j) (same_faulty c);
-    journal_armed = λ _ is. is;
-    checkpoints_armed = λ _ is. is;
-    journal_orders = sym (ap (λ (r : Reply). orders_after disks.Journal (Crash number pick) r j.orders) answer);
-    checkpoints_orders = sym (ap (λ (r : Reply). orders_after disks.Checkpoint (Crash number pick) r c.orders) answer);
-  };
-}
-  where
-    seen : Node
-    seen = seen_node up node left
 
 -- ---- a disk is told to fail
 

@@ -1,4 +1,5 @@
 pub mod Acting
+pub mod Coming
 pub mod Down
 pub mod Nodes
 pub mod Putting

@@ -4,6 +4,7 @@
 //! goes on. A store that fails leaves the node down, with that store in doubt.
 #![tactic(auto)]
 
+mod coming_up;
 mod disks;
 mod done;
 mod node;

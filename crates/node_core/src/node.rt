@@ -27,6 +27,7 @@ ghost use Rattle.set_model.specs.Stores.{Plan};
 ghost use Rattle.set_model.specs.Taking.{CanTake};
 
 use crate::Done;
+use crate::coming_up::come_up;
 use crate::disks::Disks;
 use crate::storing::{Ended, act_own, take_in};
 use bson_doc::Mem;
@@ -40,7 +41,7 @@ use repl_msg::Message;
 use rs_disk::Disk;
 use rs_optime::OpTime;
 use set_model::{Command, DiskName, Refusal, Reply, Store};
-use std::alloc::{AllocError, Global};
+use std::alloc::Global;
 use std::marker::Model;
 use std::thread::Threads;
 use version_store::VersionStore;
@@ -274,8 +275,18 @@ impl<D: Disk> Node<D> {
             (D.state self.old.1) (D.state self.new.1) (D.state self.old.2) (D.state self.new.2) done) }
         ensures err { OnErr result (Unchanged self.old.0 self.new.0 (D.state self.old.1) (D.state self.new.1) (D.state self.old.2) (D.state self.new.2)) }
     {
-        let _ = rt;
-        Err(AllocError)
+        self.state.is_sound();
+        if !self.up {
+            return come_up(
+                self.alloc,
+                rt,
+                &mut self.state,
+                &mut self.disks,
+                &mut self.up,
+                &mut self.left,
+            );
+        }
+        Ok(self.answered(Reply::Refused(Refusal::NotDown)))
     }
 
     // One of the disks is told to fail.

@@ -28,8 +28,8 @@ fn main(rt: HostRuntime) -> Result<ExitCode> {
         as_written = false;
         println!(rt; "the largest document is another")?;
     }
-    if !comes_in_batches(&rt, batches::THREE, batches::THREE_ENDS)?
-        || !comes_in_batches(&rt, batches::ONE, batches::ONE_ENDS)?
+    if !comes_in_batches(&rt, rt.alloc(), batches::THREE, batches::THREE_ENDS)?
+        || !comes_in_batches(&rt, rt.alloc(), batches::ONE, batches::ONE_ENDS)?
     {
         as_written = false;
         println!(rt; "more than a batch comes otherwise")?;
@@ -94,9 +94,14 @@ fn draws_the_line<R: Threads + Sync>(rt: &R, alloc: Global) -> Result<bool> {
 }
 
 /// Whether a log of more than a batch comes to another node in two fetches and two batches, by one worker and by many.
-fn comes_in_batches(rt: &HostRuntime, opening: &str, ending: &str) -> Result<bool> {
-    let one = transcript(rt, rt.alloc(), batches::script(rt.alloc(), opening, 1)?)?;
-    let many = transcript(rt, rt.alloc(), batches::script(rt.alloc(), opening, 16)?)?;
+fn comes_in_batches<R: Threads + Sync>(
+    rt: &R,
+    alloc: Global,
+    opening: &str,
+    ending: &str,
+) -> Result<bool> {
+    let one = transcript(rt, alloc, batches::script(alloc, opening, 1)?)?;
+    let many = transcript(rt, alloc, batches::script(alloc, opening, 16)?)?;
     Ok(one.ends_with(ending.as_bytes()) && many.ends_with(ending.as_bytes()))
 }
 

@@ -28,7 +28,7 @@ of_event : {D : Type 0} (state : D → State) (world : World) (event : Event) (c
     → DisksStep state world event old new
 of_event state world event command reply old new command_is reply_is changed =
     subst (λ (r : Reply). AtMostOne old new (OneChanged state (DisksActed event.command r (IsSome event.failed)) (touched_node world event.command) old new)) reply_is
-        (subst (λ (c : Command). AtMostOne old new (OneChanged state (DisksActed c reply (IsSome event.failed)) (touched_node world c) old new)) command_is changed)
+    (subst (λ (c : Command). AtMostOne old new (OneChanged state (DisksActed c reply (IsSome event.failed)) (touched_node world c) old new)) command_is changed)
 
 -- a set goes on by a step
 pub step_played : {D : Type 0} (state : D → State) (old new : Set D) (line : ℕ) (command : Command) (reply : Reply) → IsStep state old new line command reply
@@ -37,7 +37,7 @@ step_played state old new line command reply is sizes first played =
     let changed = of_event state (run old.sizes old.history).world is.event command reply old.disks new.disks (sym is.command_is) is.reply_is is.disks in
     let more = play_more state (opening old.sizes) old.history is.event first old.disks new.disks played changed in
     subst (λ (es : List Event). DisksPlay state (opening new.sizes).world es first new.disks) (sym is.history)
-        (subst (λ (s : Sizes). DisksPlay state (opening s).world (old.history ++ is.event ∷ []) first new.disks) (sym sizes) more)
+    (subst (λ (s : Sizes). DisksPlay state (opening s).world (old.history ++ is.event ∷ []) first new.disks) (sym sizes) more)
 
 -- what was played ran, and no command behind it
 pub played_ran : {D : Type 0} (state : D → State) (set : Set D) (first : List D) → DisksPlayed state first set → DisksRan state first set

@@ -69,14 +69,14 @@ plays_end sizes parts held now set result same played =
 -- what was asked for was run
 pub run_ends : {D : Type 0} (words : List (String Global)) (left rest old new : Option (List ℕ)) (read : Script) (ended : Result (Unit {0}) Stop) (outcome : Left D)
     → AsksRun words → IsRead left rest read → RunsScript read old new ended outcome → Ends words left rest old new ended outcome
-run_ends words left rest old new read ended (World set) asks is runs = (asks, read, is, runs.0, runs.1)
+run_ends words left rest old new read ended (World set) asks is runs = (asks, (read, is, runs.0, runs.1))
 run_ends words left rest old new read ended (Parts events disks) asks is (none, kept, one) = (none, ⊎_elim no_memory failed one)
   where
     no_memory : ended ≡ Err Memory → EndsUnrun words left rest old new ended
     no_memory same = rw same kept
 
     failed : ended ≡ Err DiskFault → EndsUnrun words left rest old new ended
-    failed same = rw same (asks, kept, read, is)
+    failed same = rw same (asks, kept, (read, is))
 
 -- ---- what holds of what is left
 
@@ -95,7 +95,7 @@ no_fault Steady before now (inr still) unsteady rose = still rose
 -- a source's bytes that are no script aren't readable
 faulty : (left rest : Option (List ℕ)) (fault : ScriptFault) (P : Type 0) → IsFaulty left rest fault → IfSome left (λ bytes. IsReadable bytes → P)
 faulty None rest fault P is = tt
-faulty (Some bytes) rest fault P (within, whole, is) = λ readable. absurd (apart readable.1 (sym readable.2 ∙ is))
+faulty (Some bytes) rest fault P (within, whole, is) = λ readable. absurd (apart readable.1.0 (sym readable.1.1 ∙ is))
   where
     apart : (read : Script) → Ok read ≡ Err fault → ⊥
     apart read same = cc same
@@ -111,8 +111,8 @@ whatever (Some bytes) P holds = λ readable. holds
 -- what was run doesn't end so, and what wasn't ends so
 only_unrun : {D : Type 0} (P : Type 0) (words : List (String Global)) (left rest old new : Option (List ℕ)) (ended : Result (Unit {0}) Stop) (outcome : Left D)
     → ((parts : List Part) (set : Set D) → EndsRun parts old new ended set → P) → (EndsUnrun words left rest old new ended → P) → Ends words left rest old new ended outcome → P
-only_unrun P words left rest old new ended (World set) run unrun (asks, read, is, sizes, ends) = run read.parts set ends
-only_unrun P words left rest old new ended (Parts events disks) run unrun (none, ends) = unrun ends
+only_unrun P words left rest old new ended (World set) ran unrun (asks, (read, is, sizes, ends)) = ran read.parts set ends
+only_unrun P words left rest old new ended (Parts events disks) ran unrun (none, ends) = unrun ends
 
 pub completes : {D : Type 0} (words : List (String Global)) (left rest old new : Option (List ℕ)) (ended : Result (Unit {0}) Stop) (outcome : Left D)
     (SteadySource SteadySink : Type 0) (reads reads' writes writes' : ℕ)
@@ -130,6 +130,6 @@ completes words left rest old new (Err WriteFault) outcome SteadySource SteadySi
 completes words left rest old new (Err Usage) outcome SteadySource SteadySink reads reads' writes writes' ends read_fault write_fault steady_source steady_sink asks source sink =
     only_unrun _ words left rest old new (Err Usage) outcome (λ parts set never. absurd never) (λ unrun. absurd (unrun.0 asks)) ends
 completes words left rest old new (Err NoScript) outcome SteadySource SteadySink reads reads' writes writes' ends read_fault write_fault steady_source steady_sink asks source sink =
-    only_unrun _ words left rest old new (Err NoScript) outcome (λ parts set never. absurd never) (λ unrun. faulty left rest unrun.1 _ unrun.2) ends
+    only_unrun _ words left rest old new (Err NoScript) outcome (λ parts set never. absurd never) (λ unrun. faulty left rest unrun.1.0 _ unrun.1.1) ends
 completes words left rest old new (Err TooLong) outcome SteadySource SteadySink reads reads' writes writes' ends read_fault write_fault steady_source steady_sink asks source sink =
     only_unrun _ words left rest old new (Err TooLong) outcome (λ parts set never. absurd never) (λ unrun. over_limit left _ unrun.2) ends

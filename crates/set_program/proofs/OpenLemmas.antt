@@ -69,20 +69,20 @@ pub refused_leaves : {D : Type 0} (state : D → State) (read : Script) (handed 
 refused_leaves state read handed error stop events disks is opens =
     subst (λ (s : Stop). OpensScript state read handed (status_of_stop s) (Parts events disks)) (sym is) (refuses state read handed error events disks opens)
 
-stops : (error : FileError) (stop : Stop) → stop ≡ of_file error → (Err {Unit {0}} stop ≡ Err Memory) ⊎ (Err {Unit {0}} stop ≡ Err DiskFault)
-stops Disk stop is = inr (ap Err is)
-stops NoBytes stop is = inl (ap Err is)
+stops : (error : FileError) (ended : Result (Unit {0}) Stop) → ended ≡ Err (of_file error) → (ended ≡ Err Memory) ⊎ (ended ≡ Err DiskFault)
+stops Disk ended is = inr is
+stops NoBytes ended is = inl is
 
 pub refused_runs : {D : Type 0} (read : Script) (held : Option (List ℕ)) (error : FileError) (stop : Stop) (events : Vec Event Global) (disks : Vec D Global)
     → stop ≡ of_file error → events.items ≡ [] → RunsScript read held held (Err stop) (Parts events disks)
-refused_runs read held error stop events disks is none = (none, Keeps-same held, stops error stop is)
+refused_runs read held error stop events disks is none = (none, Keeps-same held, stops error (Err stop) (ap Err is))
 
 -- ---- what the whole call leaves
 
 pub asked_leaves : {D : Type 0} (state : D → State) (left rest : Option (List ℕ)) (read : Script) (handed : List D) (status : ℕ) (outcome : Left D)
     → IsRead left rest read → OpensScript state read handed status outcome → LeavesDisks state left rest handed status outcome
 asked_leaves state left rest read handed status (World set) is opens = opens
-asked_leaves state left rest read handed status (Parts events disks) is (one, opens) = inr (one, read, is, opens)
+asked_leaves state left rest read handed status (Parts events disks) is (one, opens) = inr (one, (read, is, opens))
 
 -- a set that was opened doesn't end with a fault of a disk
 not_opening : {D : Type 0} (parts : List Part) (old new : Option (List ℕ)) (ended : Result (Unit {0}) Stop) (set : Set D) → EndsRun parts old new ended set → status_of ended ≢ 7
@@ -99,7 +99,7 @@ not_opening parts old new (Err DiskFault) set ends seven = ends
 when_failed : {D : Type 0} (state : D → State) (words : List (String Global)) (left rest old new : Option (List ℕ)) (handed : List D) (ended : Result (Unit {0}) Stop) (outcome : Left D)
     → Ends words left rest old new ended outcome → LeavesDisks state left rest handed (status_of ended) outcome → status_of ended ≡ 7
     → (read : Script) × IsRead left rest read × Opens state read.nodes (status_of ended ≡ 7) handed (disks_of outcome)
-when_failed state words left rest old new handed ended (World set) (asks, read, is, sizes, runs) leaves seven = absurd (not_opening read.parts old new ended set runs seven)
+when_failed state words left rest old new handed ended (World set) (asks, (read, is, sizes, runs)) leaves seven = absurd (not_opening read.parts old new ended set runs seven)
 when_failed state words left rest old new handed ended (Parts events disks) ends (inl (other, same)) seven = absurd (other seven)
 when_failed state words left rest old new handed ended (Parts events disks) ends (inr (one, opens)) seven = opens
 
@@ -120,4 +120,4 @@ none_failed {D} state words left rest old new handed ended outcome ends leaves u
     is_unarmed : (place : ℕ) (disk : D) → slice_get handed place ≡ Some disk → IsUnarmed (state disk)
     is_unarmed place disk at =
         subst (λ (d : D). IsUnarmed (state d)) (get_or_from_slice_get handed place disk disk at)
-            (All-get_or (λ (d : D). IsUnarmed (state d)) handed place disk (slice_get_within handed place disk at) unarmed)
+        (All-get_or (λ (d : D). IsUnarmed (state d)) handed place disk (slice_get_within handed place disk at) unarmed)

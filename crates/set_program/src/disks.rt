@@ -16,7 +16,7 @@ pub fn empty_disks(alloc: Global) -> Mem<Vec<MemDisk>>
     ensures empty { IfOk result (λ disks. All (λ (disk : MemDisk). IsEmpty (state_of disk).file) disks.items) }
 {
     let mut disks = Vec::with_capacity(alloc, DISKS)?;
-    for _ in 0..DISKS {
+    for place in 0..DISKS {
         disks.push(MemDisk::new(alloc))?;
     }
     Ok(disks)

@@ -1,4 +1,4 @@
-use Rattle.std.proofs.Common.{◌≡◌, ◌∙◌, false, ap, sym, subst}
+use Rattle.std.proofs.Common.{◌∙◌, false, subst}
 use Rattle.set_model.specs.Node.{Node}
 use Rattle.set_model.specs.Rows.{row}
 use Rattle.node_core.specs.Resting.{Rests}

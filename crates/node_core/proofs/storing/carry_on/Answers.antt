@@ -1,7 +1,6 @@
-use Rattle.std.proofs.Common.{◌≡◌, ap, sym, subst, refl, Ok, Err}
+use Rattle.std.proofs.Common.{ap, sym, subst, Err}
 use Rattle.record_file.specs.declared.error.FileError.{FileError}
-use Rattle.node_core.specs.Putting.{EndsFrom, Leaves, plan_of}
-use Rattle.node_state.specs.Ready.{IsReadyTurn}
+use Rattle.node_core.specs.Putting.{EndsFrom, plan_of}
 use Rattle.node_state.specs.declared.turn.Turn.{Turn}
 use Rattle.node_core.specs.declared.storing.Ended.TheVariants.{Broken}
 use Rattle.node_core.proofs.CarryLemmas.{ends_here, goes_on, leaves_broken, leaves_whole, rests_on}

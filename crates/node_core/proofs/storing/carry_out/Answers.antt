@@ -1,7 +1,7 @@
-use Rattle.std.proofs.Common.{◌≡◌, ap, sym, subst, inr, arith, refl, Ok, Err}
+use Rattle.std.proofs.Common.{ap, sym, subst, inr, arith, Err}
 use Rattle.record_file.specs.Files.{spare}
 use Rattle.record_file.specs.declared.error.FileError.{FileError}
-use Rattle.node_core.specs.Putting.{EndsFrom, IsLong, Leaves, plan_of}
+use Rattle.node_core.specs.Putting.{EndsFrom, IsLong, plan_of}
 use Rattle.node_state.specs.Ready.{IsReadyTurn}
 use Rattle.node_state.specs.declared.turn.Turn.{Turn}
 use Rattle.node_core.specs.declared.storing.Ended.TheVariants.{Broken}

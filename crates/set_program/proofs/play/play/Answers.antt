@@ -23,3 +23,8 @@ returns-in_err-play_part-clause-plays g c =
     let p = err_from_is_err_and c.from_residual.result c.from_residual.ensures.1 in
     rw (p.1, p.2) (stops_there c.args.world.now.sizes c.loop-part.world.sizes c.in_err-play_part.field-0.0 c.args.parts.now c.loop-part.part-index c.part-item.result (g.K.Sink.held c.args.sink.now) (g.K.Sink.held c.loop-part.sink) (g.K.Sink.held c.play_part.new.sink)
     c.loop-part.world.history c.play_part.new.world.history c.loop-part.invariant.sizes c.loop-part-test.true c.part-item.is c.loop-part.invariant.lines_are c.loop-part.invariant.put c.in_err-play_part.ensures.plays)
+
+pub returns-in_err-play_part-clause-disks : goal.returns-in_err-play_part-clause-disks
+returns-in_err-play_part-clause-disks g c =
+    let p = err_from_is_err_and c.from_residual.result c.from_residual.ensures.1 in
+    rw p.1 (λ first played. c.in_err-play_part.ensures.disks first (c.loop-part.invariant.disks first played))

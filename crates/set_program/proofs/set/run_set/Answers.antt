@@ -1,10 +1,23 @@
-use Rattle.set_program.proofs.EndLemmas.{completes, safe_here}
+use Rattle.set_program.proofs.EndLemmas.{completes}
 use Rattle.set_program.proofs.OpenLemmas.{disk_failed, none_failed}
 use Rattle.set_program.proofs.set.run_set.Goals as goal
 
 pub returns-clause-open_fault : goal.returns-clause-open_fault
-returns-clause-open_fault g c = ?
+returns-clause-open_fault g c =
+    rw c.status.ensures
+    (disk_failed g.D.Disk.state c.args.words.now (g.S.Source.left c.args.source.now) (g.S.Source.left c.run-ended.new.source) (g.K.Sink.held c.args.sink.now) (g.K.Sink.held c.run-ended.new.sink)
+    c.args.disks.items c.run-ended.result.0 c.run-ended.result.1 c.run-ended.ensures.ends c.run-ended.ensures.disks)
+
 pub returns-clause-steady_disks : goal.returns-clause-steady_disks
-returns-clause-steady_disks g c = ?
+returns-clause-steady_disks g c =
+    rw c.status.ensures
+    (none_failed g.D.Disk.state c.args.words.now (g.S.Source.left c.args.source.now) (g.S.Source.left c.run-ended.new.source) (g.K.Sink.held c.args.sink.now) (g.K.Sink.held c.run-ended.new.sink)
+    c.args.disks.items c.run-ended.result.0 c.run-ended.result.1 c.run-ended.ensures.ends c.run-ended.ensures.disks)
+
 pub returns-clause-complete : goal.returns-clause-complete
-returns-clause-complete g c = ?
+returns-clause-complete g c =
+    rw c.status.ensures
+    (completes c.args.words.now (g.S.Source.left c.args.source.now) (g.S.Source.left c.run-ended.new.source) (g.K.Sink.held c.args.sink.now) (g.K.Sink.held c.run-ended.new.sink)
+    c.run-ended.result.0 c.run-ended.result.1 (g.S.Source.steady c.args.source.now) (g.K.Sink.steady c.args.sink.now)
+    (g.S.Source.faults c.args.source.now) (g.S.Source.faults c.run-ended.new.source) (g.K.Sink.faults c.args.sink.now) (g.K.Sink.faults c.run-ended.new.sink)
+    c.run-ended.ensures.ends c.run-ended.ensures.read_fault c.run-ended.ensures.write_fault c.run-ended.ensures.steady_source c.run-ended.ensures.steady_sink)

@@ -1,4 +1,4 @@
-use Rattle.std.proofs.Common.{◌≡◌, ◌+◌, sym, subst, arith, Ok, Err}
+use Rattle.std.proofs.Common.{◌+◌, sym, subst, arith, Err}
 use Rattle.set_model.specs.declared.store.Store.{Store}
 use Rattle.record_file.specs.declared.error.FileError.{FileError}
 use Rattle.std.specs.Prelude.{Result}

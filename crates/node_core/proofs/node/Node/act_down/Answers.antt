@@ -1,4 +1,3 @@
-use Rattle.std.proofs.Common.{◌≡◌, ap}
 use Rattle.node_core.specs.Down.{left_in}
 use Rattle.node_core.proofs.ActingLemmas.{took_clock, took_down}
 use Rattle.node_core.proofs.node.Node.act_down.Goals as goal

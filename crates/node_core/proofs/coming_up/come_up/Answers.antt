@@ -1,0 +1,74 @@
+use Rattle.std.proofs.Common.{◌∙◌, ap, inr, sym, subst, ℕ, Ok, Err}
+use Rattle.std.specs.Prelude.{OnErr, Result}
+use Rattle.node_core.specs.Coming.{IsFound, settled}
+use Rattle.node_core.specs.Down.{down_node, left_in}
+use Rattle.node_core.proofs.PuttingLemmas.{runs_then}
+use Rattle.node_core.proofs.ReopeningLemmas.{found_settles, goes_up, lies_on, stands_checkpoints}
+use Rattle.node_core.proofs.coming_up.come_up.Goals as goal
+
+on_err : {T E : Type 0} (result : Result T E) (P : Type 0) → P → OnErr result P
+on_err (Ok value) P holds = tt
+on_err (Err error) P holds = holds
+
+pub open_both-requires-clause-checkpoints : goal.open_both-requires-clause-checkpoints
+open_both-requires-clause-checkpoints g c =
+    stands_checkpoints (down_node c.args.state.now.node (left_in c.args.left.now)) (g.D.Disk.state c.args.disks.now.journal.0) (g.D.Disk.state c.args.disks.now.checkpoints)
+    c.requires.lies.stands
+
+pub prepare-requires-clause-found : goal.prepare-requires-clause-found
+prepare-requires-clause-found g c κs within =
+    let node = down_node c.args.state.now.node (left_in c.args.left.now) in
+    subst (λ (n : ℕ). IsFound (settled node n c.in-Ok.found) c.in-Ok.found) (sym c.open_both.ensures.count)
+    (found_settles node c.args.disks.now.count (g.D.Disk.state c.args.disks.now.journal.0) (g.D.Disk.state c.open_both.new.disks.journal.0)
+    (g.D.Disk.state c.args.disks.now.checkpoints) (g.D.Disk.state c.open_both.new.disks.checkpoints) c.in-Ok.found c.requires.lies c.in-Ok.ensures.read).0
+
+pub returns-in_err-prepared-in-Ok-clause-left : goal.returns-in_err-prepared-in-Ok-clause-left
+returns-in_err-prepared-in-Ok-clause-left g c =
+    let node = down_node c.args.state.now.node (left_in c.args.left.now) in
+    on_err c.from_residual.result _
+    (lies_on c.args.up.now c.args.state.now.node (left_in c.args.left.now) c.args.disks.now.count c.open_both.new.disks.count
+    (g.D.Disk.state c.args.disks.now.journal.0) (g.D.Disk.state c.open_both.new.disks.journal.0)
+    (g.D.Disk.state c.args.disks.now.checkpoints) (g.D.Disk.state c.open_both.new.disks.checkpoints)
+    c.requires.down c.open_both.ensures.count c.requires.lies (c.open_both.ensures.stands node c.requires.lies.stands))
+
+pub go_up-requires-clause-well : goal.go_up-requires-clause-well
+go_up-requires-clause-well g c =
+    let node = down_node c.args.state.now.node (left_in c.args.left.now) in
+    let prepared = c.in_ok-prepared-in-Ok.prepared in
+    (goes_up node (down_node c.args.state.now.node (left_in prepared.left)) c.args.disks.now.count prepared.count c.in-Ok.found
+    (g.D.Disk.state c.args.disks.now.journal.0) (g.D.Disk.state c.open_both.new.disks.journal.0)
+    (g.D.Disk.state c.args.disks.now.checkpoints) (g.D.Disk.state c.open_both.new.disks.checkpoints)
+    c.requires.lies c.in-Ok.ensures.read (c.in_ok-prepared-in-Ok.ensures.left ∙ ap (λ (n : ℕ). settled node n c.in-Ok.found) c.open_both.ensures.count)
+    c.in_ok-prepared-in-Ok.ensures.prepared.count).0
+
+pub go_up-requires-clause-rests : goal.go_up-requires-clause-rests
+go_up-requires-clause-rests g c =
+    let node = down_node c.args.state.now.node (left_in c.args.left.now) in
+    let prepared = c.in_ok-prepared-in-Ok.prepared in
+    (goes_up node (down_node c.args.state.now.node (left_in prepared.left)) c.args.disks.now.count prepared.count c.in-Ok.found
+    (g.D.Disk.state c.args.disks.now.journal.0) (g.D.Disk.state c.open_both.new.disks.journal.0)
+    (g.D.Disk.state c.args.disks.now.checkpoints) (g.D.Disk.state c.open_both.new.disks.checkpoints)
+    c.requires.lies c.in-Ok.ensures.read (c.in_ok-prepared-in-Ok.ensures.left ∙ ap (λ (n : ℕ). settled node n c.in-Ok.found) c.open_both.ensures.count)
+    c.in_ok-prepared-in-Ok.ensures.prepared.count).1
+
+pub returns-in_ok-prepared-in-Ok-clause-runs : goal.returns-in_ok-prepared-in-Ok-clause-runs
+returns-in_ok-prepared-in-Ok-clause-runs g c =
+    runs_then (g.D.Disk.state c.args.disks.now.journal.0) (g.D.Disk.state c.open_both.new.disks.journal.0) (g.D.Disk.state c.go_up.new.disks.journal.0)
+    (g.D.Disk.state c.args.disks.now.checkpoints) (g.D.Disk.state c.open_both.new.disks.checkpoints) (g.D.Disk.state c.go_up.new.disks.checkpoints)
+    (λ failed. inr failed) c.in-Ok.ensures.runs c.go_up.ensures.runs
+
+pub returns-in-Err-Memory-clause-left : goal.returns-in-Err-Memory-clause-left
+returns-in-Err-Memory-clause-left g c =
+    let node = down_node c.args.state.now.node (left_in c.args.left.now) in
+    lies_on c.args.up.now c.args.state.now.node (left_in c.args.left.now) c.args.disks.now.count c.open_both.new.disks.count
+    (g.D.Disk.state c.args.disks.now.journal.0) (g.D.Disk.state c.open_both.new.disks.journal.0)
+    (g.D.Disk.state c.args.disks.now.checkpoints) (g.D.Disk.state c.open_both.new.disks.checkpoints)
+    c.requires.down c.open_both.ensures.count c.requires.lies (c.open_both.ensures.stands node c.requires.lies.stands)
+
+pub returns-in-Err-Disk-clause-rests : goal.returns-in-Err-Disk-clause-rests
+returns-in-Err-Disk-clause-rests g c =
+    let node = down_node c.args.state.now.node (left_in c.args.left.now) in
+    lies_on c.args.up.now c.args.state.now.node (left_in c.args.left.now) c.args.disks.now.count c.open_both.new.disks.count
+    (g.D.Disk.state c.args.disks.now.journal.0) (g.D.Disk.state c.open_both.new.disks.journal.0)
+    (g.D.Disk.state c.args.disks.now.checkpoints) (g.D.Disk.state c.open_both.new.disks.checkpoints)
+    c.requires.down c.open_both.ensures.count c.requires.lies (c.open_both.ensures.stands node c.requires.lies.stands)

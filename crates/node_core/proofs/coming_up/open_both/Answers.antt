@@ -1,0 +1,61 @@
+use Rattle.std.proofs.Common.{◌≡◌, Ok, Err, rules}
+use Rattle.std.specs.Prelude.{Result}
+use Rattle.record_file.specs.declared.error.FileError.{FileError}
+use Rattle.record_file.specs.declared.error.FileError.TheVariants.{Disk, Memory}
+use Rattle.node_core.specs.declared.coming_up.Found.{Found}
+use Rattle.node_core.proofs.ReopeningLemmas.{read_both, runs_opened, stands_both, stands_opened, stands_reserved}
+use Rattle.node_core.proofs.coming_up.open_both.Goals as goal
+
+no_fault : {T : Type 0} (result : Result T FileError) → result ≡ Err Memory → result ≡ Err Disk → ⊥
+no_fault (Ok value) is fault = cc is
+no_fault (Err error) is fault = cc
+
+abbrev read_so : Found → Result Found FileError
+read_so found = Ok found
+
+found_not : (found : Found) → read_so found ≡ Err Disk → ⊥
+found_not found is = cc is
+
+pub returns-in_err-kept-clause-stands : goal.returns-in_err-kept-clause-stands
+returns-in_err-kept-clause-stands g c = λ node stands.
+    stands_opened node (g.D.Disk.state c.args.disks.now.journal.0) (g.D.Disk.state c.reopen.new.self.0) (g.D.Disk.state c.args.disks.now.checkpoints) stands c.reopen.ensures.any_moment
+
+pub returns-in_err-stable-clause-stands : goal.returns-in_err-stable-clause-stands
+returns-in_err-stable-clause-stands g c = λ node stands.
+    stands_both node (g.D.Disk.state c.args.disks.now.journal.0) (g.D.Disk.state c.reopen.new.self.0) (g.D.Disk.state c.args.disks.now.checkpoints) (g.D.Disk.state c.reopen-2.new.self)
+    c.reopen.ensures.any_moment c.reopen-2.ensures.any_moment stands
+
+pub returns-in_err-reserve-clause-stands : goal.returns-in_err-reserve-clause-stands
+returns-in_err-reserve-clause-stands g c = λ node stands.
+    stands_reserved node (g.D.Disk.state c.reopen.new.self.0) (g.D.Disk.state c.reserve.new.self.0) (g.D.Disk.state c.reopen-2.new.self)
+    (stands_both node (g.D.Disk.state c.args.disks.now.journal.0) (g.D.Disk.state c.reopen.new.self.0) (g.D.Disk.state c.args.disks.now.checkpoints) (g.D.Disk.state c.reopen-2.new.self)
+    c.reopen.ensures.any_moment c.reopen-2.ensures.any_moment stands)
+    c.reserve.ensures.same
+
+pub returns-in_err-reserve-clause-runs : goal.returns-in_err-reserve-clause-runs
+returns-in_err-reserve-clause-runs g c =
+    let is : c.from_residual-in_err-reserve.result ≡ Err Memory = search rules in
+    runs_opened (c.from_residual-in_err-reserve.result ≡ Err Disk) (g.D.Disk.state c.args.disks.now.journal.0) (g.D.Disk.state c.reopen.new.self.0) (g.D.Disk.state c.reserve.new.self.0)
+    (g.D.Disk.state c.args.disks.now.checkpoints) (g.D.Disk.state c.reopen-2.new.self)
+    (no_fault c.from_residual-in_err-reserve.result is) c.reopen.ensures.keeps c.reopen-2.ensures.keeps c.reserve.ensures.same
+
+pub returns-clause-read : goal.returns-clause-read
+returns-clause-read g c =
+    read_both (record { kept = c.in_ok-kept.kept; stable = c.in_ok-stable.stable })
+    (g.D.Disk.state c.args.disks.now.journal.0) (g.D.Disk.state c.reopen.new.self.0) (g.D.Disk.state c.reserve.new.self.0)
+    (g.D.Disk.state c.args.disks.now.checkpoints) (g.D.Disk.state c.reopen-2.new.self)
+    c.reserve.ensures.same c.in_ok-kept.ensures.kept c.in_ok-kept.ensures.at_rest c.in_ok-stable.ensures.stable c.in_ok-stable.ensures.at_rest
+
+pub returns-clause-stands : goal.returns-clause-stands
+returns-clause-stands g c = λ node stands.
+    stands_reserved node (g.D.Disk.state c.reopen.new.self.0) (g.D.Disk.state c.reserve.new.self.0) (g.D.Disk.state c.reopen-2.new.self)
+    (stands_both node (g.D.Disk.state c.args.disks.now.journal.0) (g.D.Disk.state c.reopen.new.self.0) (g.D.Disk.state c.args.disks.now.checkpoints) (g.D.Disk.state c.reopen-2.new.self)
+    c.reopen.ensures.any_moment c.reopen-2.ensures.any_moment stands)
+    c.reserve.ensures.same
+
+pub returns-clause-runs : goal.returns-clause-runs
+returns-clause-runs g c =
+    let found : Found = record { kept = c.in_ok-kept.kept; stable = c.in_ok-stable.stable } in
+    runs_opened (read_so found ≡ Err Disk) (g.D.Disk.state c.args.disks.now.journal.0) (g.D.Disk.state c.reopen.new.self.0) (g.D.Disk.state c.reserve.new.self.0)
+    (g.D.Disk.state c.args.disks.now.checkpoints) (g.D.Disk.state c.reopen-2.new.self)
+    (found_not found) c.reopen.ensures.keeps c.reopen-2.ensures.keeps c.reserve.ensures.same

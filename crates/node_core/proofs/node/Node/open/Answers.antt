@@ -1,0 +1,25 @@
+use Rattle.std.proofs.Common.{[]}
+use Rattle.checkpoint_store.specs.Files.{empty_disk}
+use Rattle.node_core.proofs.ActingLemmas.{rests_stand}
+use Rattle.node_core.proofs.OpeningLemmas.{empty_journal, opens_rested}
+use Rattle.node_core.proofs.node.Node.open.Goals as goal
+
+pub open-requires-3 : goal.open-requires-3
+open-requires-3 g c = empty_disk (g.D.Disk.state c.args.checkpoint) c.requires.checkpoint
+
+pub invariant_of-result : goal.invariant_of-result
+invariant_of-result g c =
+    let j = g.D.Disk.state c.in-Ok-open.journal.0 in
+    let k = g.D.Disk.state c.in-Ok-open-2.checkpoints in
+    opens_rested c.args.config.now c.args.number c.in-Ok.state.node j (g.D.Disk.state c.args.checkpoint) k c.in-Ok-open-2.field-0-1 c.in-Ok.ensures
+    (c.in-Ok-open.ensures.at_rest [] (empty_journal (g.D.Disk.state c.args.journal) c.requires.journal)) c.requires.checkpoint
+    c.in-Ok-open-2.ensures.stable c.in-Ok-open-2.ensures.at_rest
+
+pub returns-clause-stands : goal.returns-clause-stands
+returns-clause-stands g c =
+    let j = g.D.Disk.state c.in-Ok-open.journal.0 in
+    let k = g.D.Disk.state c.in-Ok-open-2.checkpoints in
+    rests_stand c.in-Ok.state.node 0 j k
+    (opens_rested c.args.config.now c.args.number c.in-Ok.state.node j (g.D.Disk.state c.args.checkpoint) k c.in-Ok-open-2.field-0-1 c.in-Ok.ensures
+    (c.in-Ok-open.ensures.at_rest [] (empty_journal (g.D.Disk.state c.args.journal) c.requires.journal)) c.requires.checkpoint
+    c.in-Ok-open-2.ensures.stable c.in-Ok-open-2.ensures.at_rest)

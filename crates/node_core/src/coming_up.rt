@@ -1,0 +1,344 @@
+// A node that is down opens its disks anew, learns what is there of what was in doubt, and comes up with that.
+ghost use Rattle.std.specs.Prelude.{◌≡◌, ◌≢◌, ◌<◌, ◌≤◌, ◌-◌, ◌^◌, ℕ, Bool, List, [], ◌∷◌, Option, None, Some, true, false, length, Err, IfOk, OnOk, OnErr, IsErrOf, IsSome};
+ghost use Rattle.record_file.specs.Files.{spare};
+ghost use Rattle.repl_msg.specs.declared.record.Record.{Record as ARecord};
+ghost use Rattle.node_journal.specs.Files.{IsAtRest as JournalRests, IsJournalDisk};
+ghost use Rattle.checkpoint_store.specs.Files.{IsCheckpointDisk};
+ghost use Rattle.set_model.specs.Disk.{has_more as is_more, recovered, restart, settled_doubt};
+ghost use Rattle.set_model.specs.Limits.{passes_first};
+ghost use Rattle.set_model.specs.Node.{Node};
+ghost use Rattle.set_model.specs.Stores.{storing};
+ghost use Rattle.node_state.specs.WellKept.{IsWellKept};
+ghost use Rattle.node_core.specs.Acting.{Follows, Runs};
+ghost use Rattle.node_core.specs.Coming.{IsFound, IsPrepared, IsRead, cut_point, cut_records, is_there as is_kept, settled as settled_node};
+ghost use Rattle.node_core.specs.Down.{down_node, left_in, seen_node};
+ghost use Rattle.node_core.specs.Putting.{IsKeepable, Puts, SHORT};
+ghost use Rattle.node_core.specs.Resting.{IsResting, Lies, Rests};
+ghost use Rattle.node_core.specs.Stands.{Stands};
+
+use crate::Done;
+use crate::disks::Disks;
+use crate::node::Left;
+use bson_doc::Mem;
+use checkpoint_store::Stable;
+use node_state::{Coming, State};
+use node_tables::Records;
+use record_file::FileError;
+use repl_msg::{Kept, Record};
+use rs_disk::Disk;
+use rs_optime::OpTime;
+use set_model::{Refusal, Reply, Store};
+use std::alloc::{AllocError, Global};
+use std::thread::Threads;
+
+/// What was read of a node's disks.
+#[derive(Drop)]
+pub(crate) struct Found {
+    pub(crate) kept: Kept,
+    pub(crate) stable: Stable,
+}
+
+/// A node that can come up without any more memory.
+#[derive(Drop)]
+pub(crate) struct Prepared {
+    /// The node in memory, as it comes up.
+    pub(crate) state: State,
+    /// What it kept while it was down, with what was in doubt where that is there.
+    pub(crate) left: Left,
+    /// What was in doubt is there.
+    pub(crate) kept: bool,
+    /// How many records its journal has.
+    pub(crate) count: u64,
+    /// The journal's point, where entries stand behind it.
+    pub(crate) cut: Option<OpTime>,
+    /// The last entry up to the point.
+    pub(crate) last: OpTime,
+}
+
+/// Opens the disks of a node that is down, and comes up with what is there. Only memory can be wanting, and then the node is as it was.
+pub(crate) fn come_up<D: Disk, R: Threads + Sync>(
+    alloc: Global,
+    rt: &R,
+    state: &mut State,
+    disks: &mut Disks<D>,
+    up: &mut bool,
+    left: &mut Left,
+) -> Mem<Done>
+    requires down { up.old ≡ false }
+    requires rollback { left.old.rollback < 2 ^ 64 - 1 }
+    requires lies { Lies (down_node state.old.node (left_in left.old)) disks.old.count (D.state disks.old.journal.0) (D.state disks.old.checkpoints) }
+    ensures follows { IfOk result (λ done. Follows (restart (down_node state.old.node (left_in left.old)) done.kept) (seen_node up.new state.new.node (left_in left.new)) done) }
+    ensures settles { IfOk result (λ done. done.kept ≡ true → (IsSome left.old.doubt × (passes_first done.failed ≡ true))) }
+    ensures rests { IfOk result (λ done. IsResting up.new state.new.node (left_in left.new) disks.new.count (D.state disks.new.journal.0) (D.state disks.new.checkpoints)) }
+    ensures runs { IfOk result (λ done. Runs (IsSome done.failed) (D.state disks.old.journal.0) (D.state disks.new.journal.0)
+        (D.state disks.old.checkpoints) (D.state disks.new.checkpoints)) }
+    ensures same { OnErr result (seen_node up.new state.new.node (left_in left.new) ≡ down_node state.old.node (left_in left.old)) }
+    ensures left { OnErr result (IsResting up.new state.new.node (left_in left.new) disks.new.count (D.state disks.new.journal.0) (D.state disks.new.checkpoints)) }
+    ensures quiet { OnErr result (Runs ⊥ (D.state disks.old.journal.0) (D.state disks.new.journal.0)
+        (D.state disks.old.checkpoints) (D.state disks.new.checkpoints)) }
+{
+    match open_both(disks) {
+        Ok(found) => {
+            let prepared = prepare(alloc, rt, state, left, disks.count, found)?;
+            Ok(go_up(alloc, state, disks, up, left, prepared))
+        }
+        Err(FileError::Memory) => Err(AllocError),
+        Err(FileError::Disk) => Ok(disk_failed(alloc, 0, false)),
+    }
+}
+
+// Opens both disks, the journal first, and takes the memory for one short record.
+fn open_both<D: Disk>(disks: &mut Disks<D>) -> Result<Found, FileError>
+    requires journal { IsJournalDisk (D.state disks.old.journal.0) }
+    requires checkpoints { IsCheckpointDisk (D.state disks.old.checkpoints) }
+    ensures read { IfOk result (λ found. IsRead found (D.state disks.old.journal.0) (D.state disks.new.journal.0)
+        (D.state disks.old.checkpoints) (D.state disks.new.checkpoints)) }
+    ensures stands { (node : Node) → Stands node (D.state disks.old.journal.0) (D.state disks.old.checkpoints)
+        → Stands node (D.state disks.new.journal.0) (D.state disks.new.checkpoints) }
+    ensures room { OnOk result (SHORT ≤ spare (D.state disks.new.journal.0) disks.new.journal.1) }
+    ensures count { disks.new.count ≡ disks.old.count }
+    ensures runs { Runs (IsErrOf result FileError.Disk) (D.state disks.old.journal.0) (D.state disks.new.journal.0)
+        (D.state disks.old.checkpoints) (D.state disks.new.checkpoints) }
+{
+    let kept = disks.journal.reopen()?;
+    let stable = disks.checkpoints.reopen()?;
+    disks.journal.reserve(473)?;
+    Ok(Found { kept, stable })
+}
+
+// Settles what was in doubt, and takes the memory for a node that comes up with that.
+fn prepare<R: Threads + Sync>(
+    alloc: Global,
+    rt: &R,
+    state: &State,
+    left: &Left,
+    count: u64,
+    found: Found,
+) -> Mem<Prepared>
+    requires rollback { left.now.rollback < 2 ^ 64 - 1 }
+    requires found { IsFound (settled_node (down_node state.now.node (left_in left.now)) count found) found }
+    ensures kept { IfOk result (λ prepared. prepared.kept ≡ is_kept left.now.doubt count found) }
+    ensures left { IfOk result (λ prepared. down_node state.now.node (left_in prepared.left) ≡ settled_node (down_node state.now.node (left_in left.now)) count found) }
+    ensures prepared { IfOk result (λ prepared. IsPrepared (down_node state.now.node (left_in prepared.left)) prepared) }
+{
+    let there = is_there(&left.doubt, count, &found);
+    restore(alloc, rt, state, settled(left, there), there, found)
+}
+
+// Whether what was in doubt is there, beside so many records.
+fn is_there(doubt: &Option<Store>, count: u64, found: &Found) -> bool
+    ensures { result ≡ is_kept doubt.now count found.now }
+{
+    match doubt {
+        Some(Store::Record(_)) => count < found.kept.count,
+        Some(Store::Checkpoint(at)) => found.stable.at == *at,
+        None => false,
+    }
+}
+
+// What is left of the node once that is known.
+fn settled(left: &Left, there: bool) -> Left
+    ensures settled { (node : Node) → down_node node (left_in result) ≡ settled_doubt (down_node node (left_in left.now)) left.now.doubt there }
+    ensures rollback { result.rollback ≡ left.now.rollback }
+{
+    if !there {
+        return undoubted(left, left.stable, left.records.same());
+    }
+    match &left.doubt {
+        Some(Store::Checkpoint(at)) => undoubted(left, *at, left.records.same()),
+        Some(item) => undoubted(left, left.stable, left.records.with(item)),
+        None => undoubted(left, left.stable, left.records.same()),
+    }
+}
+
+// The same with other documents and records, and nothing in doubt.
+fn undoubted(left: &Left, stable: OpTime, records: Records) -> Left
+    ensures { left_in result ≡ record (left_in left.now) { stable = stable; records = records.list; doubt = None } }
+{
+    Left {
+        clock: left.clock,
+        stable,
+        rollback: left.rollback,
+        records,
+        doubt: None,
+    }
+}
+
+// The node that comes up with what was found.
+fn restore<R: Threads + Sync>(
+    alloc: Global,
+    rt: &R,
+    state: &State,
+    left: Left,
+    kept: bool,
+    found: Found,
+) -> Mem<Prepared>
+    requires rollback { left.rollback < 2 ^ 64 - 1 }
+    requires found { IsFound (down_node state.now.node (left_in left)) found }
+    ensures kept { IfOk result (λ prepared. prepared.kept ≡ kept) }
+    ensures left { IfOk result (λ prepared. left_in prepared.left ≡ left_in left) }
+    ensures prepared { IfOk result (λ prepared. IsPrepared (down_node state.now.node (left_in left)) prepared) }
+{
+    state.is_sound();
+    let Found { kept: read, stable } = found;
+    let Stable { at, documents } = stable;
+    let count = read.count;
+    let last = read.point;
+    let cut = point_to_cut(&read);
+    let coming = Coming {
+        number: state.number(),
+        first: state.first(),
+        clock: left.clock,
+        rollback: left.rollback,
+        records: records_cut(&left.records, cut),
+    };
+    let state = State::restored(rt, alloc, coming, read, at, documents.into_map())?;
+    Ok(Prepared {
+        state,
+        left,
+        kept,
+        count,
+        cut,
+        last,
+    })
+}
+
+// The point, where entries stand behind it.
+fn point_to_cut(kept: &Kept) -> Option<OpTime>
+    ensures { result ≡ cut_point kept.now }
+{
+    if has_more(kept) {
+        Some(kept.point)
+    } else {
+        None
+    }
+}
+
+fn has_more(kept: &Kept) -> bool
+    ensures { result ≡ is_more kept.now }
+{
+    let point = kept.point;
+    kept.entries
+        .as_slice()
+        .iter()
+        .any(|entry| point < entry.optime)
+}
+
+// The records with a cut there.
+fn records_cut(records: &Records, cut: Option<OpTime>) -> Records
+    ensures { result.list ≡ cut_records cut records.now.list }
+{
+    match cut {
+        Some(at) => records.with(&Store::Record(Record::Cut(at))),
+        None => records.same(),
+    }
+}
+
+// Comes up. Entries behind the point are cut first, where there are any.
+fn go_up<D: Disk>(
+    alloc: Global,
+    state: &mut State,
+    disks: &mut Disks<D>,
+    up: &mut bool,
+    left: &mut Left,
+    prepared: Prepared,
+) -> Done
+    requires down { up.old ≡ false }
+    requires prepared { IsPrepared (down_node state.old.node (left_in prepared.left)) prepared }
+    requires well { IsWellKept prepared.left.records.list prepared.left.stable }
+    requires rests { Rests (down_node state.old.node (left_in prepared.left)) prepared.count (D.state disks.old.journal.0) (D.state disks.old.checkpoints) }
+    requires room { SHORT ≤ spare (D.state disks.old.journal.0) disks.old.journal.1 }
+    ensures follows { (broken : Node) → Follows (storing broken (recovered (down_node state.old.node (left_in prepared.left)))) (seen_node up.new state.new.node (left_in left.new)) result }
+    ensures rests { IsResting up.new state.new.node (left_in left.new) disks.new.count (D.state disks.new.journal.0) (D.state disks.new.checkpoints) }
+    ensures kept { result.kept ≡ prepared.kept }
+    ensures passes { passes_first result.failed ≡ true }
+    ensures runs { Runs (IsSome result.failed) (D.state disks.old.journal.0) (D.state disks.new.journal.0)
+        (D.state disks.old.checkpoints) (D.state disks.new.checkpoints) }
+{
+    disks.count = prepared.count;
+    let Some(at) = prepared.cut else {
+        return is_up(alloc, state, up, prepared);
+    };
+    match add_cut(disks, at) {
+        Ok(()) => is_up(alloc, state, up, prepared),
+        Err(_) => {
+            let Prepared {
+                left: settled,
+                kept,
+                ..
+            } = prepared;
+            *left = doubting(settled, at);
+            disk_failed(alloc, 1, kept)
+        }
+    }
+}
+
+// What is left of the node where a cut may be there or not.
+fn doubting(left: Left, at: OpTime) -> Left
+    ensures { left_in result ≡ record (left_in left) { doubt = Some (Store.Record (Record.Cut at)) } }
+{
+    let mut left = left;
+    left.doubt = Some(Store::Record(Record::Cut(at)));
+    left
+}
+
+// Cuts the journal, for which there is memory.
+fn add_cut<D: Disk>(disks: &mut Disks<D>, at: OpTime) -> Result<(), FileError>
+    requires rests { (items : List ARecord) × JournalRests (D.state disks.old.journal.0) items × (disks.old.count ≡ length items) }
+    requires room { SHORT ≤ spare (D.state disks.old.journal.0) disks.old.journal.1 }
+    ensures puts { (node : Node) → Rests node disks.old.count (D.state disks.old.journal.0) (D.state disks.old.checkpoints)
+        → IsKeepable node (Record.Cut at)
+        → Puts result node (Store.Record (Record.Cut at)) disks.new.count (D.state disks.new.journal.0) (D.state disks.new.checkpoints) }
+    ensures whole { result ≢ Err FileError.Memory }
+    ensures runs { Runs (IsErrOf result FileError.Disk) (D.state disks.old.journal.0) (D.state disks.new.journal.0)
+        (D.state disks.old.checkpoints) (D.state disks.new.checkpoints) }
+{
+    disks.journal.count_fits();
+    match disks.journal.add(&Record::Cut(at)) {
+        Ok(()) => {
+            disks.count += 1;
+            Ok(())
+        }
+        Err(error) => Err(error),
+    }
+}
+
+// The node is up.
+fn is_up(alloc: Global, state: &mut State, up: &mut bool, prepared: Prepared) -> Done
+    ensures state { state.new.node ≡ prepared.state.node }
+    ensures up { up.new ≡ true }
+    ensures reply { result.reply ≡ Reply.Up prepared.last }
+    ensures sent { result.sent.items ≡ [] }
+    ensures failed { result.failed ≡ None }
+    ensures kept { result.kept ≡ prepared.kept }
+{
+    let Prepared {
+        state: restored,
+        kept,
+        last,
+        ..
+    } = prepared;
+    *state = restored;
+    *up = true;
+    Done {
+        reply: Reply::Up(last),
+        sent: Vec::new(alloc),
+        failed: None,
+        kept,
+    }
+}
+
+// The store of this number failed.
+fn disk_failed(alloc: Global, number: u32, kept: bool) -> Done
+    ensures reply { result.reply ≡ Reply.Refused Refusal.DiskFailed }
+    ensures sent { result.sent.items ≡ [] }
+    ensures failed { result.failed ≡ Some number }
+    ensures kept { result.kept ≡ kept }
+{
+    Done {
+        reply: Reply::Refused(Refusal::DiskFailed),
+        sent: Vec::new(alloc),
+        failed: Some(number),
+        kept,
+    }
+}
