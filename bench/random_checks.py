@@ -124,9 +124,9 @@ def key_of(text):
 
 
 def fold(entries):
-    """The documents that a log leaves, as a dump prints them, from the entries as `log` prints them."""
-    documents = {}
-    for _, kind, rest in entries:
+    """The documents that a log leaves, as a dump prints them, and the entries that touch a document in a way they can't."""
+    documents, wrong = {}, []
+    for point, kind, rest in entries:
         if kind == "n":
             continue
         collection, rest = rest.split(" ", 1)
@@ -136,6 +136,8 @@ def fold(entries):
         if kind != "u":
             key = change["_id"]
         place = (collection, key_of(key))
+        if (place in documents) == (kind == "i"):
+            wrong.append(point)
         if kind == "d":
             documents.pop(place, None)
         elif kind == "i" or "$v" not in change:
@@ -145,7 +147,7 @@ def fold(entries):
             for name in fields(change.get("$unset", "{}")):
                 documents[place].pop(name, None)
     shown = (f"{place[0]} {{{', '.join(f'{n}: {v}' for n, v in d.items())}}}" for place, d in documents.items())
-    return sorted(shown)
+    return sorted(shown), wrong
 
 
 class Checker:
@@ -302,9 +304,12 @@ class Checker:
     def shown(self, command, words, node, told, answer):
         if command == "state":
             state = dict(zip(told[2::2], told[3::2]), role=told[1])
-            self.commit(node, optime(state["commit"]))
+            last, durable, applied, commit = (optime(state[name]) for name in ("last", "durable", "applied", "commit"))
+            if not commit <= durable <= last or applied > last:
+                self.fault("these points can't be")
+            self.commit(node, commit)
             self.view = {"node": node, "state": state}
-            if optime(state["durable"]) != self.durable[node]:
+            if durable != self.durable[node]:
                 self.fault(f"the log was durable up to {self.durable[node]}")
         elif command == "log":
             entries = [tuple(line.split(" ", 2)) for line in answer.split("\n")[1:]]
@@ -336,8 +341,11 @@ class Checker:
         elif state["role"] != "Primary":
             entries = [entry for entry in entries if optime(entry[0]) <= applied]
         self.counts["dumps compared"] += 1
-        if fold(entries) != sorted(documents):
-            self.fault(f"the log gives {fold(entries)}, and shown are {sorted(documents)}")
+        given, wrong = fold(entries)
+        if wrong:
+            self.fault(f"the log inserts what is there, or changes what isn't, at {wrong}")
+        if given != sorted(documents):
+            self.fault(f"the log gives {given}, and shown are {sorted(documents)}")
 
     def end(self, lines, answers):
         """What holds of the whole script, and of the settled set at its end."""

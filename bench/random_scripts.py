@@ -1,9 +1,8 @@
-"""Random scripts for `bench/random`: what an author writes who knows the answers to what stands already.
+"""Random scripts for `bench/random`, by an author who knows the answers to what stands already.
 
 A script has some parts of random steps, each a sequence that may well succeed (an election, a pull, a write that a
 majority gets), with lines left out, said twice or put between. After each part the program is run, so that the next
-one knows who is primary, how many messages there are and which writes can be asked for. The last part settles the set:
-one primary, whom all others follow to its last entry.
+one knows who is primary and how many messages there are. The last part settles the set: one primary, whom all follow.
 """
 import re
 
@@ -36,6 +35,7 @@ class Author:
         self.members = list(range(nodes))
         self.version = 1
         self.sent = 0
+        self.left_open = []
         self.seen = 0
         self.optimes = ["1/0/1"]
         self.lasts = ["0/0/0"] * nodes
@@ -68,8 +68,6 @@ class Author:
             self.optimes = self.optimes[-5:] + [answer.split(" ")[1]]
         if answer.startswith("config "):
             self.members = [int(k) for k in re.findall(r'"_id":(\d+)', line)]
-
-    # What is written.
 
     def say(self, *lines):
         self.player.lines += lines
@@ -147,9 +145,10 @@ class Author:
         asked = voters if self.dice.random() < 0.6 else voters[: (self.nodes + 1) // 2]
         if self.dice.random() < 0.2:
             self.put(f"dryrun n{x}", *(line for k in asked for line in (f"deliver n{x} n{k}", f"deliver n{k} n{x}")))
+        again = self.dice.random() < 0.15  # some votes come again and again, and others never
         self.put(f"campaign n{x}")
-        for k in asked:
-            self.put(f"deliver n{x} n{k}", f"deliver n{k} n{x}")
+        for k in asked[: self.dice.randint(1, len(asked))] if again else asked:
+            self.put(f"deliver n{x} n{k}", f"deliver n{k} n{x}", *[f"deliver n{k} n{x}"] * (3 * again))
         self.put(f"drain n{x}")
         if self.dice.random() < 0.6:
             self.put(f"flush n{x}")
@@ -175,14 +174,21 @@ class Author:
             self.put(self.write_at(self.leader()))
 
     def writers(self):
+        """Writers that end in another order, some of them only steps later; others pull meanwhile."""
         k = self.leader()
         names = [f"w{self.dice.randint(0, 4)}" for _ in range(self.dice.randint(1, 4))]
-        self.put(*(f"begin n{k} {w} {self.write()}" for w in names))
-        self.dice.shuffle(names)
-        for w in names[: self.dice.choice([len(names), len(names) - 1])]:
+        op = self.write()
+        self.put(*(f"begin n{k} {w} {op if self.dice.random() < 0.4 else self.write()}" for w in names))
+        open_ones = self.left_open + [(k, w) for w in names]
+        self.dice.shuffle(open_ones)
+        count = len(open_ones) if self.dice.random() < 0.5 else len(open_ones) // 2
+        for k, w in open_ones[:count]:
             if self.dice.random() < 0.2:
                 self.put(self.dice.choice([self.write_at(k), f"flush n{k}", f"state n{k}"]))
-            self.put(f"{self.dice.choice(['commit', 'commit', 'abort'])} n{k} {w}")
+            if self.dice.random() < 0.2:
+                self.pull(source=k)
+            self.put(f"{self.dice.choice(['commit', 'commit', 'commit', 'abort'])} n{k} {w}")
+        self.left_open = open_ones[count:]
 
     def pull(self, y=None, source=None):
         source = self.leader() if source is None else source
@@ -289,11 +295,9 @@ class Author:
     def checkpoint(self):
         self.put(f"flush n{self.leader()}", f"checkpoint n{self.leader()}", f"checkpoint n{self.some()}")
 
-    def step_down(self):
-        self.put(f"stepdown n{self.leader()}")
-
-    def clock(self):
-        self.put(f"clock n{self.some()} {self.dice.choice([0, 1, 2, 5, 2147483647 if self.dice.random() < 0.02 else 7])}")
+    def step_down_or_clock(self):
+        seconds = self.dice.choice([0, 1, 3, 5, 7, 7, 2147483647])
+        self.put(self.dice.choice([f"stepdown n{self.leader()}", f"clock n{self.some()} {seconds}"]))
 
     def astray(self):
         for _ in range(self.dice.randint(1, 4)):
@@ -373,8 +377,7 @@ STEPS = [
     (Author.old_messages, 4),
     (Author.beat, 3),
     (Author.checkpoint, 3),
-    (Author.step_down, 1),
-    (Author.clock, 1),
+    (Author.step_down_or_clock, 2),
     (Author.astray, 3),
 ]
 
