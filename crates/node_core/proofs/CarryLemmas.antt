@@ -1,5 +1,5 @@
 -- How a turn ends, by how what is left of it after its first store does.
-use Rattle.std.proofs.Common.{◌≡◌, ◌∙◌, ap, sym, subst, refl, ℕ, zero, suc, ◌+◌, ◌<◌, true, Option, None, Some, List, arith, nat_lt, length}
+use Rattle.std.proofs.Common.{◌≡◌, sym, subst, refl, ℕ, suc, ◌+◌, true, Option, None, Some, List, arith, length}
 use Rattle.std.specs.Prelude.{OnErr, ◌≤◌, Result, Ok, Err, ⊤}
 use Rattle.std.proofs.lemmas.Bool.{ltb-true, lt-ltb}
 use Rattle.rs_disk.specs.State.{State}
@@ -12,15 +12,14 @@ use Rattle.set_model.specs.declared.command.Command.{Command}
 use Rattle.set_model.specs.declared.command.Command.TheVariants.{Flush, Checkpoint}
 use Rattle.set_model.specs.declared.store.Store.{Store}
 use Rattle.set_model.specs.declared.store.Store.TheVariants as stores
-use Rattle.set_model.specs.Outcome.{Outcome}
 use Rattle.node_state.specs.Bounds.{is_long}
 use Rattle.node_state.specs.Ready.{IsReady}
 use Rattle.node_state.specs.Standing.{Standing}
 use Rattle.node_state.specs.declared.turn.Then.TheVariants as thens
 use Rattle.set_model.specs.Node.{Node}
-use Rattle.set_model.specs.Stores.{Plan, finished, storing, stored, in_doubt, store_count, done, reaches}
+use Rattle.set_model.specs.Stores.{Plan, finished, storing, stored, in_doubt, store_count}
 use Rattle.node_core.specs.Putting.{EndsFrom, IsBrief, IsBroken, IsEnd, IsLong, IsShortStore, IsShortDoubt, Leaves, NeedsRoom, SHORT, plan_of}
-use Rattle.node_core.specs.Resting.{Rests, Lies, IsWellKeptWith}
+use Rattle.node_core.specs.Resting.{Rests, IsWellKeptWith}
 use Rattle.node_core.specs.Stands.{Stands}
 use Rattle.node_state.specs.Turns.{Means, rest_of}
 use Rattle.node_state.specs.WellKept.{IsWellKept}

@@ -1,9 +1,8 @@
 -- What a message comes to stores at most two short records, and leaves the others as they are.
-use Rattle.std.proofs.Common.{◌≡◌, refl, ℕ, zero, suc, Bool, true, false, not, ◌&&◌, nat_lt, ◌==◌, is_some, length, Option, None, Some, List, if◌then◌else◌}
+use Rattle.std.proofs.Common.{refl, ℕ, zero, suc, Bool, true, false, not, ◌&&◌, nat_lt, ◌==◌, is_some, Option, None, Some, List, if◌then◌else◌}
 use Rattle.rs_optime.specs.declared.optime.OpTime.{OpTime}
-use Rattle.member_config.specs.declared.config.Config.{Config}
 use Rattle.member_config.specs.Config.{is_newer}
-use Rattle.member_config.specs.Voters.{is_member, majority}
+use Rattle.member_config.specs.Voters.{is_member}
 use Rattle.repl_msg.specs.declared.message.Beat.{Beat}
 use Rattle.repl_msg.specs.declared.message.Body.{Body}
 use Rattle.repl_msg.specs.declared.message.Body.TheVariants as bodies
@@ -12,18 +11,16 @@ use Rattle.repl_msg.specs.declared.message.VoteAsk.{VoteAsk}
 use Rattle.repl_msg.specs.declared.message.VoteRefusal.{VoteRefusal}
 use Rattle.repl_msg.specs.declared.record.Record.{Record}
 use Rattle.set_model.specs.declared.reply.Ignored.{Ignored}
-use Rattle.set_model.specs.declared.store.Store.{Store}
-use Rattle.set_model.specs.Beats.{beat_of, given_way, heard, beat_told, beat_answered}
-use Rattle.set_model.specs.Changes.{in_new_term}
-use Rattle.set_model.specs.Deliver.{deliver, told, body_refusal, brings_term, vote_reply_told, with_term}
+use Rattle.set_model.specs.Beats.{beat_of, given_way, heard}
+use Rattle.set_model.specs.Deliver.{deliver, told, body_refusal, brings_term, vote_reply_told}
 use Rattle.set_model.specs.Node.{Node, DryTally}
 use Rattle.set_model.specs.declared.reply.Reply.TheVariants.{Replied, Heard}
 use Rattle.set_model.specs.Outcome.{Outcome, replied, sending}
 use Rattle.set_model.specs.Reports.{report_told}
 use Rattle.set_model.specs.Roles.{is_secondary, is_primary, is_candidate}
-use Rattle.set_model.specs.Rollback.{common_told, common_point, roll_back, rollback_reason}
-use Rattle.set_model.specs.Stores.{Plan, finished, storing, stored, vote_record, unless_refused}
-use Rattle.set_model.specs.Votes.{vote_asked, vote_decided, vote_refusal, vote_for, vote_told, vote_counted, tallied, is_elected, with_vote, dry_told, dry_counted}
+use Rattle.set_model.specs.Rollback.{common_point, roll_back, rollback_reason}
+use Rattle.set_model.specs.Stores.{Plan, finished, storing}
+use Rattle.set_model.specs.Votes.{vote_decided, vote_refusal, vote_for, vote_told, vote_counted, is_elected, with_vote, dry_told, dry_counted}
 use Rattle.node_core.specs.Putting.{IsShortStore}
 use Rattle.node_core.proofs.DoesLemmas.{Does, IsKept, kept_if, does_if, does_unless, up_does, entries_kept}
 

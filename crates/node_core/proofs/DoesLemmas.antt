@@ -1,10 +1,9 @@
 -- A plan leaves a node's records and its stable optime as they are, but for what it stores, and what it stores is short where it
 -- has to be.
-use Rattle.std.proofs.Common.{◌≡◌, ap, subst, [], ◌∷◌, ◌+◌, refl, ℕ, zero, suc, Bool, true, false, not, ◌&&◌, cond, nat_lt, is_some, ◌==◌, Option, None, Some, if◌then◌else◌, Result, Ok, Err, List, length}
+use Rattle.std.proofs.Common.{◌≡◌, subst, [], ◌∷◌, ◌+◌, refl, ℕ, zero, suc, Bool, true, false, not, Option, None, Some, if◌then◌else◌, Result, Ok, Err, List}
 use Rattle.std.specs.Prelude.{⊤}
 use Rattle.std.specs.FinMap as maps
 use Rattle.bson_doc.specs.Key.{key_of}
-use Rattle.bson_doc.specs.Tree.{Tree}
 use Rattle.bson_doc.specs.View.{tree_of}
 use Rattle.bson_doc.specs.declared.key.IdKey.{IdKey}
 use Rattle.doc_update.specs.declared.write.WriteOp.{WriteOp}
@@ -13,7 +12,6 @@ use Rattle.doc_update.specs.declared.write.Prepared.{Prepared}
 use Rattle.doc_update.specs.declared.write.Prepared.TheVariants.{NoMatch, Unchanged, Entry}
 use Rattle.rs_optime.specs.declared.optime.OpTime.{OpTime}
 use Rattle.member_config.specs.declared.config.Config.{Config}
-use Rattle.member_config.specs.Config.{in_term}
 use Rattle.member_config.specs.Numbers.{lowest}
 use Rattle.oplog_entry.specs.declared.entry.Entry.{Entry as LogEntry}
 use Rattle.oplog_entry.specs.declared.entry.Op.{Op}
@@ -34,16 +32,16 @@ use Rattle.set_model.specs.declared.writer.Writer.TheVariants as writers
 use Rattle.set_model.specs.Admitted.{admitted}
 use Rattle.set_model.specs.Concerns.{ack, ack_at, acked, ack_refusal, target_point}
 use Rattle.set_model.specs.Disk.{apply, batch_applied, next_batch, flush, is_flushed, checkpoint, next_stable}
-use Rattle.set_model.specs.Elections.{campaign, campaigned, candidate, candidate_refusal, dry_run, drain, step_down}
-use Rattle.set_model.specs.Fetching.{fetch, fetch_from, sources, entries_told}
+use Rattle.set_model.specs.Elections.{campaign, candidate, candidate_refusal, drain, step_down}
+use Rattle.set_model.specs.Fetching.{fetch_from, sources, entries_told}
 use Rattle.set_model.specs.Node.{Node}
 use Rattle.set_model.specs.Outcome.{Outcome}
 use Rattle.set_model.specs.Points.{if_primary, same_optime, last_point}
-use Rattle.set_model.specs.Reads.{read, read_key}
+use Rattle.set_model.specs.Reads.{read_key}
 use Rattle.set_model.specs.Reconfig.{reconfig, reconfig_refusal}
 use Rattle.set_model.specs.Roles.{is_secondary, is_draining, is_primary}
 use Rattle.set_model.specs.Rows.{row}
-use Rattle.set_model.specs.Stores.{Plan, finished, storing, records_after, stable_after, stored, in_doubt, unless_refused, if_up, vote_record}
+use Rattle.set_model.specs.Stores.{Plan, finished, storing, records_after, stable_after, stored, unless_refused, if_up, vote_record}
 use Rattle.set_model.specs.Votes.{is_elected}
 use Rattle.set_model.specs.Write.{write, written}
 use Rattle.set_model.specs.Writers.{begin, begun, unless_open, with_open, commit, abort}

@@ -1,19 +1,15 @@
 -- A node as the set begins, on two empty disks.
-use Rattle.std.proofs.Common.{◌≡◌, ◌∙◌, inl, inr, ap, sym, subst, refl, ℕ, List, [], length, arith}
-use Rattle.std.specs.Prelude.{Result, Ok, Err, IsErrOf}
+use Rattle.std.proofs.Common.{◌≡◌, inl, ap, sym, subst, refl, ℕ, [], length, arith}
 use Rattle.rs_disk.specs.File.{IsEmpty, contents}
 use Rattle.rs_disk.specs.State.{State}
 use Rattle.member_config.specs.declared.config.Config.{Config}
-use Rattle.oplog_entry.specs.Visible.{ZERO}
 use Rattle.node_journal.specs.Files.{HasJournal, IsAtRest as JournalRests}
 use Rattle.checkpoint_store.specs.Checkpoint.{no_stable}
 use Rattle.checkpoint_store.specs.Files.{HasCheckpoint, IsAtRest as CheckpointRests}
 use Rattle.checkpoint_store.specs.declared.stable.Stable.{Stable}
 use Rattle.checkpoint_store.proofs.OnceLemmas.{checkpoint_once}
-use Rattle.repl_msg.specs.declared.record.Record.{Record}
 use Rattle.set_model.specs.Node.{Node, opening_node}
 use Rattle.node_core.specs.Resting.{Rests}
-use Rattle.node_core.specs.Stands.{documents_at}
 
 -- an empty file has no records
 pub empty_journal : (state : State) → IsEmpty state.file → HasJournal (contents state.file) []

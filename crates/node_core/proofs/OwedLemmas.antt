@@ -1,9 +1,7 @@
 -- What a sound node stores can be put on its disks, and it can come back with it.
-use Rattle.std.proofs.Common.{◌≡◌, ap, sym, refl, ℕ, List, Option, None, Some, arith}
-use Rattle.std.specs.Prelude.{◌≢◌, ◌<◌, All, IfSome}
+use Rattle.std.proofs.Common.{◌≡◌, ap, sym, refl, ℕ, Option, None, Some, arith}
+use Rattle.std.specs.Prelude.{◌≢◌, ◌<◌, IfSome}
 use Rattle.oplog_entry.specs.Docs.{docs}
-use Rattle.oplog_entry.specs.declared.entry.Entry.{Entry}
-use Rattle.entry_bytes.specs.Sizes.{IsWithinEntry}
 use Rattle.repl_msg.specs.declared.record.Record.{Record}
 use Rattle.repl_msg.specs.declared.record.Record.TheVariants as records
 use Rattle.node_journal.specs.Bounds.{CanBeKept}

@@ -1,35 +1,32 @@
 -- What a node comes to whose disks lose their power, or are told to fail.
-use Rattle.std.proofs.Common.{◌≡◌, ◌∙◌, [], inl, ap, sym, subst, refl, ℕ, Bool, true, false, Option, None, Some, List, if◌then◌else◌, arith}
+use Rattle.std.proofs.Common.{◌≡◌, ◌∙◌, [], inl, ap, sym, subst, refl, ℕ, Bool, true, false, Option, None, List, if◌then◌else◌, arith}
 use Rattle.std.specs.Prelude.{IsSome, IsTrue}
 use Rattle.record_file.proofs.CutLemmas.{cut_leaves}
 use Rattle.rs_disk.specs.File.{File, LeavesOnly}
-use Rattle.rs_disk.specs.Orders.{Orders, ordered, arm, power_cut}
 use Rattle.rs_disk.specs.State.{State, IsArmed, IsCut}
 use Rattle.node_journal.specs.Files.{HasJournal}
 use Rattle.node_journal.proofs.DiskLemmas.{rest_only, rest_stays}
 use Rattle.checkpoint_store.specs.Files.{HasCheckpoint, IsAtRest as CheckpointRests}
 use Rattle.checkpoint_store.specs.declared.stable.Stable.{Stable}
 use Rattle.checkpoint_store.proofs.OnceLemmas.{rest_has}
-use Rattle.set_model.specs.declared.command.Command.{Command}
 use Rattle.set_model.specs.declared.command.Command.TheVariants.{Crash, DiskFail}
 use Rattle.set_model.specs.declared.command.DiskName.{DiskName}
 use Rattle.set_model.specs.declared.command.DiskName.TheVariants as disks
 use Rattle.set_model.specs.declared.reply.Reply.{Reply}
 use Rattle.set_model.specs.declared.reply.Reply.TheVariants as reply
 use Rattle.set_model.specs.declared.reply.Refusal.TheVariants.{NodeDown}
-use Rattle.set_model.specs.declared.store.Store.{Store}
 use Rattle.set_model.specs.Disk.{crash}
 use Rattle.set_model.specs.Node.{Node, down}
 use Rattle.set_model.specs.Outcome.{refused, replied}
 use Rattle.set_model.specs.Rows.{row}
-use Rattle.set_model.specs.Stores.{Plan, finished, if_up}
+use Rattle.set_model.specs.Stores.{finished}
 use Rattle.node_state.specs.WellKept.{IsWellKept}
 use Rattle.node_core.specs.Acting.{Acted, Arms, ArmedBefore, DisksActed, Fails, orders_after}
 use Rattle.node_core.specs.Down.{Left, down_node, seen_node}
 use Rattle.node_core.specs.Resting.{IsResting, Lies, Rests}
 use Rattle.node_core.specs.Stands.{HasDocumentsOf, HasRecordsOf, Stands, documents_at}
 use Rattle.node_core.specs.declared.done.Done.{Done}
-use Rattle.node_core.proofs.ActingLemmas.{answered_follows, resting_stands, unfailed, unkept, while_down}
+use Rattle.node_core.proofs.ActingLemmas.{answered_follows, resting_stands, unfailed, unkept}
 
 -- ---- disks that were given orders
 

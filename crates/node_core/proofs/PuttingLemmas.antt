@@ -1,9 +1,8 @@
 -- What is put on a node's disks: how they stand then, and that no orders were given to them.
-use Rattle.std.proofs.Common.{◌≡◌, ◌∙◌, ⊎_elim, inl, inr, ap, sym, subst, refl, ℕ, ◌+◌, List, [], ◌∷◌, ◌++◌, Option, Some, None, length, length-append, arith}
-use Rattle.std.specs.Prelude.{◌⊎◌, ◌≤◌, IsTrue, Result, Ok, Err, OnOk}
+use Rattle.std.proofs.Common.{◌≡◌, ◌∙◌, ⊎_elim, inl, inr, ap, sym, subst, refl, ℕ, ◌+◌, List, [], ◌∷◌, ◌++◌, length, length-append, arith}
+use Rattle.std.specs.Prelude.{◌⊎◌, ◌≤◌, Result, Ok, Err, OnOk}
 use Rattle.std.specs.FinMap.{get}
 use Rattle.bson_doc.specs.Place.{Place}
-use Rattle.bson_doc.specs.Tree.{Fields}
 use Rattle.rs_disk.specs.Moments.{EachMoment}
 use Rattle.rs_disk.specs.State.{State, Keeps, SameButRoom}
 use Rattle.rs_optime.specs.declared.optime.OpTime.{OpTime}
@@ -25,15 +24,14 @@ use Rattle.checkpoint_store.specs.Files.{IsAtRest as CheckpointRests, IsBeforeOr
 use Rattle.checkpoint_store.specs.Shown.{AllCanBeSaved, Shows}
 use Rattle.checkpoint_store.specs.declared.stable.Stable.{Stable}
 use Rattle.checkpoint_store.proofs.OnceLemmas.{rest_has}
-use Rattle.set_model.specs.declared.store.Store.{Store}
 use Rattle.set_model.specs.declared.store.Store.TheVariants as stores
 use Rattle.set_model.specs.Node.{Node}
 use Rattle.set_model.specs.Stores.{stored, in_doubt}
 use Rattle.node_ledger.specs.Ledger.{IsReadable}
-use Rattle.node_core.specs.Acting.{Fails, Runs}
+use Rattle.node_core.specs.Acting.{Runs}
 use Rattle.node_core.specs.Putting.{IsKeepable, IsSavable, Puts}
 use Rattle.node_core.specs.Resting.{Rests}
-use Rattle.node_core.specs.Stands.{Stands, HasRecordsOf, HasDocumentsOf, documents_at}
+use Rattle.node_core.specs.Stands.{Stands, documents_at}
 
 -- ---- no orders
 

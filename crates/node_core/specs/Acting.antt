@@ -1,5 +1,5 @@
 -- What a command or a message does to a node and to its disks.
-use Rattle.std.specs.Prelude.{◌≡◌, ◌⊎◌, ◌≤◌, ℕ, Bool, true, false, not, ◌&&◌, ◌||◌, IsTrue, IsSome, Option, None, Some}
+use Rattle.std.specs.Prelude.{◌≡◌, ◌⊎◌, ◌≤◌, ℕ, Bool, true, false, not, ◌&&◌, ◌||◌, IsTrue, IsSome, Option}
 use Rattle.rs_io.specs.Fault.{Rose}
 use Rattle.rs_disk.specs.Orders.{Orders, ordered, arm, power_cut}
 use Rattle.rs_disk.specs.State.{State, IsArmed}
@@ -11,7 +11,6 @@ use Rattle.set_model.specs.declared.reply.Reply.{Reply}
 use Rattle.set_model.specs.declared.reply.Reply.TheVariants as reply
 use Rattle.set_model.specs.Limits.{is_restart, passes_first, is_in_doubt}
 use Rattle.set_model.specs.Node.{Node}
-use Rattle.set_model.specs.Outcome.{Outcome}
 use Rattle.set_model.specs.Stores.{Plan, done, reaches}
 use Rattle.node_core.specs.Stands.{Stands}
 use Rattle.node_core.specs.declared.done.Done.{Done}

@@ -1,8 +1,6 @@
 -- The two disks of a node between two of its steps.
-use Rattle.std.specs.Prelude.{◌≡◌, ◌<◌, ℕ, Bool, true, false, List, length, Option, None, Some, IfSome}
+use Rattle.std.specs.Prelude.{◌≡◌, ℕ, Bool, true, false, length, IfSome}
 use Rattle.rs_disk.specs.State.{State}
-use Rattle.rs_optime.specs.declared.optime.OpTime.{OpTime}
-use Rattle.member_config.specs.Rule.{rule}
 use Rattle.oplog_entry.specs.Visible.{log_up_to}
 use Rattle.repl_msg.specs.Kept.{kept}
 use Rattle.node_journal.specs.Files.{IsAtRest as JournalRests}
