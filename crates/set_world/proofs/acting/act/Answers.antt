@@ -1,10 +1,13 @@
 use Rattle.std.proofs.Common.{◌≡◌, refl, false, length}
-use Rattle.set_model.specs.World.{World, takes}
+use Rattle.set_model.specs.World.{World, acts, takes}
 use Rattle.node_core.specs.Acting.{is_here}
 use Rattle.set_world.specs.World.{nodes_in}
-use Rattle.set_world.proofs.ActingLemmas.{own_acts, own_disks, taken_acts, taken_disks, undone_there}
+use Rattle.set_world.proofs.ActingLemmas.{acts_nothing, own_acts, own_disks, taken_acts, taken_disks, undone_there}
 use Rattle.set_world.proofs.DiskLemmas.{stand_acted, stand_took}
 use Rattle.set_world.proofs.acting.act.Goals as goal
+
+pub take_at-requires-clause-known : goal.take_at-requires-clause-known
+take_at-requires-clause-known g c κs within = c.requires.between c.in-Some-delivered.message.now c.in-Some-delivered.ensures.sent
 
 pub take_at-requires-clause-message : goal.take_at-requires-clause-message
 take_at-requires-clause-message g c κs within node there up = c.requires.messages c.in-Some-delivered.message.now node c.in-Some-delivered.ensures.sent there up
@@ -19,6 +22,11 @@ pub returns-in-Some-clause-disks : goal.returns-in-Some-clause-disks
 returns-in-Some-clause-disks g c =
     let world : World = record { nodes = nodes_in c.args.nodes.now; messages = c.args.pool.now.messages } in
     own_disks g.D.Disk.state c.in-Some.number c.len-next.result c.args.pool.now.messages c.args.command.now c.args.nodes.now c.act_on.new.nodes c.act_on.result (c.in-Some.ensures.some world) c.act_on.ensures.ok
+
+pub returns-in-Some-clause-err : goal.returns-in-Some-clause-err
+returns-in-Some-clause-err g c =
+    let world : World = record { nodes = nodes_in c.args.nodes.now; messages = c.args.pool.now.messages } in
+    undone_there g.D.Disk.state world (acts c.in-Some.number) c.args.command.now c.args.nodes.now c.act_on.new.nodes c.act_on.result (c.in-Some.ensures.some world) c.act_on.ensures.err
 
 pub returns-in-Some-clause-stand : goal.returns-in-Some-clause-stand
 returns-in-Some-clause-stand g c =
@@ -48,3 +56,9 @@ returns-in-Some-delivered-clause-err g c =
 pub returns-in-Some-delivered-clause-stand : goal.returns-in-Some-delivered-clause-stand
 returns-in-Some-delivered-clause-stand g c =
     stand_took g.D.Disk.state c.in-Some-delivered.message.now.to c.len-next.result c.in-Some-delivered.message.now c.args.nodes.now c.take_at.new.nodes c.take_at.result c.take_at.ensures.ok c.take_at.ensures.err
+
+pub returns-in-None-delivered-clause-ok : goal.returns-in-None-delivered-clause-ok
+returns-in-None-delivered-clause-ok g c =
+    let world : World = record { nodes = nodes_in c.args.nodes.now; messages = c.args.pool.now.messages } in
+    acts_nothing world c.args.command.now c.nothing.result (c.in-None-delivered.ensures.none world refl c.in-None.ensures.own)
+    c.nothing.ensures.reply c.nothing.ensures.sent c.nothing.ensures.failed c.nothing.ensures.kept

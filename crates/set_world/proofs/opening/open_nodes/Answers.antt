@@ -1,11 +1,31 @@
-use Rattle.std.proofs.Common.{◌≡◌, ◌∙◌, ◌≤◌, ◌+◌, ◌*◌, ◌++◌, arith, length, rules, subst, vec_len, vec_capacity}
+use Rattle.std.proofs.Common.{◌≡◌, ◌∙◌, ◌≤◌, ◌+◌, ◌*◌, ◌++◌, [], List, ap, arith, length, refl, rules, subst, sym, vec_len, vec_capacity}
 use Rattle.record_file.specs.declared.error.FileError.TheVariants.{Disk}
 use Rattle.rs_disk.specs.File.{IsEmpty}
 use Rattle.set_model.specs.World.{nodes_from}
 use Rattle.set_world.specs.World.{disks_in, nodes_in}
-use Rattle.set_world.proofs.DisksOpenLemmas.{more_stand, opens_more, opens_refused, opens_wide}
+use Rattle.set_model.specs.Node.{Node}
+use Rattle.set_world.specs.Acting.{NodesStand}
+use Rattle.set_world.specs.Disks.{Opens}
+use Rattle.set_world.proofs.DisksOpenLemmas.{more_stand, none_stand, opens_more, opens_none, opens_refused, opens_wide}
 use Rattle.set_world.proofs.OpenLemmas.{nodes_more, all_behind}
 use Rattle.set_world.proofs.opening.open_nodes.Goals as goal
+
+pub loop-number-init : goal.loop-number-init
+loop-number-init g c =
+    let D : Type 0 = g.row.D.Denot in
+    let none : c.in_ok-nodes.nodes.items ≡ [] = search rules in
+    let zero : vec_len c.in_ok-nodes.nodes ≡ 0 = search rules in
+    let room : c.args.count ≤ vec_capacity c.in_ok-nodes.nodes = search rules in (
+      ap (λ (nodes : List (Node × D × D)). nodes_in nodes) none,
+      zero,
+      room,
+      omega arith,
+      refl,
+      c.requires.empty,
+      subst (λ (nodes : List (Node × D × D)). NodesStand g.D.Disk.state nodes) (sym none) (none_stand g.D.Disk.state),
+      subst (λ (nodes : List (Node × D × D)). Opens g.D.Disk.state 0 ⊥ c.args.disks.now.items (disks_in nodes ++ c.args.disks.now.items)) (sym none)
+          (opens_none g.D.Disk.state 0 ⊥ c.args.disks.now.items (λ never. never)),
+    )
 
 pub loop-number-preserved : goal.loop-number-preserved
 loop-number-preserved g c =
