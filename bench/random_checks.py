@@ -166,7 +166,7 @@ class Checker:
         self.texts = {}  # of each optime, the entry
         self.before = {}  # of each optime, that of the entry before it
         self.logs = []  # each log that was printed, with its place and node
-        self.committed = {}  # what was acknowledged at majority, and the commit points that were told
+        self.committed = {}  # what was acknowledged at majority or told as a commit point: where, and in which term
         self.told = [(0, 0, 0)] * nodes  # the greatest commit point that a node told since it came up
         self.ever_told = [(0, 0, 0)] * nodes
         self.durable = [(0, 0, 0)] * nodes
@@ -251,9 +251,9 @@ class Checker:
         elif told[0] == "acked":
             self.counts["acknowledged at majority" if words[3] == "majority" else "acknowledged at a count"] += 1
             if words[3] == "majority":
-                self.committed.setdefault(optime(told[1]), self.place)
+                self.is_committed(optime(told[1]), optime(told[1])[0])
         elif told[0] == "counted":
-            self.commit(node, optime(told[2]))
+            self.commit(node, optime(told[2]), max(term for term, winner in self.winners.items() if winner == node))
         elif told[0] == "rolled":
             self.rolled(node, optime(told[3]), int(told[5]))
         elif told[0] == "flushed":
@@ -270,11 +270,15 @@ class Checker:
         if self.winners.setdefault(term, node) != node:
             self.fault(f"n{self.winners[term]} won this term")
 
-    def commit(self, node, at):
+    def is_committed(self, at, term):
+        if at not in self.committed or term < self.committed[at][1]:
+            self.committed[at] = self.place, term
+
+    def commit(self, node, at, term):
         if at < self.told[node]:
             self.fault(f"the commit point was {self.told[node]} before")
         if at != (0, 0, 0):
-            self.committed.setdefault(at, self.place)
+            self.is_committed(at, term)
         self.told[node] = at
         self.ever_told[node] = max(at, self.ever_told[node])
 
@@ -307,7 +311,7 @@ class Checker:
             last, durable, applied, commit = (optime(state[name]) for name in ("last", "durable", "applied", "commit"))
             if not commit <= durable <= last or applied > last:
                 self.fault("these points can't be")
-            self.commit(node, commit)
+            self.commit(node, commit, int(state["term"]))
             self.view = {"node": node, "state": state}
             if durable != self.durable[node]:
                 self.fault(f"the log was durable up to {self.durable[node]}")
@@ -349,15 +353,15 @@ class Checker:
 
     def end(self, lines, answers):
         """What holds of the whole script, and of the settled set at its end."""
-        for point, place in self.committed.items():
+        for point, (place, term) in self.committed.items():
             for log_place, _, points, last in self.logs:
-                if last[0] > point[0] and point not in points:
+                if last[0] > term and point not in points:
                     self.faults.append(f"{log_place}: without {point}, of {place}")
         final = [answers[len(lines) - 4 * k - j] for j in (0, 1, 2) for k in range(self.nodes)]
         for j, name in enumerate(("documents at majority", "documents", "log")):
             if len(set(final[j * self.nodes : (j + 1) * self.nodes])) != 1:
                 self.faults.append(f"the nodes end with different {name}")
-        for point, place in self.committed.items():
+        for point, (place, _) in self.committed.items():
             if point not in self.logs[-1][2]:
                 self.faults.append(f"the settled logs are without {point}, of {place}")
         states = [answers[len(lines) - 4 * k - 3].split(" ") for k in range(self.nodes)]
