@@ -349,6 +349,7 @@ class Author:
         for k in rest:
             self.say(f"heartbeat n{x} n{k}", f"deliver n{x} n{k}", f"deliver n{k} n{x}")
             self.say(f"common n{k} n{x}", f"deliver n{k} n{x}", f"deliver n{x} n{k}")
+            self.say(*(line for j in rest if j != k for line in (f"heartbeat n{k} n{j}", f"deliver n{k} n{j}")))
         self.say(*(f"fetch n{k}" for k in rest))
         self.player.run()
         for k in rest:
