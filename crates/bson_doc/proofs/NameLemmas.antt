@@ -110,12 +110,16 @@ IsDocument-without (field first one rest) name names = elim (cases_Bool (bytes_e
   | inr apart ↦ rw apart (names.0, found-without rest first name names.1, IsDocument-without rest name names.2)
 ]
 
--- which names stand in a document with one field more
-pub is_some-with_field : (fs : Fields) (name wanted : List ℕ) (value : Tree) → is_some (found wanted (with_field fs name value)) ≡ cond (bytes_eq name wanted) true (is_some (found wanted fs))
-is_some-with_field no_fields name wanted value = elim (cases_Bool (bytes_eq name wanted)) [
+-- which names stand in fields with one more in front
+pub is_some-field : (first wanted : List ℕ) (value : Tree) (rest : Fields) → is_some (found wanted (field first value rest)) ≡ cond (bytes_eq first wanted) true (is_some (found wanted rest))
+is_some-field first wanted value rest = elim (cases_Bool (bytes_eq first wanted)) [
   | inl same ↦ rw same refl
   | inr apart ↦ rw apart refl
 ]
+
+-- which names stand in a document with one field more
+pub is_some-with_field : (fs : Fields) (name wanted : List ℕ) (value : Tree) → is_some (found wanted (with_field fs name value)) ≡ cond (bytes_eq name wanted) true (is_some (found wanted fs))
+is_some-with_field no_fields name wanted value = is_some-field name wanted value no_fields
 is_some-with_field (field first one rest) name wanted value = elim (cases_Bool (bytes_eq first wanted)) [
   | inl same ↦ elim (cases_Bool (bytes_eq name wanted)) [
     | inl too ↦ rw (same, too) refl

@@ -1,6 +1,7 @@
 // A document that is made field by field, with its names at hand.
 ghost use Rattle.std.specs.Prelude.{◌≡◌, Contains, IfOk, None, is_some};
-ghost use Rattle.bson_doc.specs.Tree.{no_fields, found, with_field};
+ghost use Rattle.bson_doc.specs.Tree.{no_fields, Tree, found, with_field};
+ghost use Rattle.bson_doc.specs.Names.{AreNames, AreAllNames};
 ghost use Rattle.bson_doc.specs.View.{tree_of};
 
 use crate::{Doc, Mem, Text, Value};
@@ -8,12 +9,16 @@ use std::alloc::Global;
 use std::collections::BTreeSet;
 use std::marker::Model;
 
-/// A document in the making, seen as the fields so far. A name is looked up in O(log n).
+/// A document with so many fields is looked through for a name. Names are kept in order only of one with more.
+pub const FEW_FIELDS: usize = 16;
+
+/// A document in the making, seen as the fields so far. A name is looked up in O(log n), and a small document takes no
+/// memory but its own.
 #[derive(Drop)]
 pub struct DocBuilder {
     alloc: Global,
     doc: Doc,
-    names: BTreeSet<String>,
+    names: Option<BTreeSet<String>>,
 }
 
 impl Model for DocBuilder {
@@ -24,13 +29,11 @@ impl Model for DocBuilder {
 
     ghost coded = { fields_code };
 
-    ghost use Rattle.std.specs.Prelude.{◌≡◌, List, ℕ, is_some};
-    ghost use Rattle.std.specs.BTreeSet.{contains_text};
-    ghost use Rattle.bson_doc.specs.Tree.{found};
+    ghost use Rattle.bson_doc.specs.Names.{AreNames};
 
     ghost view = { λ b. b.doc };
 
-    ghost invariant = { λ b. (name : List ℕ) → contains_text b.names name ≡ is_some (found name b.doc) };
+    ghost invariant = { λ b. AreNames b.doc b.names };
 }
 
 impl DocBuilder {
@@ -40,7 +43,7 @@ impl DocBuilder {
         DocBuilder {
             alloc,
             doc: Doc::new(alloc),
-            names: BTreeSet::new(alloc),
+            names: None,
         }
     }
 
@@ -48,25 +51,67 @@ impl DocBuilder {
     pub fn has(&self, name: &str) -> bool
         ensures { result ≡ is_some (found name.now self.now) }
     {
-        self.names.contains(name)
+        match &self.names {
+            Some(names) => names.contains(name),
+            None => self.doc.get(name).is_some(),
+        }
     }
 
     /// The document with one field more, under a name that is new and has no zero byte.
     #[tactic(auto, using(crate::proofs::DocLemmas::doc_lemmas))]
-    pub fn with(mut self, name: Text, value: Value) -> Mem<Self>
+    pub fn with(self, name: Text, value: Value) -> Mem<Self>
         requires clean { ¬ Contains name 0 }
         requires new { found name self ≡ None }
         ensures { IfOk result (λ b. b ≡ with_field self name (tree_of value)) }
     {
-        let known = String::from_str(self.alloc, name.as_str())?;
-        self.names.insert(known)?;
-        self.doc.append(name, value)?;
-        Ok(self)
+        let DocBuilder {
+            alloc,
+            mut doc,
+            names,
+        } = self;
+        let names = with_name(alloc, names, &doc, name.as_str())?;
+        doc.append(name, value)?;
+        Ok(DocBuilder { alloc, doc, names })
     }
 
     pub fn finish(self) -> Doc
         ensures { result ≡ self }
     {
-        self.doc
+        let mut doc = self.doc;
+        doc.shrink_to_fit();
+        doc
     }
+}
+
+/// The names of a document that gets one more, where it then has more than a few.
+fn with_name(
+    alloc: Global,
+    names: Option<BTreeSet<String>>,
+    doc: &Doc,
+    name: &str,
+) -> Mem<Option<BTreeSet<String>>>
+    requires { AreNames doc.now names }
+    ensures { IfOk result (λ names. (value : Tree) → AreNames (with_field doc.now name.now value) names) }
+{
+    let mut all = match names {
+        Some(all) => all,
+        None if doc.len() < FEW_FIELDS => return Ok(None),
+        None => all_names(alloc, doc)?,
+    };
+    all.insert(String::from_str(alloc, name)?)?;
+    Ok(Some(all))
+}
+
+/// The names of a document's fields.
+fn all_names(alloc: Global, doc: &Doc) -> Mem<BTreeSet<String>>
+    ensures { IfOk result (AreAllNames doc.now) }
+{
+    let mut names = BTreeSet::new(alloc);
+    for place in (0..doc.len()).rev() {
+        let Some((name, _)) = doc.at(place) else {
+            unreachable!()
+        };
+        names.insert(String::from_str(alloc, name)?)?;
+    }
+    Ok(names)
 }

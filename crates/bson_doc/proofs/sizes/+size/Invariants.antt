@@ -1,4 +1,4 @@
-use Rattle.std.proofs.Common.{◌≡◌, ◌+◌, ◌-◌, ◌*◌, ◌^◌, ◌<◌, ◌≤◌, min}
+use Rattle.std.proofs.Common.{◌≡◌, ◌+◌, ◌*◌, ◌^◌, ◌<◌, ◌≤◌, min}
 use Rattle.bson_doc.specs.Tree.{fields_from, fields_size, trees_from, trees_size, tree_size}
 use Rattle.bson_doc.specs.View.{tree_of}
 use Rattle.bson_doc.specs.Length.{fields_length, items_length, document_length}
