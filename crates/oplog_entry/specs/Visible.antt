@@ -1,5 +1,5 @@
 -- How far a log can be read.
-use Rattle.std.specs.Prelude.{Bool, not, List, [], ◌∷◌, Option, None, Some, filter, if◌then◌else◌}
+use Rattle.std.specs.Prelude.{not, List, [], ◌∷◌, Option, None, Some, filter, if◌then◌else◌}
 pub use Rattle.rs_optime.specs.Order.{optime_cmp, is_before}
 use Rattle.rs_optime.specs.declared.optime.OpTime.{OpTime}
 use Rattle.oplog_entry.specs.declared.entry.Entry.{Entry}

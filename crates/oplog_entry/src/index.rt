@@ -2,17 +2,19 @@
 ghost use Rattle.std.specs.Prelude.{◌≡◌, IfOk, option_map};
 ghost use Rattle.bson_doc.specs.Tree.{found, IsDocument};
 ghost use Rattle.bson_doc.specs.View.{tree_of};
+ghost use Rattle.oplog_entry.specs.Index.{AreAllPlaces};
 
-use bson_doc::{Doc, Mem, Text, Value};
+use bson_doc::{Doc, FEW_FIELDS, Mem, Text, Value};
 use std::alloc::Global;
 use std::collections::BTreeMap;
 use std::marker::Model;
 
-/// A document with its names in order, seen as its fields. A look-up takes O(log n) comparisons.
+/// A document with its names in order, seen as its fields. A look-up takes O(log n) comparisons, and a small document
+/// is looked through as it is.
 #[derive(Drop)]
 pub struct FieldIndex<'a> {
     document: &'a Doc,
-    places: BTreeMap<Text, usize>,
+    places: Option<BTreeMap<Text, usize>>,
 }
 
 impl<'a> Model for FieldIndex<'a> {
@@ -23,17 +25,11 @@ impl<'a> Model for FieldIndex<'a> {
 
     ghost coded = { fields_code };
 
-    ghost use Rattle.std.specs.Prelude.{◌≡◌, List, ℕ, option_and_then};
-    ghost use Rattle.std.specs.Ordering.{nat_cmp};
-    ghost use Rattle.std.specs.BTreeMap.{get};
-    ghost use Rattle.std.specs.Cmp.Lexicographic.{slice_cmp};
-    ghost use Rattle.bson_doc.specs.Tree.{found};
-    ghost use Rattle.oplog_entry.specs.Index.{value_at};
+    ghost use Rattle.oplog_entry.specs.Index.{ArePlaces};
 
     ghost view = { λ i. i.document.now };
 
-    ghost invariant = { λ i. (name : List ℕ)
-        → option_and_then (value_at i.document.now) (get (slice_cmp nat_cmp) i.places name) ≡ found name i.document.now };
+    ghost invariant = { λ i. ArePlaces i.document.now i.places };
 }
 
 impl<'a> FieldIndex<'a> {
@@ -42,22 +38,41 @@ impl<'a> FieldIndex<'a> {
         ensures names { IsDocument document.now }
     {
         document.is_sound();
-        let mut places = BTreeMap::new(alloc);
-        for place in (0..document.len()).rev() {
-            let Some((name, _)) = document.at(place) else {
-                unreachable!()
-            };
-            places.insert(Text::from_str(alloc, name)?, place)?;
+        if document.len() <= FEW_FIELDS {
+            return Ok(FieldIndex {
+                document,
+                places: None,
+            });
         }
-        Ok(FieldIndex { document, places })
+        Ok(FieldIndex {
+            document,
+            places: Some(places_of(alloc, document)?),
+        })
     }
 
     /// The value under a name.
     pub fn get(&self, name: &Text) -> Option<&'a Value>
         ensures { option_map (λ v. tree_of v.now) result ≡ found name.now self.now }
     {
-        let place = self.places.get(name)?;
+        let Some(places) = &self.places else {
+            return self.document.get(name.as_str());
+        };
+        let place = places.get(name)?;
         let (_, value) = self.document.at(*place)?;
         Some(value)
     }
+}
+
+/// The place of each name.
+fn places_of(alloc: Global, document: &Doc) -> Mem<BTreeMap<Text, usize>>
+    ensures { IfOk result (AreAllPlaces document.now) }
+{
+    let mut places = BTreeMap::new(alloc);
+    for place in (0..document.len()).rev() {
+        let Some((name, _)) = document.at(place) else {
+            unreachable!()
+        };
+        places.insert(Text::from_str(alloc, name)?, place)?;
+    }
+    Ok(places)
 }

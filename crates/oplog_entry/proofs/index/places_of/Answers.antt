@@ -6,7 +6,7 @@ use Rattle.std.specs.Cmp.Lexicographic.{slice_cmp}
 use Rattle.bson_doc.specs.Tree.{found, fields_from}
 use Rattle.oplog_entry.proofs.IndexLemmas.{index-init, index-step}
 use Rattle.bson_doc.proofs.DocLemmas.{fields_from-zero}
-use Rattle.oplog_entry.proofs.index.FieldIndex.new.Goals as goal
+use Rattle.oplog_entry.proofs.index.places_of.Goals as goal
 
 pub loop-place-init : goal.loop-place-init
 loop-place-init c = λ q. rw c.len-place.ensures.count (index-init c.args.document.now q _ (search common_steps))
@@ -21,7 +21,7 @@ loop-place-preserved c = λ q.
     (c.in_ok-insert.ensures.updates.0 q ∙ ap (λ (k : List ℕ). cond (is_eq (slice_cmp nat_cmp k q)) (Some place) before) c.in_ok-from_str.ensures)
     (c.loop-place.invariant q)
 
-pub invariant_of-result : goal.invariant_of-result
-invariant_of-result c = λ q.
+pub returns : goal.returns
+returns c = λ q.
     let first : c.loop-place.place ≡ 0 = omega arith in
     c.loop-place.invariant q ∙ ap (λ n. found q (fields_from n c.args.document.now)) first ∙ ap (found q) (fields_from-zero c.args.document.now)

@@ -4,7 +4,7 @@ use Rattle.std.specs.BTreeMap.{get}
 use Rattle.std.specs.Cmp.Lexicographic.{slice_cmp}
 use Rattle.bson_doc.specs.Tree.{found, fields_from}
 use Rattle.oplog_entry.specs.Index.{value_at}
-use Rattle.oplog_entry.proofs.index.FieldIndex.new.Given as goal
+use Rattle.oplog_entry.proofs.index.places_of.Given as goal
 
 abbrev pub invariant-loop-place : goal.invariant-loop-place
 invariant-loop-place l =
