@@ -1,4 +1,4 @@
-ghost use Rattle.std.specs.Prelude.{◌≡◌, IfOk};
+ghost use Rattle.std.specs.Prelude.{◌≡◌, IfOk, option_map};
 ghost use Rattle.oplog_entry.specs.Lawful.{IsLawful, IsLawfulOp};
 ghost use Rattle.oplog_entry.specs.Step.{place_of};
 
@@ -79,9 +79,9 @@ impl Op {
     }
 
     /// The collection and the key of the document that the op touches. None for a no-op.
-    pub fn key(&self) -> Mem<Option<(Text, IdKey)>>
+    pub fn touched(&self) -> Mem<Option<(&Text, IdKey)>>
         requires { IsLawfulOp self.now }
-        ensures { IfOk result (λ place. place ≡ place_of self.now) }
+        ensures { IfOk result (λ touched. option_map (λ t. (t.0.now, t.1)) touched ≡ place_of self.now) }
     {
         let (ns, id) = match self {
             Op::Insert { ns, o } => match o.get("_id") {
@@ -97,6 +97,17 @@ impl Op {
             Ok(key) => key,
             Err(KeyError::Memory) => return Err(AllocError),
             Err(KeyError::Kind(_)) => unreachable!(),
+        };
+        Ok(Some((ns, key)))
+    }
+
+    /// The same, with a copy of the collection's name.
+    pub fn key(&self) -> Mem<Option<(Text, IdKey)>>
+        requires { IsLawfulOp self.now }
+        ensures { IfOk result (λ place. place ≡ place_of self.now) }
+    {
+        let Some((ns, key)) = self.touched()? else {
+            return Ok(None);
         };
         Ok(Some((ns.copy()?, key)))
     }
@@ -114,6 +125,14 @@ impl Entry {
     }
 
     /// The collection and the key of the document that the entry touches. None for a no-op.
+    pub fn touched(&self) -> Mem<Option<(&Text, IdKey)>>
+        requires { IsLawful self.now }
+        ensures { IfOk result (λ touched. option_map (λ t. (t.0.now, t.1)) touched ≡ place_of self.now.op) }
+    {
+        self.op.touched()
+    }
+
+    /// The same, with a copy of the collection's name.
     pub fn key(&self) -> Mem<Option<(Text, IdKey)>>
         requires { IsLawful self.now }
         ensures { IfOk result (λ place. place ≡ place_of self.now.op) }
