@@ -7,6 +7,7 @@ use Rattle.std.specs.Str.Parse.{IsNumeral, digits_value, signed_digits_value}
 use Rattle.std.proofs.lemmas.Bool.{and_parts}
 use Rattle.std.proofs.lemmas.List.{take-append-drop, length-take}
 use Rattle.std.proofs.lemmas.List.Sums.{prefix_len-le-length}
+use Rattle.bson_doc.specs.Bind.{◌>>=◌}
 use Rattle.hex.specs.Hex.{is_hex_digit, decode_of}
 use Rattle.hex.proofs.HexLemmas.{decode_of-digits, decode_of-ok}
 use Rattle.bson_doc.specs.Tree.{Tree, int32, int64}
@@ -14,7 +15,7 @@ use Rattle.doc_text.specs.declared.fault.Fault.{Fault}
 use Rattle.doc_text.specs.declared.fault.Rule.TheVariants.{Unexpected, Number}
 use Rattle.doc_text.specs.Bytes.{is_space}
 use Rattle.doc_text.specs.Class.{behind_spaces}
-use Rattle.doc_text.specs.Fault.{◌>>=◌, fails}
+use Rattle.doc_text.specs.Fault.{fails}
 use Rattle.doc_text.specs.Marks.{mark_at, spaced_at, closing_at, word_at, opened_at}
 use Rattle.doc_text.specs.Integers.{fits, ranged, digits_at, integer_at, natural_at, long_at, kind_at, number_at}
 use Rattle.doc_text.specs.HexText.{bytes_of, closed_at, hex_fault, binary_hex_at, id_hex_at}
@@ -25,7 +26,7 @@ use Rattle.std.specs.List.{AllPass}
 use Rattle.doc_text.proofs.HexTexts.{run_of_hex_digits, some_digits, decoded}
 use Rattle.doc_text.proofs.SpelledMarks.{first_stops}
 use Rattle.doc_text.proofs.SpelledNumbers.{unsigned_value}
-use Rattle.doc_text.proofs.Results.{Gets, bind_gets, gets_more, cond_gets}
+use Rattle.bson_doc.proofs.BindLemmas.{Gets, bind_gets, gets_more, cond_gets}
 
 -- ---- marks
 

@@ -10,7 +10,7 @@ use Rattle.doc_text.specs.Scalars.{string_at, date_at, first_at, binary_at, id_a
 use Rattle.doc_text.specs.Spelling.{IsSpaced, IsClosing, SpellsString, SpellsInteger, SpellsNatural, Spells, GoesNoFurther, levels}
 use Rattle.doc_text.proofs.ReadIsSpelled.{Behind, Opening, StandsAs, HexRead, opened_gets, mark_gets, spaced_gets, closing_gets, word_gets, natural_gets, long_gets, number_gets, binary_hex_gets, id_hex_gets}
 use Rattle.doc_text.proofs.ReadStrings.{LettersRead, letters_gets}
-use Rattle.doc_text.proofs.Results.{Gets, bind_gets, cond_gets}
+use Rattle.bson_doc.proofs.BindLemmas.{Gets, bind_gets, cond_gets}
 
 string_gets : (most : ℕ) (input : List ℕ) → Gets (string_at input) (StandsAs most input)
 unfolding string_at

@@ -17,7 +17,7 @@ use Rattle.doc_text.proofs.SpelledIsRead.{joined, joined-is, joined_items, joine
 use Rattle.doc_text.proofs.ReadIsSpelled.{same, Behind, StandsAs, mark_gets, spaced_gets, spaces_front}
 use Rattle.doc_text.proofs.ReadStrings.{NameRead, name_gets}
 use Rattle.doc_text.proofs.ReadScalars.{scalar_gets}
-use Rattle.doc_text.proofs.Results.{Gets, bind_gets, gets_more, cond_gets}
+use Rattle.bson_doc.proofs.BindLemmas.{Gets, bind_gets, gets_more, cond_gets}
 
 -- what a reader of members gives stands there
 abbrev pub Sound : ℕ → (List ℕ → Read Tree) → Type 0

@@ -3,7 +3,7 @@ use Rattle.std.specs.Prelude.{ℕ, zero, suc, ◌+◌, ◌*◌, Bool, List, [], 
 use Rattle.hex.specs.Hex.{hex_digit_value}
 use Rattle.doc_text.specs.declared.fault.Rule.TheVariants.{Unexpected, Escape, NameZero}
 use Rattle.doc_text.specs.Bytes.{is_plain}
-use Rattle.doc_text.specs.Fault.{Read, ◌>>=◌, fails}
+use Rattle.doc_text.specs.Fault.{Read, fails}
 
 -- what is found at the first byte of a text, or an Escape there
 abbrev pub or_escape : Option ℕ → List ℕ → List ℕ → Read ℕ

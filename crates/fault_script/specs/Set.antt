@@ -5,7 +5,7 @@ use Rattle.fault_script.specs.declared.rule.ScriptRule.{ScriptRule}
 use Rattle.fault_script.specs.declared.rule.ScriptRule.TheVariants.{NoSetLine, WordCount}
 use Rattle.fault_script.specs.declared.set.SetLine.{SetLine}
 use Rattle.fault_script.specs.declared.shape.Shape.TheVariants.{Words}
-use Rattle.fault_script.specs.Words.{Left, ◌>>=◌, has_shape, word_at, ended, number_at, optional_at}
+use Rattle.fault_script.specs.Words.{Left, has_shape, word_at, ended, number_at, optional_at}
 
 unfoldable pub sizes_at : Left → Result SetLine ScriptRule
 sizes_at left = do
