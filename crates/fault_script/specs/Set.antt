@@ -1,6 +1,7 @@
 -- The line that names the sizes of the set: `set NODES`, and how many of the nodes are members, or nothing where all are.
 use Rattle.std.specs.Prelude.{ℕ, List, codes, Some, Result, Err, if◌then◌else◌}
 use Rattle.std.specs.Str.{bytes_eq}
+use Rattle.bson_doc.specs.Bind.{◌>>=◌}
 use Rattle.fault_script.specs.declared.rule.ScriptRule.{ScriptRule}
 use Rattle.fault_script.specs.declared.rule.ScriptRule.TheVariants.{NoSetLine, WordCount}
 use Rattle.fault_script.specs.declared.set.SetLine.{SetLine}
