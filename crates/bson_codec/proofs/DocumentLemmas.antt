@@ -4,6 +4,8 @@ use Rattle.std.specs.Prelude.{IfOk, nat_lt, nat_le, ◌||◌, if◌then◌else�
 use Rattle.std.specs.Fmt.{decimal}
 use Rattle.std.proofs.lemmas.Bool.{cases_Bool, ltb-false, le-ltb}
 use Rattle.std.proofs.lemmas.List.{append-nil, length-append, length-drop}
+use Rattle.bson_doc.specs.Bind.{◌>>=◌}
+use Rattle.bson_doc.proofs.BindLemmas.{bind_ok}
 use Rattle.bson_doc.specs.Tree as tree
 use Rattle.bson_doc.specs.Tree.{Tree, Fields, no_fields, field, Trees, no_items, item, with_item, items_count, IsDocument}
 use Rattle.bson_doc.specs.Key.{type_byte}
@@ -12,12 +14,12 @@ use Rattle.bson_codec.specs.declared.error.DecodeError.{DecodeError}
 use Rattle.bson_codec.specs.declared.error.DecodeError.TheVariants as rules
 use Rattle.bson_doc.specs.Length.{value_levels, fields_levels, items_levels, fields_length, items_length}
 use Rattle.bson_codec.specs.Numbers.{number_bytes, number_in}
-use Rattle.bson_codec.specs.Outcome.{◌>>=◌, Gives}
+use Rattle.bson_codec.specs.Outcome.{Gives}
 use Rattle.bson_codec.specs.Reading.{Inner, number_at, bytes_at, byte_at, kind_of, value_at, ends_at, fields_in, item_at, items_in, content_at, members_in, inner_at, known_name_at, length_at}
 use Rattle.bson_codec.specs.Sound.{IsSoundValue, AreSoundItems, IsSound}
 use Rattle.bson_codec.specs.Spelling.{element, value_bytes, fields_bytes, items_bytes, IsSpelling}
 use Rattle.bson_codec.specs.Wholes.{outer_length, fields_within, fields_behind, read_document}
-use Rattle.bson_codec.proofs.PartLemmas.{IsBytes, IsBytes-drop, bind_ok, ok_is, Takes, Takes-then, bytes_take, length_takes, byte_takes, known_name_takes, wide4, number_takes}
+use Rattle.bson_codec.proofs.PartLemmas.{IsBytes, IsBytes-drop, ok_is, Takes, Takes-then, bytes_take, length_takes, byte_takes, known_name_takes, wide4, number_takes}
 use Rattle.bson_codec.proofs.SpellingLemmas.{length-fields_bytes, length-items_bytes}
 use Rattle.bson_codec.proofs.ValueLemmas.{ValueTakes, InnerTakes, kind_takes, value_takes, ends_here, fields_take}
 

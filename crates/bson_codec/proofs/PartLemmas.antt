@@ -9,12 +9,13 @@ use Rattle.std.proofs.lemmas.Bool.{cases_Bool, cases_lt, ltb-false, le-ltb, lt-l
 use Rattle.std.proofs.lemmas.Bool.Decides.{nat_tests}
 use Rattle.std.proofs.lemmas.List.{take_at, drop_at, take-append-drop, length-append, length-take, get_or-drop, get_or-take, get_or_past}
 use Rattle.std.proofs.lemmas.Nat.{le_bytes_4, le_bytes_8}
+use Rattle.bson_doc.specs.Bind.{◌>>=◌}
+use Rattle.bson_doc.proofs.BindLemmas.{bind_ok, guard_ok}
 use Rattle.byteorder.specs.Endian.{little_number}
 use Rattle.byteorder.specs.Numbers.{little_from-take, little_from-lt, little_number-reads_back}
 use Rattle.bson_codec.specs.declared.error.DecodeError.{DecodeError}
 use Rattle.bson_codec.specs.declared.error.DecodeError.TheVariants as rules
 use Rattle.bson_codec.specs.Numbers.{number_bytes, number_in}
-use Rattle.bson_codec.specs.Outcome.{◌>>=◌}
 use Rattle.bson_codec.specs.Reading.{number_at, bytes_at, byte_at, length_at, utf8, text_at, name_at, name_up_to, known_name_at}
 use Rattle.bson_codec.proofs.SpellingLemmas.{length-number_bytes}
 use Rattle.bson_codec.proofs.TextLemmas.{utf8-ok, clean_front}
@@ -34,16 +35,6 @@ IsBytes-take n bytes h i =
 
 pub IsBytes-rest : (b : ℕ) (bytes : List ℕ) → IsBytes (b ∷ bytes) → IsBytes bytes
 IsBytes-rest b bytes h i = h (suc i)
-
--- the value of a step that did not fail
-pub bind_ok : {A B : Type 0} (r : Result A DecodeError) (f : A → Result B DecodeError) (y : B) → (r >>= f) ≡ Ok y → (x : A) × (r ≡ Ok x) × (f x ≡ Ok y)
-bind_ok (Ok x) f y e = (x, refl, e)
-bind_ok (Err d) f y e = absurd cc
-
--- a test that did not fail
-pub guard_ok : {A : Type 0} (b : Bool) (d : DecodeError) (x y : A) → cond b (Err d) (Ok x) ≡ Ok y → (b ≡ false) × (x ≡ y)
-guard_ok true d x y e = absurd cc
-guard_ok false d x y e = (refl, cc)
 
 pub guard_held : {A : Type 0} (b : Bool) (d : DecodeError) (x y : A) → cond b (Ok x) (Err d) ≡ Ok y → (b ≡ true) × (x ≡ y)
 guard_held true d x y e = (refl, cc)

@@ -1,9 +1,10 @@
 -- One turn of reading fields or items, and one level of documents inside.
 use Rattle.std.proofs.Common.{ℕ, suc, ◌≡◌, ◌+◌, ◌-◌, ◌<◌, ◌≤◌, Bool, true, false, List, length, Result, Ok, Err, refl, sym, ◌∙◌, ap, subst, arith, if◌then◌else◌}
+use Rattle.bson_doc.specs.Bind.{◌>>=◌}
 use Rattle.bson_doc.specs.Tree.{Tree, Fields, no_fields, Trees, with_field, with_item}
 use Rattle.bson_codec.specs.declared.error.DecodeError.{DecodeError}
 use Rattle.bson_codec.specs.declared.error.DecodeError.TheVariants as rules
-use Rattle.bson_codec.specs.Outcome.{◌>>=◌, Fails}
+use Rattle.bson_codec.specs.Outcome.{Fails}
 use Rattle.bson_codec.specs.Wholes.{fields_within}
 use Rattle.bson_codec.specs.Reading.{Inner, ends_at, field_at, fields_in, item_at, items_in, content_at, members_in, inner_at}
 

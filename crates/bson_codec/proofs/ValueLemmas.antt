@@ -7,6 +7,8 @@ use Rattle.std.proofs.lemmas.Bool.{cases_Bool, ltb-true, eqb-true}
 use Rattle.std.proofs.lemmas.Int.{of_z-to_z}
 use Rattle.std.proofs.Math.Facts.{sfits_to_z}
 use Rattle.std.proofs.lemmas.List.{append-nil}
+use Rattle.bson_doc.specs.Bind.{◌>>=◌}
+use Rattle.bson_doc.proofs.BindLemmas.{bind_ok, guard_ok}
 use Rattle.bson_doc.specs.Tree as tree
 use Rattle.bson_doc.specs.Tree.{Tree, Fields, no_fields, field, Trees, no_items, item, found, with_field, with_item, IsDocument}
 use Rattle.bson_doc.specs.Key.{type_byte}
@@ -17,11 +19,10 @@ use Rattle.bson_codec.specs.declared.error.DecodeError.{DecodeError}
 use Rattle.bson_codec.specs.declared.error.DecodeError.TheVariants as rules
 use Rattle.bson_doc.specs.Length.{value_levels, fields_levels}
 use Rattle.bson_codec.specs.Numbers.{number_bytes}
-use Rattle.bson_codec.specs.Outcome.{◌>>=◌}
 use Rattle.bson_codec.specs.Reading.{Inner, number_at, bytes_at, byte_at, text_at, binary_at, boolean_at, kind_of, value_at, new_name, field_at, ends_at, fields_in, name_at, length_at}
 use Rattle.bson_codec.specs.Sound.{IsSoundValue, AreSoundFields}
 use Rattle.bson_codec.specs.Spelling.{element, value_bytes, fields_bytes}
-use Rattle.bson_codec.proofs.PartLemmas.{IsBytes, bind_ok, guard_ok, guard_held, ok_is, Takes, Takes-then, wide4, wide8, number_takes, bytes_take, length_takes, text_takes, byte_takes, name_takes}
+use Rattle.bson_codec.proofs.PartLemmas.{IsBytes, guard_held, ok_is, Takes, Takes-then, wide4, wide8, number_takes, bytes_take, length_takes, text_takes, byte_takes, name_takes}
 
 -- a value that was read, within so many levels
 pub record ValueTakes (levels : ℕ) (bytes : List ℕ) (value : Tree) (rest : List ℕ) : Type 0 where

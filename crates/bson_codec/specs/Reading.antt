@@ -5,6 +5,7 @@ use Rattle.std.specs.Int.{w32, w64, cast_signed}
 use Rattle.std.specs.Fmt.{decimal}
 use Rattle.std.specs.Str.{is_utf8}
 use Rattle.std.specs.Str.Lossy.{utf8_valid_len, utf8_error_len}
+use Rattle.bson_doc.specs.Bind.{◌>>=◌}
 use Rattle.bson_doc.specs.Tree as tree
 use Rattle.bson_doc.specs.Tree.{Tree, Fields, no_fields, Trees, no_items, found, with_field, with_item}
 use Rattle.bson_codec.specs.declared.kind.Kind as declared
@@ -12,7 +13,6 @@ use Rattle.bson_codec.specs.declared.kind.Kind.TheVariants as kinds
 use Rattle.bson_codec.specs.declared.error.DecodeError.{DecodeError}
 use Rattle.bson_codec.specs.declared.error.DecodeError.TheVariants as rules
 use Rattle.bson_codec.specs.Numbers.{number_in}
-use Rattle.bson_codec.specs.Outcome.{◌>>=◌}
 
 -- what is read, and the bytes behind it
 abbrev pub Read : Type 0 → Type 0

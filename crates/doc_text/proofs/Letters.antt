@@ -4,11 +4,12 @@ use Rattle.std.specs.Prelude.{encode_utf8}
 use Rattle.std.specs.List.{prefix_len}
 use Rattle.std.proofs.lemmas.List.{append-nil, length-drop, get_or-drop}
 use Rattle.std.proofs.lemmas.List.Sums.{prefix_len_stops}
+use Rattle.bson_doc.specs.Bind.{◌>>=◌}
 use Rattle.doc_text.specs.declared.fault.Rule.TheVariants.{Unexpected}
 use Rattle.doc_text.specs.declared.fault.ReadError.{ReadError}
 use Rattle.doc_text.specs.declared.fault.ReadError.TheVariants as stops
 use Rattle.doc_text.specs.Bytes.{is_plain}
-use Rattle.doc_text.specs.Fault.{Read, ◌>>=◌, fault_at, Fails}
+use Rattle.doc_text.specs.Fault.{Read, fault_at, Fails}
 use Rattle.doc_text.specs.Strings.{escape_at, letters_at}
 
 -- what was read before, and what is still read

@@ -3,13 +3,14 @@ use Rattle.std.proofs.Common.{ℕ, zero, suc, ◌+◌, ◌*◌, ◌^◌, ◌≤�
 use Rattle.std.specs.Prelude.{codes, encode_utf8}
 use Rattle.std.specs.List.{prefix_len}
 use Rattle.std.proofs.lemmas.List.{length-append}
+use Rattle.bson_doc.specs.Bind.{◌>>=◌}
 use Rattle.hex.specs.Hex.{hex_digit_value}
 use Rattle.bson_doc.specs.Tree as tree
 use Rattle.bson_doc.specs.Tree.{Tree, null, binary, object_id, boolean, date, timestamp}
 use Rattle.doc_text.specs.declared.fault.Rule.{Rule}
 use Rattle.doc_text.specs.declared.fault.Rule.TheVariants.{Unexpected, Escape, NameZero}
 use Rattle.doc_text.specs.Bytes.{is_plain, is_name_byte, is_name_start}
-use Rattle.doc_text.specs.Fault.{Read, ◌>>=◌, fails}
+use Rattle.doc_text.specs.Fault.{Read, fails}
 use Rattle.doc_text.specs.Marks.{mark_at, spaced_at, closing_at, word_at, opened_at}
 use Rattle.doc_text.specs.Integers.{natural_at, long_at}
 use Rattle.doc_text.specs.HexText.{binary_hex_at, id_hex_at}

@@ -3,12 +3,13 @@ use Rattle.std.proofs.Common.{◌≡◌, ℕ, zero, suc, ◌<◌, ◌≤◌, Boo
 use Rattle.std.specs.Prelude.{is_some}
 use Rattle.std.specs.List.{prefix_len}
 use Rattle.std.proofs.lemmas.List.{length-append, length-drop}
+use Rattle.bson_doc.specs.Bind.{◌>>=◌}
 use Rattle.bson_doc.specs.Tree.{Tree, document, array, Fields, no_fields, Trees, no_items, found, with_field, with_item}
 use Rattle.doc_text.specs.declared.fault.Fault.{Fault}
 use Rattle.doc_text.specs.declared.fault.Rule.TheVariants.{Unexpected, DuplicateName, TooDeep}
 use Rattle.doc_text.specs.Bytes.{is_space}
 use Rattle.doc_text.specs.Class.{behind_spaces}
-use Rattle.doc_text.specs.Fault.{Read, ◌>>=◌, fails}
+use Rattle.doc_text.specs.Fault.{Read, fails}
 use Rattle.doc_text.specs.Marks.{begins_with, mark_at, spaced_at}
 use Rattle.doc_text.specs.Names.{name_at}
 use Rattle.doc_text.specs.Scalars.{scalar_at}

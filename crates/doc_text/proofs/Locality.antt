@@ -3,10 +3,11 @@ use Rattle.std.proofs.Common.{◌≡◌, ℕ, zero, suc, ◌+◌, ◌<◌, ◌�
 use Rattle.std.specs.List.{prefix_len}
 use Rattle.std.proofs.lemmas.Bool.{cases_lt}
 use Rattle.std.proofs.lemmas.List.{length-append, length-drop}
+use Rattle.bson_doc.specs.Bind.{◌>>=◌}
 use Rattle.doc_text.specs.declared.fault.Fault.{Fault}
 use Rattle.doc_text.specs.declared.fault.Rule.{Rule}
 use Rattle.doc_text.specs.declared.fault.Rule.TheVariants.{Number, DuplicateName}
-use Rattle.doc_text.specs.Fault.{Read, ◌>>=◌, fault_at, fails}
+use Rattle.doc_text.specs.Fault.{Read, fault_at, fails}
 
 -- The rules whose fault is at the first byte that can't go on. A number out of range and a name
 -- that stands twice are refused where they begin, once they are whole.

@@ -9,7 +9,7 @@ use Rattle.std.proofs.lemmas.List.{take-append-drop, take_at, drop_at, length-ap
 use Rattle.std.proofs.lemmas.Str.{IsCharBoundary-at_seam, IsCharBoundary-after_ascii, IsUtf8-drop}
 use Rattle.std.proofs.lemmas.Str.Parse.{digit_from_value}
 use Rattle.doc_text.specs.Integers.{digits_at, integer_at}
-use Rattle.doc_text.proofs.Results.{guard_ok}
+use Rattle.bson_doc.proofs.BindLemmas.{guard_ok}
 
 digit_below_ten : (c : ℕ) → is_ascii_digit c ≡ true → digit_value c < 10
 digit_below_ten c h = grind arith

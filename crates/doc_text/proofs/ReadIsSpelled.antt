@@ -7,6 +7,8 @@ use Rattle.std.specs.Str.Parse.{IsNumeral, digits_value, signed_digits_value}
 use Rattle.std.proofs.lemmas.Bool.{and_parts}
 use Rattle.std.proofs.lemmas.List.{take-append-drop, length-take}
 use Rattle.std.proofs.lemmas.List.Sums.{prefix_len-le-length}
+use Rattle.bson_doc.specs.Length.{value_levels}
+use Rattle.bson_doc.specs.Bind.{◌>>=◌}
 use Rattle.hex.specs.Hex.{is_hex_digit, decode_of}
 use Rattle.hex.proofs.HexLemmas.{decode_of-digits, decode_of-ok}
 use Rattle.bson_doc.specs.Tree.{Tree, int32, int64}
@@ -14,18 +16,18 @@ use Rattle.doc_text.specs.declared.fault.Fault.{Fault}
 use Rattle.doc_text.specs.declared.fault.Rule.TheVariants.{Unexpected, Number}
 use Rattle.doc_text.specs.Bytes.{is_space}
 use Rattle.doc_text.specs.Class.{behind_spaces}
-use Rattle.doc_text.specs.Fault.{◌>>=◌, fails}
+use Rattle.doc_text.specs.Fault.{fails}
 use Rattle.doc_text.specs.Marks.{mark_at, spaced_at, closing_at, word_at, opened_at}
 use Rattle.doc_text.specs.Integers.{fits, ranged, digits_at, integer_at, natural_at, long_at, kind_at, number_at}
 use Rattle.doc_text.specs.HexText.{bytes_of, closed_at, hex_fault, binary_hex_at, id_hex_at}
-use Rattle.doc_text.specs.Spelling.{IsSpaces, IsSpaced, IsClosing, SpellsInteger, SpellsNatural, Spells, levels, GoesNoFurther}
+use Rattle.doc_text.specs.Spelling.{IsSpaces, IsSpaced, IsClosing, SpellsInteger, SpellsNatural, Spells, GoesNoFurther}
 use Rattle.doc_text.proofs.Numerals.{run_of_digits}
 use Rattle.std.proofs.Common.{nat_le}
 use Rattle.std.specs.List.{AllPass}
 use Rattle.doc_text.proofs.HexTexts.{run_of_hex_digits, some_digits, decoded}
 use Rattle.doc_text.proofs.SpelledMarks.{first_stops}
 use Rattle.doc_text.proofs.SpelledNumbers.{unsigned_value}
-use Rattle.doc_text.proofs.Results.{Gets, bind_gets, gets_more, cond_gets}
+use Rattle.bson_doc.proofs.BindLemmas.{Gets, bind_gets, gets_more, cond_gets}
 
 -- ---- marks
 
@@ -161,7 +163,7 @@ long_gets text =
 
 -- what is read of a text stands at its front as far as it goes
 abbrev pub StandsAs : ℕ → List ℕ → Tree × List ℕ → Type 0
-StandsAs most input x = (s : List ℕ) × Spells x.0 s × (input ≡ s ++ x.1) × GoesNoFurther x.0 x.1 × (levels x.0 ≤ most)
+StandsAs most input x = (s : List ℕ) × Spells x.0 s × (input ≡ s ++ x.1) × GoesNoFurther x.0 x.1 × (value_levels x.0 ≤ most)
 
 kind_gets : (most : ℕ) (input numeral rest : List ℕ) → IntegerRead input (numeral, rest) → Gets (kind_at input numeral rest) (StandsAs most input)
 kind_gets most input numeral [] got =

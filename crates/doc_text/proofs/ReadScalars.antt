@@ -1,16 +1,17 @@
 -- What is read is a spelling of what is given: values that hold no others.
 use Rattle.std.proofs.Common.{◌≡◌, ℕ, ◌^◌, ◌≤◌, true, false, List, [], ◌∷◌, ◌++◌, ◌==◌, length, refl, sym, ap, ◌∙◌, append_assoc, arith}
 use Rattle.std.specs.Prelude.{codes}
+use Rattle.bson_doc.specs.Length.{value_levels}
 use Rattle.bson_doc.specs.Tree.{Tree, null, boolean}
 use Rattle.doc_text.specs.Marks.{mark_at, spaced_at, closing_at, word_at, opened_at}
 use Rattle.doc_text.specs.Integers.{fits, natural_at, long_at}
 use Rattle.doc_text.specs.Strings.{letters_at}
 use Rattle.doc_text.specs.HexText.{binary_hex_at, id_hex_at}
 use Rattle.doc_text.specs.Scalars.{string_at, date_at, first_at, binary_at, id_at, time_at, constant_at, scalar_at}
-use Rattle.doc_text.specs.Spelling.{IsSpaced, IsClosing, SpellsString, SpellsInteger, SpellsNatural, Spells, GoesNoFurther, levels}
+use Rattle.doc_text.specs.Spelling.{IsSpaced, IsClosing, SpellsString, SpellsInteger, SpellsNatural, Spells, GoesNoFurther}
 use Rattle.doc_text.proofs.ReadIsSpelled.{Behind, Opening, StandsAs, HexRead, opened_gets, mark_gets, spaced_gets, closing_gets, word_gets, natural_gets, long_gets, number_gets, binary_hex_gets, id_hex_gets}
 use Rattle.doc_text.proofs.ReadStrings.{LettersRead, letters_gets}
-use Rattle.doc_text.proofs.Results.{Gets, bind_gets, cond_gets}
+use Rattle.bson_doc.proofs.BindLemmas.{Gets, bind_gets, cond_gets}
 
 string_gets : (most : ℕ) (input : List ℕ) → Gets (string_at input) (StandsAs most input)
 unfolding string_at
@@ -20,7 +21,7 @@ string_gets most input =
     let spelled : SpellsString false string.0 (34 ∷ got.1) = record { letters = got.0; behind = got.1; spelled = got.2; whole = refl } in
     (34 ∷ got.1, spelled, opened ∙ ap (λ (x : List ℕ). 34 ∷ x) got.3, tt, omega arith)))
 
-constant_gets : (most : ℕ) (word : List ℕ) (value : Tree) (input : List ℕ) → Spells value word → ((rest : List ℕ) → GoesNoFurther value rest) → levels value ≤ most → Gets (constant_at word value input) (StandsAs most input)
+constant_gets : (most : ℕ) (word : List ℕ) (value : Tree) (input : List ℕ) → Spells value word → ((rest : List ℕ) → GoesNoFurther value rest) → value_levels value ≤ most → Gets (constant_at word value input) (StandsAs most input)
 unfolding constant_at
 constant_gets most word value input spelled whole shallow =
     bind_gets (word_at word input) _ (λ rest. input ≡ word ++ rest) (StandsAs most input) (word_gets word input) (λ rest got. (word, spelled, got, whole rest, shallow))

@@ -16,7 +16,7 @@ use Rattle.doc_text.specs.Printing.{is_bare}
 use Rattle.doc_text.specs.Spelling.{Letter, itself, named, coded, written, IsCode, Means, SpellsLetters, SpellsString, SpellsName}
 use Rattle.doc_text.proofs.NamesAreClean.{no_zero, letters_clean, bare_clean}
 use Rattle.doc_text.proofs.ReadIsSpelled.{same}
-use Rattle.doc_text.proofs.Results.{Gets, bind_gets, gets_more, cond_gets}
+use Rattle.bson_doc.proofs.BindLemmas.{Gets, bind_gets, gets_more, cond_gets}
 
 -- ---- escapes
 

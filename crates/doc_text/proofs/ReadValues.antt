@@ -2,6 +2,7 @@
 use Rattle.std.proofs.Common.{◌≡◌, ℕ, zero, suc, ◌-◌, ◌≤◌, true, List, [], ◌∷◌, ◌++◌, ◌||◌, length, drop, None, Ok, refl, sym, ap, subst, ◌∙◌, append_assoc, arith}
 use Rattle.std.specs.Prelude.{is_some, Contains}
 use Rattle.std.proofs.lemmas.List.{length-drop, length-append}
+use Rattle.bson_doc.specs.Length.{value_levels, fields_levels, items_levels}
 use Rattle.bson_doc.specs.Tree.{Tree, document, array, Fields, no_fields, field, Trees, no_items, item, IsDocument, found, with_field, with_item}
 use Rattle.bson_doc.proofs.DocLemmas.{IsDocument-with_field}
 use Rattle.doc_text.specs.declared.fault.Rule.TheVariants.{TooDeep}
@@ -11,13 +12,13 @@ use Rattle.doc_text.specs.Marks.{begins_with, mark_at, spaced_at}
 use Rattle.doc_text.specs.Names.{name_at}
 use Rattle.doc_text.specs.Scalars.{scalar_at}
 use Rattle.doc_text.specs.Values.{key_at, field_at, item_at, members_at, inside_at, listed_at, document_at, array_at, value_at}
-use Rattle.doc_text.specs.Spelling.{IsSpaced, IsClosing, SpellsName, SpellsField, Spells, SpellsFields, SpellsItems, SpellsLaterFields, SpellsLaterItems, levels, field_levels, item_levels, Stands}
+use Rattle.doc_text.specs.Spelling.{IsSpaced, IsClosing, SpellsName, SpellsField, Spells, SpellsFields, SpellsItems, SpellsLaterFields, SpellsLaterItems, Stands}
 use Rattle.doc_text.proofs.Members.{not_found}
 use Rattle.doc_text.proofs.SpelledIsRead.{joined, joined-is, joined_items, joined_items-is}
 use Rattle.doc_text.proofs.ReadIsSpelled.{same, Behind, StandsAs, mark_gets, spaced_gets, spaces_front}
 use Rattle.doc_text.proofs.ReadStrings.{NameRead, name_gets}
 use Rattle.doc_text.proofs.ReadScalars.{scalar_gets}
-use Rattle.doc_text.proofs.Results.{Gets, bind_gets, gets_more, cond_gets}
+use Rattle.bson_doc.proofs.BindLemmas.{Gets, bind_gets, gets_more, cond_gets}
 
 -- what a reader of members gives stands there
 abbrev pub Sound : ℕ → (List ℕ → Read Tree) → Type 0
@@ -47,7 +48,7 @@ pub record FieldRead (most : ℕ) (so_far : Fields) (input : List ℕ) (x : Fiel
   pub clean : ¬ Contains name 0
   pub spelled : SpellsField name (Spells value) one
   pub whole : input ≡ one ++ x.1
-  pub shallow : levels value ≤ most
+  pub shallow : value_levels value ≤ most
 
 -- a name with its colon
 abbrev KeyRead : Fields → List ℕ → List ℕ × List ℕ → Type 0
@@ -92,8 +93,8 @@ pub record FieldsRead (most : ℕ) (so_far : Fields) (input : List ℕ) (x : Fie
   pub spelled : SpellsField name (Spells value) one
   pub behind : SpellsLaterFields others later
   pub whole : input ≡ one ++ (later ++ x.1)
-  pub shallow : levels value ≤ most
-  pub others_shallow : field_levels others ≤ most
+  pub shallow : value_levels value ≤ most
+  pub others_shallow : fields_levels others ≤ most
 
 fields_gets : (most : ℕ) (member : List ℕ → Read Tree) → Sound most member → (fuel : ℕ) (so_far : Fields) (input : List ℕ) → Gets (members_at (field_at member) 125 fuel so_far input) (FieldsRead most so_far input)
 unfolding members_at
@@ -146,8 +147,8 @@ pub record ItemsRead (most : ℕ) (so_far : Trees) (input : List ℕ) (x : Trees
   pub spelled : Spells value one
   pub behind : SpellsLaterItems others later
   pub whole : input ≡ one ++ (later ++ x.1)
-  pub shallow : levels value ≤ most
-  pub others_shallow : item_levels others ≤ most
+  pub shallow : value_levels value ≤ most
+  pub others_shallow : items_levels others ≤ most
 
 -- an item, with the items that there are then
 abbrev ItemRead : ℕ → Trees → List ℕ → Trees × List ℕ → Type 0

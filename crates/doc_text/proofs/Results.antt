@@ -1,32 +1,7 @@
--- What holds of what is read, step by step.
-use Rattle.std.proofs.Common.{◌≡◌, Bool, true, false, cond, Result, Ok, Err, refl}
+-- What holds whatever a result is.
+use Rattle.std.proofs.Common.{Result, Ok, Err}
 use Rattle.std.specs.Result.{OnOk}
-use Rattle.doc_text.specs.declared.fault.Fault.{Fault}
-use Rattle.doc_text.specs.Fault.{◌>>=◌}
 
--- a fact of what is read, if something is
-abbrev pub Gets : {A : Type 0} → Result A Fault → (A → Type 0) → Type 0
-Gets (Ok x) P = P x
-Gets (Err e) P = Unit {0}
-
-pub bind_gets : {A B : Type 0} (r : Result A Fault) (f : A → Result B Fault) (P : A → Type 0) (Q : B → Type 0) → Gets r P → ((x : A) → P x → Gets (f x) Q) → Gets (r >>= f) Q
-bind_gets (Ok x) f P Q one later = later x one
-bind_gets (Err e) f P Q one later = tt
-
-pub gets_more : {A : Type 0} (r : Result A Fault) (P Q : A → Type 0) → Gets r P → ((x : A) → P x → Q x) → Gets r Q
-gets_more (Ok x) P Q one more = more x one
-gets_more (Err e) P Q one more = tt
-
-pub cond_gets : {A : Type 0} (b : Bool) (x y : Result A Fault) (Q : A → Type 0) → (b ≡ true → Gets x Q) → (b ≡ false → Gets y Q) → Gets (cond b x y) Q
-cond_gets true x y Q one two = one refl
-cond_gets false x y Q one two = two refl
-
--- a test that didn't refuse
-pub guard_ok : {A : Type 0} (b : Bool) (d : Fault) (x y : A) → cond b (Err d) (Ok x) ≡ Ok y → (b ≡ false) × (x ≡ y)
-guard_ok true d x y e = absurd cc
-guard_ok false d x y e = (refl, cc)
-
--- what holds whatever the result is
 pub always : {A E : Type 0} (r : Result A E) (P : Type 0) → P → OnOk r P
 always (Ok x) P holds = holds
 always (Err e) P holds = tt

@@ -5,6 +5,7 @@ use Rattle.std.specs.List.{prefix_len}
 use Rattle.std.specs.Str.{bytes_eq}
 use Rattle.std.proofs.lemmas.Cmp.{nat_list_eq_equiv}
 use Rattle.std.proofs.lemmas.List.{length-append, length-drop}
+use Rattle.bson_doc.specs.Length.{value_levels, fields_levels, items_levels}
 use Rattle.bson_doc.specs.Tree.{Tree, null, int32, int64, text, document, array, binary, object_id, boolean, date, timestamp, Fields, no_fields, field, Trees, no_items, item, IsDocument, found, with_field, with_item}
 use Rattle.doc_text.specs.declared.fault.Fault.{Fault}
 use Rattle.bson_doc.proofs.DocLemmas.{not_first}
@@ -12,7 +13,7 @@ use Rattle.doc_text.specs.Class.{behind_spaces}
 use Rattle.doc_text.specs.Fault.{placed}
 use Rattle.doc_text.specs.Marks.{begins_with, spaced_at}
 use Rattle.doc_text.specs.Values.{field_at, item_at, members_at, document_at, array_at, value_at, in_text, answer_at}
-use Rattle.doc_text.specs.Spelling.{IsSpaced, SpellsField, Spells, SpellsFields, SpellsItems, SpellsLaterFields, SpellsLaterItems, levels, field_levels, item_levels, Stands}
+use Rattle.doc_text.specs.Spelling.{IsSpaced, SpellsField, Spells, SpellsFields, SpellsItems, SpellsLaterFields, SpellsLaterItems, Stands}
 use Rattle.doc_text.proofs.Members.{opened, nothing, ended, further, item_read}
 use Rattle.doc_text.proofs.SpelledMarks.{NoSpace, behind_spaces-over, spaced_over, mark_over, before_mark, before_closing, spaced_stops, closing_stops, goes_on, goes_no_further}
 use Rattle.doc_text.proofs.SpelledScalars.{int32_read, int64_read, string_read, date_read, id_read, binary_read, time_read}
@@ -177,7 +178,7 @@ unfolding value_at
 array_value most items inside rest each spelled = rw (array_over most items inside rest each spelled) refl
 
 mutual
-  pub all_read : (tree : Tree) (most : ℕ) → levels tree ≤ most → Reads most tree
+  pub all_read : (tree : Tree) (most : ℕ) → value_levels tree ≤ most → Reads most tree
   all_read null most shallow = λ s rest spelled whole. rw spelled (value_scalar most (codes "null" ++ rest) (null, rest) (constant_null rest))
   all_read (int32 number) most shallow = λ s rest spelled whole. value_scalar most (s ++ rest) (int32 number, rest) (int32_read number s rest spelled.0 spelled.1 whole)
   all_read (int64 number) most shallow = λ s rest spelled whole. value_scalar most (s ++ rest) (int64 number, rest) (int64_read number spelled.0 s rest spelled.1 spelled.2 spelled.3)
@@ -193,11 +194,11 @@ mutual
   all_read (array items) zero shallow = absurd (omega arith)
   all_read (array items) (suc most) shallow = λ s rest spelled whole. rw spelled.2 (array_value most items spelled.0 rest (items_each items most (omega arith)) spelled.1)
 
-  pub fields_each : (fields : Fields) (most : ℕ) → field_levels fields ≤ most → EachField most fields
+  pub fields_each : (fields : Fields) (most : ℕ) → fields_levels fields ≤ most → EachField most fields
   fields_each no_fields most shallow = tt
   fields_each (field name value others) most shallow = (all_read value most (omega arith), fields_each others most (omega arith))
 
-  pub items_each : (items : Trees) (most : ℕ) → item_levels items ≤ most → EachItem most items
+  pub items_each : (items : Trees) (most : ℕ) → items_levels items ≤ most → EachItem most items
   items_each no_items most shallow = tt
   items_each (item value others) most shallow = (all_read value most (omega arith), items_each others most (omega arith))
 

@@ -12,11 +12,6 @@ use Rattle.doc_text.specs.declared.fault.ReadError.TheVariants as stops
 abbrev pub Read : Type 0 → Type 0
 Read A = Result (A × List ℕ) Fault
 
-infixl 10 ◌>>=◌
-abbrev pub ◌>>=◌ : {A B : Type 0} → Result A Fault → (A → Result B Fault) → Result B Fault
-(Ok x) >>= f = f x
-(Err e) >>= f = Err e
-
 -- a rule that is broken at the first byte of a text, or at its end
 abbrev pub fault_at : Rule → List ℕ → Fault
 fault_at rule text = record { rule = rule; left = length text }

@@ -3,9 +3,10 @@ use Rattle.std.specs.Prelude.{ℕ, ℤ, pos, negsuc, ◌^◌, Bool, List, [], �
 use Rattle.std.specs.List.{prefix_len}
 use Rattle.std.specs.Char.{is_ascii_digit}
 use Rattle.std.specs.Str.Parse.{digits_value, signed_digits_value}
+use Rattle.bson_doc.specs.Bind.{◌>>=◌}
 use Rattle.bson_doc.specs.Tree.{Tree, int32, int64}
 use Rattle.doc_text.specs.declared.fault.Rule.TheVariants.{Unexpected, Number}
-use Rattle.doc_text.specs.Fault.{Read, ◌>>=◌, fails}
+use Rattle.doc_text.specs.Fault.{Read, fails}
 
 -- whether a number is one of a signed type, whose greatest number is below the limit
 abbrev pub fits : ℕ → ℤ → Bool

@@ -1,9 +1,10 @@
 -- Single marks and words, and the spaces round them.
 use Rattle.std.specs.Prelude.{ℕ, Bool, false, List, [], ◌∷◌, Result, Ok, ◌==◌, if◌then◌else◌}
+use Rattle.bson_doc.specs.Bind.{◌>>=◌}
 use Rattle.doc_text.specs.declared.fault.Rule.TheVariants.{Unexpected}
 use Rattle.doc_text.specs.declared.fault.Fault.{Fault}
 use Rattle.doc_text.specs.Class.{behind_spaces}
-use Rattle.doc_text.specs.Fault.{◌>>=◌, fails}
+use Rattle.doc_text.specs.Fault.{fails}
 
 abbrev pub begins_with : ℕ → List ℕ → Bool
 begins_with mark [] = false

@@ -1,8 +1,9 @@
 -- Values that hold no others, told apart by their first byte.
 use Rattle.std.specs.Prelude.{ℕ, ◌+◌, ◌*◌, ◌^◌, true, false, List, [], ◌∷◌, length, codes, Ok, ◌==◌, if◌then◌else◌}
+use Rattle.bson_doc.specs.Bind.{◌>>=◌}
 use Rattle.bson_doc.specs.Tree.{Tree, null, text, binary, object_id, boolean, date, timestamp}
 use Rattle.doc_text.specs.declared.fault.Rule.TheVariants.{Unexpected}
-use Rattle.doc_text.specs.Fault.{Read, ◌>>=◌, fails}
+use Rattle.doc_text.specs.Fault.{Read, fails}
 use Rattle.doc_text.specs.Marks.{mark_at, spaced_at, closing_at, word_at, opened_at}
 use Rattle.doc_text.specs.Integers.{natural_at, long_at, number_at}
 use Rattle.doc_text.specs.Strings.{letters_at}

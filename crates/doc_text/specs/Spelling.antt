@@ -5,6 +5,7 @@ use Rattle.std.specs.Char.{is_ascii_digit}
 use Rattle.std.specs.Str.Parse.{IsNumeral, digits_value}
 use Rattle.hex.specs.Hex.{IsBytes, hex_digit_value, decode_of}
 use Rattle.bson_doc.specs.Tree.{Tree, null, int32, int64, text, document, array, binary, object_id, boolean, date, timestamp, Fields, no_fields, field, Trees, no_items, item, IsDocument}
+use Rattle.bson_doc.specs.Length.{value_levels}
 use Rattle.doc_text.specs.Bytes.{is_plain}
 use Rattle.doc_text.specs.Strings.{named_character}
 use Rattle.doc_text.specs.Integers.{fits}
@@ -169,21 +170,6 @@ abbrev mutual
   AreAllLawful no_items = Unit {0}
   AreAllLawful (item value others) = IsLawful value × AreAllLawful others
 
--- how many levels of documents and arrays a value has
-abbrev mutual
-  pub levels : Tree → ℕ
-  levels (document fields) = suc (field_levels fields)
-  levels (array items) = suc (item_levels items)
-  levels _ = 0
-
-  pub field_levels : Fields → ℕ
-  field_levels no_fields = 0
-  field_levels (field name value others) = max (levels value) (field_levels others)
-
-  pub item_levels : Trees → ℕ
-  item_levels no_items = 0
-  item_levels (item value others) = max (levels value) (item_levels others)
-
 -- whether a text begins with what a number would go on with
 abbrev pub continues_number : List ℕ → Bool
 continues_number [] = false
@@ -199,7 +185,7 @@ pub record Stands (bytes : List ℕ) (at : ℕ) (tree : Tree) (end : ℕ) : Type
   pub spelling : List ℕ
   pub rest : List ℕ
   pub spelled : Spells tree spelling
-  pub shallow : levels tree ≤ 100
+  pub shallow : value_levels tree ≤ 100
   pub parts : drop at bytes ≡ spelling ++ rest
   pub whole : GoesNoFurther tree rest
   pub place : end ≡ at + length spelling

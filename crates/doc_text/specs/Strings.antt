@@ -1,9 +1,10 @@
 -- Strings and their escapes.
 use Rattle.std.specs.Prelude.{ℕ, zero, suc, ◌+◌, ◌*◌, Bool, List, [], ◌∷◌, ◌++◌, Option, Some, None, Ok, ◌==◌, ◌&&◌, nat_le, if◌then◌else◌, encode_utf8}
 use Rattle.hex.specs.Hex.{hex_digit_value}
+use Rattle.bson_doc.specs.Bind.{◌>>=◌}
 use Rattle.doc_text.specs.declared.fault.Rule.TheVariants.{Unexpected, Escape, NameZero}
 use Rattle.doc_text.specs.Bytes.{is_plain}
-use Rattle.doc_text.specs.Fault.{Read, ◌>>=◌, fails}
+use Rattle.doc_text.specs.Fault.{Read, fails}
 
 -- what is found at the first byte of a text, or an Escape there
 abbrev pub or_escape : Option ℕ → List ℕ → List ℕ → Read ℕ

@@ -1,5 +1,6 @@
 -- Values, with the documents and arrays among them.
 use Rattle.std.specs.Prelude.{◌≡◌, ℕ, zero, suc, ◌-◌, ◌||◌, List, length, drop, Result, Ok, Err, if◌then◌else◌, is_some}
+use Rattle.bson_doc.specs.Bind.{◌>>=◌}
 use Rattle.bson_doc.specs.declared.doc.Value.{Value}
 use Rattle.bson_doc.specs.Tree.{Tree, document, array, Fields, no_fields, Trees, no_items, found, with_field, with_item}
 use Rattle.bson_doc.specs.View.{tree_of}
@@ -7,7 +8,7 @@ use Rattle.doc_text.specs.declared.errors.TextError.{TextError}
 use Rattle.doc_text.specs.declared.errors.TextError.TheVariants as errors
 use Rattle.doc_text.specs.declared.fault.Rule.TheVariants.{Unexpected, DuplicateName, TooDeep}
 use Rattle.doc_text.specs.Class.{behind_spaces}
-use Rattle.doc_text.specs.Fault.{Read, ◌>>=◌, fails, placed}
+use Rattle.doc_text.specs.Fault.{Read, fails, placed}
 use Rattle.doc_text.specs.Marks.{begins_with, mark_at, spaced_at}
 use Rattle.doc_text.specs.Names.{name_at}
 use Rattle.doc_text.specs.Scalars.{scalar_at}

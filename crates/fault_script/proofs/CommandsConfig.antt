@@ -10,7 +10,8 @@ use Rattle.member_config.specs.declared.config.Config.{Config}
 use Rattle.member_config.specs.Json.{between, integer_in, or_default, integer_at, integer_or, member_of, members_of, is_plain, chaining_of, config_of, config_in}
 use Rattle.set_model.specs.Limits.{is_within_member, is_within_config}
 use Rattle.fault_script.specs.Configs.{or_bad_config}
-use Rattle.fault_script.proofs.Gets.{Gets, Has, and_then_has, map_has, if_has, both}
+use Rattle.bson_doc.proofs.BindLemmas.{Gets}
+use Rattle.fault_script.proofs.Gets.{Has, and_then_has, map_has, if_has, both}
 
 abbrev IsBetween : ℕ → ℕ → ℕ → Type 0
 IsBetween low high number = (nat_le low number && nat_le number high) ≡ true

@@ -22,7 +22,8 @@ use Rattle.fault_script.specs.Words.{Left, behind_word, word_at, number_of, numb
 use Rattle.fault_script.specs.Configs.{config_of}
 use Rattle.fault_script.specs.Values.{text_at, value_at, behind_space, last_value, last_document}
 use Rattle.fault_script.specs.Commands.{write_kind, insert_at, delete_at, replace_at, update_at, write_at, write_command, begin_kind, begin_at, commit_at, abort_at, ack_at, read_at, dump_at, heartbeat_at, report_at, common_at, apply_at, reconfig_at, crash_at, disk_fail_at, clock_at, of_node, deliver_one, deliver_latest, deliver_at, words_at}
-use Rattle.fault_script.proofs.Gets.{Gets, bind_gets, bind_any, either, tested, ended_gets, both}
+use Rattle.bson_doc.proofs.BindLemmas.{Gets, bind_gets, cond_gets}
+use Rattle.fault_script.proofs.Gets.{bind_any, tested, ended_gets, both}
 use Rattle.fault_script.proofs.CommandsConfig.{config_text_within}
 
 -- ---- words
@@ -62,7 +63,7 @@ other_within : (nodes node : ℕ) (left : Left) → Gets (other_node_at nodes no
 unfolding other_node_at
 other_within nodes node left =
     bind_gets (node_at nodes left) _ (λ x. IsOurs nodes x.0) (λ x. IsOurs nodes x.0) (node_within nodes left) (λ other ours.
-    either (other.0 == node) _ _ (λ x. IsOurs nodes x.0) (λ same. tt) (λ apart. ours))
+    cond_gets (other.0 == node) _ _ (λ x. IsOurs nodes x.0) (λ same. tt) (λ apart. ours))
 
 small : (writer : ℕ) → IsIn 0 999 writer → nat_lt writer 1000 ≡ true
 small writer within = grind arith
@@ -84,7 +85,7 @@ target_gets : (word : List ℕ) → Gets (target_of word) IsTargetIn
 unfolding writer_target optime_target
 target_gets [] = tt
 target_gets (c ∷ digits) =
-    either (c == 119) _ _ IsTargetIn
+    cond_gets (c == 119) _ _ IsTargetIn
     (λ writer. bind_gets (number_of BadWord BadWord 0 999 digits) _ (IsIn 0 999) IsTargetIn (number_gets BadWord BadWord 0 999 digits) (λ number within. small number within))
     (λ other. bind_any (optime_of (c ∷ digits)) _ IsTargetIn (λ at. refl))
 
@@ -97,7 +98,7 @@ unfolding concern_at concern_of
 concern_within left =
     bind_any (word_at left) _ (λ x. is_within_concern x.0 ≡ true) (λ word.
     bind_gets (concern_of word.0) _ (λ concern. is_within_concern concern ≡ true) (λ x. is_within_concern x.0 ≡ true)
-    (either (bytes_eq word.0 (codes "majority")) _ _ (λ concern. is_within_concern concern ≡ true) (λ majority. refl)
+    (cond_gets (bytes_eq word.0 (codes "majority")) _ _ (λ concern. is_within_concern concern ≡ true) (λ majority. refl)
     (λ other. bind_gets (number_of BadWord BadNumber 1 50 word.0) _ (IsIn 1 50) (λ concern. is_within_concern concern ≡ true) (number_gets BadWord BadNumber 1 50 word.0) (λ count within. within)))
     (λ concern within. within))
 

@@ -1,28 +1,17 @@
 -- Facts of what is read.
 use Rattle.std.proofs.Common.{◌≡◌, ◌&&◌, Bool, true, false, cond, Option, None, Some, Result, Ok, Err, refl}
 use Rattle.std.specs.Prelude.{option_and_then, option_map}
+use Rattle.bson_doc.specs.Bind.{◌>>=◌}
+use Rattle.bson_doc.proofs.BindLemmas.{Gets, cond_gets}
 use Rattle.fault_script.specs.declared.rule.ScriptRule.{ScriptRule}
-use Rattle.fault_script.specs.Words.{Left, ◌>>=◌, ended}
-
--- a fact of what is read, if something is
-abbrev pub Gets : {A : Type 0} → Result A ScriptRule → (A → Type 0) → Type 0
-Gets (Ok x) P = P x
-Gets (Err rule) P = Unit {0}
-
-pub bind_gets : {A B : Type 0} (r : Result A ScriptRule) (f : A → Result B ScriptRule) (P : A → Type 0) (Q : B → Type 0) → Gets r P → ((x : A) → P x → Gets (f x) Q) → Gets (r >>= f) Q
-bind_gets (Ok x) f P Q one later = later x one
-bind_gets (Err rule) f P Q one later = tt
+use Rattle.fault_script.specs.Words.{Left, ended}
 
 pub bind_any : {A B : Type 0} (r : Result A ScriptRule) (f : A → Result B ScriptRule) (Q : B → Type 0) → ((x : A) → Gets (f x) Q) → Gets (r >>= f) Q
 bind_any (Ok x) f Q later = later x
 bind_any (Err rule) f Q later = tt
 
-pub either : {A : Type 0} (b : Bool) (x y : Result A ScriptRule) (Q : A → Type 0) → (b ≡ true → Gets x Q) → (b ≡ false → Gets y Q) → Gets (cond b x y) Q
-either true x y Q one other = one refl
-either false x y Q one other = other refl
-
 pub tested : {A : Type 0} (b : Bool) (x : Result A ScriptRule) (rule : ScriptRule) (Q : A → Type 0) → (b ≡ true → Gets x Q) → Gets (cond b x (Err rule)) Q
-tested b x rule Q passed = either b x (Err rule) Q passed (λ other. tt)
+tested b x rule Q passed = cond_gets b x (Err rule) Q passed (λ other. tt)
 
 pub ended_gets : {A : Type 0} (left : Left) (value : A) (Q : A → Type 0) → Q value → Gets (ended left value) Q
 ended_gets None value Q holds = holds

@@ -20,7 +20,8 @@ use Rattle.fault_script.specs.Set.{set_line}
 use Rattle.fault_script.specs.Lines.{text_of, is_passed_over}
 use Rattle.fault_script.specs.Commands.{keyword_at, words_at}
 use Rattle.fault_script.specs.Script.{Thread, in_last, start, begin_block, begin_thread, end_block, add_command, with_keyword, with_command, with_text, with_line, whole, and_then, script_from, script, lines_of, lines_in}
-use Rattle.fault_script.proofs.Gets.{Gets, bind_any, either, tested}
+use Rattle.bson_doc.proofs.BindLemmas.{Gets, cond_gets}
+use Rattle.fault_script.proofs.Gets.{bind_any, tested}
 use Rattle.fault_script.proofs.WholeRead.{counted}
 
 -- ---- how many commands there are
@@ -102,7 +103,7 @@ line_counts : (number : ℕ) (reading : Reading) (line : List ℕ) → Gets (wit
 unfolding with_line
 line_counts number reading line =
     bind_any (text_of number line) _ (OneMore reading) (λ text.
-    either (is_passed_over text) _ _ (OneMore reading) (λ passed. omega arith) (λ other. text_counts number reading text reading.set))
+    cond_gets (is_passed_over text) _ _ (OneMore reading) (λ passed. omega arith) (λ other. text_counts number reading text reading.set))
 
 -- ---- the whole
 

@@ -24,7 +24,8 @@ use Rattle.fault_script.specs.Set.{set_line, sizes_at}
 use Rattle.fault_script.specs.Lines.{text_of, is_passed_over}
 use Rattle.fault_script.specs.Commands.{keyword_at, words_at}
 use Rattle.fault_script.specs.Script.{Thread, in_last, start, with_part, with_block, begin_block, begin_thread, end_block, add_command, with_keyword, with_command, with_set, with_text, with_line, whole, and_then, script_from, script, is_part_for, sizes_of}
-use Rattle.fault_script.proofs.Gets.{Gets, bind_gets, bind_any, either, tested, ended_gets, both}
+use Rattle.bson_doc.proofs.BindLemmas.{Gets, bind_gets, cond_gets}
+use Rattle.fault_script.proofs.Gets.{bind_any, tested, ended_gets, both}
 use Rattle.fault_script.proofs.CommandsFit.{IsIn, number_within, optional_within, words_within}
 
 abbrev is_thread_for : ℕ → Thread → Bool
@@ -151,7 +152,7 @@ line_fit : (number : ℕ) (reading : Reading) (line : List ℕ) → AreFit readi
 unfolding with_line
 line_fit number reading line fit =
     bind_any (text_of number line) _ AreFit (λ text.
-    either (is_passed_over text) _ _ AreFit (λ passed. fit) (λ other. text_fit number reading text reading.set refl fit))
+    cond_gets (is_passed_over text) _ _ AreFit (λ passed. fit) (λ other. text_fit number reading text reading.set refl fit))
 
 -- ---- the whole
 

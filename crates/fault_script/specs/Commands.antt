@@ -1,6 +1,7 @@
 -- The command of a line, by its first word.
 use Rattle.std.specs.Prelude.{ℕ, List, codes, Option, None, Some, Result, Ok, Err, if◌then◌else◌}
 use Rattle.std.specs.Str.{bytes_eq}
+use Rattle.bson_doc.specs.Bind.{◌>>=◌}
 use Rattle.doc_update.specs.declared.write.WriteOp.{WriteOp}
 use Rattle.doc_update.specs.declared.write.WriteOp.TheVariants as ops
 use Rattle.set_model.specs.declared.command.Command.{Command}
@@ -18,7 +19,7 @@ use Rattle.fault_script.specs.declared.verb.NodeVerb.TheVariants as asks
 use Rattle.fault_script.specs.declared.verb.WriteKind.{WriteKind}
 use Rattle.fault_script.specs.declared.verb.WriteKind.TheVariants.{Insert, Replace, Update, Delete}
 use Rattle.fault_script.specs.Configs.{config_of}
-use Rattle.fault_script.specs.Words.{Left, ◌>>=◌, behind_word, has_shape, word_at, ended, number_at, optional_at, pick_at, node_at, other_node_at, writer_at, message_at, collection_at, target_at, concern_at, level_at, disk_at}
+use Rattle.fault_script.specs.Words.{Left, behind_word, has_shape, word_at, ended, number_at, optional_at, pick_at, node_at, other_node_at, writer_at, message_at, collection_at, target_at, concern_at, level_at, disk_at}
 use Rattle.fault_script.specs.Values.{value_of, text_at, value_at, behind_space, last_value, last_document}
 
 -- ---- first words

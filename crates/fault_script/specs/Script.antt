@@ -36,6 +36,7 @@
 use Rattle.std.specs.Prelude.{ℕ, ◌≡◌, ◌+◌, Bool, nat_lt, List, [], ◌∷◌, ◌++◌, length, Option, None, Some, Result, Ok, Err, if◌then◌else◌}
 use Rattle.std.specs.List.{list_all, flat_map}
 use Rattle.std.specs.Str.Lines.{lines}
+use Rattle.bson_doc.specs.Bind.{◌>>=◌}
 use Rattle.set_model.specs.declared.command.Command.{Command}
 use Rattle.set_model.specs.Limits.{is_for}
 use Rattle.set_model.specs.Run.{Sizes}
@@ -51,7 +52,7 @@ use Rattle.fault_script.specs.declared.script.Script.{Script}
 use Rattle.fault_script.specs.declared.set.SetLine.{SetLine}
 use Rattle.fault_script.specs.declared.verb.Keyword.{Keyword}
 use Rattle.fault_script.specs.declared.verb.Keyword.TheVariants as keywords
-use Rattle.fault_script.specs.Words.{Left, ◌>>=◌}
+use Rattle.fault_script.specs.Words.{Left}
 use Rattle.fault_script.specs.Set.{set_line}
 use Rattle.fault_script.specs.Commands.{keyword_at, words_at}
 use Rattle.fault_script.specs.Lines.{text_of, is_passed_over}

@@ -1,11 +1,12 @@
 -- The line that names the sizes of the set: `set NODES`, and how many of the nodes are members, or nothing where all are.
 use Rattle.std.specs.Prelude.{ℕ, List, codes, Some, Result, Err, if◌then◌else◌}
 use Rattle.std.specs.Str.{bytes_eq}
+use Rattle.bson_doc.specs.Bind.{◌>>=◌}
 use Rattle.fault_script.specs.declared.rule.ScriptRule.{ScriptRule}
 use Rattle.fault_script.specs.declared.rule.ScriptRule.TheVariants.{NoSetLine, WordCount}
 use Rattle.fault_script.specs.declared.set.SetLine.{SetLine}
 use Rattle.fault_script.specs.declared.shape.Shape.TheVariants.{Words}
-use Rattle.fault_script.specs.Words.{Left, ◌>>=◌, has_shape, word_at, ended, number_at, optional_at}
+use Rattle.fault_script.specs.Words.{Left, has_shape, word_at, ended, number_at, optional_at}
 
 unfoldable pub sizes_at : Left → Result SetLine ScriptRule
 sizes_at left = do

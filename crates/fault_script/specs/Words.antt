@@ -5,6 +5,7 @@ use Rattle.std.specs.Char.{is_ascii_digit}
 use Rattle.std.specs.Str.{bytes_eq}
 use Rattle.std.specs.Str.Parse.{digits_value}
 use Rattle.rs_optime.specs.declared.optime.OpTime.{OpTime}
+use Rattle.bson_doc.specs.Bind.{◌>>=◌}
 use Rattle.set_model.specs.declared.command.AckConcern.{AckConcern}
 use Rattle.set_model.specs.declared.command.AckConcern.TheVariants as concerns
 use Rattle.set_model.specs.declared.command.DiskName.{DiskName}
@@ -26,11 +27,6 @@ Left = Option (List ℕ)
 -- what is read, with what is left then
 abbrev pub Read : Type 0 → Type 0
 Read A = Result (A × Left) ScriptRule
-
-infixl 10 ◌>>=◌
-abbrev pub ◌>>=◌ : {A B : Type 0} → Result A ScriptRule → (A → Result B ScriptRule) → Result B ScriptRule
-(Ok x) >>= f = f x
-(Err rule) >>= f = Err rule
 
 abbrev pub is_space : ℕ → Bool
 is_space c = c == 32
