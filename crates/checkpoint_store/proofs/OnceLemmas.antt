@@ -3,8 +3,7 @@ use Rattle.std.proofs.Common.{◌≡◌, ℕ, ◌^◌, ◌<◌, List, [], ◌∷
 use Rattle.std.specs.Prelude.{All, slice_index}
 use Rattle.std.specs.List.{flat_map}
 use Rattle.std.proofs.lemmas.List.{take_at, drop_at}
-use Rattle.rs_disk.specs.File.{LeavesOnly, contents}
-use Rattle.rs_disk.specs.Images.{read_is_image}
+use Rattle.rs_disk.specs.File.{LeavesOnly}
 use Rattle.rs_disk.specs.State.{State}
 use Rattle.record_file.proofs.ParseLemmas.{one_list}
 use Rattle.rs_optime.specs.declared.optime.OpTime.{OpTime}
@@ -112,6 +111,3 @@ checkpoint_once bytes one two a b =
 pub rest_has : (state : State) (stable : Stable) → IsAtRest state stable → LeavesOnly (λ image. HasCheckpoint image stable) state.file
 rest_has state stable rest image left =
     record { records = rest.records; list = rest_leaves state rest.records rest.rests image left; last = rest.last }
-
-pub rest_reads : (state : State) (stable : Stable) → IsAtRest state stable → HasCheckpoint (contents state.file) stable
-rest_reads state stable rest = rest_has state stable rest (contents state.file) (read_is_image state.file)

@@ -49,7 +49,3 @@ IsBeforeOrAfter records item image = HasJournal image records ⊎ HasJournal ima
 -- every crash leaves these records
 abbrev pub HasOnly : State → List Record → Type 0
 HasOnly state records = LeavesOnly (λ image. HasJournal image records) state.file
-
--- every crash leaves these records, with this one more or without: whether it is there is in doubt
-abbrev pub HasInDoubt : State → List Record → Record → Type 0
-HasInDoubt state records item = LeavesOnly (IsBeforeOrAfter records item) state.file

@@ -1,23 +1,16 @@
 -- A node whose log is fit: each front of it leaves documents that may be stored; and of a primary, what it wrote in its term
 -- and what its writers have open may stand in an oplog.
-use Rattle.std.proofs.Common.{◌≡◌, ◌≢◌, ◌∙◌, ◌≤◌, ◌<◌, inl, inr, ap, sym, subst, refl, arith, ltb-true, ℕ, length, Bool, true, false, ◌&&◌, cond, codes, nat_lt, Option, None, Some, Result, Ok, Err, List, [], ◌∷◌}
-use Rattle.std.proofs.lemmas.Bool.{and_parts}
+use Rattle.std.proofs.Common.{◌≡◌, ◌≢◌, ◌∙◌, ◌≤◌, ◌<◌, inl, inr, ap, sym, subst, refl, arith, ℕ, Bool, true, false, Option, None, Some, Result, Ok, Err, List}
 use Rattle.std.specs.FinMap as maps
-use Rattle.std.specs.List.{list_all}
-use Rattle.std.specs.Char.{is_ascii_alphabetic}
 use Rattle.std.specs.Ordering.{nat_cmp}
-use Rattle.bson_doc.specs.Key.{key_of, same_key}
 use Rattle.bson_doc.specs.Place.{Place}
-use Rattle.bson_doc.specs.Tree.{Tree, Fields, found}
-use Rattle.bson_doc.specs.View.{tree_of}
-use Rattle.bson_doc.specs.declared.key.IdKey.{IdKey}
-use Rattle.doc_update.proofs.StoredLemmas.{IsLogged, IsSoundUpdate, IsStored, write-logged}
-use Rattle.doc_update.specs.Check.{checked, with_key, insert_checked, replace_checked, same_id, update_checked, by_rule, broken_rule, names_id}
+use Rattle.bson_doc.specs.Tree.{Fields, found}
+use Rattle.doc_update.proofs.StoredLemmas.{IsLogged, IsStored, write-logged}
+use Rattle.doc_update.specs.Check.{checked}
 use Rattle.doc_update.specs.Effect.{prepared}
 use Rattle.doc_update.specs.declared.write.Prepared.{Prepared}
 use Rattle.doc_update.specs.declared.write.Prepared.TheVariants as made
 use Rattle.doc_update.specs.declared.write.WriteOp.{WriteOp}
-use Rattle.doc_update.specs.declared.write.WriteOp.TheVariants as ops
 use Rattle.doc_update.specs.declared.write.WriteRefusal.{WriteRefusal}
 use Rattle.oplog_entry.specs.Docs.{docs}
 use Rattle.oplog_entry.specs.Lawful.{IsLawfulOp}
@@ -29,7 +22,7 @@ use Rattle.rs_optime.specs.declared.optime.OpTime.{OpTime}
 use Rattle.set_model.proofs.HoldLemmas.{is_at-only, is_at-other, held_by_none}
 use Rattle.set_model.specs.Admitted.{admitted, or_refused, refusal_of, unless_held}
 use Rattle.set_model.specs.Holds.{is_at, holder}
-use Rattle.set_model.specs.Limits.{IsSoundWrite, collection_of, is_collection, is_name_byte}
+use Rattle.set_model.specs.Limits.{IsSoundWrite, collection_of, is_collection}
 use Rattle.set_model.specs.Node.{Node}
 use Rattle.set_model.specs.Points.{next_optime}
 use Rattle.set_model.specs.Roles.{is_primary}
@@ -39,6 +32,7 @@ use Rattle.set_model.specs.declared.writer.Writer.TheVariants.{Open}
 use Rattle.commit_machine.specs.Words.{Rises}
 use Rattle.commit_machine.specs.Nodes.{In}
 use Rattle.set_model.proofs.EntrySizes.{IsWithin, short_within}
+use Rattle.set_model.proofs.WriteLemmas.{short_name, sound_update}
 use Rattle.safety_laws.proofs.Logged.{next_later}
 use Rattle.safety_laws.proofs.Places.{same_some}
 use Rattle.safety_laws.proofs.Rel.{HasLog}
@@ -159,69 +153,6 @@ written_ready term log writers at op rises stored ready new free = (
 
 -- ---- what a write comes to
 
-sound_update : (op : WriteOp) → IsSoundWrite op → IsSoundUpdate op
-sound_update (ops.Insert ns document) sound = tt
-sound_update (ops.Replace ns id document) sound = tt
-sound_update (ops.Update ns id operators) sound = sound.1
-sound_update (ops.Delete ns id) sound = tt
-
--- a collection's name has at most 64 letters
-name_length : (name : List ℕ) → is_collection name ≡ true → length name ≤ 64
-name_length [] is = cc is
-name_length (first ∷ others) is =
-    let less : length others < 64 = ltb-true (length others) 64 (and_parts (nat_lt (length others) 64) (list_all is_name_byte others) (rest (is_ascii_alphabetic first) (nat_lt (length others) 64) (list_all is_name_byte others) is)).0 in
-    omega (arith, less)
-  where
-    rest : (a b c : Bool) → (a && b && c) ≡ true → (b && c) ≡ true
-    rest true b c all = all
-    rest false b c all = cc all
-
--- the collection of a place that was checked
-first_is : (one two : Place) → ◌≡◌ {A = Result Place WriteRefusal} (Ok one) (Ok two) → one.0 ≡ two.0
-first_is one two same = ap (λ (p : Place). p.0) (whole same)
-  where
-    whole : ◌≡◌ {A = Result Place WriteRefusal} (Ok one) (Ok two) → one ≡ two
-    whole same = cc same
-
-keyed_place : (ns : List ℕ) (key : Option IdKey) (place : Place) → with_key ns key ≡ Ok place → ns ≡ place.0
-keyed_place ns None place is = cc is
-keyed_place ns (Some key) place is = first_is (ns, key) place is
-
-insert_place : (ns : List ℕ) (own : Option Tree) (place : Place) → insert_checked ns own ≡ Ok place → ns ≡ place.0
-insert_place ns None place is = cc is
-insert_place ns (Some id) place is = keyed_place ns (key_of id) place is
-
-replace_place : (ns : List ℕ) (key : Option IdKey) (own : Option Tree) (place : Place) → replace_checked ns key own ≡ Ok place → ns ≡ place.0
-replace_place ns None own place is = cc is
-replace_place ns (Some key) None place is = first_is (ns, key) place is
-replace_place ns (Some key) (Some id) place is = by_own (key_of id) is
-  where
-    by_test : (b : Bool) → ◌≡◌ {A = Result Place WriteRefusal} (cond b (Ok (ns, key)) (Err WriteRefusal.ImmutableId)) (Ok place) → ns ≡ place.0
-    by_test true is = first_is (ns, key) place is
-    by_test false is = cc is
-
-    by_own : (own : Option IdKey) → same_id ns key own ≡ Ok place → ns ≡ place.0
-    by_own None is = cc is
-    by_own (Some own) is = by_test (same_key own key) is
-
-update_place : (ns : List ℕ) (key : Option IdKey) (operators : Fields) (place : Place) → update_checked ns key operators ≡ Ok place → ns ≡ place.0
-update_place ns None operators place is = cc is
-update_place ns (Some key) operators place is = by_found (broken_rule operators) is
-  where
-    by_test : (b : Bool) → ◌≡◌ {A = Result Place WriteRefusal} (cond b (Err WriteRefusal.ImmutableId) (Ok (ns, key))) (Ok place) → ns ≡ place.0
-    by_test true is = cc is
-    by_test false is = first_is (ns, key) place is
-
-    by_found : (rule : Option ℕ) → by_rule ns key (names_id operators) rule ≡ Ok place → ns ≡ place.0
-    by_found (Some rule) is = cc is
-    by_found None is = by_test (names_id operators) is
-
-checked_place : (op : WriteOp) (place : Place) → checked op ≡ Ok place → collection_of op ≡ place.0
-checked_place (ops.Insert ns doc) place is = insert_place ns (found (codes "_id") doc) place is
-checked_place (ops.Replace ns id doc) place is = replace_place ns (key_of (tree_of id)) (found (codes "_id") doc) place is
-checked_place (ops.Update ns id operators) place is = update_place ns (key_of (tree_of id)) operators place is
-checked_place (ops.Delete ns id) place is = keyed_place ns (key_of (tree_of id)) place is
-
 abbrev pub IsAdmitted : Node → Op → Type 0
 IsAdmitted node op = IsReady node.log (next_optime node) op × IsFree node.writers op
 
@@ -236,7 +167,7 @@ admitted_ready node op logged after log stored sound name does = by_place (check
     with_place place is None free (Err why) found_is does = cc does
     with_place place is None free (Ok effect) found_is does = (
       record {
-        fit = (known.lawful, short_within (next_optime node) logged place known.at (subst (λ l. length l ≤ 64) (checked_place op place is) (name_length (collection_of op) name)) known.short);
+        fit = (known.lawful, short_within (next_optime node) logged place known.at (short_name op place is name) known.short);
         newest = λ p here. (
           subst (λ q. IsStored q (document_after logged (doc_at q node.log))) (sym (only p (is_at-only (place_of logged) p here)))
               (subst (λ d. IsStored place (document_after logged d)) (sym (doc_docs place node.log)) known.stored),
