@@ -18,7 +18,7 @@ use version_store::{Shard, shard_of};
 /// An entry, and the document that it touches.
 #[derive(Drop)]
 struct Touch<'a> {
-    ns: Text,
+    ns: &'a Text,
     id: IdKey,
     entry: &'a Entry,
 }
@@ -35,7 +35,7 @@ impl<'a> Model for Touch<'a> {
 
     ghost view = { λ t. t.entry.now };
 
-    ghost invariant = { λ t. place_of t.entry.now.op ≡ Some (t.ns, t.id) };
+    ghost invariant = { λ t. place_of t.entry.now.op ≡ Some (t.ns.now, t.id) };
 }
 
 impl<'a> Touch<'a> {
@@ -44,7 +44,7 @@ impl<'a> Touch<'a> {
         requires { IsLawful entry.now }
         ensures { IfOk result (λ touch. MatchOption touch (place_of entry.now.op ≡ None) (λ t. t ≡ entry.now)) }
     {
-        let Some((ns, id)) = entry.key()? else {
+        let Some((ns, id)) = entry.touched()? else {
             return Ok(None);
         };
         Ok(Some(Touch { ns, id, entry }))
@@ -64,11 +64,10 @@ impl<'a> Touch<'a> {
         ensures ok { OnOk result (IsApplied shard.old shard.new (self.now ∷ [])) }
         ensures err { OnErr result (shard.new ≡ shard.old) }
     {
-        let before = shard.latest(self.ns.as_str(), &self.id);
+        let ns = self.ns.as_str();
+        let before = shard.latest(ns, &self.id);
         let after = document_after(alloc, &self.entry.op, before)?;
-        let ns = self.ns.copy()?;
-        let id = self.id.copy()?;
-        shard.put(ns, id, self.entry.optime, after)
+        shard.put_in(ns, self.id.copy()?, self.entry.optime, after)
     }
 }
 

@@ -109,7 +109,8 @@ impl Shard {
         self.put_in(ns.as_str(), id, at, doc)
     }
 
-    pub(crate) fn put_in(&mut self, ns: &str, id: IdKey, at: OpTime, doc: Option<Doc>) -> Mem<()>
+    /// The same, where the collection's name is lent.
+    pub fn put_in(&mut self, ns: &str, id: IdKey, at: OpTime, doc: Option<Doc>) -> Mem<()>
         requires own { BelongsTo self.old.number self.old.count (ns.now, id) }
         requires later { All (λ version. is_before version.at at ≡ true) (past_of self.old (ns.now, id)).versions }
         ensures ok { OnOk result (ChangesOf self.old self.new (ns.now, id) (with_version (past_of self.old (ns.now, id)) (record { at = at; doc = doc }))) }
