@@ -30,7 +30,7 @@ use Rattle.set_model.specs.Points.{visible_point}
 use Rattle.set_model.specs.Roles.{is_primary}
 use Rattle.node_ledger.specs.Kept.{IsKept, IsHolder}
 use Rattle.node_ledger.specs.Ledger.{applied_after}
-use Rattle.node_ledger.specs.Sound.{IsIdle}
+use Rattle.node_ledger.specs.Sound.{IsIdle, IsSound}
 use Rattle.node_ledger.specs.Versions.{HasVersions, versions_from}
 use Rattle.node_ledger.proofs.FollowLemmas.{other_point}
 use Rattle.node_ledger.proofs.HasLemmas.{has_more, latest-append, latest_has, not_late}
@@ -150,8 +150,8 @@ holder_after place past (entry ∷ entries) =
 -- ---- a batch of a ledger's log
 
 -- what another node than a primary has
-pub stable_applied : (node : Node) (store : Store) → IsKept node store → is_primary node.role ≡ false → is_before node.applied node.stable ≡ false
-stable_applied node store kept other = ap (λ o. is_before o node.stable) (sym (other_point node.role (visible_point node) node.applied other)) ∙ kept.sound.stable
+pub stable_applied : (node : Node) → IsSound node → is_primary node.role ≡ false → is_before node.applied node.stable ≡ false
+stable_applied node sound other = ap (λ o. is_before o node.stable) (sym (other_point node.role (visible_point node) node.applied other)) ∙ sound.stable
 
 versions_applied : (node : Node) (store : Store) → IsKept node store → is_primary node.role ≡ false → (place : Place) → HasVersions place node.stable (log_up_to node.applied node.log) (versions_at store place)
 versions_applied node store kept other place =
@@ -164,7 +164,7 @@ early_versions node store kept other place =
     let before : Option Fields = get (docs (log_up_to node.stable (log_up_to node.applied node.log))) place in
     subst (λ vs. All (λ (v : Version). is_before node.applied v.at ≡ false) vs) (sym has.is)
     (All-append (λ (v : Version). is_before node.applied v.at ≡ false) has.base (versions_from place before (log_behind node.stable (log_up_to node.applied node.log)))
-    (λ k d within. not_then_not (slice_index_or has.base k d).at node.stable node.applied (has.early k d within) (stable_applied node store kept other))
+    (λ k d within. not_then_not (slice_index_or has.base k d).at node.stable node.applied (has.early k d within) (stable_applied node kept.sound other))
     (all_versions (λ o. is_before node.applied o ≡ false) place before (log_behind node.stable (log_up_to node.applied node.log))
     (All-filter (λ (e : Entry). is_before node.stable e.optime) (λ (e : Entry). is_at (place_of e.op) place ≡ true → is_before node.applied e.optime ≡ false) (log_up_to node.applied node.log)
     (λ k d within here. not_late _ (filter-passes (λ (e : Entry). not (is_before node.applied e.optime)) node.log k d within)))))
@@ -198,7 +198,7 @@ kept_batch node store later n kept other some applied =
             (All-take (λ (e : Entry). is_before (last_of node.log) e.optime ≡ false) n (log_behind node.applied node.log)
             (All-filter (λ (e : Entry). is_before node.applied e.optime) (λ (e : Entry). is_before (last_of node.log) e.optime ≡ false) node.log (at_most_last node.log kept.sound.oplog.order)));
         stable = ap (λ o. is_before o node.stable) (other_point node.role (visible_point (record node { applied = last_of (batch_of n node.applied node.log) })) (last_of (batch_of n node.applied node.log)) other)
-            ∙ not_then_not node.stable node.applied (last_of (batch_of n node.applied node.log)) (stable_applied node store kept other)
+            ∙ not_then_not node.stable node.applied (last_of (batch_of n node.applied node.log)) (stable_applied node kept.sound other)
             (not_behind node.applied (last_of (batch_of n node.applied node.log)) (last_late n node.applied node.log some));
       };
       writers = apart_idle (record node { applied = last_of (batch_of n node.applied node.log) }) idle.writers;
@@ -213,7 +213,7 @@ kept_batch node store later n kept other some applied =
     front_order = AllPairs-filter StandsBefore (λ (e : Entry). not (is_before node.applied e.optime)) node.log kept.sound.oplog.order
 
     late : All (λ (e : Entry). is_before node.stable e.optime ≡ true) (batch_of n node.applied node.log)
-    late k d within = at_most_trans node.stable node.applied (slice_index_or (batch_of n node.applied node.log) k d).optime (stable_applied node store kept other) (batch_late n node.applied node.log k d within)
+    late k d within = at_most_trans node.stable node.applied (slice_index_or (batch_of n node.applied node.log) k d).optime (stable_applied node kept.sound other) (batch_late n node.applied node.log k d within)
 
     versions_now : (p : Place) → versions_at later p ≡ versions_at store p ++ versions_from p (get (docs (log_up_to node.applied node.log)) p) (batch_of n node.applied node.log)
     versions_now p =

@@ -16,7 +16,7 @@ use Rattle.oplog_store.proofs.LogLemmas.{oplog_filter}
 use Rattle.repl_msg.specs.Logs.{has_entry}
 use Rattle.repl_msg.proofs.HasLemmas.{same_is}
 use Rattle.version_store.specs.declared.history.Version.{Version}
-use Rattle.version_store.specs.Past.{Past, up_to, back_to, pruned}
+use Rattle.version_store.specs.Past.{Past, pruned}
 use Rattle.version_store.specs.Store.{Store, versions_at, ChangesEach}
 use Rattle.version_store.proofs.HistoryLemmas.{at_most_trans, not_before_itself}
 use Rattle.set_model.specs.declared.command.ReadLevel.TheVariants.{Local}
@@ -31,10 +31,10 @@ use Rattle.node_ledger.specs.Ledger.{IsReadable}
 use Rattle.node_ledger.specs.Sound.{IsSound, IsIdle}
 use Rattle.node_ledger.specs.Versions.{HasVersions, AreSmall, IsSmall, versions_of}
 use Rattle.node_ledger.specs.Writers.{HasOpen}
-use Rattle.node_ledger.proofs.HasLemmas.{has_pruned, has_up_to}
+use Rattle.node_ledger.proofs.HasLemmas.{has_pruned}
 use Rattle.node_ledger.proofs.LogLemmas.{filter-all, up_to-up_to}
 use Rattle.node_ledger.proofs.RoleLemmas.{apart_idle, if_other}
-use Rattle.node_ledger.proofs.ShownLemmas.{shown_order, shown_up_to}
+use Rattle.node_ledger.proofs.ShownLemmas.{shown_order}
 use Rattle.node_ledger.proofs.SoundLemmas.{next_unstable, primary_not, primary_point, writing_primary}
 use Rattle.node_ledger.proofs.VersionLemmas.{up_to-from}
 use Rattle.node_ledger.proofs.VisibleLemmas.{SomeEntry, IsBeforeSlots, filter_some, some_fact, some_more, some_to_last, visible_shown, zero_least}
@@ -102,31 +102,30 @@ small_up_to at log order small place =
 pub other_point : {A : Type 0} → (role : Role) (a b : A) → is_primary role ≡ false → if_primary role a b ≡ b
 other_point role a b not = if_other role Secondary a b a not refl
 
-pub kept_cut : (node : Node) (store later : Store) (point : OpTime) → IsKept node store → is_primary node.role ≡ false → is_before point node.stable ≡ false → is_before node.applied point ≡ false
-    → (point ≡ ZERO) ⊎ (has_entry node.log point ≡ true) → ChangesEach store later (back_to point)
-    → IsKept (record node { log = log_up_to point node.log; applied = point }) later
-kept_cut node store later point kept other behind within is_point changes =
+pub kept_cut : (node : Node) (store : Store) → IsKept node store → is_primary node.role ≡ false → (node.applied ≡ ZERO) ⊎ (has_entry node.log node.applied ≡ true)
+    → IsKept (record node { log = log_up_to node.applied node.log }) store
+kept_cut node store kept other is_point =
     let idle : IsIdle node = kept.sound.idle other in
-    let oplog = oplog_filter (λ (e : Entry). not (is_before point e.optime)) node.log kept.sound.oplog in
+    let at : OpTime = node.applied in
+    let oplog = oplog_filter (λ (e : Entry). not (is_before at e.optime)) node.log kept.sound.oplog in
     record {
       sound = record {
         oplog = oplog;
-        entries = All-filter (λ (e : Entry). not (is_before point e.optime)) IsWithinEntry node.log kept.sound.entries;
-        documents = small_up_to point node.log kept.sound.oplog.order kept.sound.documents;
+        entries = All-filter (λ (e : Entry). not (is_before at e.optime)) IsWithinEntry node.log kept.sound.entries;
+        documents = small_up_to at node.log kept.sound.oplog.order kept.sound.documents;
         term = kept.sound.term;
-        terms = All-filter (λ (e : Entry). not (is_before point e.optime)) (λ (e : Entry). e.optime.term ≤ node.term) node.log kept.sound.terms;
-        marked = All-filter (λ (e : Entry). not (is_before point e.optime)) (λ (e : Entry). e.optime.ts ≤ node.seen) node.log kept.sound.marked;
+        terms = All-filter (λ (e : Entry). not (is_before at e.optime)) (λ (e : Entry). e.optime.term ≤ node.term) node.log kept.sound.terms;
+        marked = All-filter (λ (e : Entry). not (is_before at e.optime)) (λ (e : Entry). e.optime.ts ≤ node.seen) node.log kept.sound.marked;
         idle = λ not. record { slots = idle.slots; writers = idle.writers };
-        applied = cut_reaches point node.log oplog.order is_point;
-        stable = ap (λ p. is_before p node.stable) (other_point node.role (visible_point (record node { log = log_up_to point node.log; applied = point })) point other) ∙ behind;
+        applied = cut_reaches at node.log oplog.order is_point;
+        stable = ap (λ p. is_before p node.stable) (if_other node.role node.role (visible_point (record node { log = log_up_to at node.log })) at (visible_point node) other other) ∙ kept.sound.stable;
       };
-      writers = apart_idle (record node { log = log_up_to point node.log; applied = point }) idle.writers;
-      versions = λ p. subst (λ (past : Past). HasVersions p node.stable (if_primary node.role (log_up_to point node.log) (log_up_to point (log_up_to point node.log))) past.versions) (sym (changes.each p))
-          (subst (λ log. HasVersions p node.stable log (up_to point (versions_at store p)))
-          (shown_up_to node.role node.applied point node.log (λ _. within)
-          ∙ sym (other_point node.role (log_up_to point node.log) (log_up_to point (log_up_to point node.log)) other ∙ up_to-up_to point point node.log (not_before_itself point)))
-          (has_up_to p node.stable point (shown_log node Local) (versions_at store p) (shown_order node.role node.applied node.log kept.sound.oplog.order) behind (kept.versions p)));
-      holders = λ p. subst (λ h. IsHolder node.writers p h) (sym (ap (λ (past : Past). past.holder) (changes.each p))) (kept.holders p);
+      writers = apart_idle (record node { log = log_up_to at node.log }) idle.writers;
+      versions = λ p. subst (λ log. HasVersions p node.stable log (versions_at store p))
+          (other_point node.role node.log (log_up_to at node.log) other
+          ∙ sym (other_point node.role (log_up_to at node.log) (log_up_to at (log_up_to at node.log)) other ∙ up_to-up_to at at node.log (not_before_itself at)))
+          (kept.versions p);
+      holders = kept.holders;
     }
 
 -- ---- behind every entry

@@ -20,12 +20,13 @@ use Rattle.repl_msg.specs.Logs.{log_behind}
 use Rattle.version_store.specs.declared.history.Version.{Version}
 use Rattle.version_store.specs.Past.{latest_of, last_version, up_to, behind, shown, standing}
 use Rattle.version_store.proofs.HistoryLemmas.{at_most_trans, before_trans}
+use Rattle.set_model.proofs.HoldLemmas.{is_at-here, is_at-only, is_at-other}
 use Rattle.set_model.specs.Holds.{is_at}
 use Rattle.node_ledger.specs.Kept.{IsNewest, FitsBeside}
 use Rattle.node_ledger.specs.Versions.{versions_from, HasVersions}
 use Rattle.node_ledger.proofs.LogLemmas.{every_late, parts, up_to-up_to, up_to-late, behind-late, filter-swap, filter-within, filter-all, filter-none, filter-passes}
 use Rattle.node_ledger.proofs.OrderLemmas.{not_then_not}
-use Rattle.node_ledger.proofs.VersionLemmas.{none_up_to, newest_of, newest_of-latest, newest-from, up_to-from, with_here-from, with_other-from, is_at-here, is_at-other, is_at-only, all_versions, quiet_of_newest}
+use Rattle.node_ledger.proofs.VersionLemmas.{none_up_to, newest_of, newest_of-latest, newest-from, up_to-from, with_here-from, with_other-from, all_versions, quiet_of_newest}
 
 -- ---- the newest of versions
 

@@ -15,7 +15,7 @@ use Rattle.oplog_entry.specs.declared.entry.Op.{Op}
 use Rattle.oplog_entry.specs.declared.entry.Op.TheVariants.{Insert, Replace, Fields as SetFields, Delete, Noop}
 use Rattle.oplog_store.proofs.Keeps.{all_tail}
 use Rattle.oplog_entry.proofs.FieldLemmas.{same_itself, alike_swapped}
-use Rattle.node_ledger.proofs.VersionLemmas.{get-step, is_at-only}
+use Rattle.set_model.proofs.HoldLemmas.{get-step, is_at-only}
 use Rattle.set_model.specs.Holds.{is_at}
 
 -- a document whose first field is its `_id`, of a value

@@ -2,46 +2,25 @@
 use Rattle.std.proofs.Common.{◌≡◌, ◌≢◌, ◌⊎◌, inl, inr, ◌≤◌, ℕ, suc, zero, Bool, true, false, cond, not, List, [], ◌∷◌, ◌++◌, Option, None, Some, refl, sym, ap, ◌∙◌, arith, fold}
 use Rattle.std.specs.Prelude.{nat_lt, slice_index_or}
 use Rattle.std.specs.List.{All, AllPairs}
-use Rattle.std.specs.Ordering.{eq_by_cmp, is_eq}
-use Rattle.std.specs.Cmp.{tied_itself, Equal-is, eq_by_cmp_equiv}
 use Rattle.std.specs.FinMap.{get, get-empty, empty}
 use Rattle.bson_doc.specs.Tree.{Fields}
 use Rattle.bson_doc.specs.Place.{Place, place_cmp}
-use Rattle.bson_doc.proofs.KeyLemmas.{place_cmp-total, place_cmp-antisymmetric}
 use Rattle.rs_optime.specs.declared.optime.OpTime.{OpTime}
 use Rattle.oplog_entry.specs.Docs.{Documents, docs, applied}
 use Rattle.oplog_entry.specs.Step.{place_of, document_after}
 use Rattle.oplog_entry.specs.Visible.{is_before, log_up_to}
 use Rattle.oplog_entry.specs.declared.entry.Entry.{Entry}
-use Rattle.oplog_entry.proofs.DocsLemmas.{get-applied, applied-nothing}
 use Rattle.oplog_store.specs.Log.{StandsBefore, with_entry}
 use Rattle.oplog_store.proofs.Keeps.{all_tail, pairs_head, pairs_tail}
 use Rattle.oplog_store.proofs.Optimes.{before_by, before_both, earlier_term}
 use Rattle.version_store.specs.declared.history.Version.{Version}
-use Rattle.version_store.specs.Past.{latest_of, up_to, shown}
+use Rattle.version_store.specs.Past.{latest_of, up_to}
+use Rattle.set_model.proofs.HoldLemmas.{get-step, is_at-here, is_at-only, is_at-other}
 use Rattle.set_model.specs.Holds.{is_at}
 use Rattle.node_ledger.specs.Versions.{versions_from, versions_of}
 use Rattle.node_ledger.specs.Kept.{IsNewest}
 
 -- ---- places
-
-is_at-itself : (place : Place) → is_at (Some place) place ≡ true
-is_at-itself place = ap is_eq (tied_itself place_cmp-total place)
-
--- an op that touches a place touches it, and no other
-pub is_at-here : (own : Option Place) (place : Place) → own ≡ Some place → is_at own place ≡ true
-is_at-here own place same = ap (λ o. is_at o place) same ∙ is_at-itself place
-
-pub is_at-only : (own : Option Place) (place : Place) → is_at own place ≡ true → own ≡ Some place
-is_at-only None place here = cc here
-is_at-only (Some own) place here = ap (λ (p : Place). Some p) (place_cmp-antisymmetric own place ((Equal-is _).0 here))
-
-pub is_at-other : (own : Option Place) (place : Place) → own ≢ Some place → is_at own place ≡ false
-is_at-other own place apart = by_test (is_at own place) refl
-  where
-    by_test : (b : Bool) → is_at own place ≡ b → is_at own place ≡ false
-    by_test true is = absurd (apart (is_at-only own place is))
-    by_test false is = is
 
 pub same_place : (one two : Place) → (one ≡ two) ⊎ (one ≢ two)
 same_place one two = by_test (is_at (Some one) two) refl
@@ -64,29 +43,6 @@ pub newest_of-latest : (versions : List Version) → newest_of None versions ≡
 newest_of-latest [] = refl
 newest_of-latest (version ∷ []) = refl
 newest_of-latest (version ∷ next ∷ versions) = newest_of-latest (next ∷ versions)
-
--- what stands at a place after one entry
-pub get-step : (documents : Documents) (entry : Entry) (place : Place)
-    → get (applied documents entry) place ≡ cond (is_at (place_of entry.op) place) (document_after entry.op (get documents place)) (get documents place)
-get-step documents entry place = by_place (place_of entry.op) refl
-  where
-    by_place : (own : Option Place) → place_of entry.op ≡ own → get (applied documents entry) place ≡ cond (is_at (place_of entry.op) place) (document_after entry.op (get documents place)) (get documents place)
-    by_place None is =
-        ap (λ d. get d place) (applied-nothing documents entry is)
-        ∙ sym (ap (λ o. cond (is_at o place) (document_after entry.op (get documents place)) (get documents place)) is)
-    by_place (Some own) is = elim (same_place own place) [
-      | inl same ↦
-          get-applied documents entry own place is
-          ∙ ap (λ p. cond (eq_by_cmp place_cmp place p) (document_after entry.op (get documents p)) (get documents place)) same
-          ∙ ap (λ b. cond b (document_after entry.op (get documents place)) (get documents place)) (is_at-itself place ∙ sym (is_at-here (place_of entry.op) place (is ∙ ap (λ (p : Place). Some p) same)))
-      | inr apart ↦
-          get-applied documents entry own place is
-          ∙ ap (λ b. cond b (document_after entry.op (get documents own)) (get documents place)) ((eq_by_cmp_equiv place_cmp-total).symm place own ∙ is_at-other (Some own) place (λ e. apart (some_same e)))
-          ∙ ap (λ b. cond b (document_after entry.op (get documents place)) (get documents place)) (sym (is_at-other (Some own) place (λ e. apart (some_same e))) ∙ ap (λ o. is_at o place) (sym is))
-    ]
-      where
-        some_same : Some own ≡ Some place → own ≡ place
-        some_same e = cc
 
 pub newest-from : (log : List Entry) (documents : Documents) (place : Place) (before : Option Fields) → before ≡ get documents place
     → newest_of before (versions_from place before log) ≡ get (fold applied documents log) place
@@ -165,10 +121,6 @@ up_to-from at place before (entry ∷ log) order =
           | false ↦ again before
         ]
         ∙ ap (λ b. versions_from place before (cond (not b) (entry ∷ log_up_to at log) (log_up_to at log))) (sym early)
-
--- the versions up to an optime are those of the log up to there
-pub shown-versions_of : (at : OpTime) (place : Place) (log : List Entry) → AllPairs StandsBefore log → shown at (versions_of place log) ≡ get (docs (log_up_to at log)) place
-shown-versions_of at place log order = ap latest_of (up_to-from at place None log order) ∙ latest_of-versions_of (log_up_to at log) place
 
 -- ---- one entry more
 
@@ -269,14 +221,3 @@ all_versions P place before (entry ∷ log) each =
     by_test true here again zero d within = each zero entry (omega arith) here
     by_test true here again (suc k) d within = again (document_after entry.op before) k d (omega arith)
     by_test false here again k d within = again before k d within
-
--- each version of the newest entry's document is before that entry
-pub versions_before : (log : List Entry) (entry : Entry) (place : Place) → IsNewest log entry → place_of entry.op ≡ Some place → All (λ version. is_before version.at entry.optime ≡ true) (versions_of place log)
-versions_before log entry place newest own =
-    all_versions (λ o. is_before o entry.optime ≡ true) place None log each
-  where
-    each : All (λ other. is_at (place_of other.op) place ≡ true → is_before other.optime entry.optime ≡ true) log
-    each k d within here = elim (newest.fits k d within) [
-      | inl before ↦ before_both _ _ before.term before.earlier
-      | inr after ↦ absurd (newest.last k d within after.earlier (is_at-only _ place here ∙ sym own))
-    ]

@@ -73,16 +73,16 @@ impl Ledger {
         ensures ok { OnOk result (self.new ≡ applied_at self.old (later_of self.old.node.applied (last_of (log_up_to to self.old.node.log)))) }
         ensures err { OnErr result (self.new ≡ self.old) }
     {
-        let start = self.applied;
+        self.is_sound();
+        let start = self.applied();
         let count = self
-            .log
+            .log()
             .up_to(to)
             .len()
-            .saturating_sub(self.log.up_to(start).len());
+            .saturating_sub(self.log().up_to(start).len());
         let done = self.apply_batches(rt, count);
         if done.is_err() {
-            self.store.back_to(start);
-            self.applied = start;
+            self.unapply(start);
         }
         done
     }
@@ -132,9 +132,29 @@ impl Ledger {
         ensures node { self.new.node ≡ record self.old.node { log = log_up_to point self.old.node.log; applied = point } }
         ensures spare { self.old.spare ≤ self.new.spare }
     {
-        self.log.cut(point);
-        self.store.back_to(point);
-        self.applied = point;
+        self.unapply(point);
+        self.drop_unapplied();
+    }
+
+    /// Has the documents as of an optime, up to which the log is applied then.
+    fn unapply(&mut self, at: OpTime)
+        requires role { is_primary self.old.node.role ≡ false }
+        requires kept { is_before at self.old.node.stable ≡ false }
+        requires applied { is_before self.old.node.applied at ≡ false }
+        ensures { self.new ≡ applied_at self.old at }
+    {
+        self.store.back_to(at);
+        self.applied = at;
+    }
+
+    /// Drops the entries that aren't applied.
+    fn drop_unapplied(&mut self)
+        requires role { is_primary self.old.node.role ≡ false }
+        requires point { (self.old.node.applied ≡ ZERO) ⊎ (has_entry self.old.node.log self.old.node.applied ≡ true) }
+        ensures node { self.new.node ≡ record self.old.node { log = log_up_to self.old.node.applied self.old.node.log } }
+        ensures spare { self.old.spare ≤ self.new.spare }
+    {
+        self.log.cut(self.applied);
     }
 
     /// Drops the versions that no read at an optime or behind it shows: the other disk has the documents there.

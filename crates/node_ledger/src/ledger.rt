@@ -1,5 +1,5 @@
 // What a node has written and will write, and the documents that its log leaves.
-ghost use Rattle.std.specs.Prelude.{◌≡◌, ◌-◌, ◌^◌, ◌<◌, ◌≤◌, IfOk, OnOk, OnErr};
+ghost use Rattle.std.specs.Prelude.{◌≡◌, ◌-◌, ◌^◌, ◌<◌, ◌≤◌, nat_lt, IfOk, OnOk, OnErr};
 ghost use Rattle.std.specs.Option.{option_copied};
 ghost use Rattle.std.specs.FinMap as maps;
 ghost use Rattle.set_model.specs.Node.{opening_node};
@@ -95,6 +95,13 @@ impl Ledger {
         ensures { result ≡ self.now.node.term }
     {
         self.term
+    }
+
+    /// Whether a term is a later one.
+    pub fn is_below(&self, term: u64) -> bool
+        ensures { result ≡ nat_lt self.now.node.term term }
+    {
+        self.term < term
     }
 
     pub fn role(&self) -> Role
