@@ -1,12 +1,13 @@
 -- A script cut at its line feeds.
-use Rattle.std.proofs.Common.{◌≡◌, ℕ, ◌+◌, ◌-◌, ◌≤◌, ◌<◌, Bool, true, false, cond, ◌==◌, List, [], ◌∷◌, length, take, drop, None, Some, Ok, Err, refl, ap, sym, ◌∙◌, arith}
+use Rattle.std.proofs.Common.{◌≡◌, ℕ, ◌+◌, ◌-◌, ◌≤◌, ◌<◌, Bool, true, false, cond, ◌==◌, List, [], ◌∷◌, length, get_or, take, drop, Option, None, Some, Ok, Err, refl, ap, sym, ◌∙◌, arith}
 use Rattle.std.specs.List.{position, position_or_len, slice_split, onto_first, before_first, after_first}
 use Rattle.std.specs.Str.{is_utf8, IsUtf8}
 use Rattle.std.specs.Str.Lines.{lines, lines_of_parts, strip_carriage_return}
 use Rattle.std.proofs.lemmas.List.{take_rest, length-drop}
 use Rattle.std.proofs.lemmas.List.Splits.{slice_split_first, slice_split_none}
-use Rattle.std.proofs.lemmas.List.Sums.{fails_before_first}
+use Rattle.std.proofs.lemmas.List.Sums.{fails_before_first, position_or_len_is}
 use Rattle.std.specs.Prelude.{nat_lt}
+use Rattle.memchr.specs.Find.{IsFirstByte, is_byte}
 use Rattle.fault_script.specs.declared.rule.ScriptRule.TheVariants.{NotUtf8}
 use Rattle.fault_script.specs.Lines.{text_of}
 use Rattle.std.proofs.lemmas.Str.{is_utf8-from_IsUtf8, IsUtf8-from_is_utf8}
@@ -30,9 +31,24 @@ some_part : (text : List ℕ) → HasPart (slice_split line_feed text)
 some_part [] = ([], [], refl)
 some_part (c ∷ text) = new_part (line_feed c) c (slice_split line_feed text) (some_part text)
 
+fails : (b : Bool) → ¬ (b ≡ true) → b ≡ false
+fails true other = absurd (other refl)
+fails false other = refl
+
 line_of : (line : List ℕ) (ps : List (List ℕ)) → HasPart ps → lines_of_parts (line ∷ ps) ≡ strip_carriage_return line ∷ lines_of_parts ps
 line_of line [] (part, others, is) = absurd cc
 line_of line (part ∷ others) has = refl
+
+-- a search for the first line feed
+pub first_feed : (text : List ℕ) (found : Option ℕ) → IsFirstByte (is_byte 10) text found → found ≡ position line_feed text
+first_feed text None nowhere =
+    let past : position_or_len line_feed text ≡ length text =
+      position_or_len_is line_feed text (length text) 0 (omega arith) (λ k inside. fails (line_feed (get_or text k 0)) (nowhere k (omega arith) inside)) (λ inside. absurd (omega arith)) in
+    grind (arith, past)
+first_feed text (Some place) (first, feed) =
+    let at : position_or_len line_feed text ≡ place =
+      position_or_len_is line_feed text place 0 (omega (arith, first.high)) (λ k before. fails (line_feed (get_or text k 0)) (first.before k (omega arith) before)) (λ _. feed) in
+    grind (arith, at, first.high)
 
 -- a text up to its first line feed, and behind it
 pub line_at : (text line : List ℕ) (end : ℕ) → Some end ≡ position line_feed text → line ≡ strip_carriage_return (take end text)

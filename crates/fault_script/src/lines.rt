@@ -5,6 +5,7 @@ ghost use Rattle.fault_script.specs.Gives.{Reads};
 ghost use Rattle.fault_script.specs.Lines.{text_of, is_passed_over};
 
 use crate::rule::ScriptRule;
+use memchr::memchr;
 use std::str;
 
 /// How many lines a script may have.
@@ -29,7 +30,7 @@ pub fn next_line(bytes: &[u8]) -> (&[u8], &[u8])
 fn line_feed(bytes: &[u8]) -> Option<usize>
     ensures { result ≡ position (λ byte. byte == 10) bytes.now }
 {
-    bytes.iter().position(|byte| *byte == b'\n')
+    memchr(b'\n', bytes)
 }
 
 /// A line without the carriage return before its line feed.
