@@ -30,7 +30,9 @@ impl Class {
         }
     }
 
-    /// The longest front of the text in the class, and the text behind it.
+    /// The longest front of the text in the class, and the text behind it. It is inlined, so that each
+    /// loop tests for the one class that its caller names.
+    #[inline(always)]
     pub fn run(self, text: &str) -> (&str, &str)
         ensures front { result.0.now ≡ take_while (is_in self) text.now }
         ensures back { result.1.now ≡ behind self text.now }
