@@ -43,11 +43,11 @@ line_of line (part ∷ others) has = refl
 pub first_feed : (text : List ℕ) (found : Option ℕ) → IsFirstByte (is_byte 10) text found → found ≡ position line_feed text
 first_feed text None nowhere =
     let past : position_or_len line_feed text ≡ length text =
-      position_or_len_is line_feed text (length text) 0 (omega arith) (λ k inside. fails (line_feed (get_or text k 0)) (nowhere k (omega arith) inside)) (λ inside. absurd (omega arith)) in
+    position_or_len_is line_feed text (length text) 0 (omega arith) (λ k inside. fails (line_feed (get_or text k 0)) (nowhere k (omega arith) inside)) (λ inside. absurd (omega arith)) in
     grind (arith, past)
 first_feed text (Some place) (first, feed) =
     let at : position_or_len line_feed text ≡ place =
-      position_or_len_is line_feed text place 0 (omega (arith, first.high)) (λ k before. fails (line_feed (get_or text k 0)) (first.before k (omega arith) before)) (λ _. feed) in
+    position_or_len_is line_feed text place 0 (omega (arith, first.high)) (λ k before. fails (line_feed (get_or text k 0)) (first.before k (omega arith) before)) (λ _. feed) in
     grind (arith, at, first.high)
 
 -- a text up to its first line feed, and behind it

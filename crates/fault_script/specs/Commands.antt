@@ -1,5 +1,5 @@
 -- The command of a line, by its first word.
-use Rattle.std.specs.Prelude.{ℕ, List, codes, Option, None, Some, Result, Ok, Err, if◌then◌else◌}
+use Rattle.std.specs.Prelude.{ℕ, Bool, true, false, List, codes, Option, None, Some, Result, Ok, Err, if◌then◌else◌}
 use Rattle.std.specs.Str.{bytes_eq}
 use Rattle.bson_doc.specs.Bind.{◌>>=◌}
 use Rattle.doc_update.specs.declared.write.WriteOp.{WriteOp}
@@ -106,6 +106,11 @@ node_shape asks.Crash = Words 2 3
 node_shape asks.Restart = Words 2 2
 node_shape asks.DiskFail = Words 4 5
 node_shape asks.Clock = Words 3 3
+
+-- a line of this shape ends in a value
+abbrev pub ends_in_value : Shape → Bool
+ends_in_value (Words least most) = false
+ends_in_value (Value before) = true
 
 abbrev pub shape_of : Verb → Shape
 shape_of verbs.Deliver = Words 2 3

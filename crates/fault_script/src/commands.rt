@@ -1,8 +1,8 @@
 // The command of a line.
-ghost use Rattle.std.specs.Prelude.{◌≡◌};
+ghost use Rattle.std.specs.Prelude.{◌≡◌, false};
 ghost use Rattle.std.specs.Option.{option_copied};
 ghost use Rattle.fault_script.specs.Gives.{Reads, Gives};
-ghost use Rattle.fault_script.specs.Commands.{commit_at, abort_at, ack_at, dump_at, heartbeat_at, report_at, common_at, apply_at, reconfig_at, or_zero, crash_at, disk_fail_at, clock_at, read_at, begin_at, of_node, deliver_one, deliver_latest, deliver_at, keyword_at, words_at, write_command};
+ghost use Rattle.fault_script.specs.Commands.{commit_at, abort_at, ack_at, dump_at, heartbeat_at, report_at, common_at, apply_at, reconfig_at, or_zero, crash_at, disk_fail_at, clock_at, read_at, begin_at, of_node, deliver_one, deliver_latest, deliver_at, keyword_at, words_at, write_command, node_shape, ends_in_value};
 ghost use Rattle.fault_script.specs.Words.{ended, behind_word};
 
 use crate::choices::{concern, disk, level, target};
@@ -91,30 +91,41 @@ fn of_node(
     match verb {
         NodeVerb::Write(kind) => Ok(write_command(node, write(alloc, kind, left)?)),
         NodeVerb::Begin => begin(alloc, node, left),
-        NodeVerb::Commit => Ok(commit(node, left)?),
-        NodeVerb::Abort => Ok(abort(node, left)?),
-        NodeVerb::Ack => Ok(ack(node, left)?),
         NodeVerb::Read => read(alloc, node, left),
-        NodeVerb::Dump => Ok(dump(node, left)?),
-        NodeVerb::Log => Ok(ended(left, Command::Log { node })?),
-        NodeVerb::State => Ok(ended(left, Command::State { node })?),
-        NodeVerb::Rolled => Ok(ended(left, Command::Rolled { node })?),
-        NodeVerb::Campaign => Ok(ended(left, Command::Campaign { node })?),
-        NodeVerb::DryRun => Ok(ended(left, Command::DryRun { node })?),
-        NodeVerb::Drain => Ok(ended(left, Command::Drain { node })?),
-        NodeVerb::StepDown => Ok(ended(left, Command::StepDown { node })?),
-        NodeVerb::Heartbeat => Ok(heartbeat(nodes, node, left)?),
-        NodeVerb::Report => Ok(report(nodes, node, left)?),
-        NodeVerb::Common => Ok(common(nodes, node, left)?),
-        NodeVerb::Fetch => Ok(ended(left, Command::Fetch { node })?),
-        NodeVerb::Apply => Ok(apply(node, left)?),
-        NodeVerb::Flush => Ok(ended(left, Command::Flush { node })?),
-        NodeVerb::Checkpoint => Ok(ended(left, Command::Checkpoint { node })?),
         NodeVerb::Reconfig => reconfig(alloc, node, left),
-        NodeVerb::Crash => Ok(crash(node, left)?),
-        NodeVerb::Restart => Ok(ended(left, Command::Restart { node })?),
-        NodeVerb::DiskFail => Ok(disk_fail(node, left)?),
-        NodeVerb::Clock => Ok(clock(node, left)?),
+        _ => Ok(of_words(nodes, verb, node, left)?),
+    }
+}
+
+/// The same of a command that brings no value, and wants no memory.
+fn of_words(nodes: u32, verb: NodeVerb, node: u32, left: Left<'_>) -> Result<Command, ScriptRule>
+    requires { ends_in_value (node_shape verb) ≡ false }
+    ensures { result ≡ of_node nodes verb node (option_copied left.entry) }
+{
+    match verb {
+        NodeVerb::Commit => commit(node, left),
+        NodeVerb::Abort => abort(node, left),
+        NodeVerb::Ack => ack(node, left),
+        NodeVerb::Dump => dump(node, left),
+        NodeVerb::Log => ended(left, Command::Log { node }),
+        NodeVerb::State => ended(left, Command::State { node }),
+        NodeVerb::Rolled => ended(left, Command::Rolled { node }),
+        NodeVerb::Campaign => ended(left, Command::Campaign { node }),
+        NodeVerb::DryRun => ended(left, Command::DryRun { node }),
+        NodeVerb::Drain => ended(left, Command::Drain { node }),
+        NodeVerb::StepDown => ended(left, Command::StepDown { node }),
+        NodeVerb::Heartbeat => heartbeat(nodes, node, left),
+        NodeVerb::Report => report(nodes, node, left),
+        NodeVerb::Common => common(nodes, node, left),
+        NodeVerb::Fetch => ended(left, Command::Fetch { node }),
+        NodeVerb::Apply => apply(node, left),
+        NodeVerb::Flush => ended(left, Command::Flush { node }),
+        NodeVerb::Checkpoint => ended(left, Command::Checkpoint { node }),
+        NodeVerb::Crash => crash(node, left),
+        NodeVerb::Restart => ended(left, Command::Restart { node }),
+        NodeVerb::DiskFail => disk_fail(node, left),
+        NodeVerb::Clock => clock(node, left),
+        _ => unreachable!(),
     }
 }
 
