@@ -1,7 +1,7 @@
 // Replies as they are printed.
-ghost use Rattle.std.specs.Prelude.{◌≡◌, ◌++◌, codes, OnOk, OnErr, string_bytes};
+ghost use Rattle.std.specs.Prelude.{◌≡◌, ◌++◌, true, codes, OnOk, OnErr, string_bytes};
 ghost use Rattle.std.specs.Fmt.{decimal};
-ghost use Rattle.transcript.specs.Replies.{reply_text, line_text};
+ghost use Rattle.transcript.specs.Replies.{is_of_node, is_of_protocol, reply_text, line_text};
 
 use crate::entries::{write_documents, write_entries};
 use crate::lost::write_rolled;
@@ -25,17 +25,11 @@ pub fn write_reply(line: u32, reply: &Reply, out: &mut String) -> Mem<()>
     out.push_str(&text)
 }
 
+/// A reply as it is printed. Those about documents and writes stand here.
 fn write_text(reply: &Reply, out: &mut String) -> Mem<()>
     ensures { OnOk result (string_bytes out.new ≡ string_bytes out.old ++ reply_text reply.now) }
 {
     match reply {
-        Reply::Won(term) => write!(out, "won {term}"),
-        Reply::Primary { term, noop } => write_counted("primary ", *term, " noop ", *noop, out),
-        Reply::Candidate { term, first, count } => {
-            write_asked("candidate ", *term, *first, *count, out)
-        }
-        Reply::DryRun { term, first, count } => write_asked("dryrun ", *term, *first, *count, out),
-        Reply::Secondary => out.push_str("secondary"),
         Reply::Written(at) => write_at("written ", *at, out),
         Reply::Begun(at) => write_at("begun ", *at, out),
         Reply::Committed(at) => write_at("committed ", *at, out),
@@ -51,6 +45,65 @@ fn write_text(reply: &Reply, out: &mut String) -> Mem<()>
         Reply::Documents(documents) => write_documents(documents.as_slice(), out),
         Reply::Rolled(lost) => write_rolled(lost.as_slice(), out),
         Reply::Entries(entries) => write_entries(entries.as_slice(), out),
+        Reply::Refused(refusal) => {
+            out.push_str("refused ")?;
+            write_refusal(*refusal, out)
+        }
+        Reply::State { .. }
+        | Reply::RolledBack { .. }
+        | Reply::Applied { .. }
+        | Reply::Flushed { .. }
+        | Reply::Checkpoint(_)
+        | Reply::Config { .. }
+        | Reply::Down
+        | Reply::Up(_)
+        | Reply::Armed
+        | Reply::Clock(_) => write_node(reply, out),
+        _ => write_protocol(reply, out),
+    }
+}
+
+/// The same of an election or a message.
+fn write_protocol(reply: &Reply, out: &mut String) -> Mem<()>
+    requires { is_of_protocol reply.now ≡ true }
+    ensures { OnOk result (string_bytes out.new ≡ string_bytes out.old ++ reply_text reply.now) }
+{
+    match reply {
+        Reply::Won(term) => write!(out, "won {term}"),
+        Reply::Primary { term, noop } => write_counted("primary ", *term, " noop ", *noop, out),
+        Reply::Candidate { term, first, count } => {
+            write_asked("candidate ", *term, *first, *count, out)
+        }
+        Reply::DryRun { term, first, count } => write_asked("dryrun ", *term, *first, *count, out),
+        Reply::Secondary => out.push_str("secondary"),
+        Reply::Sent(message) => write!(out, "sent m{message}"),
+        Reply::SentTo { message, source } => write_pair("sent m", *message, " to n", *source, out),
+        Reply::Replied(message) => write!(out, "replied m{message}"),
+        Reply::Votes { yes, needed } => write_pair("votes ", u64::from(*yes), " of ", *needed, out),
+        Reply::VoteRefused(reason) => {
+            out.push_str("vote refused ")?;
+            out.push_str(vote_refusal_name(*reason))
+        }
+        Reply::DryVotes { yes, needed } => {
+            write_pair("dry votes ", u64::from(*yes), " of ", *needed, out)
+        }
+        Reply::Heard => out.push_str("heard"),
+        Reply::Took { count, last } => write_counted("took ", *count, " last ", *last, out),
+        Reply::Counted(commit) => write_at("counted commit ", *commit, out),
+        Reply::Ignored(reason) => {
+            out.push_str("ignored ")?;
+            out.push_str(ignored_name(*reason))
+        }
+        _ => unreachable!(),
+    }
+}
+
+/// The same of what a node keeps, or of the node itself.
+fn write_node(reply: &Reply, out: &mut String) -> Mem<()>
+    requires { is_of_node reply.now ≡ true }
+    ensures { OnOk result (string_bytes out.new ≡ string_bytes out.old ++ reply_text reply.now) }
+{
+    match reply {
         Reply::State {
             role,
             term,
@@ -66,20 +119,6 @@ fn write_text(reply: &Reply, out: &mut String) -> Mem<()>
             write_points(*last, *durable, *applied, *commit, out)?;
             write_config(*config, *rollback, out)
         }
-        Reply::Sent(message) => write!(out, "sent m{message}"),
-        Reply::SentTo { message, source } => write_pair("sent m", *message, " to n", *source, out),
-        Reply::Replied(message) => write!(out, "replied m{message}"),
-        Reply::Votes { yes, needed } => write_pair("votes ", u64::from(*yes), " of ", *needed, out),
-        Reply::VoteRefused(reason) => {
-            out.push_str("vote refused ")?;
-            out.push_str(vote_refusal_name(*reason))
-        }
-        Reply::DryVotes { yes, needed } => {
-            write_pair("dry votes ", u64::from(*yes), " of ", *needed, out)
-        }
-        Reply::Heard => out.push_str("heard"),
-        Reply::Took { count, last } => write_counted("took ", *count, " last ", *last, out),
-        Reply::Counted(commit) => write_at("counted commit ", *commit, out),
         Reply::RolledBack { to, removed } => write_counted_behind(
             "rolled back to ",
             *to,
@@ -87,10 +126,6 @@ fn write_text(reply: &Reply, out: &mut String) -> Mem<()>
             *removed,
             out,
         ),
-        Reply::Ignored(reason) => {
-            out.push_str("ignored ")?;
-            out.push_str(ignored_name(*reason))
-        }
         Reply::Applied { count, to } => write_counted("applied ", *count, " to ", *to, out),
         Reply::Flushed { count, to } => write_counted("flushed ", *count, " to ", *to, out),
         Reply::Checkpoint(at) => write_at("checkpoint ", *at, out),
@@ -99,10 +134,7 @@ fn write_text(reply: &Reply, out: &mut String) -> Mem<()>
         Reply::Up(last) => write_at("up last ", *last, out),
         Reply::Armed => out.push_str("armed"),
         Reply::Clock(seconds) => write!(out, "clock {seconds}"),
-        Reply::Refused(refusal) => {
-            out.push_str("refused ")?;
-            write_refusal(*refusal, out)
-        }
+        _ => unreachable!(),
     }
 }
 
