@@ -24,6 +24,7 @@ use Rattle.repl_msg.specs.Logs.{same_optime}
 use Rattle.repl_msg.specs.Points.{commit_after}
 use Rattle.repl_msg.specs.declared.message.FetchReply.{FetchReply}
 use Rattle.repl_msg.proofs.HasLemmas.{same_is}
+use Rattle.set_model.proofs.HoldLemmas.{get-step}
 use Rattle.set_model.specs.Fetched.{Follows, AreWithinDocument}
 use Rattle.set_model.specs.Fetching.{with_fetched}
 use Rattle.set_model.specs.Holds.{is_at}
@@ -32,7 +33,6 @@ use Rattle.set_model.specs.Points.{last_point, visible_point, visible_log}
 use Rattle.set_model.specs.Safety.{AtMost}
 use Rattle.node_ledger.specs.Versions.{AreSmall, IsSmall, versions_from}
 use Rattle.node_ledger.proofs.OrderLemmas.{not_then_not}
-use Rattle.node_ledger.proofs.VersionLemmas.{get-step}
 use Rattle.node_state.specs.Coherent.{IsCoherent}
 use Rattle.node_state.specs.Seen.{Rest, seen_node}
 use Rattle.set_model.specs.Taking.{CanTakeEntries}

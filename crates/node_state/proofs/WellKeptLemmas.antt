@@ -144,10 +144,6 @@ record IsWellFound (found : Kept) (stable : OpTime) : Type 0 where
   there : (found.point ≡ ZERO) ⊎ Has found.entries found.point
   stable_is : AtMost stable found.point
 
-found_well : (items : List Record) (stable : OpTime) → IsWellKept items stable → IsWellFound (kept items) stable
-found_well items stable well =
-    record { term = well.term; vote = well.vote; config = well.config; oplog = well.oplog; terms = well.terms; entries = well.entries; documents = well.documents; there = well.there; stable_is = well.stable_is }
-
 well_found : (items : List Record) (stable : OpTime) (found : Kept) → kept items ≡ found → IsWellFound found stable → IsWellKept items stable
 well_found items stable found is well = go (subst (λ (f : Kept). IsWellFound f stable) (sym is) well)
   where

@@ -1,10 +1,20 @@
--- Rows of commands that look neither at the size of the set nor at its messages.
-use Rattle.std.specs.Prelude.{false}
+-- Rows of commands to which neither the size of the set nor the number of its next message matters, nor what a restart finds.
+use Rattle.std.specs.Prelude.{ℕ, Bool, false}
 use Rattle.set_model.specs.declared.command.Command.{Command}
 use Rattle.set_model.specs.Node.{Node}
 use Rattle.set_model.specs.Rows.{row}
 use Rattle.set_model.specs.Stores.{Plan}
 
+-- a row takes all three, so these stand for what they happen to be
+abbrev any_size : ℕ
+any_size = 0
+
+abbrev any_number : ℕ
+any_number = 0
+
+abbrev any_finding : Bool
+any_finding = false
+
 -- a write, a step of a writer, or what a node shows of itself
 abbrev pub plain_row : Node → Command → Plan
-plain_row node command = row 0 0 false node command
+plain_row node command = row any_size any_number any_finding node command

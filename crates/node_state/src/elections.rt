@@ -47,10 +47,9 @@ impl State {
         let term = self.ledger.term() + 1;
         let tally = Tally::new(self.alloc, self.number, &self.config)?;
         let sent = self.asks(term, false)?;
-        Ok(Turn::Storing {
-            item: vote_record(term, Some(self.number)),
-            then: Then::Campaign { next, tally, sent },
-        })
+        let item = vote_record(term, Some(self.number));
+        let then = Then::Campaign { next, tally, sent };
+        Ok(Turn::Storing { item, then })
     }
 
     pub(crate) fn go_on_campaign(

@@ -1,8 +1,9 @@
 // Batches, the journal and checkpoints.
-ghost use Rattle.std.specs.Prelude.{◌≡◌, ◌≤◌, ◌<◌, IfOk, OnErr};
+ghost use Rattle.std.specs.Prelude.{◌≡◌, ◌≤◌, ◌<◌, false, IfOk, OnErr};
 ghost use Rattle.std.specs.Option.{option_copied};
 ghost use Rattle.set_model.specs.Disk as disk;
 ghost use Rattle.set_model.specs.Points.{earlier_of};
+ghost use Rattle.set_model.specs.Roles.{is_primary};
 ghost use Rattle.set_model.specs.Stores.{finished, stored};
 ghost use Rattle.node_state.specs.Flushing.{entry_at, entries_at};
 ghost use Rattle.node_state.specs.Ready.{IsCheckpoint, IsFlush, IsReadyTurn};
@@ -66,6 +67,17 @@ impl State {
         if self.ledger.role() == Role::Primary {
             return Ok(self.refused(Refusal::NothingToDo));
         }
+        self.apply_batch(rt, workers)
+    }
+
+    fn apply_batch<R: Threads + Sync>(&mut self, rt: &R, workers: u32) -> Mem<Turn>
+        requires role { is_primary self.old.node.role ≡ false }
+        requires some { 0 < workers }
+        requires most { workers ≤ 16 }
+        ensures turn { IfOk result (λ turn. Means turn self.new.node (finished (disk.apply self.old.node))) }
+        ensures ready { IfOk result (λ turn. IsReadyTurn turn self.new) }
+        ensures err { OnErr result (self.new.node ≡ self.old.node) }
+    {
         let count = self.ledger.apply(rt, workers)?;
         if count == 0 {
             return Ok(self.refused(Refusal::NothingToDo));
@@ -78,13 +90,14 @@ impl State {
     }
 
     /// The next entries that aren't in the records, at most 2,000.
+    #[tactic(auto, using(crate::proofs::KeepLemmas::flush_ready))]
     pub(crate) fn start_flush(&mut self) -> Mem<Turn>
         ensures turn { IfOk result (λ turn. Means turn self.new.node (disk.flush self.old.node)) }
         ensures ready { IfOk result (λ turn. IsReadyTurn turn self.new) }
         ensures same { self.new.node ≡ self.old.node }
         ensures err { OnErr result (self.new.node ≡ self.old.node) }
     {
-        self.ledger.is_sound();
+        self.is_sound();
         if self.is_flushed() {
             return Ok(self.refused(Refusal::NothingToDo));
         }

@@ -57,7 +57,7 @@ impl State {
         ensures err { OnErr result (self.new.node ≡ self.old.node) }
     {
         let (from, term) = (message.from, message.term);
-        let raised = self.ledger.term() < term;
+        let raised = self.ledger.is_below(term);
         match &message.body {
             Body::Fetch { base } => self.prepare_fetch(next, from, term, *base, raised),
             Body::FetchReply(reply) => self.prepare_entries(from, term, reply, raised),

@@ -67,18 +67,11 @@ impl State {
         behind(self.ledger.log().up_to(self.visible_then(raised)), after)
     }
 
-    /// A message of this term makes the node take it.
-    fn raises(&self, term: u64) -> bool
-        ensures { result ≡ nat_lt self.now.node.term term }
-    {
-        self.ledger.term() < term
-    }
-
     /// Too many optimes would be told.
     pub(crate) fn common_refusal(&self, term: u64, after: OpTime) -> Option<Refusal>
         ensures { result ≡ rows.common_refusal self.now.node term after }
     {
-        let raised = self.raises(term);
+        let raised = self.ledger.is_below(term);
         if self.visible_behind(raised, after).len() > MOST_OPTIMES {
             return Some(Refusal::TooManyOptimes);
         }

@@ -46,7 +46,7 @@ impl State {
         if let Some(why) = self.body_refusal(message) {
             return Ok(self.refused(why));
         }
-        if brings_term(&message.body) && self.ledger.term() < message.term {
+        if brings_term(&message.body) && self.ledger.is_below(message.term) {
             return self.take_higher(rt, next, message);
         }
         self.take_known(rt, next, message)

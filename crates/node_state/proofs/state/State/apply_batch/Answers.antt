@@ -1,4 +1,4 @@
-use Rattle.std.proofs.Common.{◌≡◌, ◌∙◌, ap, sym, subst, false, rules}
+use Rattle.std.proofs.Common.{◌≡◌, ◌∙◌, ap, sym, subst, false}
 use Rattle.set_model.specs.Disk.{apply, next_batch}
 use Rattle.set_model.specs.Roles.{is_primary}
 use Rattle.set_model.specs.Stores.{finished}
@@ -11,7 +11,7 @@ use Rattle.node_state.proofs.Inside.{rest_in}
 use Rattle.node_state.proofs.KeepLemmas.{apply-done}
 use Rattle.node_state.proofs.CoherentLemmas.{coherent-applied}
 use Rattle.node_state.proofs.TurnLemmas.{says_means}
-use Rattle.node_state.proofs.state.State.apply.Goals as goal
+use Rattle.node_state.proofs.state.State.apply_batch.Goals as goal
 
 pub invariant_of-self-2 : goal.invariant_of-self-2
 invariant_of-self-2 g c =
@@ -22,7 +22,7 @@ invariant_of-self-2 g c =
 pub returns-clause-turn : goal.returns-clause-turn
 returns-clause-turn g c =
     let s = c.self.inside in
-    let not : is_primary c.self.inside.ledger.node.role ≡ false = search rules in
+    let not = subst (λ (x : Standing). is_primary x.node.role ≡ false) (sym c.self.view_is) c.requires.role in
     says_means c.answered.result (reply.Applied c.in_ok-count.count c.applied-to.result) (seen_node c.apply.new.self.node (rest_in s)) (finished (apply c.args.self.now.node)) c.answered.ensures
     (ap (λ (x : Standing). finished (apply x.node)) (sym c.self.view_is)
     ∙ ap finished (apply-done s.ledger c.apply.new.self (rest_in s) c.in_ok-count.count c.applied-to.result not c.in_ok-count.ensures.ok c.in_ok-count.ensures.count c.if-count-eq0.false c.applied-to.ensures))
