@@ -6,6 +6,7 @@ one knows who is primary and how many messages there are. The last part settles 
 """
 import re
 
+from random_members import Members
 from random_player import Fault, Player
 
 COLLECTIONS = ["t", "t", "t", "u"]
@@ -24,7 +25,7 @@ BAD_WRITES = [
 ]
 
 
-class Author:
+class Author(Members):
     def __init__(self, dice, player, nodes, disk_faults):
         self.dice = dice
         self.player = player
@@ -138,16 +139,16 @@ class Author:
 
     # The steps.
 
-    def elect(self, x=None, without=None):
+    def elect(self, x=None, among=None):
         x = self.some() if x is None else x
-        voters = [k for k in range(self.nodes) if k not in (x, without)]
+        voters = [k for k in (range(self.nodes) if among is None else among) if k != x]
         self.dice.shuffle(voters)
         asked = voters if self.dice.random() < 0.6 else voters[: (self.nodes + 1) // 2]
         if self.dice.random() < 0.2:
             self.put(f"dryrun n{x}", *(line for k in asked for line in (f"deliver n{x} n{k}", f"deliver n{k} n{x}")))
         again = self.dice.random() < 0.15  # some votes come again and again, and others never
         self.put(f"campaign n{x}")
-        for k in asked[: self.dice.randint(1, len(asked))] if again else asked:
+        for k in asked[: self.dice.randint(1, max(1, len(asked)))] if again else asked:
             self.put(f"deliver n{x} n{k}", f"deliver n{k} n{x}", *[f"deliver n{k} n{x}"] * (3 * again))
         self.put(f"drain n{x}")
         if self.dice.random() < 0.6:
@@ -208,12 +209,12 @@ class Author:
         self.say(f"fetch n{y}", f"deliver n{y} n{source}", f"deliver n{source} n{y}")
         self.say(f"apply n{y}", f"flush n{y}", f"report n{y} n{source}", f"deliver n{y} n{source}")
 
-    def replicate(self):
+    def replicate(self, p=None, got=None):
         """A write that most nodes get, and what the primary then tells of it."""
-        p, w = self.leader(), f"w{self.dice.randint(5, 9)}"
+        p, w = self.leader() if p is None else p, f"w{self.dice.randint(5, 9)}"
         self.put(f"begin n{p} {w} insert v {{_id: {self.dice.randint(0, 999)}}}", f"commit n{p} {w}", f"flush n{p}")
         count = self.dice.choice([self.nodes - 1, self.nodes // 2])
-        for y in self.dice.sample([k for k in range(self.nodes) if k != p], count):
+        for y in self.dice.sample([k for k in range(self.nodes) if k != p], count) if got is None else got:
             self.follow(y, p) if self.dice.random() < 0.7 else self.pull(y, p)
         self.put(f"ack n{p} {w} majority", f"ack n{p} {w} {self.dice.randint(1, self.nodes + 1)}")
         self.put(f"ack n{p} {self.dice.choice(self.optimes)} {self.dice.choice(['majority', 'majority', '2'])}")
@@ -225,7 +226,7 @@ class Author:
         self.writes()
         if self.dice.random() < 0.5:
             self.put(f"flush n{p}")
-        self.elect(x, without=p)
+        self.elect(x, [k for k in range(self.nodes) if k != p])
         self.writes()
         self.roll_back(p, x)
         if self.dice.random() < 0.5:
@@ -254,27 +255,6 @@ class Author:
         self.say(f"diskfail n{k} {self.dice.choice(['journal', 'journal', 'checkpoint'])} {self.dice.randint(1, 9)}{pick}")
         self.dice.choice([self.writes, self.replicate, self.elect, self.diverge, self.crash, self.checkpoint])()
         self.put(f"flush n{k}", f"checkpoint n{k}", f"restart n{k}", f"restart n{k}")
-
-    def reconfigure(self):
-        p = self.leader()
-        self.replicate()
-        members = list(self.members)
-        outside = [k for k in range(self.nodes) if k not in members]
-        if outside and self.dice.random() < 0.6:
-            members.append(self.dice.choice(outside))
-        elif len(members) > 2:
-            members.remove(self.dice.choice([k for k in members if k != p]))
-        if self.dice.random() < 0.1:
-            members = self.dice.choice([members[1:], members + [9], members + members[:1], [p], members + outside])
-        texts = [f'{{"_id":{k}}}' for k in members]
-        if len(members) > 2 and members[-1] != p and self.dice.random() < 0.2:
-            texts[-1] = f'{{"_id":{members[-1]},"priority":0}}'
-        version = self.version + self.dice.choice([0, 1, 1, 1, 1, 1, 2])
-        settings = self.dice.choice(["", "", "", ',"settings":{"chainingAllowed":false}'])
-        self.put(f'reconfig n{p} {{"version":{version},"members":[{",".join(texts)}]{settings}}}')
-        for k in self.dice.sample(range(self.nodes), self.dice.choice([self.nodes // 2, self.nodes])):
-            if k != p:
-                self.put(f"heartbeat n{p} n{k}", f"deliver n{p} n{k}", f"report n{k} n{p}", f"deliver n{k} n{p}")
 
     def reads(self):
         for _ in range(self.dice.randint(1, 3)):
@@ -307,6 +287,8 @@ class Author:
         """Some steps, behind an election where none leads."""
         if self.primary is None:
             self.elect()
+        if self.dice.random() < 0.3:
+            self.part_ways()
         for step, _ in self.dice.choices(STEPS, self.weights, k=self.dice.randint(5, 12)):
             step(self)
         self.look()
