@@ -253,7 +253,11 @@ class Checker:
             if words[3] == "majority":
                 self.is_committed(optime(told[1]), optime(told[1])[0])
         elif told[0] == "counted":
-            self.commit(node, optime(told[2]), max(term for term, winner in self.winners.items() if winner == node))
+            terms = [term for term, winner in self.winners.items() if winner == node]
+            if terms:
+                self.commit(node, optime(told[2]), max(terms))
+            else:
+                self.fault("this node never won")
         elif told[0] == "rolled":
             self.rolled(node, optime(told[3]), int(told[5]))
         elif told[0] == "flushed":
