@@ -45,15 +45,19 @@ class Members:
         if fetching:
             near = self.dice.sample([k for k in every if k != p], self.nodes // 2)
         elif self.dice.random() < 0.6 and got:
-            p = self.dice.choice(got)
+            got.append(p)
+            p = self.dice.choice(got[:-1])
             self.elect(p)
-        hears = self.dice.random() < 0.75
+        tell = self.follow if fetching else self.inform
+        told = near if self.dice.random() < 0.75 else []
         for step in range(1, self.dice.randint(2, 4)):
+            for y in told:
+                tell(y, p)
             for _ in range(self.dice.choice([1, 1, 1, 1, 2])):
                 self.change(members, p, near)
             self.configure(p, members, self.version + step)
-            for y in near if hears else []:
-                self.follow(y, p) if fetching else self.inform(y, p)
+        for y in told:
+            tell(y, p)
         if fetching or self.dice.random() < 0.2:
             got = self.bare_majority(members, p, near)
             self.replicate(p, got)
