@@ -35,9 +35,6 @@ record IsAsFaulty (old new : State) : Type 0 where
   faults : new.faults ≡ old.faults
   steady : new.is_steady ≡ old.is_steady
 
-same_faulty : (state : State) → IsAsFaulty state state
-same_faulty state = record { faults = refl; steady = refl }
-
 cut_faulty : (pick : ℕ) (old new : State) → IsCut pick old new → IsAsFaulty old new
 cut_faulty pick old new cut = record { faults = ap (λ (s : State). s.faults) cut.rest; steady = ap (λ (s : State). s.is_steady) cut.rest }
 

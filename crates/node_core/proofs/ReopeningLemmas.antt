@@ -12,7 +12,7 @@ use Rattle.repl_msg.specs.Kept.{kept}
 use Rattle.repl_msg.specs.declared.record.Kept.{Kept}
 use Rattle.repl_msg.specs.declared.record.Record.{Record}
 use Rattle.repl_msg.proofs.HasLemmas.{same_is, same_itself}
-use Rattle.node_journal.specs.Files.{HasJournal, IsAtRest as JournalRests, IsJournalDisk, IsOneOf as IsOneJournal}
+use Rattle.node_journal.specs.Files.{HasJournal, IsAtRest as JournalRests, IsOneOf as IsOneJournal}
 use Rattle.node_journal.proofs.ApartLemmas.{one_journal}
 use Rattle.node_journal.proofs.DiskLemmas.{kept_count, rest_reserved}
 use Rattle.checkpoint_store.specs.Files.{HasCheckpoint, IsAtRest as CheckpointRests, IsCheckpointDisk, IsOneOf as IsOneCheckpoint}
@@ -33,11 +33,6 @@ use Rattle.node_state.specs.WellKept.{IsWellKept}
 use Rattle.node_core.proofs.PuttingLemmas.{runs_checkpoints, runs_journal, runs_reserved, runs_then}
 
 -- ---- disks that can be opened
-
-pub stands_journal : (node : Node) (j c : State) → Stands node j c → IsJournalDisk j
-stands_journal node j c stands = record {
-  leaves = λ image left. ⊎_elim (λ has. (node.records, has)) (λ more. (node.records ++ more.0 ∷ [], more.2)) (stands.records image left);
-}
 
 pub stands_checkpoints : (node : Node) (j c : State) → Stands node j c → IsCheckpointDisk c
 stands_checkpoints node j c stands = record {

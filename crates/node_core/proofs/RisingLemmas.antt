@@ -1,5 +1,5 @@
 -- What a node that comes up does of its row, and how its disks then are.
-use Rattle.std.proofs.Common.{◌≡◌, ◌∙◌, ap, sym, subst, refl, ℕ, ◌+◌, Bool, true, false, not, ◌&&◌, ◌||◌, cond, nat_lt, [], Option, Some, None, arith}
+use Rattle.std.proofs.Common.{◌≡◌, ◌∙◌, ap, sym, subst, refl, ℕ, Bool, true, false, not, ◌&&◌, ◌||◌, cond, [], Option, Some, None}
 use Rattle.std.specs.Prelude.{IfOk, IsSome, OnErr, is_some, if◌then◌else◌, Result, Ok, Err}
 use Rattle.rs_disk.specs.State.{State}
 use Rattle.rs_optime.specs.declared.optime.OpTime.{OpTime}
@@ -19,14 +19,13 @@ use Rattle.set_model.specs.Node.{Node}
 use Rattle.set_model.specs.Outcome.{refused}
 use Rattle.set_model.specs.Rollback.{cut_record}
 use Rattle.set_model.specs.Rows.{row}
-use Rattle.set_model.specs.Stores.{Plan, finished, storing, done as comes_to, reaches, in_doubt, store_count, stored}
+use Rattle.set_model.specs.Stores.{Plan, finished, storing, done as comes_to, reaches, in_doubt, stored}
 use Rattle.node_core.specs.Acting.{Acted, Follows, Runs, Unchanged}
-use Rattle.node_core.specs.Coming.{IsPrepared, cut_node, cut_point, is_there}
+use Rattle.node_core.specs.Coming.{IsPrepared, cut_node, cut_point}
 use Rattle.node_core.specs.Down.{Left, down_node, seen_node}
 use Rattle.node_core.specs.Putting.{IsKeepable, Puts}
 use Rattle.node_core.specs.Resting.{IsResting, IsWellKeptWith, Rests}
 use Rattle.node_core.specs.Stands.{Stands}
-use Rattle.node_core.specs.declared.coming_up.Found.{Found}
 use Rattle.node_core.specs.declared.coming_up.Prepared.{Prepared}
 use Rattle.node_core.specs.declared.done.Done.{Done}
 use Rattle.node_core.proofs.ActingLemmas.{answered_follows, answered_runs, resting_stands}
@@ -127,22 +126,6 @@ module _ (up : Bool) (memory : Node) (left doubting : Left) (at : OpTime) (down 
       })
 
 -- ---- the row
-
--- the disks failed as they were opened
-pub opening_follows : (node : Node) (plan : Plan) (done : Done) → done.reply ≡ reply.Refused DiskFailed → done.sent.items ≡ [] → done.failed ≡ Some 0
-    → Follows (storing node plan) node done
-opening_follows node plan done answer sent failed = record {
-  outcome = ap (λ (f : Option ℕ). comes_to (storing node plan) f) failed ∙ (λ i. record { reply = sym answer i; node = node; sent = sym sent i });
-  reached = ap (λ (f : Option ℕ). reaches (storing node plan) f) failed ∙ within (store_count plan);
-}
-  where
-    within : (n : ℕ) → nat_lt 0 (n + 1) ≡ true
-    within n = grind arith
-
--- only what was in doubt is found
-pub there_doubted : (doubt : Option Store) (count : ℕ) (found : Found) → is_there doubt count found ≡ true → IsSome doubt
-there_doubted None count found there = absurd (cc there)
-there_doubted (Some item) count found there = refl
 
 pub acted_restart : (nodes next number : ℕ) (old new : Node) (j j' c c' : State) (done : Done) → old.up ≡ false → Follows (restart old done.kept) new done
     → (done.kept ≡ true → IsSome old.doubt × (passes_first done.failed ≡ true)) → Stands new j' c' → Runs (IsSome done.failed) j j' c c'

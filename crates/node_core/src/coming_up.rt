@@ -259,18 +259,27 @@ fn go_up<D: Disk>(
     let Some(at) = prepared.cut else {
         return is_up(alloc, state, up, prepared);
     };
-    match add_cut(disks, at) {
+    match disks.add(&Record::Cut(at)) {
         Ok(()) => is_up(alloc, state, up, prepared),
-        Err(_) => {
-            let Prepared {
-                left: settled,
-                kept,
-                ..
-            } = prepared;
-            *left = doubting(settled, at);
-            disk_failed(alloc, 1, kept)
-        }
+        Err(_) => cut_failed(alloc, left, prepared, at),
     }
+}
+
+// The cut may be there or not. The opening before it is numbered 0.
+fn cut_failed(alloc: Global, left: &mut Left, prepared: Prepared, at: OpTime) -> Done
+    ensures left { left_in left.new ≡ record (left_in prepared.left) { doubt = Some (Store.Record (Record.Cut at)) } }
+    ensures reply { result.reply ≡ Reply.Refused Refusal.DiskFailed }
+    ensures sent { result.sent.items ≡ [] }
+    ensures failed { result.failed ≡ Some 1 }
+    ensures kept { result.kept ≡ prepared.kept }
+{
+    let Prepared {
+        left: settled,
+        kept,
+        ..
+    } = prepared;
+    *left = doubting(settled, at);
+    disk_failed(alloc, 1, kept)
 }
 
 // What is left of the node where a cut may be there or not.
@@ -280,27 +289,6 @@ fn doubting(left: Left, at: OpTime) -> Left
     let mut left = left;
     left.doubt = Some(Store::Record(Record::Cut(at)));
     left
-}
-
-// Cuts the journal, for which there is memory.
-fn add_cut<D: Disk>(disks: &mut Disks<D>, at: OpTime) -> Result<(), FileError>
-    requires rests { (items : List ARecord) × JournalRests (D.state disks.old.journal.0) items × (disks.old.count ≡ length items) }
-    requires room { SHORT ≤ spare (D.state disks.old.journal.0) disks.old.journal.1 }
-    ensures puts { (node : Node) → Rests node disks.old.count (D.state disks.old.journal.0) (D.state disks.old.checkpoints)
-        → IsKeepable node (Record.Cut at)
-        → Puts result node (Store.Record (Record.Cut at)) disks.new.count (D.state disks.new.journal.0) (D.state disks.new.checkpoints) }
-    ensures whole { result ≢ Err FileError.Memory }
-    ensures runs { Runs (IsErrOf result FileError.Disk) (D.state disks.old.journal.0) (D.state disks.new.journal.0)
-        (D.state disks.old.checkpoints) (D.state disks.new.checkpoints) }
-{
-    disks.journal.count_fits();
-    match disks.journal.add(&Record::Cut(at)) {
-        Ok(()) => {
-            disks.count += 1;
-            Ok(())
-        }
-        Err(error) => Err(error),
-    }
 }
 
 // The node is up.

@@ -1,9 +1,13 @@
 // A node's two disks.
-ghost use Rattle.std.specs.Prelude.{◌≡◌, ◌≢◌, ◌+◌, ◌≤◌, Err, OnOk, IsErrOf};
+ghost use Rattle.std.specs.Prelude.{◌≡◌, ◌≢◌, ◌+◌, ◌≤◌, List, length, Err, OnOk, IsErrOf};
 ghost use Rattle.rs_disk.specs.State.{IsCut};
 ghost use Rattle.record_file.specs.Files.{spare};
+ghost use Rattle.repl_msg.specs.declared.record.Record.{Record as ARecord};
+ghost use Rattle.node_journal.specs.Bounds.{CanBeKept};
+ghost use Rattle.node_journal.specs.Files.{IsAtRest as JournalRests};
+ghost use Rattle.node_journal.specs.Room.{IsShort};
 ghost use Rattle.node_core.specs.Acting.{Arms, Runs};
-ghost use Rattle.node_core.specs.Putting.{CanBePut, IsShortStore, Puts, SHORT};
+ghost use Rattle.node_core.specs.Putting.{CanBePut, IsKeepable, IsShortStore, Puts, SHORT};
 ghost use Rattle.node_core.specs.Resting.{Rests};
 ghost use Rattle.set_model.specs.Node.{Node};
 
@@ -12,6 +16,7 @@ use checkpoint_store::Checkpoints;
 use node_journal::Journal;
 use node_state::State;
 use record_file::FileError;
+use repl_msg::Record;
 use rs_disk::Disk;
 use set_model::{DiskName, Store};
 
@@ -37,17 +42,31 @@ impl<D: Disk> Disks<D> {
             ≤ spare (D.state self.new.journal.0) self.new.journal.1 + SHORT) }
     {
         match item {
-            Store::Record(record) => {
-                self.journal.count_fits();
-                match self.journal.add(record) {
-                    Ok(()) => {
-                        self.count += 1;
-                        Ok(())
-                    }
-                    Err(error) => Err(error),
-                }
-            }
+            Store::Record(record) => self.add(record),
             Store::Checkpoint(at) => self.checkpoints.save(*at, state.store()),
+        }
+    }
+
+    /// Adds a record to the journal.
+    pub(crate) fn add(&mut self, item: &Record) -> Result<(), FileError>
+        requires rests { (items : List ARecord) × JournalRests (D.state self.old.journal.0) items × (self.old.count ≡ length items) }
+        requires bounds { CanBeKept item.now }
+        ensures puts { (node : Node) → Rests node self.old.count (D.state self.old.journal.0) (D.state self.old.checkpoints)
+            → IsKeepable node item.now
+            → Puts result node (Store.Record item.now) self.new.count (D.state self.new.journal.0) (D.state self.new.checkpoints) }
+        ensures runs { Runs (IsErrOf result FileError.Disk) (D.state self.old.journal.0) (D.state self.new.journal.0)
+            (D.state self.old.checkpoints) (D.state self.new.checkpoints) }
+        ensures room { IsShort item.now → SHORT ≤ spare (D.state self.old.journal.0) self.old.journal.1 → result ≢ Err FileError.Memory }
+        ensures spare { OnOk result (IsShort item.now → spare (D.state self.old.journal.0) self.old.journal.1
+            ≤ spare (D.state self.new.journal.0) self.new.journal.1 + SHORT) }
+    {
+        self.journal.count_fits();
+        match self.journal.add(item) {
+            Ok(()) => {
+                self.count += 1;
+                Ok(())
+            }
+            Err(error) => Err(error),
         }
     }
 

@@ -7,20 +7,20 @@ pub returns-in-Ok-clause-rests : goal.returns-in-Ok-clause-rests
 returns-in-Ok-clause-rests g c =
     let node = down_node c.args.state.now.node (left_in c.args.prepared.left) in
     let can = can_cut node c.in-Some.at (sym c.in-Some.is ∙ c.requires.prepared.cut) c.requires.well in
-    cut_up node c.args.prepared c.in-Some.at c.is_up-in-Ok.new.up c.is_up-in-Ok.new.state.node (left_in c.args.left.now) c.add_cut.new.disks.count
-    (g.D.Disk.state c.add_cut.new.disks.journal.0) (g.D.Disk.state c.add_cut.new.disks.checkpoints)
+    cut_up node c.args.prepared c.in-Some.at c.is_up-in-Ok.new.up c.is_up-in-Ok.new.state.node (left_in c.args.left.now) c.add.new.self.count
+    (g.D.Disk.state c.add.new.self.journal.0) (g.D.Disk.state c.add.new.self.checkpoints)
     c.requires.prepared c.in-Some.is c.is_up-in-Ok.ensures.up c.is_up-in-Ok.ensures.state (c.in-Ok.ensures.puts node c.requires.rests can).ok
 
-pub returns-in-Err-clause-follows : goal.returns-in-Err-clause-follows
-returns-in-Err-clause-follows g c = λ broken.
-    doubted_follows c.args.up.now c.args.state.now.node (left_in c.args.prepared.left) (left_in c.doubting.result) c.in-Some.at c.requires.down c.doubting.ensures
-    (sym c.in-Some.is ∙ c.requires.prepared.cut) c.requires.well broken c.disk_failed.result c.disk_failed.ensures.reply c.disk_failed.ensures.sent c.disk_failed.ensures.failed
+pub returns-clause-follows : goal.returns-clause-follows
+returns-clause-follows g c = λ broken.
+    doubted_follows c.args.up.now c.args.state.now.node (left_in c.args.prepared.left) (left_in c.cut_failed.new.left) c.in-Some.at c.requires.down c.cut_failed.ensures.left
+    (sym c.in-Some.is ∙ c.requires.prepared.cut) c.requires.well broken c.cut_failed.result c.cut_failed.ensures.reply c.cut_failed.ensures.sent c.cut_failed.ensures.failed
 
-pub returns-in-Err-clause-rests : goal.returns-in-Err-clause-rests
-returns-in-Err-clause-rests g c =
+pub returns-clause-rests : goal.returns-clause-rests
+returns-clause-rests g c =
     let node = down_node c.args.state.now.node (left_in c.args.prepared.left) in
     let is = sym c.in-Some.is ∙ c.requires.prepared.cut in
     let can = can_cut node c.in-Some.at is c.requires.well in
-    doubted_lies c.args.up.now c.args.state.now.node (left_in c.args.prepared.left) (left_in c.doubting.result) c.in-Some.at c.requires.down c.doubting.ensures
-    is c.requires.well c.in-Err.field-0 c.add_cut.new.disks.count (g.D.Disk.state c.add_cut.new.disks.journal.0) (g.D.Disk.state c.add_cut.new.disks.checkpoints)
-    c.in-Err.ensures.whole (c.in-Err.ensures.puts node c.requires.rests can)
+    doubted_lies c.args.up.now c.args.state.now.node (left_in c.args.prepared.left) (left_in c.cut_failed.new.left) c.in-Some.at c.requires.down c.cut_failed.ensures.left
+    is c.requires.well c.in-Err.field-0 c.add.new.self.count (g.D.Disk.state c.add.new.self.journal.0) (g.D.Disk.state c.add.new.self.checkpoints)
+    (c.in-Err.ensures.room tt c.requires.room) (c.in-Err.ensures.puts node c.requires.rests can)
