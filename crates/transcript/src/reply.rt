@@ -1,7 +1,8 @@
 // Replies as they are printed.
 ghost use Rattle.std.specs.Prelude.{◌≡◌, ◌++◌, true, codes, OnOk, OnErr, string_bytes};
 ghost use Rattle.std.specs.Fmt.{decimal};
-ghost use Rattle.transcript.specs.Replies.{is_of_node, is_of_protocol, reply_text, line_text};
+ghost use Rattle.transcript.specs.Kinds.{is_of_node, is_of_protocol};
+ghost use Rattle.transcript.specs.Replies.{reply_text, line_text};
 
 use crate::entries::{write_documents, write_entries};
 use crate::lost::write_rolled;
