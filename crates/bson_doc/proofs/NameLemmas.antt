@@ -1,9 +1,10 @@
 -- The field of a name: where it is, and what the fields are once it is set or taken out.
-use Rattle.std.proofs.Common.{zero, suc, ◌<◌, ◌≤◌, get_or, ℕ, ◌≡◌, Bool, true, false, List, [], ◌∷◌, Contains, None, Some, IsSome, length, arith, refl, ap, ◌∙◌}
+use Rattle.std.proofs.Common.{zero, suc, ◌<◌, ◌≤◌, get_or, ℕ, ◌≡◌, Bool, true, false, List, [], ◌∷◌, Contains, None, Some, IsSome, length, arith, refl, ap, sym, ◌∙◌}
 use Rattle.std.proofs.Math.ListN.{set}
 use Rattle.std.specs.List.{position_or_len, remove}
 use Rattle.std.specs.Str.{bytes_eq}
 use Rattle.std.proofs.lemmas.Cmp.{nat_list_eq_equiv}
+use Rattle.std.proofs.lemmas.Slice.Eq.{bytes_eq-Decides}
 use Rattle.std.specs.Prelude.{position, is_some, cond}
 use Rattle.std.proofs.Common.{inl, inr}
 use Rattle.std.proofs.lemmas.Bool.{cases_Bool}
@@ -19,6 +20,9 @@ pub record IsFirst (name : List ℕ) (fs : List Field) (i : ℕ) (d : Field) : T
   pub within : i < length fs
   pub here : bytes_eq (get_or fs i d).name name ≡ true
   pub before : (k : ℕ) → k < i → bytes_eq (get_or fs k d).name name ≡ false
+
+pub named_so : {name : List ℕ} {fs : List Field} {i : ℕ} {d : Field} → IsFirst name fs i d → name ≡ (get_or fs i d).name
+named_so {name} {fs} {i} {d} first = sym ((bytes_eq-Decides (get_or fs i d).name name).0 first.here)
 
 later : (name : List ℕ) (f : Field) (fs : List Field) (i : ℕ) (d : Field) → IsFirst name (f ∷ fs) (suc i) d → IsFirst name fs i d
 later name f fs i d first =

@@ -9,7 +9,7 @@ use std::alloc::Global;
 use std::collections::BTreeSet;
 use std::marker::Model;
 
-/// A document with so many fields is looked through for a name. Names are kept in order only of one with more.
+/// A document with at most so many fields is looked through for a name. Names are kept in order only of one with more.
 pub const FEW_FIELDS: usize = 16;
 
 /// A document in the making, seen as the fields so far. A name is looked up in O(log n), and a small document takes no

@@ -1,7 +1,6 @@
-use Rattle.std.proofs.Common.{Contains, sym, ◌∙◌, ap, arith}
+use Rattle.std.proofs.Common.{Contains, sym, ◌∙◌, arith}
 use Rattle.std.proofs.lemmas.Grind.{common_steps}
-use Rattle.bson_doc.specs.declared.doc.Field.{Field}
-use Rattle.bson_doc.proofs.NameLemmas.{first_place, with_set-at, with_set-new, found-none}
+use Rattle.bson_doc.proofs.NameLemmas.{first_place, named_so, with_set-at, with_set-new, found-none}
 use Rattle.bson_doc.proofs.SoundLemmas.{IsSound-with_set}
 use Rattle.bson_doc.proofs.doc.Doc.set.Goals as goal
 
@@ -10,8 +9,7 @@ invariant_of-self c =
     let clean : ¬ Contains c.args.name 0 = grind (arith, common_steps) in
     let place = sym (rw (c.deref.ensures.value, c.as_str-2.ensures) at c.place_of.ensures) ∙ c.in-Some.is in
     let first = first_place c.args.name c.self.inside.fields.items c.in-Some.place c.index_mut.result.now place in
-    let kept : Field = record { name = c.index_mut.result.now.name; value = c.args.value } in
-    let new = with_set-at c.args.name c.self.inside.fields.items c.in-Some.place c.index_mut.result.now kept first (ap (λ (f : Field). f.name) c.index_mut.ensures.value) in
+    let new = with_set-at c.args.name c.self.inside.fields.items c.in-Some.place c.index_mut.result.now (record { name = c.args.name; value = c.args.value }) first (named_so first) in
     rw new (IsSound-with_set _ _ _ c.self.invariant clean c.is_utf8.ensures c.is_sound.ensures)
 
 pub append-requires-clause-new : goal.append-requires-clause-new
@@ -23,8 +21,7 @@ pub returns-in-Some-clause-ok : goal.returns-in-Some-clause-ok
 returns-in-Some-clause-ok c =
     let place = sym (rw (c.deref.ensures.value, c.as_str-2.ensures) at c.place_of.ensures) ∙ c.in-Some.is in
     let first = first_place c.args.name c.self.inside.fields.items c.in-Some.place c.index_mut.result.now place in
-    let kept : Field = record { name = c.index_mut.result.now.name; value = c.args.value } in
-    let new = with_set-at c.args.name c.self.inside.fields.items c.in-Some.place c.index_mut.result.now kept first (ap (λ (f : Field). f.name) c.index_mut.ensures.value) in
+    let new = with_set-at c.args.name c.self.inside.fields.items c.in-Some.place c.index_mut.result.now (record { name = c.args.name; value = c.args.value }) first (named_so first) in
     rw (← c.self.view_is) new
 
 pub returns-in_ok-append-in-None-clause-ok : goal.returns-in_ok-append-in-None-clause-ok
