@@ -13,4 +13,4 @@ mod store;
 pub use laws::{a_prune_is_not_seen, going_back_shows_the_earlier};
 pub use place::shard_of;
 pub use shard::Shard;
-pub use store::{HoldError, VersionStore};
+pub use store::{Current, HoldError, VersionStore};

@@ -41,6 +41,13 @@ impl From<AllocError> for HoldError {
     }
 }
 
+/// The newest version of a document, and the writer that holds it.
+#[derive(Drop)]
+pub struct Current<'a> {
+    pub latest: Option<&'a Doc>,
+    pub holder: Option<u32>,
+}
+
 /// Documents with their versions by optime, and the writers that hold them, in shards. From `take_shards` to
 /// `put_shards` it has no shards: nothing is found there, and what would be put or held wants memory.
 #[derive(Drop)]
@@ -102,6 +109,24 @@ impl VersionStore {
         ensures { result ≡ holder_at self.now (ns.now, id.now) }
     {
         self.history(ns, id)?.holder()
+    }
+
+    /// Both by one look-up.
+    pub fn current(&self, ns: &str, id: &IdKey) -> Current<'_>
+        ensures latest { option_copied result.latest ≡ latest_of (versions_at self.now (ns.now, id.now)) }
+        ensures rising { IsRising (versions_at self.now (ns.now, id.now)) }
+        ensures holder { result.holder ≡ holder_at self.now (ns.now, id.now) }
+    {
+        match self.history(ns, id) {
+            Some(history) => Current {
+                latest: history.latest(),
+                holder: history.holder(),
+            },
+            None => Current {
+                latest: None,
+                holder: None,
+            },
+        }
     }
 
     /// Lets a writer hold a document. `Held` where another writer holds it.
