@@ -19,7 +19,7 @@ use crate::Ledger;
 use bson_doc::{Doc, IdKey};
 use rs_optime::OpTime;
 use set_model::Role;
-use version_store::VersionStore;
+use version_store::{Current, VersionStore};
 
 impl Ledger {
     /// The documents, as of each optime that is readable.
@@ -67,5 +67,14 @@ impl Ledger {
         ensures { result ≡ holder self.now.node (ns.now, id.now) }
     {
         self.store.holder(ns, id)
+    }
+
+    /// Both by one look-up: a document as a read at `local` shows it, and the open writer that holds it.
+    pub fn current(&self, ns: &str, id: &IdKey) -> Current<'_>
+        ensures latest { option_copied result.latest ≡ maps.get (local_documents self.now.node) (ns.now, id.now) }
+        ensures own { IfSome (option_copied result.latest) (λ document. BeginsWithId document × (id_key document ≡ Some id.now)) }
+        ensures holder { result.holder ≡ holder self.now.node (ns.now, id.now) }
+    {
+        self.store.current(ns, id)
     }
 }
