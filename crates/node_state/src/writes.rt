@@ -26,10 +26,11 @@ impl State {
             Ok(place) => place,
             Err(why) => return Ok(Err(refusal(why)?)),
         };
-        if let Some(writer) = self.ledger.holder(ns.as_str(), &id) {
+        let found = self.ledger.current(ns.as_str(), &id);
+        if let Some(writer) = found.holder {
             return Ok(Err(Refusal::WriteConflict(writer)));
         }
-        match prepare(self.alloc, op, self.ledger.latest(ns.as_str(), &id)) {
+        match prepare(self.alloc, op, found.latest) {
             Ok(effect) => Ok(Ok(Admission { ns, id, effect })),
             Err(why) => Ok(Err(refusal(why)?)),
         }

@@ -1,4 +1,4 @@
-use Rattle.std.proofs.Common.{◌≡◌, ◌∙◌, ap, sym, subst, None}
+use Rattle.std.proofs.Common.{◌≡◌, ◌∙◌, ap, sym, subst, None, Some, rules}
 use Rattle.std.specs.Option.{option_copied}
 use Rattle.std.specs.FinMap.{get}
 use Rattle.oplog_entry.specs.Docs.{docs}
@@ -17,32 +17,35 @@ use Rattle.node_state.proofs.state.State.admit.Goals as goal
 
 pub returns-in-Some : goal.returns-in-Some
 returns-in-Some c =
-    let found = rw c.as_str.ensures at c.in-Some.ensures in
+    let stands = rw c.as_str.ensures at c.current-found.ensures.holder in
+    let held : c.current-found.result.holder ≡ Some c.in-Some.writer = search rules in
     admitted-held c.args.self.now.node c.args.op.now c.in-Ok.place c.in-Some.writer c.in-Ok.ensures
-    (ap (λ (s : Standing). holder s.node c.in-Ok.place) (sym c.self.view_is) ∙ sym found)
+    (ap (λ (s : Standing). holder s.node c.in-Ok.place) (sym c.self.view_is) ∙ sym stands ∙ held)
 
 pub returns-in-Ok-prepare : goal.returns-in-Ok-prepare
 returns-in-Ok-prepare c =
-    let none = rw c.as_str.ensures at c.in_default.ensures in
-    let free : holder c.args.self.now.node c.in-Ok.place ≡ None = ap (λ (s : Standing). holder s.node c.in-Ok.place) (sym c.self.view_is) ∙ sym none in
-    let stands = rw c.as_str-2.ensures at c.latest.ensures.latest in
-    let latest : option_copied c.latest.result ≡ get (docs c.args.self.now.node.log) c.in-Ok.place =
+    let held = rw c.as_str.ensures at c.current-found.ensures.holder in
+    let none : c.current-found.result.holder ≡ None = search rules in
+    let free : holder c.args.self.now.node c.in-Ok.place ≡ None = ap (λ (s : Standing). holder s.node c.in-Ok.place) (sym c.self.view_is) ∙ sym held ∙ none in
+    let stands = rw c.as_str.ensures at c.current-found.ensures.latest in
+    let latest : option_copied c.current-found.result.latest ≡ get (docs c.args.self.now.node.log) c.in-Ok.place =
     stands ∙ ap (λ (s : Standing). get (local_documents s.node) c.in-Ok.place) c.self.view_is
     ∙ ap (λ (r : Role). get (docs (if_primary r c.args.self.now.node.log (log_up_to c.args.self.now.node.applied c.args.self.now.node.log))) c.in-Ok.place) c.requires.role in
-    let sound = subst (λ place. IsSound place (option_copied c.latest.result) c.in-Ok-prepare.effect) c.in-Ok.ensures c.in-Ok-prepare.ensures.sound in (
+    let sound = subst (λ place. IsSound place (option_copied c.current-found.result.latest) c.in-Ok-prepare.effect) c.in-Ok.ensures c.in-Ok-prepare.ensures.sound in (
       admitted-free c.args.self.now.node c.args.op.now c.in-Ok.place c.in-Ok.ensures free ∙ ap or_refused (ap (prepared c.args.op.now) (sym latest) ∙ c.in-Ok-prepare.ensures.answer),
       free,
-      effect_can c.args.self.now.node c.args.op.now c.in-Ok.place (option_copied c.latest.result) c.in-Ok-prepare.effect
-          (subst (λ (s : Standing). AreSmall s.node.log) c.self.view_is c.is_sound.ensures.node.documents) c.is_sound-2.ensures c.requires.name c.in-Ok.ensures latest c.latest.ensures.own c.in-Ok-prepare.ensures.answer sound,
+      effect_can c.args.self.now.node c.args.op.now c.in-Ok.place (option_copied c.current-found.result.latest) c.in-Ok-prepare.effect
+          (subst (λ (s : Standing). AreSmall s.node.log) c.self.view_is c.is_sound.ensures.node.documents) c.is_sound-2.ensures c.requires.name c.in-Ok.ensures latest c.current-found.ensures.own c.in-Ok-prepare.ensures.answer sound,
     )
 
 pub returns-in_ok-refusal-in-Err-prepare : goal.returns-in_ok-refusal-in-Err-prepare
 returns-in_ok-refusal-in-Err-prepare c =
-    let none = rw c.as_str.ensures at c.in_default.ensures in
-    let free : holder c.args.self.now.node c.in-Ok.place ≡ None = ap (λ (s : Standing). holder s.node c.in-Ok.place) (sym c.self.view_is) ∙ sym none in
-    let stands = rw c.as_str-2.ensures at c.latest.ensures.latest in
-    let latest : option_copied c.latest.result ≡ get (docs c.args.self.now.node.log) c.in-Ok.place =
+    let held = rw c.as_str.ensures at c.current-found.ensures.holder in
+    let none : c.current-found.result.holder ≡ None = search rules in
+    let free : holder c.args.self.now.node c.in-Ok.place ≡ None = ap (λ (s : Standing). holder s.node c.in-Ok.place) (sym c.self.view_is) ∙ sym held ∙ none in
+    let stands = rw c.as_str.ensures at c.current-found.ensures.latest in
+    let latest : option_copied c.current-found.result.latest ≡ get (docs c.args.self.now.node.log) c.in-Ok.place =
     stands ∙ ap (λ (s : Standing). get (local_documents s.node) c.in-Ok.place) c.self.view_is
     ∙ ap (λ (r : Role). get (docs (if_primary r c.args.self.now.node.log (log_up_to c.args.self.now.node.applied c.args.self.now.node.log))) c.in-Ok.place) c.requires.role in
     admitted-free c.args.self.now.node c.args.op.now c.in-Ok.place c.in-Ok.ensures free ∙ ap or_refused (ap (prepared c.args.op.now) (sym latest))
-    ∙ refuses c.in-Err-prepare.why c.in_ok-refusal-in-Err-prepare.field-0 (prepared c.args.op.now (option_copied c.latest.result)) c.in-Err-prepare.ensures.answer c.in_ok-refusal-in-Err-prepare.ensures
+    ∙ refuses c.in-Err-prepare.why c.in_ok-refusal-in-Err-prepare.field-0 (prepared c.args.op.now (option_copied c.current-found.result.latest)) c.in-Err-prepare.ensures.answer c.in_ok-refusal-in-Err-prepare.ensures
