@@ -1,6 +1,6 @@
 // The first word of a line.
 ghost use Rattle.std.specs.Prelude.{◌≡◌};
-ghost use Rattle.fault_script.specs.Commands.{write_kind, other_verb, node_verb, verb_of, node_shape, shape_of, as_command, keyword_of, keyword_shape};
+ghost use Rattle.fault_script.specs.Commands.{write_kind, other_verb, node_verb, as_verb, verb_of, node_shape, shape_of, as_command, keyword_of, keyword_shape};
 
 use crate::shape::Shape;
 
@@ -70,11 +70,11 @@ impl WriteKind {
     pub fn named(word: &str) -> Option<WriteKind>
         ensures { result ≡ write_kind word.now }
     {
-        match word {
-            "insert" => Some(WriteKind::Insert),
-            "replace" => Some(WriteKind::Replace),
-            "update" => Some(WriteKind::Update),
-            "delete" => Some(WriteKind::Delete),
+        match word.as_bytes() {
+            b"insert" => Some(WriteKind::Insert),
+            b"replace" => Some(WriteKind::Replace),
+            b"update" => Some(WriteKind::Update),
+            b"delete" => Some(WriteKind::Delete),
             _ => None,
         }
     }
@@ -157,17 +157,24 @@ fn other_verb(word: &str) -> Option<NodeVerb>
     }
 }
 
+/// What a node is asked for by a first word.
+fn asked_of_node(word: &str) -> Option<Verb>
+    ensures { result ≡ as_verb (node_verb word.now) }
+{
+    match NodeVerb::named(word) {
+        Some(verb) => Some(Verb::Node(verb)),
+        None => None,
+    }
+}
+
 impl Verb {
     /// What a first word asks for.
     fn named(word: &str) -> Option<Verb>
         ensures { result ≡ verb_of word.now }
     {
-        if word == "deliver" {
-            return Some(Verb::Deliver);
-        }
-        match NodeVerb::named(word) {
-            Some(verb) => Some(Verb::Node(verb)),
-            None => None,
+        match word.as_bytes() {
+            b"deliver" => Some(Verb::Deliver),
+            _ => asked_of_node(word),
         }
     }
 
@@ -187,10 +194,10 @@ impl Keyword {
     pub fn named(word: &str) -> Option<Keyword>
         ensures { result ≡ keyword_of word.now }
     {
-        match word {
-            "par" => Some(Keyword::Par),
-            "thread" => Some(Keyword::Thread),
-            "end" => Some(Keyword::End),
+        match word.as_bytes() {
+            b"par" => Some(Keyword::Par),
+            b"thread" => Some(Keyword::Thread),
+            b"end" => Some(Keyword::End),
             _ => command_named(word),
         }
     }

@@ -1,7 +1,7 @@
 // The words of a line, each with what is left of the line behind it.
-ghost use Rattle.std.specs.Prelude.{◌≡◌, ◌<◌, ◌+◌};
+ghost use Rattle.std.specs.Prelude.{◌≡◌, ◌<◌, ◌+◌, Ok, Some};
 ghost use Rattle.std.specs.Char.{is_ascii_digit};
-ghost use Rattle.std.specs.List.{list_all, count_by};
+ghost use Rattle.std.specs.List.{list_all, count_by, position};
 ghost use Rattle.std.specs.Option.{option_copied};
 ghost use Rattle.set_model.specs.Limits.{is_collection, is_name_byte};
 ghost use Rattle.fault_script.specs.declared.rule.ScriptRule.TheVariants.{BadWord};
@@ -62,17 +62,31 @@ pub fn has_shape(text: &str, shape: Shape) -> bool
     }
 }
 
+/// The place of the first space. Words are short, so that the bytes are tested one by one.
+fn first_space(text: &str) -> Option<usize>
+    ensures { result ≡ position is_space text.now }
+{
+    text.as_bytes().iter().position(|byte| *byte == b' ')
+}
+
+/// The word up to the first space, or the whole text.
+fn first_word(text: &str) -> (&str, Left<'_>)
+    ensures { word_at (Some text.now) ≡ Ok (result.0.now, option_copied result.1) }
+{
+    match first_space(text) {
+        Some(end) => (&text[..end], Some(&text[end + 1..])),
+        None => (text, None),
+    }
+}
+
 /// The word up to the next space, or up to the line's end.
 #[tactic(auto, unfolding(crate::specs::Words::word_at))]
 pub fn word(left: Left<'_>) -> Read<'_, &str>
     ensures { Reads (λ x. (x.0.now, option_copied x.1)) result (word_at (option_copied left.entry)) }
 {
-    let Some(text) = left else {
-        return Err(ScriptRule::WordCount);
-    };
-    match text.split_once(' ') {
-        Some((word, rest)) => Ok((word, Some(rest))),
-        None => Ok((text, None)),
+    match left {
+        Some(text) => Ok(first_word(text)),
+        None => Err(ScriptRule::WordCount),
     }
 }
 
