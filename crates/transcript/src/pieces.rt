@@ -4,15 +4,33 @@ ghost use Rattle.std.specs.Fmt.{decimal};
 ghost use Rattle.rs_optime.specs.Text.{optime_text};
 
 use bson_doc::Mem;
+use itoa::Buffer;
 use rs_optime::OpTime;
-use std::fmt::Write;
+
+/// A number. Most replies have some, and the buffer costs less than a format.
+pub fn write_number(number: u64, out: &mut String) -> Mem<()>
+    ensures { OnOk result (string_bytes out.new ≡ string_bytes out.old ++ decimal number) }
+{
+    out.push_str(Buffer::new().format(number))
+}
+
+/// An optime, as its `Display` has it.
+pub fn write_optime(at: OpTime, out: &mut String) -> Mem<()>
+    ensures { OnOk result (string_bytes out.new ≡ string_bytes out.old ++ optime_text at) }
+{
+    write_number(at.term, out)?;
+    out.push_str("/")?;
+    write_number(at.ts >> 32, out)?;
+    out.push_str("/")?;
+    write_number(at.ts & 0xffff_ffff, out)
+}
 
 /// Some words and an optime.
 pub fn write_at(words: &str, at: OpTime, out: &mut String) -> Mem<()>
     ensures { OnOk result (string_bytes out.new ≡ string_bytes out.old ++ (words.now ++ optime_text at)) }
 {
     out.push_str(words)?;
-    write!(out, "{at}")
+    write_optime(at, out)
 }
 
 /// A number and an optime, with words before each.
@@ -26,9 +44,9 @@ pub fn write_counted(
     ensures { OnOk result (string_bytes out.new ≡ string_bytes out.old ++ (words.now ++ decimal count ++ between.now ++ optime_text at)) }
 {
     out.push_str(words)?;
-    write!(out, "{count}")?;
+    write_number(count, out)?;
     out.push_str(between)?;
-    write!(out, "{at}")
+    write_optime(at, out)
 }
 
 /// An optime and a number, with words before each.
@@ -42,9 +60,9 @@ pub fn write_counted_behind(
     ensures { OnOk result (string_bytes out.new ≡ string_bytes out.old ++ (words.now ++ optime_text at ++ between.now ++ decimal count)) }
 {
     out.push_str(words)?;
-    write!(out, "{at}")?;
+    write_optime(at, out)?;
     out.push_str(between)?;
-    write!(out, "{count}")
+    write_number(count, out)
 }
 
 /// Two numbers, with words before each.
@@ -52,7 +70,7 @@ pub fn write_pair(words: &str, first: u64, between: &str, second: u32, out: &mut
     ensures { OnOk result (string_bytes out.new ≡ string_bytes out.old ++ (words.now ++ decimal first ++ between.now ++ decimal second)) }
 {
     out.push_str(words)?;
-    write!(out, "{first}")?;
+    write_number(first, out)?;
     out.push_str(between)?;
-    write!(out, "{second}")
+    write_number(u64::from(second), out)
 }

@@ -6,7 +6,7 @@ ghost use Rattle.transcript.specs.Replies.{reply_text, line_text};
 
 use crate::entries::{write_documents, write_entries};
 use crate::lost::write_rolled;
-use crate::pieces::{write_at, write_counted, write_counted_behind, write_pair};
+use crate::pieces::{write_at, write_counted, write_counted_behind, write_number, write_pair};
 use crate::refusal::{ignored_name, vote_refusal_name, write_refusal};
 use crate::state::{write_config, write_points, write_standing};
 use bson_doc::Mem;
@@ -20,7 +20,8 @@ pub fn write_reply(line: u32, reply: &Reply, out: &mut String) -> Mem<()>
     ensures err { OnErr result (string_bytes out.new ≡ string_bytes out.old) }
 {
     let mut text = String::new(*out.allocator());
-    write!(text, "{line}: ")?;
+    write_number(u64::from(line), &mut text)?;
+    text.push_str(": ")?;
     write_text(reply, &mut text)?;
     text.push_str("\n")?;
     out.push_str(&text)
