@@ -19,5 +19,5 @@ mod writes;
 
 pub use lists::{Lines, Threads};
 pub use rule::{ScriptError, ScriptFault, ScriptRule, TextRule};
-pub use script::{Part, Parts, Script};
+pub use script::{Part, Parts, Rest, Script};
 pub use whole::parse;

@@ -41,6 +41,12 @@ impl Lines {
         &self.lines
     }
 
+    pub fn into_vec(self) -> Vec<(u32, Command)>
+        ensures { result.items ≡ self }
+    {
+        self.lines
+    }
+
     fn with(mut self, line: (u32, Command)) -> Mem<Self>
         ensures { IfOk result (λ lines. lines ≡ self ++ line ∷ []) }
     {
@@ -89,6 +95,12 @@ impl Threads {
         ensures { result.now ≡ self.now }
     {
         &self.threads
+    }
+
+    pub fn into_vec(self) -> Vec<Lines>
+        ensures { result.items ≡ self }
+    {
+        self.threads
     }
 
     /// One thread more, without a command.

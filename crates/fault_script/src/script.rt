@@ -1,11 +1,14 @@
 // What a script is.
-ghost use Rattle.std.specs.Prelude.{◌≡◌, [], ◌∷◌, ◌++◌, IfOk};
+ghost use Rattle.std.specs.Prelude.{◌≡◌, [], ◌∷◌, ◌++◌, IfOk, MatchOption};
 
 use crate::lists::Threads;
 use bson_doc::Mem;
 use set_model::Command;
 use std::alloc::Global;
 use std::marker::Model;
+
+/// So many places of parts that were taken out are kept at most.
+const MOST_SPARE: usize = 1024;
 
 /// A script: the sizes of its set, and what is done in order.
 #[derive(Drop)]
@@ -62,6 +65,14 @@ impl Parts {
         &self.parts
     }
 
+    /// The same, to be taken out one by one.
+    pub fn into_rest(mut self) -> Rest
+        ensures { result ≡ self }
+    {
+        self.parts.reverse();
+        Rest { parts: self.parts }
+    }
+
     pub(crate) fn with(mut self, part: Part) -> Mem<Self>
         ensures { IfOk result (λ parts. parts ≡ self ++ part ∷ []) }
     {
@@ -75,5 +86,37 @@ impl Parts {
     {
         self.parts.shrink_to_fit();
         self
+    }
+}
+
+/// What is left of the parts of a script. They lie last first, so that what they took is given back while they are taken out.
+#[derive(Drop)]
+pub struct Rest {
+    parts: Vec<Part>,
+}
+
+impl Model for Rest {
+    ghost use Rattle.std.specs.Prelude.{List, reverse};
+    ghost use Rattle.std.specs.Coded.{coded_list};
+    ghost use Rattle.fault_script.specs.declared.script.Part.{Part};
+    ghost use Rattle.fault_script.specs.contracts.script.Part.{the_row};
+
+    ghost Value = { List Part };
+
+    ghost coded = { coded_list the_row.coded };
+
+    ghost view = { λ r. reverse r.parts.items };
+}
+
+impl Rest {
+    /// Takes out the next part.
+    pub fn next(&mut self) -> Option<Part>
+        ensures { MatchOption result (self.old ≡ []) (λ part. self.old ≡ part ∷ self.new) }
+    {
+        let part = self.parts.pop()?;
+        if self.parts.len() % MOST_SPARE == 0 {
+            self.parts.shrink_to_fit();
+        }
+        Some(part)
     }
 }
