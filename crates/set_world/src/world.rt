@@ -122,31 +122,54 @@ impl<D: Disk> World<D> {
         ensures err { OnErr result (IsUndone D.state self.old self.new command.now) }
         ensures sizes { self.new.sizes ≡ self.old.sizes }
     {
+        // Before the copy, for which memory may be wanting.
+        if self.history.len() >= MOST_EVENTS {
+            return Err(StepError::HistoryFull);
+        }
+        let copied = command.copy()?;
+        self.take(rt, line, copied)
+    }
+
+    /// Does one command, which becomes a part of its event.
+    ///
+    /// # Errors
+    /// Those of `step`, which copies its command.
+    pub fn take<R: Threads + Sync>(
+        &mut self,
+        rt: &R,
+        line: u32,
+        command: Command,
+    ) -> Result<Reply, StepError>
+        requires command { is_for self.old.sizes.nodes command ≡ true }
+        ensures step { IfOk result (λ reply. IsStep D.state self.old self.new line command reply) }
+        ensures full { IsErrOf result AStepError.HistoryFull ↔ length self.old.history ≡ 4294967295 }
+        ensures err { OnErr result (IsUndone D.state self.old self.new command) }
+        ensures sizes { self.new.sizes ≡ self.old.sizes }
+    {
         if self.history.len() >= MOST_EVENTS {
             return Err(StepError::HistoryFull);
         }
         numbers_stay_small();
         messages_can_be_taken();
-        brings_sound(command);
+        brings_sound(&command);
         self.history.reserve(1)?;
         self.pool.reserve(MOST_SENT)?;
-        let copied = command.copy()?;
         let Done {
             reply,
             sent,
             failed,
             kept,
-        } = match act(&mut self.nodes, self.alloc, rt, &self.pool, command) {
+        } = match act(&mut self.nodes, self.alloc, rt, &self.pool, &command) {
             Ok(done) => done,
             Err(_) => {
-                drop(copied);
+                drop(command);
                 return Err(StepError::Memory);
             }
         };
         self.pool.add(sent);
         let event = Event {
             line,
-            command: copied,
+            command,
             failed,
             kept,
         };

@@ -7,7 +7,7 @@ use Rattle.set_world.specs.World.{Set, disks_in, event_of, nodes_in}
 use Rattle.set_world.proofs.DiskLemmas.{stepped, undone}
 use Rattle.set_world.proofs.NodesLemmas.{whole}
 use Rattle.set_world.proofs.WorldLemmas.{GoesOn, acts_now, goes_on, stands_still}
-use Rattle.set_world.proofs.world.World.step.Goals as goal
+use Rattle.set_world.proofs.world.World.take.Goals as goal
 
 pub act-requires-clause-size : goal.act-requires-clause-size
 act-requires-clause-size g c κs within =
@@ -41,24 +41,24 @@ act-requires-clause-between g c κs within =
 
 pub add-requires-clause-room : goal.add-requires-clause-room
 add-requires-clause-room g c =
-    let named : is_for c.self.inside.size c.args.command.now ≡ true = search rules in
+    let named : is_for c.self.inside.size c.args.command ≡ true = search rules in
     let short : length c.self.inside.history.items < 4294967295 = search rules in
-    let on : GoesOn (record { nodes = c.self.inside.size; members = c.self.inside.members }) c.self.inside.history.items c.reserve-2.new.self (nodes_in c.act.new.nodes) c.args.line c.args.command.now c.in-Ok.done =
+    let on : GoesOn (record { nodes = c.self.inside.size; members = c.self.inside.members }) c.self.inside.history.items c.reserve-2.new.self (nodes_in c.act.new.nodes) c.args.line c.args.command c.in-Ok.done =
     goes_on (record { nodes = c.self.inside.size; members = c.self.inside.members }) c.self.inside.history.items c.self.inside.nodes.items c.deref_mut.result.now c.self.inside.pool c.reserve-2.new.self
     c.self.invariant.0 c.deref_mut.ensures.value c.reserve-2.ensures.nodes c.reserve-2.ensures.messages c.numbers_stay_small.ensures
-    (nodes_in c.act.new.nodes) c.args.line c.args.command.now c.in-Ok.done c.in-Ok.ensures.ok short named c.brings_sound.ensures in
+    (nodes_in c.act.new.nodes) c.args.line c.args.command c.in-Ok.done c.in-Ok.ensures.ok short named c.brings_sound.ensures in
     let few : length c.in-Ok.done.sent.items ≤ 7 = on.room in
     let room : 7 ≤ c.reserve-2.new.self.spare = c.in_ok-reserve-2.ensures.room in
     omega (arith, few, room)
 
 pub add-requires-clause-between : goal.add-requires-clause-between
 add-requires-clause-between g c =
-    let named : is_for c.self.inside.size c.args.command.now ≡ true = search rules in
+    let named : is_for c.self.inside.size c.args.command ≡ true = search rules in
     let short : length c.self.inside.history.items < 4294967295 = search rules in
-    let on : GoesOn (record { nodes = c.self.inside.size; members = c.self.inside.members }) c.self.inside.history.items c.reserve-2.new.self (nodes_in c.act.new.nodes) c.args.line c.args.command.now c.in-Ok.done =
+    let on : GoesOn (record { nodes = c.self.inside.size; members = c.self.inside.members }) c.self.inside.history.items c.reserve-2.new.self (nodes_in c.act.new.nodes) c.args.line c.args.command c.in-Ok.done =
     goes_on (record { nodes = c.self.inside.size; members = c.self.inside.members }) c.self.inside.history.items c.self.inside.nodes.items c.deref_mut.result.now c.self.inside.pool c.reserve-2.new.self
     c.self.invariant.0 c.deref_mut.ensures.value c.reserve-2.ensures.nodes c.reserve-2.ensures.messages c.numbers_stay_small.ensures
-    (nodes_in c.act.new.nodes) c.args.line c.args.command.now c.in-Ok.done c.in-Ok.ensures.ok short named c.brings_sound.ensures in
+    (nodes_in c.act.new.nodes) c.args.line c.args.command c.in-Ok.done c.in-Ok.ensures.ok short named c.brings_sound.ensures in
     on.between
 
 pub invariant_of-self-2 : goal.invariant_of-self-2
@@ -66,13 +66,13 @@ invariant_of-self-2 g c =
     let long : length c.self.inside.nodes.items ≡ c.self.inside.nodes.len = search rules in
     let same : take c.self.inside.nodes.len (c.act.new.nodes ++ drop (length c.act.new.nodes) c.self.inside.nodes.items) ≡ c.act.new.nodes =
     whole c.act.new.nodes c.self.inside.nodes.items c.self.inside.nodes.len (c.act.ensures.len ∙ ap length c.deref_mut.ensures.value) long in
-    let named : is_for c.self.inside.size c.args.command.now ≡ true = search rules in
+    let named : is_for c.self.inside.size c.args.command ≡ true = search rules in
     let short : length c.self.inside.history.items < 4294967295 = search rules in
-    let on : GoesOn (record { nodes = c.self.inside.size; members = c.self.inside.members }) c.self.inside.history.items c.reserve-2.new.self (nodes_in c.act.new.nodes) c.args.line c.args.command.now c.in-Ok.done =
+    let on : GoesOn (record { nodes = c.self.inside.size; members = c.self.inside.members }) c.self.inside.history.items c.reserve-2.new.self (nodes_in c.act.new.nodes) c.args.line c.args.command c.in-Ok.done =
     goes_on (record { nodes = c.self.inside.size; members = c.self.inside.members }) c.self.inside.history.items c.self.inside.nodes.items c.deref_mut.result.now c.self.inside.pool c.reserve-2.new.self
     c.self.invariant.0 c.deref_mut.ensures.value c.reserve-2.ensures.nodes c.reserve-2.ensures.messages c.numbers_stay_small.ensures
-    (nodes_in c.act.new.nodes) c.args.line c.args.command.now c.in-Ok.done c.in-Ok.ensures.ok short named c.brings_sound.ensures in
-    let items : c.push.new.self.items ≡ c.self.inside.history.items ++ event_of c.args.line c.args.command.now c.in-Ok.done ∷ [] = search rules in
+    (nodes_in c.act.new.nodes) c.args.line c.args.command c.in-Ok.done c.in-Ok.ensures.ok short named c.brings_sound.ensures in
+    let items : c.push.new.self.items ≡ c.self.inside.history.items ++ event_of c.args.line c.args.command c.in-Ok.done ∷ [] = search rules in
     rw same (on.stands c.add.new.self c.push.new.self.items items c.add.ensures.nodes c.add.ensures.messages, c.self.invariant.1, c.act.ensures.stand (subst (λ l. NodesStand g.D.Disk.state l) (sym c.deref_mut.ensures.value) c.self.invariant.2))
 
 pub invariant_of-self-in-Err : goal.invariant_of-self-in-Err
@@ -82,7 +82,7 @@ invariant_of-self-in-Err g c =
     whole c.act.new.nodes c.self.inside.nodes.items c.self.inside.nodes.len (c.act.ensures.len ∙ ap length c.deref_mut.ensures.value) long in
     rw same (
       stands_still g.D.Disk.state (record { nodes = c.self.inside.size; members = c.self.inside.members }) c.self.inside.history.items c.reserve.new.self.items c.self.inside.nodes.items
-          c.deref_mut.result.now c.act.new.nodes c.self.inside.pool c.reserve-2.new.self (touched_node (record { nodes = nodes_in c.deref_mut.result.now; messages = c.reserve-2.new.self.messages }) c.args.command.now)
+          c.deref_mut.result.now c.act.new.nodes c.self.inside.pool c.reserve-2.new.self (touched_node (record { nodes = nodes_in c.deref_mut.result.now; messages = c.reserve-2.new.self.messages }) c.args.command)
           c.self.invariant.0 c.deref_mut.ensures.value c.reserve-2.ensures.nodes c.reserve-2.ensures.messages c.reserve.ensures.items c.in-Err.ensures.err,
       c.self.invariant.1,
       c.act.ensures.stand (subst (λ l. NodesStand g.D.Disk.state l) (sym c.deref_mut.ensures.value) c.self.invariant.2),
@@ -98,9 +98,9 @@ returns-in-Err-clause-err g c =
       history = c.reserve.new.self.items;
       disks = disks_in (take c.self.inside.nodes.len (c.act.new.nodes ++ drop (length c.act.new.nodes) c.self.inside.nodes.items)) ++ c.self.inside.idle.items;
     } in
-    subst (λ (s : Set g.row.D.Denot). IsUndone g.D.Disk.state s now c.args.command.now) c.self.view_is
+    subst (λ (s : Set g.row.D.Denot). IsUndone g.D.Disk.state s now c.args.command) c.self.view_is
     (rw same (undone g.D.Disk.state (record { nodes = c.self.inside.size; members = c.self.inside.members }) c.self.inside.history.items c.self.inside.nodes.items c.deref_mut.result.now
-    c.act.new.nodes c.self.inside.idle.items c.self.inside.pool.messages c.reserve-2.new.self.messages c.args.command.now c.self.invariant.0.reached.world c.deref_mut.ensures.value
+    c.act.new.nodes c.self.inside.idle.items c.self.inside.pool.messages c.reserve-2.new.self.messages c.args.command c.self.invariant.0.reached.world c.deref_mut.ensures.value
     c.reserve-2.ensures.messages c.reserve.new.self.items c.reserve.ensures.items c.in-Err.ensures.err))
 
 pub returns-clause-step : goal.returns-clause-step
@@ -108,19 +108,19 @@ returns-clause-step g c =
     let long : length c.self.inside.nodes.items ≡ c.self.inside.nodes.len = search rules in
     let same : take c.self.inside.nodes.len (c.act.new.nodes ++ drop (length c.act.new.nodes) c.self.inside.nodes.items) ≡ c.act.new.nodes =
     whole c.act.new.nodes c.self.inside.nodes.items c.self.inside.nodes.len (c.act.ensures.len ∙ ap length c.deref_mut.ensures.value) long in
-    let named : is_for c.self.inside.size c.args.command.now ≡ true = search rules in
+    let named : is_for c.self.inside.size c.args.command ≡ true = search rules in
     let short : length c.self.inside.history.items < 4294967295 = search rules in
-    let on : GoesOn (record { nodes = c.self.inside.size; members = c.self.inside.members }) c.self.inside.history.items c.reserve-2.new.self (nodes_in c.act.new.nodes) c.args.line c.args.command.now c.in-Ok.done =
+    let on : GoesOn (record { nodes = c.self.inside.size; members = c.self.inside.members }) c.self.inside.history.items c.reserve-2.new.self (nodes_in c.act.new.nodes) c.args.line c.args.command c.in-Ok.done =
     goes_on (record { nodes = c.self.inside.size; members = c.self.inside.members }) c.self.inside.history.items c.self.inside.nodes.items c.deref_mut.result.now c.self.inside.pool c.reserve-2.new.self
     c.self.invariant.0 c.deref_mut.ensures.value c.reserve-2.ensures.nodes c.reserve-2.ensures.messages c.numbers_stay_small.ensures
-    (nodes_in c.act.new.nodes) c.args.line c.args.command.now c.in-Ok.done c.in-Ok.ensures.ok short named c.brings_sound.ensures in
-    let items : c.push.new.self.items ≡ c.self.inside.history.items ++ event_of c.args.line c.args.command.now c.in-Ok.done ∷ [] = search rules in
+    (nodes_in c.act.new.nodes) c.args.line c.args.command c.in-Ok.done c.in-Ok.ensures.ok short named c.brings_sound.ensures in
+    let items : c.push.new.self.items ≡ c.self.inside.history.items ++ event_of c.args.line c.args.command c.in-Ok.done ∷ [] = search rules in
     let now : Set g.row.D.Denot = record {
       sizes = record { nodes = c.self.inside.size; members = c.self.inside.members };
       history = c.push.new.self.items;
       disks = disks_in (take c.self.inside.nodes.len (c.act.new.nodes ++ drop (length c.act.new.nodes) c.self.inside.nodes.items)) ++ c.self.inside.idle.items;
     } in
-    subst (λ (s : Set g.row.D.Denot). IsStep g.D.Disk.state s now c.args.line c.args.command.now c.in-Ok.done.reply) c.self.view_is
+    subst (λ (s : Set g.row.D.Denot). IsStep g.D.Disk.state s now c.args.line c.args.command c.in-Ok.done.reply) c.self.view_is
     (rw same (stepped g.D.Disk.state (record { nodes = c.self.inside.size; members = c.self.inside.members }) c.self.inside.history.items c.self.inside.nodes.items c.deref_mut.result.now
-    c.act.new.nodes c.self.inside.idle.items c.self.inside.pool.messages c.reserve-2.new.self.messages c.args.command.now c.self.invariant.0.reached.world c.deref_mut.ensures.value
+    c.act.new.nodes c.self.inside.idle.items c.self.inside.pool.messages c.reserve-2.new.self.messages c.args.command c.self.invariant.0.reached.world c.deref_mut.ensures.value
     c.reserve-2.ensures.messages c.push.new.self.items c.args.line c.in-Ok.done items on.reply c.in-Ok.ensures.disks))
