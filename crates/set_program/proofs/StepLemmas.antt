@@ -1,8 +1,7 @@
 -- The lines of a part, played one after another.
-use Rattle.std.proofs.Common.{ℕ, ◌≡◌, ◌+◌, ◌≤◌, ◌<◌, Bool, true, List, [], ◌∷◌, ◌++◌, length, length-append, take, drop, get_or, append_assoc, refl, ap, sym, subst, arith, ◌∙◌}
+use Rattle.std.proofs.Common.{ℕ, suc, ◌≡◌, ◌+◌, ◌≤◌, ◌<◌, Bool, true, List, [], ◌∷◌, ◌++◌, length, length-append, take, drop, get_or, append_assoc, refl, ap, sym, subst, arith, ◌∙◌}
 use Rattle.std.specs.Prelude.{map}
 use Rattle.std.specs.List.{flat_map, AllPass}
-use Rattle.std.proofs.lemmas.List.Elements.{All-get_or}
 use Rattle.std.proofs.lemmas.List.{append-nil, map-append, take_more, take-append-drop, length-map}
 use Rattle.std.proofs.lemmas.List.Concat.{flat_map-append}
 use Rattle.rs_disk.specs.State.{State}
@@ -51,7 +50,7 @@ adds_none old new same = record { added = []; events = same ∙ sym (append-nil 
 told_at : (sizes sizes' : Sizes) (old new : List Event) (replies : List (ℕ × Reply)) → sizes' ≡ sizes → GoesOn sizes' old new replies → GoesOn sizes old new replies
 told_at sizes sizes' old new replies same told = subst (λ (s : Sizes). GoesOn s old new replies) same told
 
-pub stepped_none : {D : Type 0} (state : D → State) (set : Set D) (replies : List (ℕ × Reply)) → Stepped state [] set set replies replies
+stepped_none : {D : Type 0} (state : D → State) (set : Set D) (replies : List (ℕ × Reply)) → Stepped state [] set set replies replies
 stepped_none state set replies = record {
   sizes = refl;
   adds = adds_none set.history set.history refl;
@@ -61,7 +60,7 @@ stepped_none state set replies = record {
   disks = λ first played. played;
 }
 
-pub stepped_more : {D : Type 0} (state : D → State) (xs ys : List (ℕ × Command)) (old mid new : Set D) (before between after : List (ℕ × Reply))
+stepped_more : {D : Type 0} (state : D → State) (xs ys : List (ℕ × Command)) (old mid new : Set D) (before between after : List (ℕ × Reply))
     → Stepped state xs old mid before between → Stepped state ys mid new between after → Stepped state (xs ++ ys) old new before after
 stepped_more state xs ys old mid new before between after first second =
     let told = told_at old.sizes mid.sizes mid.history new.history second.replies first.sizes second.told in
@@ -78,7 +77,7 @@ stepped_more state xs ys old mid new before between after first second =
     }
 
 -- some of the later lines
-pub some_more : {D : Type 0} (state : D → State) (whole xs ys later : List (ℕ × Command)) (old mid new : Set D) (before between : List (ℕ × Reply))
+some_more : {D : Type 0} (state : D → State) (whole xs ys later : List (ℕ × Command)) (old mid new : Set D) (before between : List (ℕ × Reply))
     → whole ≡ (xs ++ ys) ++ later → Stepped state xs old mid before between → SteppedSome state ys mid new → SteppedSome state whole old new
 some_more state whole xs ys later old mid new before between is first some = record {
   sizes = some.sizes ∙ first.sizes;
@@ -138,11 +137,7 @@ line_undone state line command old new fits is sizes = record {
   disks = undone_ran state old new command fits is sizes;
 }
 
--- a list at one of its places
-pub around : {A : Type 0} (xs : List A) (i : ℕ) (x : A) → i < length xs → x ≡ get_or xs i x → xs ≡ (take i xs ++ x ∷ []) ++ drop (i + 1) xs
-around {A} xs i x within is =
-    sym (take-append-drop (i + 1) xs) ∙ ap (λ (ys : List A). ys ++ drop (i + 1) xs) (take_more xs i x within ∙ ap (λ (y : A). take i xs ++ y ∷ []) (sym is))
-
+-- a list to behind one of its places
 pub next_take : {A : Type 0} (xs : List A) (i : ℕ) (x : A) → i < length xs → x ≡ get_or xs i x → take (i + 1) xs ≡ take i xs ++ x ∷ []
 next_take {A} xs i x within is = take_more xs i x within ∙ ap (λ (y : A). take i xs ++ y ∷ []) (sym is)
 
@@ -151,25 +146,67 @@ pub next_pieces : {A B : Type 0} (f : A → List B) (xs : List A) (i : ℕ) (x :
 next_pieces {A} {B} f xs i x within is =
     ap (flat_map f) (next_take xs i x within is) ∙ flat_map-append f (take i xs) (x ∷ []) ∙ ap (λ (ys : List B). flat_map f (take i xs) ++ ys) (append-nil (f x))
 
-pub around_pieces : {A B : Type 0} (f : A → List B) (xs : List A) (i : ℕ) (x : A) → i < length xs → x ≡ get_or xs i x → flat_map f xs ≡ (flat_map f (take i xs) ++ f x) ++ flat_map f (drop (i + 1) xs)
-around_pieces {A} {B} f xs i x within is =
-    ap (flat_map f) (sym (take-append-drop (i + 1) xs)) ∙ flat_map-append f (take (i + 1) xs) (drop (i + 1) xs)
-    ∙ ap (λ (ys : List B). ys ++ flat_map f (drop (i + 1) xs)) (next_pieces f xs i x within is)
-
--- a test that all items pass
-pub item_passes : {A : Type 0} (p : A → Bool) (xs : List A) (i : ℕ) (x : A) → i < length xs → x ≡ get_or xs i x → AllPass p xs → p x ≡ true
-item_passes p xs i x within is all = ap p is ∙ All-get_or (λ y. p y ≡ true) xs i x within all
-
 -- how long a history is behind some lines
 pub longer_by : (lines : List (ℕ × Command)) (old new : List Event) → Adds lines old new → length new ≡ length old + length lines
 longer_by lines old new adds =
     ap (λ (es : List Event). length es) adds.events ∙ length-append old adds.added
     ∙ ap (λ (n : ℕ). length old + n) (sym (length-map adds.added line_of) ∙ ap (λ (ls : List (ℕ × Command)). length ls) adds.lines_are)
 
--- there is room for the next piece
-pub room : {A B : Type 0} (f : A → List B) (xs : List A) (i : ℕ) (x : A) (before : ℕ) → i < length xs → x ≡ get_or xs i x → before + length (flat_map f xs) ≤ 200000 → before + length (flat_map f (take i xs)) + length (f x) ≤ 200000
-room {A} {B} f xs i x before within is few =
-    let one = length-append (flat_map f (take i xs)) (f x) in
-    let two = length-append (flat_map f (take i xs) ++ f x) (flat_map f (drop (i + 1) xs)) in
-    let three : length (flat_map f xs) ≡ length ((flat_map f (take i xs) ++ f x) ++ flat_map f (drop (i + 1) xs)) = ap (λ (ys : List B). length ys) (around_pieces f xs i x within is) in
-    omega (arith, one, two, three, few)
+-- ---- a list that is played from its front
+
+-- a test that all items pass
+pub head_passes : {A : Type 0} (p : A → Bool) (x : A) (xs : List A) → AllPass p (x ∷ xs) → p x ≡ true
+head_passes p x xs all = all 0 x (omega arith)
+
+pub tail_passes : {A : Type 0} (p : A → Bool) (x : A) (xs : List A) → AllPass p (x ∷ xs) → AllPass p xs
+tail_passes p x xs all k d within = all (suc k) d (omega (arith, within))
+
+-- its first lines are played, and these items are left
+pub record SteppedUpTo {D A : Type 0} (state : D → State) (p : A → Bool) (lines : List A → List (ℕ × Command)) (whole left : List A) (old new : Set D) (before after : List (ℕ × Reply)) : Type 0 where
+  pub first : List (ℕ × Command)
+  pub whole_is : lines whole ≡ first ++ lines left
+  pub fits : AllPass p left
+  pub stepped : Stepped state first old new before after
+
+pub nothing_stepped : {D A : Type 0} (state : D → State) (p : A → Bool) (lines : List A → List (ℕ × Command)) (whole left : List A) (set : Set D) (replies : List (ℕ × Reply))
+    → left ≡ whole → AllPass p whole → SteppedUpTo state p lines whole left set set replies replies
+nothing_stepped {D} {A} state p lines whole left set replies same fits = record {
+  first = [];
+  whole_is = ap lines (sym same);
+  fits = subst (λ (xs : List A). AllPass p xs) (sym same) fits;
+  stepped = stepped_none state set replies;
+}
+
+pub all_stepped : {D A : Type 0} (state : D → State) (p : A → Bool) (lines : List A → List (ℕ × Command)) (whole left : List A) (old new : Set D) (before after : List (ℕ × Reply))
+    → SteppedUpTo state p lines whole left old new before after → left ≡ [] → lines [] ≡ [] → Stepped state (lines whole) old new before after
+all_stepped state p lines whole left old new before after so_far none empty =
+    let all : lines whole ≡ so_far.first = so_far.whole_is ∙ ap (λ (ls : List (ℕ × Command)). so_far.first ++ ls) (ap lines none ∙ empty) ∙ append-nil so_far.first in
+    subst (λ (ls : List (ℕ × Command)). Stepped state ls old new before after) (sym all) so_far.stepped
+
+-- these items are left, and the next one's lines are played
+module _ {D A : Type 0} (state : D → State) (p : A → Bool) (lines : List A → List (ℕ × Command)) (whole left : List A) (old mid : Set D) (before between : List (ℕ × Reply))
+    (so_far : SteppedUpTo state p lines whole left old mid before between) (x : A) (rest : List A) (own : List (ℕ × Command)) (next : left ≡ x ∷ rest) (split : lines (x ∷ rest) ≡ own ++ lines rest) where
+  pub next_passes : p x ≡ true
+  next_passes = head_passes p x rest (subst (λ (xs : List A). AllPass p xs) next so_far.fits)
+
+  pub next_lines : lines whole ≡ (so_far.first ++ own) ++ lines rest
+  next_lines = so_far.whole_is ∙ ap (λ (ls : List (ℕ × Command)). so_far.first ++ ls) (ap lines next ∙ split) ∙ sym (append_assoc so_far.first own (lines rest))
+
+  pub next_room : length old.history + length (lines whole) ≤ 200000 → length mid.history + length own ≤ 200000
+  next_room few =
+      let longer = longer_by so_far.first old.history mid.history so_far.stepped.adds in
+      let all : length (lines whole) ≡ length ((so_far.first ++ own) ++ lines rest) = ap (λ (ls : List (ℕ × Command)). length ls) next_lines in
+      let one = length-append (so_far.first ++ own) (lines rest) in
+      let two = length-append so_far.first own in
+      omega (arith, longer, all, one, two, few)
+
+  pub next_stepped : (new : Set D) (after : List (ℕ × Reply)) → Stepped state own mid new between after → SteppedUpTo state p lines whole rest old new before after
+  next_stepped new after more = record {
+    first = so_far.first ++ own;
+    whole_is = next_lines;
+    fits = tail_passes p x rest (subst (λ (xs : List A). AllPass p xs) next so_far.fits);
+    stepped = stepped_more state so_far.first own old mid new before between after so_far.stepped more;
+  }
+
+  pub next_stops : (new : Set D) → SteppedSome state own mid new → SteppedSome state (lines whole) old new
+  next_stops new some = some_more state (lines whole) so_far.first own (lines rest) old mid new before between next_lines so_far.stepped some

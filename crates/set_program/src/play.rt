@@ -9,7 +9,7 @@ ghost use Rattle.set_program.specs.Plays.{Plays, PlaysPart};
 use crate::replies::put_replies;
 use crate::steps::step_part;
 use crate::stop::Stop;
-use fault_script::Part;
+use fault_script::{Part, Parts};
 use rs_disk::Disk;
 use rs_io::Sink;
 use set_world::World;
@@ -20,21 +20,22 @@ use std::thread::Threads;
 pub fn play<K: Sink, D: Disk, R: Threads + Sync>(
     rt: &R,
     alloc: Global,
-    parts: &[Part],
+    parts: Parts,
     sink: &mut K,
     world: &mut World<D>,
 ) -> Result<(), Stop>
     requires start { world.old.history ≡ [] }
-    requires few { length (lines_in parts.now) ≤ 200000 }
-    requires fits { AllPass (is_part_for world.old.sizes.nodes) parts.now }
-    ensures plays { Plays world.old.sizes parts.now (K.held sink.old) (K.held sink.new) world.new.history result }
+    requires few { length (lines_in parts) ≤ 200000 }
+    requires fits { AllPass (is_part_for world.old.sizes.nodes) parts }
+    ensures plays { Plays world.old.sizes parts (K.held sink.old) (K.held sink.new) world.new.history result }
     ensures sizes { world.new.sizes ≡ world.old.sizes }
     ensures disks { GoOn D.state world.old world.new result }
     ensures cause { HasCause (K.faults sink.old) (K.faults sink.new) (IsErrOf result Stop.WriteFault) }
     ensures steady { K.steady sink.old → K.steady sink.new × (result ≢ Err Stop.WriteFault) }
 {
     let mut text = String::new(alloc);
-    for part in parts {
+    let mut rest = parts.into_rest();
+    while let Some(part) = rest.next() {
         play_part(rt, alloc, part, sink, world, &mut text)?;
     }
     Ok(())
@@ -44,14 +45,14 @@ pub fn play<K: Sink, D: Disk, R: Threads + Sync>(
 fn play_part<K: Sink, D: Disk, R: Threads + Sync>(
     rt: &R,
     alloc: Global,
-    part: &Part,
+    part: Part,
     sink: &mut K,
     world: &mut World<D>,
     text: &mut String,
 ) -> Result<(), Stop>
-    requires few { length world.old.history + length (lines_of part.now) ≤ 200000 }
-    requires fits { is_part_for world.old.sizes.nodes part.now ≡ true }
-    ensures plays { PlaysPart world.old.sizes (lines_of part.now) (K.held sink.old) (K.held sink.new) world.old.history world.new.history result }
+    requires few { length world.old.history + length (lines_of part) ≤ 200000 }
+    requires fits { is_part_for world.old.sizes.nodes part ≡ true }
+    ensures plays { PlaysPart world.old.sizes (lines_of part) (K.held sink.old) (K.held sink.new) world.old.history world.new.history result }
     ensures sizes { world.new.sizes ≡ world.old.sizes }
     ensures disks { GoOn D.state world.old world.new result }
     ensures cause { HasCause (K.faults sink.old) (K.faults sink.new) (IsErrOf result Stop.WriteFault) }

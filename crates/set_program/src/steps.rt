@@ -16,48 +16,48 @@ use std::thread::Threads;
 /// Plays a part, and keeps its replies in the order in which they are given. The threads of a block run one after another.
 pub fn step_part<D: Disk, R: Threads + Sync>(
     rt: &R,
-    part: &Part,
+    part: Part,
     world: &mut World<D>,
     replies: &mut Vec<(u32, Reply)>,
 ) -> Mem<()>
-    requires few { length world.old.history + length (lines_of part.now) ≤ 200000 }
-    requires fits { is_part_for world.old.sizes.nodes part.now ≡ true }
-    ensures { Steps D.state (lines_of part.now) world.old world.new replies.old.items replies.new.items result }
+    requires few { length world.old.history + length (lines_of part) ≤ 200000 }
+    requires fits { is_part_for world.old.sizes.nodes part ≡ true }
+    ensures { Steps D.state (lines_of part) world.old world.new replies.old.items replies.new.items result }
 {
     match part {
-        Part::Line(line, command) => step_line(rt, *line, command, world, replies),
-        Part::Par(threads) => step_threads(rt, threads.as_slice(), world, replies),
+        Part::Line(line, command) => step_line(rt, line, command, world, replies),
+        Part::Par(threads) => step_threads(rt, threads, world, replies),
     }
 }
 
 fn step_threads<D: Disk, R: Threads + Sync>(
     rt: &R,
-    threads: &[Lines],
+    threads: fault_script::Threads,
     world: &mut World<D>,
     replies: &mut Vec<(u32, Reply)>,
 ) -> Mem<()>
-    requires few { length world.old.history + length (joined threads.now) ≤ 200000 }
-    requires fits { AllPass (list_all (λ line. is_for world.old.sizes.nodes line.1)) threads.now }
-    ensures { Steps D.state (joined threads.now) world.old world.new replies.old.items replies.new.items result }
+    requires few { length world.old.history + length (joined threads) ≤ 200000 }
+    requires fits { AllPass (list_all (λ line. is_for world.old.sizes.nodes line.1)) threads }
+    ensures { Steps D.state (joined threads) world.old world.new replies.old.items replies.new.items result }
 {
-    for thread in threads {
-        step_lines(rt, thread.as_slice(), world, replies)?;
+    for thread in threads.into_vec() {
+        step_lines(rt, thread, world, replies)?;
     }
     Ok(())
 }
 
 fn step_lines<D: Disk, R: Threads + Sync>(
     rt: &R,
-    lines: &[(u32, Command)],
+    lines: Lines,
     world: &mut World<D>,
     replies: &mut Vec<(u32, Reply)>,
 ) -> Mem<()>
-    requires few { length world.old.history + length lines.now ≤ 200000 }
-    requires fits { AllPass (λ line. is_for world.old.sizes.nodes line.1) lines.now }
-    ensures { Steps D.state lines.now world.old world.new replies.old.items replies.new.items result }
+    requires few { length world.old.history + length lines ≤ 200000 }
+    requires fits { AllPass (λ line. is_for world.old.sizes.nodes line.1) lines }
+    ensures { Steps D.state lines world.old world.new replies.old.items replies.new.items result }
 {
-    for (line, command) in lines {
-        step_line(rt, *line, command, world, replies)?;
+    for (line, command) in lines.into_vec() {
+        step_line(rt, line, command, world, replies)?;
     }
     Ok(())
 }
@@ -65,15 +65,15 @@ fn step_lines<D: Disk, R: Threads + Sync>(
 fn step_line<D: Disk, R: Threads + Sync>(
     rt: &R,
     line: u32,
-    command: &Command,
+    command: Command,
     world: &mut World<D>,
     replies: &mut Vec<(u32, Reply)>,
 ) -> Mem<()>
     requires few { length world.old.history < 200000 }
-    requires fits { is_for world.old.sizes.nodes command.now ≡ true }
-    ensures { Steps D.state ((line, command.now) ∷ []) world.old world.new replies.old.items replies.new.items result }
+    requires fits { is_for world.old.sizes.nodes command ≡ true }
+    ensures { Steps D.state ((line, command) ∷ []) world.old world.new replies.old.items replies.new.items result }
 {
-    match world.step(rt, line, command) {
+    match world.take(rt, line, command) {
         Ok(reply) => {
             replies.push((line, reply))?;
             Ok(())

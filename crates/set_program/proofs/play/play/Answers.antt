@@ -1,30 +1,48 @@
-use Rattle.std.proofs.Common.{◌≡◌, true, [], take, arith, refl, subst, sym}
+use Rattle.std.proofs.Common.{◌≡◌, ◌≤◌, true, [], rules, subst, sym}
 use Rattle.std.proofs.lemmas.Result.{err_from_is_err_and}
-use Rattle.fault_script.specs.Script.{is_part_for, lines_of, lines_in}
+use Rattle.fault_script.specs.Script.{is_part_for}
 use Rattle.set_model.specs.Run.{Sizes}
-use Rattle.set_program.proofs.PlayLemmas.{stops_there}
-use Rattle.set_program.proofs.StepLemmas.{item_passes, longer_by, room}
+use Rattle.set_program.proofs.PlayLemmas.{nothing_played, part_passes, part_played, part_room, part_there, stops_there, whole_played}
 use Rattle.set_program.proofs.play.play.Goals as goal
 
+pub loop-part-init : goal.loop-part-init
+loop-part-init g c =
+    nothing_played g.K.Sink.held g.K.Sink.faults g.K.Sink.steady g.D.Disk.state (is_part_for c.args.world.now.sizes.nodes) c.args.parts c.into_rest-rest.result c.args.sink.now c.args.world.now c.requires.start c.into_rest-rest.ensures c.requires.fits
+
 pub play_part-requires-clause-few : goal.play_part-requires-clause-few
-play_part-requires-clause-few g c =
-    let i = c.loop-part.part-index in
-    let longer = longer_by (lines_in (take i c.args.parts.now)) [] c.loop-part.world.history (record { added = c.loop-part.world.history; events = refl; lines_are = c.loop-part.invariant.lines_are }) in
-    let few = room lines_of c.args.parts.now i c.part-item.result 0 c.loop-part-test.true c.part-item.is (omega (arith, c.requires.few)) in
-    omega (arith, longer, few)
+play_part-requires-clause-few g c κs within =
+    part_room g.K.Sink.held g.K.Sink.faults g.K.Sink.steady g.D.Disk.state (is_part_for c.args.world.now.sizes.nodes) c.args.parts c.loop-part.rest
+    c.args.sink.now c.loop-part.sink c.args.world.now c.loop-part.world c.loop-part.invariant c.in-Some.part c.next.new.self c.in-Some.ensures c.requires.few
 
 pub play_part-requires-clause-fits : goal.play_part-requires-clause-fits
 play_part-requires-clause-fits g c κs within =
-    subst (λ (s : Sizes). is_part_for s.nodes c.part-item.result ≡ true) (sym c.loop-part.invariant.sizes)
-    (item_passes (is_part_for c.args.world.now.sizes.nodes) c.args.parts.now c.loop-part.part-index c.part-item.result c.loop-part-test.true c.part-item.is c.requires.fits)
+    subst (λ (s : Sizes). is_part_for s.nodes c.in-Some.part ≡ true) (sym c.loop-part.invariant.so_far.sizes)
+    (part_passes g.K.Sink.held g.K.Sink.faults g.K.Sink.steady g.D.Disk.state (is_part_for c.args.world.now.sizes.nodes) c.args.parts c.loop-part.rest
+    c.args.sink.now c.loop-part.sink c.args.world.now c.loop-part.world c.loop-part.invariant c.in-Some.part c.next.new.self c.in-Some.ensures)
 
 pub returns-in_err-play_part-clause-plays : goal.returns-in_err-play_part-clause-plays
 returns-in_err-play_part-clause-plays g c =
     let p = err_from_is_err_and c.from_residual.result c.from_residual.ensures.1 in
-    rw (p.1, p.2) (stops_there c.args.world.now.sizes c.loop-part.world.sizes c.in_err-play_part.field-0.0 c.args.parts.now c.loop-part.part-index c.part-item.result (g.K.Sink.held c.args.sink.now) (g.K.Sink.held c.loop-part.sink) (g.K.Sink.held c.play_part.new.sink)
-    c.loop-part.world.history c.play_part.new.world.history c.loop-part.invariant.sizes c.loop-part-test.true c.part-item.is c.loop-part.invariant.lines_are c.loop-part.invariant.put c.in_err-play_part.ensures.plays)
+    rw (p.1, p.2) (stops_there c.args.world.now.sizes c.loop-part.world.sizes c.in_err-play_part.field-0.0 c.args.parts c.loop-part.invariant.done c.in-Some.part c.next.new.self
+    (g.K.Sink.held c.args.sink.now) (g.K.Sink.held c.loop-part.sink) (g.K.Sink.held c.play_part.new.sink) c.loop-part.world.history c.play_part.new.world.history c.loop-part.invariant.so_far.sizes
+    (part_there g.K.Sink.held g.K.Sink.faults g.K.Sink.steady g.D.Disk.state (is_part_for c.args.world.now.sizes.nodes) c.args.parts c.loop-part.rest
+    c.args.sink.now c.loop-part.sink c.args.world.now c.loop-part.world c.loop-part.invariant c.in-Some.part c.next.new.self c.in-Some.ensures)
+    c.loop-part.invariant.so_far.lines_are c.loop-part.invariant.so_far.put c.in_err-play_part.ensures.plays)
 
 pub returns-in_err-play_part-clause-disks : goal.returns-in_err-play_part-clause-disks
 returns-in_err-play_part-clause-disks g c =
     let p = err_from_is_err_and c.from_residual.result c.from_residual.ensures.1 in
-    rw p.1 (λ first played. c.in_err-play_part.ensures.disks first (c.loop-part.invariant.disks first played))
+    rw p.1 (λ first played. c.in_err-play_part.ensures.disks first (c.loop-part.invariant.so_far.disks first played))
+
+pub loop-part-preserved : goal.loop-part-preserved
+loop-part-preserved g c =
+    let later : g.K.Sink.faults c.loop-part.sink ≤ g.K.Sink.faults c.play_part.new.sink = search rules in
+    part_played g.K.Sink.held g.K.Sink.faults g.K.Sink.steady g.D.Disk.state (is_part_for c.args.world.now.sizes.nodes) c.args.parts c.loop-part.rest
+    c.args.sink.now c.loop-part.sink c.args.world.now c.loop-part.world c.loop-part.invariant c.in-Some.part c.next.new.self c.in-Some.ensures
+    c.play_part.new.sink c.play_part.new.world c.in_ok-play_part.ensures.plays c.play_part.ensures.sizes c.in_ok-play_part.ensures.disks later (λ still. (c.in_ok-play_part.ensures.steady still).0)
+
+pub returns-clause-plays : goal.returns-clause-plays
+returns-clause-plays g c =
+    let none : c.loop-part.rest ≡ [] = search rules in
+    whole_played g.K.Sink.held g.K.Sink.faults g.K.Sink.steady g.D.Disk.state (is_part_for c.args.world.now.sizes.nodes) c.args.parts c.loop-part.rest
+    c.args.sink.now c.loop-part.sink c.args.world.now c.loop-part.world c.loop-part.invariant none
