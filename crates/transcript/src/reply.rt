@@ -14,12 +14,15 @@ use doc_text::write_document;
 use set_model::Reply;
 use std::fmt::Write;
 
+/// Most replies are no longer.
+const USUAL_LENGTH: usize = 64;
+
 /// Appends the reply to the command of a line, with its line end. Want of memory leaves `out` as it was.
 pub fn write_reply(line: u32, reply: &Reply, out: &mut String) -> Mem<()>
     ensures ok { OnOk result (string_bytes out.new ≡ string_bytes out.old ++ line_text (line, reply.now)) }
     ensures err { OnErr result (string_bytes out.new ≡ string_bytes out.old) }
 {
-    let mut text = String::new(*out.allocator());
+    let mut text = String::with_capacity(*out.allocator(), USUAL_LENGTH)?;
     write_number(u64::from(line), &mut text)?;
     text.push_str(": ")?;
     write_text(reply, &mut text)?;
