@@ -108,8 +108,8 @@ impl<D: Disk> World<D> {
     /// which one did.
     ///
     /// # Errors
-    /// `HistoryFull` where the history has 4,294,967,295 events, and `Memory` where memory was wanting. The nodes, the messages
-    /// and the history are then as they were; the disks of the node that would have acted may have been used.
+    /// `HistoryFull` where the history has 4,294,967,295 events: nothing is done. `Memory` where memory was wanting: the nodes,
+    /// the messages and the history are as they were, and the disks of the node that would have acted may have been used.
     pub fn step<R: Threads + Sync>(
         &mut self,
         rt: &R,
@@ -119,6 +119,7 @@ impl<D: Disk> World<D> {
         requires command { is_for self.old.sizes.nodes command.now ≡ true }
         ensures step { IfOk result (λ reply. IsStep D.state self.old self.new line command.now reply) }
         ensures full { IsErrOf result AStepError.HistoryFull ↔ length self.old.history ≡ 4294967295 }
+        ensures untouched { IsErrOf result AStepError.HistoryFull → self.new ≡ self.old }
         ensures err { OnErr result (IsUndone D.state self.old self.new command.now) }
         ensures sizes { self.new.sizes ≡ self.old.sizes }
     {
@@ -143,6 +144,7 @@ impl<D: Disk> World<D> {
         requires command { is_for self.old.sizes.nodes command ≡ true }
         ensures step { IfOk result (λ reply. IsStep D.state self.old self.new line command reply) }
         ensures full { IsErrOf result AStepError.HistoryFull ↔ length self.old.history ≡ 4294967295 }
+        ensures untouched { IsErrOf result AStepError.HistoryFull → self.new ≡ self.old }
         ensures err { OnErr result (IsUndone D.state self.old self.new command) }
         ensures sizes { self.new.sizes ≡ self.old.sizes }
     {
