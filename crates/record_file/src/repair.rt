@@ -9,6 +9,7 @@ ghost use Rattle.record_file.specs.Records.{HasRecords, lists};
 
 use crate::FileError;
 use crate::parse::parse;
+use crate::store::put;
 use rs_disk::Disk;
 use std::alloc::Global;
 
@@ -20,9 +21,7 @@ pub(crate) fn begin<D: Disk>(disk: &mut D) -> Result<(), FileError>
     ensures calls { EndsBy result (changes (write 0 (0 ∷ [])) ∷ syncs ∷ []) (D.state disk.old) (D.state disk.new) }
     ensures keeps { Keeps (IsErrOf result FileError.Disk) (D.state disk.old) (D.state disk.new) }
 {
-    disk.write_at(0, &[0])?;
-    disk.sync()?;
-    Ok(())
+    put(disk, 0, &[0])
 }
 
 // Reads the records, and cuts the file behind the first closed gate.
