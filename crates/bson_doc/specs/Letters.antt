@@ -4,5 +4,5 @@ use Rattle.bson_doc.specs.declared.text.Letters.{Letters}
 use Rattle.bson_doc.specs.declared.text.Letters.TheVariants.{Short, Long}
 
 abbrev pub letters_of : Letters → List ℕ
-letters_of (Short text) = text.bytes
-letters_of (Long text) = string_bytes text
+letters_of (Short text) = text
+letters_of (Long text) = string_bytes text.value

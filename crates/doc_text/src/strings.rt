@@ -86,7 +86,7 @@ pub fn letters<'a>(alloc: Global, text: &'a str, in_name: bool) -> Read<'a, Text
         let (plain, stop) = Class::Plain.run(rest);
         string.push_str(plain)?;
         if let Some(end) = behind(stop, b'"') {
-            return Ok((Text::new(string), end));
+            return Ok((Text::new(alloc, string)?, end));
         }
         let Some(inside) = behind(stop, b'\\') else {
             return Err(ReadError::Fault(Fault::at(Rule::Unexpected, stop)));
