@@ -1,19 +1,19 @@
 // A short text, which lies in the value itself.
-ghost use Rattle.std.specs.Prelude.{◌≡◌, IfSome, IsTrue};
-ghost use Rattle.std.specs.Str.{IsAscii};
+ghost use Rattle.std.specs.Prelude.{◌≡◌, IfSome};
 
+use crate::ascii::are_ascii;
 use percent_encoding::ascii_str;
 use std::marker::Model;
 
-/// So many bytes fit, which is more than most names have.
-const ROOM: usize = 22;
+/// How many bytes fit, which is as many as most names have. They are the second and third word of a text.
+const ROOM: usize = 16;
 
-/// ASCII in at most 22 bytes. Only such a text is a `&str` again without a test of its bytes.
+/// ASCII in at most 16 bytes. Only of ASCII there is a `&str` again without a test of its bytes.
 #[derive(Drop)]
 pub struct ShortText {
+    length: u32,
     /// The text, and zeros behind it.
     bytes: [u8; ROOM],
-    length: u8,
 }
 
 impl Model for ShortText {
@@ -43,34 +43,23 @@ impl ShortText {
             return None;
         }
         Some(ShortText {
+            length: length as u32,
             bytes,
-            length: length as u8,
         })
     }
 
     pub fn as_str(&self) -> &str
         ensures { result.now ≡ self.now }
     {
-        ascii_str(&self.bytes[..usize::from(self.length)])
+        ascii_str(&self.bytes[..self.length as usize])
     }
 
     pub fn copy(&self) -> Self
         ensures { result ≡ self.now }
     {
         ShortText {
-            bytes: self.bytes,
             length: self.length,
+            bytes: self.bytes,
         }
     }
-}
-
-/// Whether each byte is ASCII. It has no early end, so that several bytes are tested at once.
-fn are_ascii(bytes: &[u8; ROOM]) -> bool
-    ensures { IsTrue result → IsAscii bytes.now }
-{
-    let mut largest = 0;
-    for byte in bytes {
-        largest = largest.max(*byte);
-    }
-    largest < 128
 }
