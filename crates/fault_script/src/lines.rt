@@ -1,10 +1,12 @@
 // The lines of a script.
-ghost use Rattle.std.specs.Prelude.{◌≡◌, ◌<◌, ◌∷◌, ◌==◌, length, position};
+ghost use Rattle.std.specs.Prelude.{◌≡◌, ◌<◌, ◌∷◌, ◌==◌, length, position, MatchOption};
+ghost use Rattle.std.specs.Str.{IsUtf8};
 ghost use Rattle.std.specs.Str.Lines.{lines, strip_carriage_return};
 ghost use Rattle.fault_script.specs.Gives.{Reads};
 ghost use Rattle.fault_script.specs.Lines.{text_of, is_passed_over};
 
 use crate::rule::ScriptRule;
+use bson_doc::ascii_text;
 use memchr::memchr;
 use std::str;
 
@@ -54,9 +56,19 @@ pub fn text_of(number: u32, line: &[u8]) -> Result<&str, ScriptRule>
     if line.len() > MAX_LINE {
         return Err(ScriptRule::LineTooLong);
     }
-    match str::from_utf8(line) {
-        Ok(text) => Ok(text),
-        Err(_) => Err(ScriptRule::NotUtf8),
+    match as_text(line) {
+        Some(text) => Ok(text),
+        None => Err(ScriptRule::NotUtf8),
+    }
+}
+
+/// The bytes as text, where they are UTF-8. Most lines are ASCII, for which the test is shorter.
+fn as_text(line: &[u8]) -> Option<&str>
+    ensures { MatchOption result (¬ IsUtf8 line.now) (λ text. (text.now ≡ line.now) × IsUtf8 line.now) }
+{
+    match ascii_text(line) {
+        Some(text) => Some(text),
+        None => str::from_utf8(line).ok(),
     }
 }
 
