@@ -1,5 +1,5 @@
 // A document that is made field by field, with its names at hand.
-ghost use Rattle.std.specs.Prelude.{◌≡◌, Contains, IfOk, None, is_some};
+ghost use Rattle.std.specs.Prelude.{◌≡◌, ◌<◌, Contains, IfOk, None, is_some};
 ghost use Rattle.bson_doc.specs.Tree.{no_fields, Tree, found, with_field};
 ghost use Rattle.bson_doc.specs.Names.{AreNames, AreAllNames};
 ghost use Rattle.bson_doc.specs.View.{tree_of};
@@ -57,9 +57,21 @@ impl DocBuilder {
         }
     }
 
-    /// The document with one field more, under a name that is new and has no zero byte.
-    #[tactic(auto, using(crate::proofs::DocLemmas::doc_lemmas))]
+    /// The document with one field more, under a name that is new and has no zero byte. Room for two is made at first, since
+    /// the last one is for `finish_with`.
     pub fn with(self, name: Text, value: Value) -> Mem<Self>
+        requires clean { ¬ Contains name 0 }
+        requires new { found name self ≡ None }
+        ensures { IfOk result (λ b. b ≡ with_field self name (tree_of value)) }
+    {
+        let more = self.doc.len().max(2);
+        self.with_in(more, name, value)
+    }
+
+    /// The same. Where there is no room, room for so many fields is made.
+    #[tactic(auto, using(crate::proofs::DocLemmas::doc_lemmas))]
+    fn with_in(self, more: usize, name: Text, value: Value) -> Mem<Self>
+        requires more { 0 < more }
         requires clean { ¬ Contains name 0 }
         requires new { found name self ≡ None }
         ensures { IfOk result (λ b. b ≡ with_field self name (tree_of value)) }
@@ -70,7 +82,7 @@ impl DocBuilder {
             names,
         } = self;
         let names = with_name(alloc, names, &doc, name.as_str())?;
-        doc.append(name, value)?;
+        doc.append_in(more, name, value)?;
         Ok(DocBuilder { alloc, doc, names })
     }
 
@@ -80,6 +92,18 @@ impl DocBuilder {
         let mut doc = self.doc;
         doc.shrink_to_fit();
         doc
+    }
+
+    /// The document whose last field this is, under a name that is new and has no zero byte.
+    pub fn finish_with(self, name: Text, value: Value) -> Mem<Doc>
+        requires clean { ¬ Contains name 0 }
+        requires new { found name self ≡ None }
+        ensures { IfOk result (λ d. d ≡ with_field self name (tree_of value)) }
+    {
+        let mut doc = self.doc;
+        doc.append_in(1, name, value)?;
+        doc.shrink_to_fit();
+        Ok(doc)
     }
 }
 

@@ -50,10 +50,10 @@ fn document<'a>(alloc: Global, text: &'a str, levels: u32) -> Read<'a, Doc>
     loop {
         let (name, of_value) = key(alloc, &fields, rest)?;
         let (value, after) = value(alloc, of_value, levels)?;
-        fields = fields.with(name, value)?;
         if let Some(rest) = end(after, b'}') {
-            return Ok((fields.finish(), rest));
+            return Ok((fields.finish_with(name, value)?, rest));
         }
+        fields = fields.with(name, value)?;
         rest = spaced(after, b',')?;
     }
 }

@@ -21,7 +21,7 @@ returns-in-Some-clause-gives c =
     let text = c.loop-string.rest.now in
     let left = behind_run c.args.in_name most (string_bytes c.loop-string.string) text c.run.result.0.now c.run.result.1.now (letters_at c.args.in_name (length c.args.text.now) c.args.text.now) c.loop-string.invariant.2.1 c.run.ensures.front c.run.ensures.back c.loop-string.invariant.2.2 in
     let short : length c.run.result.1.now ≤ most - prefix_len is_plain text = omega (arith, length-drop (prefix_len is_plain text) text, ap length c.run.ensures.back, c.loop-string.invariant.2.1) in
-    rw (c.new.ensures, c.in_ok-push_str.ensures.bytes) (closed c.args.in_name (most - prefix_len is_plain text) (string_bytes c.loop-string.string ++ c.run.result.0.now) c.run.result.1.now c.in-Some.end.now (letters_at c.args.in_name (length c.args.text.now) c.args.text.now) short c.in-Some.ensures left)
+    rw (c.in_ok-new.ensures, c.in_ok-push_str.ensures.bytes) (closed c.args.in_name (most - prefix_len is_plain text) (string_bytes c.loop-string.string ++ c.run.result.0.now) c.run.result.1.now c.in-Some.end.now (letters_at c.args.in_name (length c.args.text.now) c.args.text.now) short c.in-Some.ensures left)
 
 pub returns-in_default-behind-clause-gives : goal.returns-in_default-behind-clause-gives
 returns-in_default-behind-clause-gives c =

@@ -61,7 +61,7 @@ document-returns-in_err-value-clause-gives t c =
 pub document-returns-in-Some-end-clause-gives : goal.document-returns-in-Some-end-clause-gives
 document-returns-in-Some-end-clause-gives t c =
     let kept = c.loop-fields.invariant.2 in
-    rw (c.finish-in-Some-end.ensures, c.in_ok-fields.ensures) (ended (field_at (value_at c.args.levels)) 125 kept.0 c.loop-fields.fields (with_field c.loop-fields.fields c.in_ok-name.name (tree_of c.in_ok-value.value)) c.loop-fields.rest.now c.in_ok-value.after.now c.in-Some-end.rest.now (document_at (value_at c.args.levels) c.args.text.now) kept.1 kept.2 (field_read (value_at c.args.levels) c.loop-fields.fields c.loop-fields.rest.now c.in_ok-name.name c.in_ok-name.of_value.now (tree_of c.in_ok-value.value) c.in_ok-value.after.now c.in_ok-name.ensures.gives c.in_ok-value.ensures.gives) c.in-Some-end.ensures.gives)
+    rw c.in_ok-finish_with.ensures (ended (field_at (value_at c.args.levels)) 125 kept.0 c.loop-fields.fields (with_field c.loop-fields.fields c.in_ok-name.name (tree_of c.in_ok-value.value)) c.loop-fields.rest.now c.in_ok-value.after.now c.in-Some-end.rest.now (document_at (value_at c.args.levels) c.args.text.now) kept.1 kept.2 (field_read (value_at c.args.levels) c.loop-fields.fields c.loop-fields.rest.now c.in_ok-name.name c.in_ok-name.of_value.now (tree_of c.in_ok-value.value) c.in_ok-value.after.now c.in_ok-name.ensures.gives c.in_ok-value.ensures.gives) c.in-Some-end.ensures.gives)
 
 pub document-returns-in_err-rest-clause-gives : goal.document-returns-in_err-rest-clause-gives
 document-returns-in_err-rest-clause-gives t c =

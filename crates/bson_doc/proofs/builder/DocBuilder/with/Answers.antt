@@ -1,5 +1,0 @@
-use Rattle.bson_doc.specs.View.{tree_of}
-use Rattle.bson_doc.proofs.builder.DocBuilder.with.Goals as goal
-
-pub invariant_of-result : goal.invariant_of-result
-invariant_of-result c = rw (c.in_ok-append.ensures.ok, ← c.as_str.ensures) (c.in_ok-names.ensures (tree_of c.args.value))
