@@ -76,6 +76,9 @@ abbrev pub replace_prepared : List ℕ → Value → Fields → Fields → Resul
 replace_prepared ns id doc before =
     written (ops.Replace ns id (id_first (found (codes "_id") before) doc)) before (id_first (found (codes "_id") before) doc)
 
+abbrev pub delete_prepared : List ℕ → Value → Result Prepared WriteRefusal
+delete_prepared ns id = Ok (Entry (ops.Delete ns id) None)
+
 -- what a write that was checked comes to
 abbrev pub prepared : WriteOp → Option Fields → Result Prepared WriteRefusal
 prepared (Insert ns doc) None = insert_prepared ns doc
@@ -85,7 +88,7 @@ prepared (Replace ns id doc) (Some before) = replace_prepared ns id doc before
 prepared (Update ns id operators) None = Ok NoMatch
 prepared (Update ns id operators) (Some before) = update_prepared ns id operators before
 prepared (Delete ns id) None = Ok NoMatch
-prepared (Delete ns id) (Some before) = Ok (Entry (ops.Delete ns id) None)
+prepared (Delete ns id) (Some before) = delete_prepared ns id
 
 abbrev pub unless_refused : {P : Type 0} → Result P WriteRefusal → Result Prepared WriteRefusal → Result Prepared WriteRefusal
 unless_refused (Err why) outcome = Err why

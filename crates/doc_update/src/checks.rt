@@ -4,10 +4,11 @@ ghost use Rattle.bson_doc.specs.Key.{key_of};
 ghost use Rattle.bson_doc.specs.Tree.{found};
 ghost use Rattle.bson_doc.specs.View.{tree_of};
 ghost use Rattle.oplog_entry.specs.Lawful.{is_among};
-ghost use Rattle.doc_update.specs.Check.{all_known, all_documents, all_good, all_names, names_of, broken_rule, checked, is_good, is_operator, has_twice, replace_checked, update_checked};
+ghost use Rattle.doc_update.specs.Check.{all_known, all_documents, all_good, all_names, names_of, broken_rule, checked, is_good, is_operator, has_twice, insert_checked, replace_checked, update_checked, with_key};
+ghost use Rattle.doc_update.specs.Lent.{shown};
 ghost use Rattle.doc_update.specs.Refusal.{Answers};
 
-use crate::{WriteOp, WriteRefusal};
+use crate::{LentWrite, WriteOp, WriteRefusal};
 use bson_doc::{Doc, IdKey, Mem, Text, Value};
 use std::alloc::Global;
 use std::collections::BTreeSet;
@@ -155,6 +156,22 @@ fn names_field(operators: &Doc, wanted: &str) -> bool
     false
 }
 
+/// The place in a collection of the document that has this `_id`.
+fn place(ns: &Text, id: &Value) -> Result<(Text, IdKey), WriteRefusal>
+    ensures { Answers result (with_key ns.now (key_of (tree_of id.now))) }
+{
+    Ok((ns.copy()?, IdKey::of(id)?))
+}
+
+fn check_insert(ns: &Text, doc: &Doc) -> Result<(Text, IdKey), WriteRefusal>
+    ensures { Answers result (insert_checked ns.now (found (codes "_id") doc.now)) }
+{
+    match doc.get("_id") {
+        Some(id) => place(ns, id),
+        None => Err(WriteRefusal::NoId),
+    }
+}
+
 fn check_replace(ns: &Text, id: &Value, doc: &Doc) -> Result<(Text, IdKey), WriteRefusal>
     ensures { Answers result (replace_checked ns.now (key_of (tree_of id.now)) (found (codes "_id") doc.now)) }
 {
@@ -190,13 +207,17 @@ fn check_update(
 pub fn check(alloc: Global, op: &WriteOp) -> Result<(Text, IdKey), WriteRefusal>
     ensures { Answers result (checked op.now) }
 {
-    match op {
-        WriteOp::Insert { ns, doc } => match doc.get("_id") {
-            Some(id) => Ok((ns.copy()?, IdKey::of(id)?)),
-            None => Err(WriteRefusal::NoId),
-        },
-        WriteOp::Replace { ns, id, doc } => check_replace(ns, id, doc),
-        WriteOp::Update { ns, id, operators } => check_update(alloc, ns, id, operators),
-        WriteOp::Delete { ns, id } => Ok((ns.copy()?, IdKey::of(id)?)),
+    check_lent(alloc, op.lent())
+}
+
+/// The same of a write that is lent.
+pub fn check_lent(alloc: Global, write: LentWrite<'_>) -> Result<(Text, IdKey), WriteRefusal>
+    ensures { Answers result (checked (shown write.entry)) }
+{
+    match write {
+        LentWrite::Insert { ns, doc } => check_insert(ns, doc),
+        LentWrite::Replace { ns, id, doc } => check_replace(ns, id, doc),
+        LentWrite::Update { ns, id, operators } => check_update(alloc, ns, id, operators),
+        LentWrite::Delete { ns, id } => place(ns, id),
     }
 }

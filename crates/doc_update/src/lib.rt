@@ -4,11 +4,13 @@
 
 mod checks;
 mod increment;
+mod lent;
 mod ordered;
 mod preparing;
 mod same;
 mod write;
 
-pub use checks::check;
-pub use preparing::prepare;
+pub use checks::{check, check_lent};
+pub use lent::LentWrite;
+pub use preparing::{prepare, prepare_lent};
 pub use write::{Prepared, WriteOp, WriteRefusal};

@@ -7,7 +7,8 @@ ghost use Rattle.bson_doc.specs.View.{tree_of};
 ghost use Rattle.oplog_entry.specs.Lawful.{is_among};
 ghost use Rattle.doc_update.specs.Increment.{AddsSums};
 ghost use Rattle.doc_update.specs.Check.{all_names, checked, has_twice};
-ghost use Rattle.doc_update.specs.Effect.{id_first, is_too_large, stored, written, under, present, insert_prepared, prepared, replace_prepared, update_prepared};
+ghost use Rattle.doc_update.specs.Effect.{id_first, is_too_large, stored, written, under, present, delete_prepared, insert_prepared, prepared, replace_prepared, update_prepared};
+ghost use Rattle.doc_update.specs.Lent.{shown};
 ghost use Rattle.doc_update.specs.Ordered.{placed_all, in_byte_order};
 ghost use Rattle.doc_update.specs.Refusal.{Answers};
 ghost use Rattle.doc_update.specs.Sound.{IsNamed, IsSound, IsStored, SetsAre};
@@ -15,7 +16,7 @@ ghost use Rattle.doc_update.specs.Sound.{IsNamed, IsSound, IsStored, SetsAre};
 use crate::increment::add_sums;
 use crate::ordered::Ordered;
 use crate::same::same_document;
-use crate::{Prepared, WriteOp, WriteRefusal};
+use crate::{LentWrite, Prepared, WriteOp, WriteRefusal};
 use bson_doc::{DOCUMENT, Doc, Mem, Text, Value};
 use oplog_entry::{FieldIndex, Op, with_changes};
 use std::alloc::Global;
@@ -204,11 +205,17 @@ fn prepare_insert(alloc: Global, ns: &Text, doc: &Doc) -> Result<Prepared, Write
     ensures { Answers result (insert_prepared ns.now doc.now) }
 {
     let after = with_own_id_first(alloc, doc)?;
+    if is_too_large(&after) {
+        return Err(WriteRefusal::DocTooLarge);
+    }
     let op = Op::Insert {
         ns: ns.copy()?,
         o: after.copy()?,
     };
-    stored(op, after)
+    Ok(Prepared::Entry {
+        op,
+        after: Some(after),
+    })
 }
 
 fn prepare_replace(
@@ -257,34 +264,38 @@ fn prepare_update(
     written(op, before, after)
 }
 
+fn prepare_delete(ns: &Text, id: &Value) -> Result<Prepared, WriteRefusal>
+    ensures { Answers result (delete_prepared ns.now id.now) }
+{
+    let op = Op::Delete {
+        ns: ns.copy()?,
+        id: id.copy()?,
+    };
+    Ok(Prepared::Entry { op, after: None })
+}
+
 fn prepare_checked(
     alloc: Global,
-    op: &WriteOp,
+    write: LentWrite<'_>,
     before: Option<&Doc>,
 ) -> Result<Prepared, WriteRefusal>
-    requires checked { IsOk (checked op.now) }
-    requires own { IfSome (option_copied before) (λ d. IsNamed (checked op.now) d) }
-    ensures answer { Answers result (prepared op.now (option_copied before.entry)) }
-    ensures sound { IfOk result (λ p. IsSound (checked op.now) (option_copied before.entry) p) }
+    requires checked { IsOk (checked (shown write)) }
+    requires own { IfSome (option_copied before) (λ d. IsNamed (checked (shown write)) d) }
+    ensures answer { Answers result (prepared (shown write.entry) (option_copied before.entry)) }
+    ensures sound { IfOk result (λ p. IsSound (checked (shown write.entry)) (option_copied before.entry) p) }
 {
-    match (op, before) {
-        (WriteOp::Insert { ns, doc }, None) => prepare_insert(alloc, ns, doc),
-        (WriteOp::Insert { .. }, Some(_)) => Err(WriteRefusal::DuplicateKey),
+    match (write, before) {
+        (LentWrite::Insert { ns, doc }, None) => prepare_insert(alloc, ns, doc),
+        (LentWrite::Insert { .. }, Some(_)) => Err(WriteRefusal::DuplicateKey),
         (_, None) => Ok(Prepared::NoMatch),
-        (WriteOp::Replace { ns, id, doc }, Some(before)) => prepare_replace(
+        (LentWrite::Replace { ns, id, doc }, Some(before)) => prepare_replace(
             alloc, ns, id, doc, before,
         ),
-        (WriteOp::Update { ns, id, operators }, Some(before)) => {
+        (LentWrite::Update { ns, id, operators }, Some(before)) => {
             operators.is_sound();
             prepare_update(alloc, ns, id, operators, before)
         }
-        (WriteOp::Delete { ns, id }, Some(_)) => {
-            let op = Op::Delete {
-                ns: ns.copy()?,
-                id: id.copy()?,
-            };
-            Ok(Prepared::Entry { op, after: None })
-        }
+        (LentWrite::Delete { ns, id }, Some(_)) => prepare_delete(ns, id),
     }
 }
 
@@ -298,5 +309,20 @@ pub fn prepare(alloc: Global, op: &WriteOp, before: Option<&Doc>) -> Result<Prep
     ensures sound { IfOk result (λ p. IsSound (checked op.now) (option_copied before.entry) p) }
     ensures stored { IfOk result (λ p. IsStored (checked op.now) (option_copied before.entry) p) }
 {
-    prepare_checked(alloc, op, before)
+    prepare_lent(alloc, op.lent(), before)
+}
+
+/// The same of a write that is lent.
+pub fn prepare_lent(
+    alloc: Global,
+    write: LentWrite<'_>,
+    before: Option<&Doc>,
+) -> Result<Prepared, WriteRefusal>
+    requires checked { IsOk (checked (shown write)) }
+    requires own { IfSome (option_copied before) (λ d. IsNamed (checked (shown write)) d) }
+    ensures answer { Answers result (prepared (shown write.entry) (option_copied before.entry)) }
+    ensures sound { IfOk result (λ p. IsSound (checked (shown write.entry)) (option_copied before.entry) p) }
+    ensures stored { IfOk result (λ p. IsStored (checked (shown write.entry)) (option_copied before.entry) p) }
+{
+    prepare_checked(alloc, write, before)
 }

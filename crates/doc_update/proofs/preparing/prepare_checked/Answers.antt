@@ -2,6 +2,7 @@ use Rattle.std.proofs.Common.{◌≡◌, IfOk, IfSome, codes, subst, ap, sym, �
 use Rattle.std.specs.Option.{option_copied}
 use Rattle.doc_update.specs.Check.{checked}
 use Rattle.doc_update.specs.Effect.{replace_prepared, update_prepared}
+use Rattle.doc_update.specs.Lent.{shown}
 use Rattle.doc_update.specs.Sound.{IsNamed, IsSound}
 use Rattle.doc_update.proofs.SoundLemmas.{IsDocument-under, sound-answer, replace-sound, update-sound}
 use Rattle.doc_update.proofs.preparing.prepare_checked.Goals as goal
@@ -9,17 +10,17 @@ use Rattle.doc_update.proofs.preparing.prepare_checked.Goals as goal
 pub returns-in-Replace-Some-clause-sound : goal.returns-in-Replace-Some-clause-sound
 returns-in-Replace-Some-clause-sound c =
     let w = c.in-Replace-Some in
-    let place = checked c.args.op.now in
+    let place = checked (shown c.args.write) in
     let named = subst (λ o. IfSome (option_copied o) (λ d. IsNamed place d)) w.is-1 c.requires.own in
     sound-answer (λ p. IsSound place (option_copied c.args.before) p) _ _ c.prepare_replace.ensures
-    (subst (λ o. IfOk (replace_prepared w.ns w.id w.doc w.before.now) (λ p. IsSound place (option_copied o) p)) (sym w.is-1)
-    (replace-sound w.ns w.id w.doc w.before.now place (ap checked w.is-0) named))
+    (subst (λ o. IfOk (replace_prepared w.ns.now w.id.now w.doc.now w.before.now) (λ p. IsSound place (option_copied o) p)) (sym w.is-1)
+    (replace-sound w.ns.now w.id.now w.doc.now w.before.now place (ap (λ lent. checked (shown lent)) w.is-0) named))
 
 pub returns-in-Update-Some-clause-sound : goal.returns-in-Update-Some-clause-sound
 returns-in-Update-Some-clause-sound c =
     let w = c.in-Update-Some in
-    let place = checked c.args.op.now in
+    let place = checked (shown c.args.write) in
     let named = subst (λ o. IfSome (option_copied o) (λ d. IsNamed place d)) w.is-1 c.requires.own in
     sound-answer (λ p. IsSound place (option_copied c.args.before) p) _ _ c.prepare_update.ensures
-    (subst (λ o. IfOk (update_prepared w.ns w.id w.operators w.before.now) (λ p. IsSound place (option_copied o) p)) (sym w.is-1)
-    (update-sound w.ns w.id w.operators w.before.now place (ap checked w.is-0) named (IsDocument-under (codes "$unset") w.operators c.is_sound.ensures.1)))
+    (subst (λ o. IfOk (update_prepared w.ns.now w.id.now w.operators.now w.before.now) (λ p. IsSound place (option_copied o) p)) (sym w.is-1)
+    (update-sound w.ns.now w.id.now w.operators.now w.before.now place (ap (λ lent. checked (shown lent)) w.is-0) named (IsDocument-under (codes "$unset") w.operators.now c.is_sound.ensures.1)))
