@@ -11,3 +11,4 @@ pub mod PuttingLemmas
 pub mod ReopeningLemmas
 pub mod RisingLemmas
 pub mod SavableLemmas
+pub mod WriteLemmas

@@ -34,7 +34,7 @@ use bson_doc::Mem;
 use checkpoint_store::Checkpoints;
 use member_config::Config;
 use node_journal::Journal;
-use node_state::State;
+use node_state::{State, is_write};
 use node_tables::Records;
 use record_file::FileError;
 use repl_msg::Message;
@@ -213,6 +213,10 @@ impl<D: Disk> Node<D> {
     {
         if !self.up {
             return Ok(self.act_down(command));
+        }
+        if is_write(command) {
+            let reply = self.state.write(command)?;
+            return Ok(self.answered(reply));
         }
         let ended = act_own(&mut self.state, &mut self.disks, rt, nodes, next, command)?;
         Ok(told(self.alloc, &self.state, &mut self.up, &mut self.left, ended))

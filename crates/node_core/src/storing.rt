@@ -5,7 +5,7 @@ ghost use Rattle.set_model.specs.Deliver.{deliver};
 ghost use Rattle.set_model.specs.Limits.{is_within};
 ghost use Rattle.set_model.specs.Node.{Node};
 ghost use Rattle.set_model.specs.Rows.{row};
-ghost use Rattle.node_state.specs.Bounds.{IsBounded, IsNumbered, is_own};
+ghost use Rattle.node_state.specs.Bounds.{IsBounded, IsNumbered, is_own, is_write};
 ghost use Rattle.node_core.specs.Acting.{Runs};
 ghost use Rattle.node_core.specs.Putting.{CanBePut, EndsFrom, IsBrief, IsBroken, IsEnd, IsFault, IsLong, Leaves, NeedsRoom, SHORT, plan_of};
 ghost use Rattle.node_state.specs.Ready.{CanBeStored, IsReady, IsReadyTurn};
@@ -123,6 +123,7 @@ pub(crate) fn act_own<D: Disk, R: Threads + Sync>(
     requires bounds { IsBounded state.old.node }
     requires next { IsNumbered next }
     requires own { is_own command.now ≡ true }
+    requires turn { is_write command.now ≡ false }
     requires within { is_within command.now ≡ true }
     ensures ends { IfOk result (λ ended. EndsFrom 0 (row nodes next false state.old.node command.now) state.new.node ended) }
     ensures leaves { IfOk result (λ ended. Leaves ended state.new.node disks.new.count (D.state disks.new.journal.0) (D.state disks.new.checkpoints)) }

@@ -12,23 +12,26 @@ ghost use Rattle.node_state.specs.Turns.{Means};
 use crate::State;
 use crate::turn::Turn;
 use bson_doc::Mem;
-use doc_update::WriteOp;
+use doc_update::LentWrite;
 use set_model::{Command, Reply};
 
-impl State {
-    /// A write, or a step of a writer.
-    pub(crate) fn start_write(&mut self, command: &Command) -> Mem<Turn>
-        requires bounds { IsBounded self.old.node }
-        requires write { is_write command.now ≡ true }
-        requires within { is_within command.now ≡ true }
-        ensures turn { IfOk result (λ turn. Means turn self.new.node (plain_row self.old.node command.now)) }
-        ensures ready { IfOk result (λ turn. IsReadyTurn turn self.new) }
-        ensures err { OnErr result (self.new.node ≡ self.old.node) }
-    {
-        let reply = self.written(command)?;
-        Ok(self.answered(reply))
-    }
+/// A write, or a step of a writer. It stores and sends nothing.
+pub fn is_write(command: &Command) -> bool
+    ensures { result ≡ is_write command.now }
+{
+    matches!(
+        command,
+        Command::Insert { .. }
+            | Command::Replace { .. }
+            | Command::Update { .. }
+            | Command::Delete { .. }
+            | Command::Begin { .. }
+            | Command::Commit { .. }
+            | Command::Abort { .. }
+    )
+}
 
+impl State {
     /// What the node shows of itself, and its clock.
     pub(crate) fn show(&mut self, command: &Command) -> Mem<Turn>
         requires show { is_show command.now ≡ true }
@@ -40,8 +43,9 @@ impl State {
         Ok(self.answered(reply))
     }
 
+    /// Does a write, or a step of a writer, and answers it. Only memory can be wanting, and then the node is as it was.
     #[tactic(auto, using(crate::proofs::TurnLemmas::while_up))]
-    fn written(&mut self, command: &Command) -> Mem<Reply>
+    pub fn write(&mut self, command: &Command) -> Mem<Reply>
         requires bounds { IsBounded self.old.node }
         requires write { is_write command.now ≡ true }
         requires within { is_within command.now ≡ true }
@@ -50,41 +54,31 @@ impl State {
     {
         self.stays_up();
         match command {
-            Command::Begin { writer, op, .. } => self.begin(*writer, op),
+            Command::Begin { writer, op, .. } => self.begin(*writer, op.lent()),
             Command::Commit { writer, .. } => self.commit(*writer),
             Command::Abort { writer, .. } => Ok(self.abort(*writer)),
             Command::Insert {
-                collection,
-                document,
+                collection: ns,
+                document: doc,
                 ..
-            } => self.write(&WriteOp::Insert {
-                ns: collection.copy()?,
-                doc: document.copy()?,
-            }),
+            } => self.write_at_once(LentWrite::Insert { ns, doc }),
             Command::Replace {
-                collection,
+                collection: ns,
                 id,
-                document,
+                document: doc,
                 ..
-            } => self.write(&WriteOp::Replace {
-                ns: collection.copy()?,
-                id: id.copy()?,
-                doc: document.copy()?,
-            }),
+            } => self.write_at_once(LentWrite::Replace { ns, id, doc }),
             Command::Update {
-                collection,
+                collection: ns,
                 id,
                 operators,
                 ..
-            } => self.write(&WriteOp::Update {
-                ns: collection.copy()?,
-                id: id.copy()?,
-                operators: operators.copy()?,
-            }),
-            Command::Delete { collection, id, .. } => self.write(&WriteOp::Delete {
-                ns: collection.copy()?,
-                id: id.copy()?,
-            }),
+            } => self.write_at_once(LentWrite::Update { ns, id, operators }),
+            Command::Delete {
+                collection: ns,
+                id,
+                ..
+            } => self.write_at_once(LentWrite::Delete { ns, id }),
             _ => unreachable!(),
         }
     }

@@ -30,5 +30,6 @@ mod writers;
 mod writes;
 
 pub use coming::Coming;
+pub use commands::is_write;
 pub use state::State;
 pub use turn::{Answer, Hearing, Then, Told, Turn};

@@ -14,7 +14,7 @@ ghost use Rattle.set_model.specs.Reads.{local_documents};
 ghost use Rattle.set_model.specs.Rows.{row};
 ghost use Rattle.set_model.specs.Stores.{stored};
 ghost use Rattle.node_ledger.specs.Ledger.{IsReadable};
-ghost use Rattle.node_state.specs.Bounds.{IsBounded, IsNumbered, is_long, is_own};
+ghost use Rattle.node_state.specs.Bounds.{IsBounded, IsNumbered, is_long, is_own, is_write};
 ghost use Rattle.node_state.specs.Ready.{IsReady, IsReadyTurn};
 ghost use Rattle.set_model.specs.Taking.{CanTake};
 ghost use Rattle.node_state.specs.Turns.{Means, Says, rest_of};
@@ -120,8 +120,8 @@ impl State {
         self.ledger.store()
     }
 
-    /// Begins what a command asks of a node, in a set of so many nodes, where the next message gets this number.
-    /// Only memory can be wanting, and then the node is as it was. What may want memory as it stores has changed nothing before.
+    /// Begins what a command asks of a node, in a set of so many nodes, where the next message gets this number. For a write
+    /// there is `write`. Only memory can be wanting, and then the node is as it was. What may want memory as it stores has changed nothing before.
     #[tactic(auto, using(crate::proofs::TurnLemmas::while_up))]
     pub fn start<R: Threads + Sync>(
         &mut self,
@@ -133,6 +133,7 @@ impl State {
         requires bounds { IsBounded self.old.node }
         requires next { IsNumbered next }
         requires own { is_own command.now ≡ true }
+        requires turn { is_write command.now ≡ false }
         requires within { is_within command.now ≡ true }
         ensures turn { IfOk result (λ turn. Means turn self.new.node (row nodes next false self.old.node command.now)) }
         ensures ready { IfOk result (λ turn. IsReadyTurn turn self.new) }
@@ -145,13 +146,6 @@ impl State {
             Command::Drain { .. } => self.start_drain(rt),
             Command::DryRun { .. } => self.dry_run(next),
             Command::StepDown { .. } => Ok(self.step_down()),
-            Command::Begin { .. }
-            | Command::Commit { .. }
-            | Command::Abort { .. }
-            | Command::Insert { .. }
-            | Command::Replace { .. }
-            | Command::Update { .. }
-            | Command::Delete { .. } => self.start_write(command),
             Command::Heartbeat { to, .. } => self.heartbeat(next, *to),
             Command::Report { to, .. } => self.report(next, *to),
             Command::Common { to, .. } => self.common(next, *to),
@@ -171,7 +165,14 @@ impl State {
             | Command::State { .. }
             | Command::Rolled { .. }
             | Command::Clock { .. } => self.show(command),
-            Command::Deliver { .. }
+            Command::Begin { .. }
+            | Command::Commit { .. }
+            | Command::Abort { .. }
+            | Command::Insert { .. }
+            | Command::Replace { .. }
+            | Command::Update { .. }
+            | Command::Delete { .. }
+            | Command::Deliver { .. }
             | Command::DeliverLatest { .. }
             | Command::Crash { .. }
             | Command::Restart { .. }

@@ -1,24 +1,27 @@
 // Writers in two steps.
-ghost use Rattle.std.specs.Prelude.{◌≡◌, ◌-◌, ◌^◌, ◌<◌, true, false, IfOk, OnErr};
+ghost use Rattle.std.specs.Prelude.{◌≡◌, ◌-◌, ◌^◌, ◌<◌, true, false, None, Ok, IfOk, OnErr};
 ghost use Rattle.std.specs.FinMap as maps;
+ghost use Rattle.doc_update.specs.Lent.{shown};
+ghost use Rattle.set_model.specs.Holds.{holder};
 ghost use Rattle.set_model.specs.Limits.{is_collection, collection_of};
 ghost use Rattle.set_model.specs.Outcome.{replied};
-ghost use Rattle.set_model.specs.Writers.{begin, commit, abort};
-ghost use Rattle.node_state.specs.Admits.{Admits};
+ghost use Rattle.set_model.specs.Writers.{begin, begun, commit, abort};
+ghost use Rattle.node_state.specs.Admits.{CanBeLogged};
 ghost use Rattle.node_ledger.specs.Writers.{IsWriting, is_open};
 
 use crate::State;
 use crate::admission::Admission;
 use bson_doc::Mem;
-use doc_update::{Prepared, WriteOp};
+use doc_update::{LentWrite, Prepared};
 use set_model::{Refusal, Reply, Role, Writer};
 
 impl State {
     /// Opens a slot for a write.
-    pub(crate) fn begin(&mut self, writer: u32, op: &WriteOp) -> Mem<Reply>
+    #[tactic(auto, using(crate::proofs::AdmitLemmas::closed_writers))]
+    pub(crate) fn begin(&mut self, writer: u32, lent: LentWrite<'_>) -> Mem<Reply>
         requires seen { self.old.node.seen < 2 ^ 64 - 1 }
-        requires name { is_collection (collection_of op.now) ≡ true }
-        ensures ok { IfOk result (λ reply. begin self.old.node writer op.now ≡ replied reply self.new.node) }
+        requires name { is_collection (collection_of (shown lent)) ≡ true }
+        ensures ok { IfOk result (λ reply. begin self.old.node writer (shown lent.entry) ≡ replied reply self.new.node) }
         ensures err { OnErr result (self.new.node ≡ self.old.node) }
     {
         if self.ledger.role() != Role::Primary {
@@ -27,20 +30,22 @@ impl State {
         if self.ledger.is_writing(writer) {
             return Ok(Reply::Refused(Refusal::WriterOpen));
         }
-        let admission = match self.admit(op)? {
-            Ok(admission) => admission,
-            Err(why) => return Ok(Reply::Refused(why)),
-        };
-        self.begin_admitted(writer, op, admission)
+        match self.admit(lent) {
+            Ok(Ok(admission)) => self.begin_admitted(writer, admission),
+            Ok(Err(why)) => Ok(Reply::Refused(why)),
+            Err(error) => Err(error),
+        }
     }
 
+    /// The same of a write that nothing refuses.
     #[tactic(auto, using(crate::proofs::AdmitLemmas::closed_writers))]
-    fn begin_admitted(&mut self, writer: u32, op: &WriteOp, admission: Admission) -> Mem<Reply>
+    fn begin_admitted(&mut self, writer: u32, admission: Admission) -> Mem<Reply>
         requires seen { self.old.node.seen < 2 ^ 64 - 1 }
         requires role { self.old.node.role ≡ Role.Primary }
         requires closed { is_open (maps.get self.old.node.writers writer) ≡ false }
-        requires admitted { Admits self.old.node op.now (Ok admission) }
-        ensures ok { IfOk result (λ reply. begin self.old.node writer op.now ≡ replied reply self.new.node) }
+        requires free { holder self.old.node (admission.ns, admission.id) ≡ None }
+        requires can { CanBeLogged self.old.node (admission.ns, admission.id) admission.effect }
+        ensures ok { IfOk result (λ reply. begun self.old.node writer (Ok admission.effect) ≡ replied reply self.new.node) }
         ensures err { OnErr result (self.new.node ≡ self.old.node) }
     {
         let Admission { ns, id, effect } = admission;

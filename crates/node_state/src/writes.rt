@@ -1,63 +1,79 @@
 // Writes that are reserved and committed at once.
-ghost use Rattle.std.specs.Prelude.{◌≡◌, ◌-◌, ◌^◌, ◌<◌, ◌≤◌, true, None, IfOk, OnOk, OnErr, length};
+ghost use Rattle.std.specs.Prelude.{◌≡◌, ◌-◌, ◌^◌, ◌<◌, ◌≤◌, true, None, Ok, IfOk, OnOk, OnErr, length};
+ghost use Rattle.doc_update.specs.Check.{checked};
+ghost use Rattle.doc_update.specs.Lent.{shown};
 ghost use Rattle.entry_bytes.specs.Sizes.{IsWithinEntry};
-ghost use Rattle.set_model.specs.Limits.{is_collection, collection_of};
+ghost use Rattle.set_model.specs.Holds.{holder};
+ghost use Rattle.set_model.specs.Limits.{IsSoundWrite, is_collection, collection_of};
 ghost use Rattle.set_model.specs.Outcome.{replied};
 ghost use Rattle.set_model.specs.Points.{next_optime};
-ghost use Rattle.set_model.specs.Write.{write};
-ghost use Rattle.node_state.specs.Admits.{Admits};
+ghost use Rattle.set_model.specs.Write.{write, written};
+ghost use Rattle.node_state.specs.Admits.{Admits, CanBeLogged};
 
 use crate::State;
 use crate::admission::{Admission, refusal};
-use bson_doc::Mem;
-use doc_update::{Prepared, WriteOp, check, prepare};
+use bson_doc::{IdKey, Mem, Text};
+use doc_update::{LentWrite, Prepared, check_lent, prepare_lent};
 use set_model::{Refusal, Reply, Role};
 
 impl State {
     /// What a write comes to on the latest documents of a primary.
-    pub(crate) fn admit(&self, op: &WriteOp) -> Mem<Result<Admission, Refusal>>
+    pub(crate) fn admit(&self, lent: LentWrite<'_>) -> Mem<Result<Admission, Refusal>>
         requires role { self.now.node.role ≡ Role.Primary }
-        requires name { is_collection (collection_of op.now) ≡ true }
-        ensures { IfOk result (λ write. Admits self.now.node op.now write) }
+        requires name { is_collection (collection_of (shown lent)) ≡ true }
+        ensures { IfOk result (λ admission. Admits self.now.node (shown lent.entry) admission) }
     {
         self.ledger.is_sound();
-        op.is_sound();
-        let (ns, id) = match check(self.alloc, op) {
-            Ok(place) => place,
-            Err(why) => return Ok(Err(refusal(why)?)),
-        };
+        lent.is_sound();
+        match check_lent(self.alloc, lent) {
+            Ok((ns, id)) => self.admit_at(ns, id, lent),
+            Err(why) => Ok(Err(refusal(why)?)),
+        }
+    }
+
+    /// The same of a write to this place.
+    fn admit_at(&self, ns: Text, id: IdKey, lent: LentWrite<'_>) -> Mem<Result<Admission, Refusal>>
+        requires role { self.now.node.role ≡ Role.Primary }
+        requires name { is_collection (collection_of (shown lent)) ≡ true }
+        requires place { checked (shown lent) ≡ Ok (ns, id) }
+        requires sound { IsSoundWrite (shown lent) }
+        ensures { IfOk result (λ admission. Admits self.now.node (shown lent.entry) admission) }
+    {
+        self.ledger.is_sound();
         let found = self.ledger.current(ns.as_str(), &id);
         if let Some(writer) = found.holder {
             return Ok(Err(Refusal::WriteConflict(writer)));
         }
-        match prepare(self.alloc, op, found.latest) {
+        match prepare_lent(self.alloc, lent, found.latest) {
             Ok(effect) => Ok(Ok(Admission { ns, id, effect })),
             Err(why) => Ok(Err(refusal(why)?)),
         }
     }
 
     /// Writes an entry for a write that is taken, at once.
-    pub(crate) fn write(&mut self, op: &WriteOp) -> Mem<Reply>
+    pub(crate) fn write_at_once(&mut self, lent: LentWrite<'_>) -> Mem<Reply>
         requires seen { self.old.node.seen < 2 ^ 64 - 1 }
-        requires name { is_collection (collection_of op.now) ≡ true }
-        ensures ok { IfOk result (λ reply. write self.old.node op.now ≡ replied reply self.new.node) }
+        requires name { is_collection (collection_of (shown lent)) ≡ true }
+        ensures ok { IfOk result (λ reply. write self.old.node (shown lent.entry) ≡ replied reply self.new.node) }
         ensures err { OnErr result (self.new.node ≡ self.old.node) }
     {
         if self.ledger.role() != Role::Primary {
             return Ok(Reply::Refused(Refusal::NotPrimary));
         }
-        let admission = match self.admit(op)? {
-            Ok(admission) => admission,
-            Err(why) => return Ok(Reply::Refused(why)),
-        };
-        self.write_admitted(op, admission)
+        match self.admit(lent) {
+            Ok(Ok(admission)) => self.write_admitted(admission),
+            Ok(Err(why)) => Ok(Reply::Refused(why)),
+            Err(error) => Err(error),
+        }
     }
 
-    fn write_admitted(&mut self, op: &WriteOp, admission: Admission) -> Mem<Reply>
+    /// The same of a write that nothing refuses.
+    fn write_admitted(&mut self, admission: Admission) -> Mem<Reply>
         requires seen { self.old.node.seen < 2 ^ 64 - 1 }
         requires role { self.old.node.role ≡ Role.Primary }
-        requires admitted { Admits self.old.node op.now (Ok admission) }
-        ensures ok { IfOk result (λ reply. write self.old.node op.now ≡ replied reply self.new.node) }
+        requires free { holder self.old.node (admission.ns, admission.id) ≡ None }
+        requires can { CanBeLogged self.old.node (admission.ns, admission.id) admission.effect }
+        ensures ok { IfOk result (λ reply. written self.old.node (Ok admission.effect) ≡ replied reply self.new.node) }
         ensures err { OnErr result (self.new.node ≡ self.old.node) }
     {
         let Admission { ns, id, effect } = admission;

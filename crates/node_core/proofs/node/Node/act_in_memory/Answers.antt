@@ -1,8 +1,19 @@
-use Rattle.std.proofs.Common.{false}
+use Rattle.std.proofs.Common.{◌≡◌, true, false, rules}
 use Rattle.set_model.specs.Rows.{row}
+use Rattle.node_state.specs.Bounds.{is_write}
 use Rattle.node_core.specs.Down.{left_in}
 use Rattle.node_core.proofs.EndingLemmas.{took_ended, unchanged}
+use Rattle.node_core.proofs.PuttingLemmas.{runs_none}
+use Rattle.node_core.proofs.WriteLemmas.{rests_still, took_write, write_rests}
 use Rattle.node_core.proofs.node.Node.act_in_memory.Goals as goal
+
+pub returns-then-is_write-clause-ok : goal.returns-then-is_write-clause-ok
+returns-then-is_write-clause-ok g c =
+    let s = c.self.inside in
+    let writes : is_write c.args.command.now ≡ true = search rules in
+    rw (← c.self.view_is) (took_write c.args.nodes c.args.next s.state.node c.write.new.self.node c.args.command.now c.in_ok-reply.reply writes c.in_ok-reply.ensures.ok
+    s.up (left_in s.left) s.disks.count (g.D.Disk.state s.disks.journal.0) (g.D.Disk.state s.disks.checkpoints) c.answered.result
+    c.if-not-self.false c.self.invariant c.answered.ensures.reply c.answered.ensures.sent c.answered.ensures.failed)
 
 pub returns-in_err-ended-clause-err : goal.returns-in_err-ended-clause-err
 returns-in_err-ended-clause-err g c =

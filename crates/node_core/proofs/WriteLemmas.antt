@@ -1,0 +1,72 @@
+-- What a write comes to at a node that is up: it is answered, and its disks are left alone.
+use Rattle.std.proofs.Common.{◌≡◌, ◌∙◌, sym, subst, refl, ℕ, Bool, true, false, []}
+use Rattle.rs_disk.specs.State.{State}
+use Rattle.set_model.specs.declared.command.Command.{Command}
+use Rattle.set_model.specs.declared.command.Command.TheVariants.{Insert, Replace, Update, Delete, Begin, Commit, Abort, Deliver, DeliverLatest, Crash, Restart, DiskFail}
+use Rattle.set_model.specs.declared.reply.Reply.{Reply}
+use Rattle.set_model.specs.Node.{Node}
+use Rattle.set_model.specs.Outcome.{replied}
+use Rattle.set_model.specs.Rows.{row}
+use Rattle.set_model.specs.Stores.{Plan, finished}
+use Rattle.std.specs.Prelude.{None}
+use Rattle.node_state.specs.Bounds.{is_own, is_write}
+use Rattle.node_state.specs.Plain.{plain_row}
+use Rattle.node_core.specs.Acting.{Took}
+use Rattle.node_core.specs.Down.{Left, seen_node}
+use Rattle.node_core.specs.Resting.{IsResting, Rests}
+use Rattle.node_core.specs.declared.done.Done.{Done}
+use Rattle.node_core.proofs.ActingLemmas.{answered_follows, answered_runs, rests_stand}
+use Rattle.node_core.proofs.DoesLemmas.{Does, MayPut, row_does}
+use Rattle.node_core.proofs.PuttingLemmas.{rests_same}
+
+not_so : false ≡ true → ⊥
+not_so h = cc
+
+write_own : (command : Command) → is_write command ≡ true → is_own command ≡ true
+write_own (Deliver message) write = absurd (not_so write)
+write_own (DeliverLatest from to) write = absurd (not_so write)
+write_own (Crash n pick) write = absurd (not_so write)
+write_own (Restart n) write = absurd (not_so write)
+write_own (DiskFail n disk call pick) write = absurd (not_so write)
+write_own _ write = refl
+
+-- the size of the set and the number of its next message don't matter
+write_row : (nodes next : ℕ) (node : Node) (command : Command) → is_write command ≡ true → row nodes next false node command ≡ plain_row node command
+write_row nodes next node (Insert n collection document) write = refl
+write_row nodes next node (Replace n collection id document) write = refl
+write_row nodes next node (Update n collection id operators) write = refl
+write_row nodes next node (Delete n collection id) write = refl
+write_row nodes next node (Begin n writer op) write = refl
+write_row nodes next node (Commit n writer) write = refl
+write_row nodes next node (Abort n writer) write = refl
+write_row nodes next node _ write = absurd (not_so write)
+
+module _ (nodes next : ℕ) (node new : Node) (command : Command) (answer : Reply) (write : is_write command ≡ true)
+    (means : plain_row node command ≡ finished (replied answer new)) where
+  its_row : row nodes next false node command ≡ finished (replied answer new)
+  its_row = write_row nodes next node command write ∙ means
+
+  -- its records and its stable point stay
+  kept : (new.records ≡ node.records) × (new.stable ≡ node.stable)
+  kept = subst (λ (p : Plan). Does (MayPut command) 1 node.records node.stable p) its_row (row_does nodes next node command (write_own command write))
+
+  rests_on : (count : ℕ) (j c : State) → Rests node count j c → Rests new count j c
+  rests_on count j c rests = rests_same node new count j c kept.0 kept.1 rests
+
+  pub write_rests : (up : Bool) (left : Left) (count : ℕ) (j c : State) → up ≡ true → IsResting up node left count j c → IsResting up new left count j c
+  write_rests false left count j c is_up rests = absurd (not_so is_up)
+  write_rests true left count j c is_up rests = rests_on count j c rests
+
+  pub took_write : (up : Bool) (left : Left) (count : ℕ) (j c : State) (done : Done) → up ≡ true → IsResting up node left count j c
+      → done.reply ≡ answer → done.sent.items ≡ [] → done.failed ≡ None
+      → Took (row nodes next false (seen_node up node left) command) (seen_node up new left) j j c c done
+  took_write false left count j c done is_up rests reply sent failed = absurd (not_so is_up)
+  took_write true left count j c done is_up rests reply sent failed = record {
+    follows = answered_follows (row nodes next false node command) new answer done its_row reply sent failed;
+    stands = rests_stand new count j c (rests_on count j c rests);
+    runs = answered_runs j c done failed;
+  }
+
+-- memory was wanting
+pub rests_still : (up : Bool) (node new : Node) (left : Left) (count : ℕ) (j c : State) → new ≡ node → IsResting up node left count j c → IsResting up new left count j c
+rests_still up node new left count j c same rests = subst (λ (n : Node). IsResting up n left count j c) (sym same) rests
