@@ -12,6 +12,7 @@ use crate::stop::Stop;
 use fault_script::{Part, Parts};
 use rs_disk::Disk;
 use rs_io::Sink;
+use set_model::Reply;
 use set_world::World;
 use std::alloc::Global;
 use std::thread::Threads;
@@ -33,21 +34,23 @@ pub fn play<K: Sink, D: Disk, R: Threads + Sync>(
     ensures cause { HasCause (K.faults sink.old) (K.faults sink.new) (IsErrOf result Stop.WriteFault) }
     ensures steady { K.steady sink.old → K.steady sink.new × (result ≢ Err Stop.WriteFault) }
 {
+    let mut replies = Vec::new(alloc);
     let mut text = String::new(alloc);
     let mut rest = parts.into_rest();
     while let Some(part) = rest.next() {
-        play_part(rt, alloc, part, sink, world, &mut text)?;
+        play_part(rt, part, sink, world, &mut replies, &mut text)?;
     }
     Ok(())
 }
 
-/// The replies of a block are put behind it, when all its lines are played.
+/// The replies of a block are put behind it, when all its lines are played. `replies` and `text` serve all parts with their
+/// memory.
 fn play_part<K: Sink, D: Disk, R: Threads + Sync>(
     rt: &R,
-    alloc: Global,
     part: Part,
     sink: &mut K,
     world: &mut World<D>,
+    replies: &mut Vec<(u32, Reply)>,
     text: &mut String,
 ) -> Result<(), Stop>
     requires few { length world.old.history + length (lines_of part) ≤ 200000 }
@@ -58,7 +61,7 @@ fn play_part<K: Sink, D: Disk, R: Threads + Sync>(
     ensures cause { HasCause (K.faults sink.old) (K.faults sink.new) (IsErrOf result Stop.WriteFault) }
     ensures steady { K.steady sink.old → K.steady sink.new × (result ≢ Err Stop.WriteFault) }
 {
-    let mut replies = Vec::new(alloc);
-    step_part(rt, part, world, &mut replies)?;
-    put_replies(&replies, sink, text)
+    replies.clear();
+    step_part(rt, part, world, replies)?;
+    put_replies(replies, sink, text)
 }

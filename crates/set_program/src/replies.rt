@@ -7,7 +7,7 @@ ghost use Rattle.set_program.specs.Plays.{PutsEach, PutsText};
 use crate::stop::Stop;
 use rs_io::Sink;
 use set_model::Reply;
-use transcript::write_reply;
+use transcript::set_reply;
 
 /// Puts replies one after another. Each is written into `text` first, whose memory serves them all.
 pub fn put_replies<K: Sink>(
@@ -30,8 +30,7 @@ fn put_reply<K: Sink>(line: u32, reply: &Reply, sink: &mut K, text: &mut String)
     ensures cause { HasCause (K.faults sink.old) (K.faults sink.new) (IsErrOf result Stop.WriteFault) }
     ensures steady { K.steady sink.old → K.steady sink.new × (result ≢ Err Stop.WriteFault) }
 {
-    text.clear();
-    write_reply(line, reply, text)?;
+    set_reply(line, reply, text)?;
     sink.put(text.as_bytes())?;
     Ok(())
 }

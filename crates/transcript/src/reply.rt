@@ -14,20 +14,25 @@ use doc_text::write_document;
 use set_model::Reply;
 use std::fmt::Write;
 
-/// Most replies are no longer.
-const USUAL_LENGTH: usize = 64;
-
 /// Appends the reply to the command of a line, with its line end. Want of memory leaves `out` as it was.
 pub fn write_reply(line: u32, reply: &Reply, out: &mut String) -> Mem<()>
     ensures ok { OnOk result (string_bytes out.new ≡ string_bytes out.old ++ line_text (line, reply.now)) }
     ensures err { OnErr result (string_bytes out.new ≡ string_bytes out.old) }
 {
-    let mut text = String::with_capacity(*out.allocator(), USUAL_LENGTH)?;
-    write_number(u64::from(line), &mut text)?;
-    text.push_str(": ")?;
-    write_text(reply, &mut text)?;
-    text.push_str("\n")?;
+    let mut text = String::new(*out.allocator());
+    set_reply(line, reply, &mut text)?;
     out.push_str(&text)
+}
+
+/// Puts the same in place of what stood in `text`, whose memory serves again. Want of memory leaves a front of it there.
+pub fn set_reply(line: u32, reply: &Reply, text: &mut String) -> Mem<()>
+    ensures { OnOk result (string_bytes text.new ≡ line_text (line, reply.now)) }
+{
+    text.clear();
+    write_number(u64::from(line), text)?;
+    text.push_str(": ")?;
+    write_text(reply, text)?;
+    text.push_str("\n")
 }
 
 /// A reply as it is printed. Those about documents and writes stand here.

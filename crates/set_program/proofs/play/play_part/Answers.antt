@@ -11,8 +11,8 @@ returns-in_err-step_part-clause-plays g c =
 pub returns-clause-plays : goal.returns-clause-plays
 returns-clause-plays g c =
     part_put g.D.Disk.state (lines_of c.args.part) (g.K.Sink.held c.args.sink.now) (g.K.Sink.held c.put_replies.new.sink) c.args.world.now c.step_part.new.world c.step_part.new.replies.items c.put_replies.result
-    (rw c.new-replies.ensures.items at c.in_ok-step_part.ensures) (rw c.deref.ensures.value at c.put_replies.ensures.puts)
+    (rw c.clear.ensures.items at c.in_ok-step_part.ensures) (rw c.deref.ensures.value at c.put_replies.ensures.puts)
 
 pub returns-clause-disks : goal.returns-clause-disks
 returns-clause-disks g c =
-    part_goes_on g.D.Disk.state (lines_of c.args.part) c.args.world.now c.step_part.new.world c.new-replies.result.items c.step_part.new.replies.items c.put_replies.result c.in_ok-step_part.ensures
+    part_goes_on g.D.Disk.state (lines_of c.args.part) c.args.world.now c.step_part.new.world c.clear.new.self.items c.step_part.new.replies.items c.put_replies.result c.in_ok-step_part.ensures
