@@ -67,6 +67,6 @@ module _ (nodes next : ℕ) (node new : Node) (command : Command) (answer : Repl
     runs = answered_runs j c done failed;
   }
 
--- memory was wanting
-pub rests_still : (up : Bool) (node new : Node) (left : Left) (count : ℕ) (j c : State) → new ≡ node → IsResting up node left count j c → IsResting up new left count j c
-rests_still up node new left count j c same rests = subst (λ (n : Node). IsResting up n left count j c) (sym same) rests
+pub up_rests : (up : Bool) (node : Node) (left : Left) (count : ℕ) (j c : State) → up ≡ true → IsResting up node left count j c → Rests node count j c
+up_rests false node left count j c is_up rests = absurd (not_so is_up)
+up_rests true node left count j c is_up rests = rests
