@@ -1,5 +1,7 @@
 -- What changes of a node in memory keep it coherent.
-use Rattle.std.proofs.Common.{◌≡◌, ◌≢◌, ◌∙◌, inl, inr, ap, sym, subst, refl, ℕ, Bool, true, false, not, filter, map, Option, List}
+use Rattle.std.proofs.Common.{◌≡◌, ◌≢◌, ◌∙◌, ◌<◌, arith, inl, inr, ap, sym, subst, refl, ℕ, Bool, true, false, not, filter, map, Option, List}
+use Rattle.std.proofs.lemmas.List.Elements.{All-filter}
+use Rattle.std.specs.List.{All}
 use Rattle.std.specs.Ordering.{nat_cmp}
 use Rattle.std.specs.FinMap as maps
 use Rattle.std.specs.FinSet as sets
@@ -18,6 +20,7 @@ use Rattle.set_model.specs.Safety.{AtMost, Has}
 use Rattle.set_model.specs.declared.writer.Writer.{Writer}
 use Rattle.node_tables.specs.Unkept.{with_optime}
 use Rattle.node_tables.proofs.OptimeLemmas.{map-with_entry}
+use Rattle.node_ledger.specs.Kept.{FitsBeside}
 use Rattle.node_state.specs.Coherent.{IsCoherent, IsRecorded, is_kept}
 use Rattle.node_state.proofs.EntryLemmas.{In, all_in, in_all, in_filter, in_with, with_in, has_in, in_has, filter-with, filter-without}
 use Rattle.node_ledger.proofs.OrderLemmas.{not_then_not}
@@ -76,11 +79,17 @@ coherent-slots node slots writers seen tally optimes grows old = record {
 
 -- ---- an entry more
 
--- the entry is behind what is durable, no other has its optime, and what is visible goes no less far
+-- the entry is behind what is durable, has a place in the log, and what is visible goes no less far
 pub record IsFresh (node : Node) (entry : Entry) (more : Node) : Type 0 where
   pub behind : is_before node.durable entry.optime ≡ true
-  pub apart : (other : Entry) → In other node.log → other.optime ≢ entry.optime
+  pub fits : All (FitsBeside entry) node.log
   pub grows : AtMost (visible_point node) (visible_point more)
+
+same_ts_apart : (entry other : Entry) → FitsBeside entry other → other.optime ≢ entry.optime
+same_ts_apart entry other (inl before) same =
+    let earlier : other.optime.ts < entry.optime.ts = before.earlier in let ts : other.optime.ts ≡ entry.optime.ts = ap (λ (o : OpTime). o.ts) same in omega (arith, earlier, ts)
+same_ts_apart entry other (inr behind) same =
+    let earlier : entry.optime.ts < other.optime.ts = behind.earlier in let ts : other.optime.ts ≡ entry.optime.ts = ap (λ (o : OpTime). o.ts) same in omega (arith, earlier, ts)
 
 not_kept : (node : Node) (entry : Entry) → IsRecorded node → ((other : Entry) → In other node.log → other.optime ≢ entry.optime) → is_kept node entry ≡ false
 not_kept node entry recorded apart = go (has_entry (kept node.records).entries entry.optime) refl
@@ -118,13 +127,13 @@ coherent-written node entry slots writers seen tally optimes oplog fresh old = r
     point = old.recorded.point;
   };
   unkept =
-      ap (λ list. with_optime list entry.optime) old.unkept ∙ sym (map-with_entry (unkept node) entry)
+      ap (λ list. with_optime list entry.optime) old.unkept ∙ sym (map-with_entry (unkept node) entry (All-filter (λ (e : Entry). not (is_kept node e)) (FitsBeside entry) node.log fresh.fits))
       ∙ ap (map (λ (e : Entry). e.optime)) (sym (filter-with (λ (e : Entry). not (has_entry (kept node.records).entries e.optime)) node.log entry oplog.order (ap not other)));
   counts = old.counts;
 }
   where
     other : is_kept node entry ≡ false
-    other = not_kept node entry old.recorded fresh.apart
+    other = not_kept node entry old.recorded (λ one there. same_ts_apart entry one (all_in (FitsBeside entry) node.log one fresh.fits there))
 
     early : (e : Entry) → In e (with_entry node.log entry) → is_before node.durable e.optime ≡ false → is_kept node e ≡ true
     early e there late = elim (with_in node.log entry e there) [

@@ -17,6 +17,7 @@ use Rattle.set_model.specs.Fetched.{Follows}
 use Rattle.set_model.specs.Fetching.{seen_after, with_fetched}
 use Rattle.set_model.specs.Node.{Node}
 use Rattle.set_model.specs.Safety.{AtMost}
+use Rattle.node_ledger.specs.Kept.{FitsBeside}
 use Rattle.node_state.specs.Coherent.{IsCoherent}
 use Rattle.node_state.proofs.EntryLemmas.{In, all_in, in_all, in_with}
 use Rattle.node_ledger.proofs.OrderLemmas.{not_then_not}
@@ -77,8 +78,7 @@ coherent-fetched (entry ∷ rest) node tally optimes oplog behind old =
     (coherent-written node entry node.slots node.writers (max node.seen entry.optime.ts) tally optimes (oplog_front node.log (entry ∷ rest) oplog)
     (record {
       behind = behind zero entry (omega arith);
-      apart = λ other there same.
-          let earlier : other.optime.ts < entry.optime.ts = (first other there).earlier in let ts : other.optime.ts ≡ entry.optime.ts = ap (λ (o : OpTime). o.ts) same in omega (arith, earlier, ts);
+      fits = in_all (FitsBeside entry) node.log (λ other there. inl (first other there));
       grows = visible_grows (sets.items node.slots) (sets.items node.slots) node.log (with_entry node.log entry) more (in_with node.log entry) (λ slot listed. inl listed);
     })
     old))

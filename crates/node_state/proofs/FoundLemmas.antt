@@ -4,7 +4,7 @@ use Rattle.std.specs.Prelude.{slice_get, slice_index_or, is_some, IfSome, ◌==�
 use Rattle.std.proofs.Math.Seq.{take-suc}
 use Rattle.std.proofs.lemmas.List.Elements.{filter_map-append}
 use Rattle.std.proofs.lemmas.Bool.Decides.{nat_tests}
-use Rattle.std.proofs.lemmas.List.{append-nil}
+use Rattle.std.proofs.lemmas.List.{append-nil, take-map}
 use Rattle.std.specs.List.{All, cons_option}
 use Rattle.std.specs.Option.{option_map}
 use Rattle.rs_optime.specs.declared.optime.OpTime.{OpTime}
@@ -91,35 +91,13 @@ entries_at-map log rises (x ∷ xs) there =
     ap (λ o. cons_option o (entries_at log (map (λ (e : Entry). e.optime) xs))) (entry_at-in log rises x (there x (inl refl)))
     ∙ ap (λ rest. x ∷ rest) (entries_at-map log rises xs (λ y more. there y (inr more)))
 
-take_of_map : (f : Entry → OpTime) (k : ℕ) (xs : List Entry) → take (min (length (map f xs)) k) (map f xs) ≡ map f (take k xs)
-take_of_map f zero [] = refl
-take_of_map f zero (x ∷ xs) = ap (λ n. take n (map f (x ∷ xs))) (min_zero (length (map f (x ∷ xs))))
-  where
-    min_zero : (n : ℕ) → min n 0 ≡ 0
-    min_zero n = omega arith
-take_of_map f (suc k) [] = ap (λ n. take n []) (min_none k)
-  where
-    min_none : (n : ℕ) → min 0 (suc n) ≡ 0
-    min_none n = omega arith
-take_of_map f (suc k) (x ∷ xs) =
-    ap (λ n. take n (map f (x ∷ xs))) (min_more (length (map f xs)) k) ∙ ap (λ rest. f x ∷ rest) (take_of_map f k xs)
-  where
-    min_more : (n m : ℕ) → min (suc n) (suc m) ≡ suc (min n m)
-    min_more n m = omega arith
-
 pub next_entries-at : (node : Node) (optimes : List OpTime) → IsOplog node.log → optimes ≡ map (λ (e : Entry). e.optime) (unkept node)
-    → entries_at node.log (take (min (length optimes) 2000) optimes) ≡ next_entries node
+    → entries_at node.log (take 2000 optimes) ≡ next_entries node
 next_entries-at node optimes oplog is =
-    ap (λ xs. entries_at node.log (take (min (length xs) 2000) xs)) is
-    ∙ ap (entries_at node.log) (take_of_map (λ (e : Entry). e.optime) 2000 (unkept node))
+    ap (λ xs. entries_at node.log (take 2000 xs)) is
+    ∙ ap (entries_at node.log) (take-map (λ (e : Entry). e.optime) 2000 (unkept node))
     ∙ entries_at-map node.log oplog.order (next_entries node)
     (λ x there. (in_filter _ node.log x (in_take 2000 x (unkept node) there)).0)
-
-pub last_of-taken : (k : ℕ) (xs : List Entry) → k < length xs → slice_get (map (λ (e : Entry). e.optime) xs) k ≡ Some (last_of (take (suc k) xs))
-last_of-taken k [] less = absurd (omega (arith, less))
-last_of-taken zero (x ∷ xs) less = refl
-last_of-taken (suc k) (x ∷ []) less = absurd (omega (arith, less))
-last_of-taken (suc k) (x ∷ y ∷ ys) less = last_of-taken k (y ∷ ys) (omega (arith, less))
 
 -- one optime more
 entries_more : (log : List Entry) (optimes : List OpTime) (i : ℕ) (at : OpTime) → i < length optimes → at ≡ slice_index_or optimes i at
@@ -156,24 +134,12 @@ map-length : (xs : List Entry) → length (map (λ (e : Entry). e.optime) xs) �
 map-length [] = refl
 map-length (x ∷ xs) = ap (λ n. suc n) (map-length xs)
 
-pub next_durable-long : (node : Node) (optimes : List OpTime) (last : OpTime) → optimes ≡ map (λ (e : Entry). e.optime) (unkept node) → 2000 < length optimes → slice_get optimes 1999 ≡ Some last
-    → next_durable node ≡ earlier_of (visible_point node) last
-next_durable-long node optimes last is long there =
+pub next_durable-long : (node : Node) (optimes : List OpTime) → optimes ≡ map (λ (e : Entry). e.optime) (unkept node) → 2000 < length optimes
+    → next_durable node ≡ earlier_of (visible_point node) (last_of (next_entries node))
+next_durable-long node optimes is long =
     let same : length optimes ≡ length (unkept node) = ap length is ∙ map-length (unkept node) in
-    let more : 2000 < length (unkept node) = omega (arith, same, long) in
     let test : nat_lt 2000 (length (unkept node)) ≡ true = grind arith in
-    let found : Some (last_of (take 2000 (unkept node))) ≡ Some last = sym (last_of-taken 1999 (unkept node) (omega (arith, more))) ∙ ap (λ xs. slice_get xs 1999) (sym is) ∙ there in
-    let point : last_of (take 2000 (unkept node)) ≡ last = cc in
     ap (λ b. cond b (earlier_of (visible_point node) (last_of (next_entries node))) (visible_point node)) test
-    ∙ ap (earlier_of (visible_point node)) point
-
-pub next_durable-index : (node : Node) (optimes : List OpTime) (d : OpTime) → optimes ≡ map (λ (e : Entry). e.optime) (unkept node) → 2000 < length optimes
-    → next_durable node ≡ earlier_of (visible_point node) (slice_index_or optimes 1999 d)
-next_durable-index node optimes d is long =
-    let same : length optimes ≡ length (unkept node) = ap length is ∙ map-length (unkept node) in
-    let there : slice_get optimes 1999 ≡ Some (last_of (take 2000 (unkept node))) = ap (λ xs. slice_get xs 1999) is ∙ last_of-taken 1999 (unkept node) (omega (arith, same, long)) in
-    next_durable-long node optimes (last_of (take 2000 (unkept node))) is long there
-    ∙ ap (earlier_of (visible_point node)) (sym (found_there optimes 1999 (last_of (take 2000 (unkept node))) d (sym there)))
 
 -- what a look-up at the place of an optime finds
 pub got-entry_at : {B : Type 0} (found : Option B) (now : B → Entry) (log : List Entry) (place : ℕ) (at : OpTime) → IsOplog log → StandsAt log place at

@@ -1,5 +1,6 @@
 -- A primary's writes keep the node coherent.
 use Rattle.std.proofs.Common.{◌≡◌, ◌≢◌, ◌≤◌, ◌<◌, inl, inr, ap, sym, subst, refl, arith, ℕ, Bool, true, false, Option, List}
+use Rattle.std.specs.List.{All}
 use Rattle.std.specs.FinMap as maps
 use Rattle.std.specs.FinSet as sets
 use Rattle.rs_optime.specs.declared.optime.OpTime.{OpTime}
@@ -21,7 +22,7 @@ use Rattle.node_ledger.specs.Kept.{AreApart, IsPending, FitsBeside}
 use Rattle.node_state.specs.Seen.{Rest, seen_node}
 use Rattle.node_ledger.specs.Sound.{IsSound}
 use Rattle.node_ledger.specs.Writers.{HasOpen}
-use Rattle.node_state.proofs.EntryLemmas.{In, all_in, in_with, last_before, zero_first}
+use Rattle.node_state.proofs.EntryLemmas.{In, all_in, in_all, in_with, last_before, zero_first}
 use Rattle.node_ledger.proofs.OrderLemmas.{not_then_not}
 use Rattle.node_state.proofs.SlotLemmas.{in_more, in_fewer, contains_in, in_visible, visible_grows}
 use Rattle.node_state.proofs.CoherentLemmas.{coherent-slots, coherent-written}
@@ -38,12 +39,11 @@ before_next node sound entry there =
     let later : node.seen < (next_optime node).ts = next_later node in
     before_both entry.optime (next_optime node) term (omega (arith, seen, later))
 
-apart_from_next : (node : Node) → IsSound node → (entry : Entry) → In entry node.log → entry.optime ≢ next_optime node
-apart_from_next node sound entry there same =
+fits_next : (node : Node) (op : Op) → IsSound node → All (FitsBeside (record { optime = next_optime node; op = op })) node.log
+fits_next node op sound = in_all (FitsBeside (record { optime = next_optime node; op = op })) node.log (λ entry there.
     let seen : entry.optime.ts ≤ node.seen = all_in (λ (e : Entry). e.optime.ts ≤ node.seen) node.log entry sound.marked there in
     let later : node.seen < (next_optime node).ts = next_later node in
-    let ts : entry.optime.ts ≡ (next_optime node).ts = ap (λ (o : OpTime). o.ts) same in
-    omega (arith, seen, later, ts)
+    inl (record { earlier = omega (arith, seen, later); term = all_in (λ (e : Entry). e.optime.term ≤ node.term) node.log entry sound.terms there }))
 
 -- at or before what is before a third
 most_then_before : (a b c : OpTime) → AtMost a b → is_before b c ≡ true → is_before a c ≡ true
@@ -72,7 +72,7 @@ coherent-logged n m rest op tally optimes is sound after old =
     (record {
       behind = durable_before (seen_node n rest) (next_optime n) old.points.durable (before_both ZERO (next_optime n) (omega arith) (omega (arith, next_later n)))
           (λ entry there. before_next n sound entry (in_visible (sets.items n.slots) n.log entry there).0);
-      apart = apart_from_next n sound;
+      fits = fits_next n op sound;
       grows = visible_grows (sets.items n.slots) (sets.items n.slots) n.log (with_entry n.log (record { optime = next_optime n; op = op })) (subst (λ (k : Node). IsOplog k.log) is after.oplog)
           (in_with n.log (record { optime = next_optime n; op = op })) (λ slot listed. inl listed);
     })
@@ -90,12 +90,6 @@ coherent-opened n m rest number op tally optimes is sound old =
     ]))
     old)
 
-same_ts_apart : (at : OpTime) (op : Op) (other : Entry) → FitsBeside (record { optime = at; op = op }) other → other.optime ≢ at
-same_ts_apart at op other (inl before) same =
-    let earlier : other.optime.ts < at.ts = before.earlier in let ts : other.optime.ts ≡ at.ts = ap (λ (o : OpTime). o.ts) same in omega (arith, earlier, ts)
-same_ts_apart at op other (inr behind) same =
-    let earlier : at.ts < other.optime.ts = behind.earlier in let ts : other.optime.ts ≡ at.ts = ap (λ (o : OpTime). o.ts) same in omega (arith, earlier, ts)
-
 pub coherent-settled : (n m : Node) (rest : Rest) (number : ℕ) (at : OpTime) (op : Op) (tally : Option Tallied) (optimes : List OpTime) → m ≡ settled n number at op → HasOpen n.writers number at op
     → IsSound n → AreApart n → IsSound m → IsCoherent (seen_node n rest) tally optimes → IsCoherent (seen_node m rest) tally (with_optime optimes at)
 coherent-settled n m rest number at op tally optimes is has sound writers after old =
@@ -104,7 +98,7 @@ coherent-settled n m rest number at op tally optimes is has sound writers after 
     (record {
       behind = durable_before (seen_node n rest) at old.points.durable (zero_before n.stable at pending.unstable)
           (λ entry there. (in_visible (sets.items n.slots) n.log entry there).1 at (contains_in n.slots at pending.open_slot));
-      apart = λ other there. same_ts_apart at op other (all_in (FitsBeside (record { optime = at; op = op })) n.log other pending.newest.fits there);
+      fits = pending.newest.fits;
       grows = visible_grows (sets.items n.slots) (sets.items (sets.remove n.slots at)) n.log (with_entry n.log (record { optime = at; op = op })) (subst (λ (k : Node). IsOplog k.log) is after.oplog)
           (in_with n.log (record { optime = at; op = op })) (λ slot listed. inl (in_fewer n.slots at slot listed));
     })

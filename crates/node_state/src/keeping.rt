@@ -1,6 +1,7 @@
 // Batches, the journal and checkpoints.
 ghost use Rattle.std.specs.Prelude.{◌≡◌, ◌≤◌, ◌<◌, false, IfOk, OnErr};
 ghost use Rattle.std.specs.Option.{option_copied};
+ghost use Rattle.oplog_entry.specs.Visible.{last_of};
 ghost use Rattle.set_model.specs.Disk as disk;
 ghost use Rattle.set_model.specs.Points.{earlier_of};
 ghost use Rattle.set_model.specs.Roles.{is_primary};
@@ -38,6 +39,16 @@ fn entry_at(log: &Oplog, at: OpTime) -> Option<&Entry>
     match log.find(at) {
         Some(place) => log.as_slice().get(place),
         None => None,
+    }
+}
+
+/// The optime of the last entry, or ZERO where there is none.
+fn last_optime(list: &EntryList) -> OpTime
+    ensures { result ≡ last_of list.now }
+{
+    match list.as_slice().last() {
+        Some(entry) => entry.optime,
+        None => OpTime::ZERO,
     }
 }
 
@@ -103,7 +114,7 @@ impl State {
         }
         let list = self.next_entries()?;
         let count = list.as_slice().len() as u64;
-        let point = self.next_durable();
+        let point = self.next_durable(&list);
         Ok(Turn::Storing {
             item: Store::Record(Record::Entries { list, point }),
             then: Then::Flush { count, point },
@@ -118,25 +129,25 @@ impl State {
     }
 
     /// Copies of the entries of the next record.
-    fn next_entries(&self) -> Mem<EntryList>
-        ensures { IfOk result (λ list. list ≡ disk.next_entries self.now.node) }
+    fn next_entries(&mut self) -> Mem<EntryList>
+        ensures list { IfOk result (λ list. list ≡ disk.next_entries self.old.node) }
+        ensures same { self.new ≡ self.old }
     {
         self.ledger.is_sound();
-        let optimes = self.unkept.as_slice();
-        let count = optimes.len().min(RECORD);
-        copies_at(self.alloc, self.ledger.log(), &optimes[..count])
+        let optimes = self.unkept.first(RECORD)?;
+        copies_at(self.alloc, self.ledger.log(), &optimes)
     }
 
-    /// How far the log is durable once they are in the records.
-    fn next_durable(&self) -> OpTime
+    /// How far the log is durable once these next entries are in the records.
+    fn next_durable(&self, list: &EntryList) -> OpTime
+        requires { list.now ≡ disk.next_entries self.now.node }
         ensures { result ≡ disk.next_durable self.now.node }
     {
         let visible = self.ledger.visible();
         if self.unkept.len() <= RECORD {
             return visible;
         }
-        let last = self.unkept.as_slice()[RECORD - 1];
-        earlier(visible, last)
+        earlier(visible, last_optime(list))
     }
 
     pub(crate) fn go_on_flush(&mut self, item: &Store, count: u64, point: OpTime) -> Turn
