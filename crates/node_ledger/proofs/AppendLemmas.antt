@@ -8,7 +8,6 @@ use Rattle.oplog_entry.specs.Lawful.{IsLawful}
 use Rattle.oplog_entry.specs.Log.{StandsBefore, IsOplog, with_entry}
 use Rattle.oplog_entry.specs.declared.entry.Entry.{Entry}
 use Rattle.oplog_store.proofs.Keeps.{pairs_head, pairs_tail, with_last}
-use Rattle.oplog_store.specs.Log.{Log}
 use Rattle.set_model.specs.Fetching.{seen_after}
 use Rattle.std.specs.FinSet as sets
 use Rattle.rs_optime.specs.Order.{optime_cmp}
@@ -66,19 +65,14 @@ pub seen_more : (seen : ℕ) (done : List Entry) (entry : Entry) → max (seen_a
 seen_more seen [] entry = refl
 seen_more seen (other ∷ done) entry = seen_more (max seen other.optime.ts) done entry
 
-abbrev log_with : List Entry → ℕ → Log
-log_with entries spare = record { entries = entries; spare = spare }
-
 -- a log with one of them more
-pub log_more : (log next : Log) (old : List Entry) (spare : ℕ) (done rest whole : List Entry) (entry : Entry)
-    → log ≡ record { entries = old ++ done; spare = spare - length done }
-    → next ≡ record { entries = with_entry log.entries entry; spare = log.spare - 1 }
-    → done ++ entry ∷ rest ≡ whole → IsOplog (old ++ whole)
-    → next ≡ record { entries = old ++ (done ++ entry ∷ []); spare = spare - length (done ++ entry ∷ []) }
-log_more log next old spare done rest whole entry is next_is list oplog =
-    next_is ∙ ap (λ (l : Log). log_with (with_entry l.entries entry) (l.spare - 1)) is
-    ∙ ap (λ (es : List Entry). log_with es (spare - length done - 1)) (next_last old done rest whole entry list oplog)
-    ∙ ap (λ (n : ℕ). log_with (old ++ (done ++ entry ∷ [])) n) (omega (arith, length-append done (entry ∷ [])))
+pub log_more : (log next old done rest whole : List Entry) (entry : Entry) → log ≡ old ++ done → next ≡ with_entry log entry
+    → done ++ entry ∷ rest ≡ whole → IsOplog (old ++ whole) → next ≡ old ++ (done ++ entry ∷ [])
+log_more log next old done rest whole entry is next_is list oplog =
+    next_is ∙ ap (λ es. with_entry es entry) is ∙ next_last old done rest whole entry list oplog
+
+pub spare_more : (spare now next : ℕ) (done : List Entry) (entry : Entry) → now ≡ spare - length done → next ≡ now - 1 → next ≡ spare - length (done ++ entry ∷ [])
+spare_more spare now next done entry is next_is = omega (arith, length-append done (entry ∷ []))
 
 abbrev slots_with : sets.FinSet optime_cmp → ℕ → Reserved
 slots_with slots mark = record { slots = slots; mark = mark }

@@ -22,7 +22,8 @@ use Rattle.version_store.specs.Store.{Store, past_at, versions_at, Changes}
 use Rattle.set_model.specs.declared.command.ReadLevel.TheVariants.{Local}
 use Rattle.set_model.specs.declared.role.Role.{Role}
 use Rattle.set_model.specs.declared.role.Role.TheVariants.{Primary}
-use Rattle.set_model.specs.declared.writer.Writer.TheVariants.{Done}
+use Rattle.set_model.specs.declared.writer.Writer.{Writer}
+use Rattle.set_model.specs.declared.writer.Writer.TheVariants.{Done, Open}
 use Rattle.set_model.specs.Changes.{logged, opened}
 use Rattle.set_model.specs.Holds.{holder_among}
 use Rattle.set_model.specs.Node.{Node}
@@ -30,7 +31,7 @@ use Rattle.set_model.specs.Points.{if_primary, next_optime}
 use Rattle.set_model.specs.Reads.{local_documents, shown_log}
 use Rattle.set_model.specs.Writers.{settled, aborted}
 use Rattle.node_ledger.proofs.SizeLemmas.{noop_within_entry}
-use Rattle.optime_slots.specs.Reserved.{Reserved}
+use Rattle.optime_slots.specs.Reserved.{Reserved, next_slot, opened as opened_slot}
 use Rattle.node_ledger.specs.Ledger.{ledger_node}
 use Rattle.node_ledger.specs.Kept.{IsNewest, IsHolder, IsKept, is_held_by}
 use Rattle.node_ledger.specs.Versions.{HasVersions, IsSmall}
@@ -224,6 +225,22 @@ kept_put_back term role clock log reserved again writers back applied stable sto
     subst (λ (r : Reserved). IsKept (ledger_node term role clock log r.slots back r.mark applied stable) later) (sym slots)
     (subst (λ (w : Writers). IsKept (ledger_node term role clock log reserved.slots w reserved.mark applied stable) later) (sym put)
     (kept_same (ledger_node term role clock log reserved.slots writers reserved.mark applied stable) store later kept same))
+
+-- and one that was opened
+pub kept_slot_opened : (term : ℕ) (role : Role) (clock : ℕ) (log again : List Entry) (reserved next : Reserved) (writers with_writer : Writers) (applied stable at : OpTime) (store later : Store) (number : ℕ) (writer : Writer) (op : Op) (place : Place)
+    → IsKept (ledger_node term role clock log reserved.slots writers reserved.mark applied stable) store
+    → IsNew (ledger_node term role clock log reserved.slots writers reserved.mark applied stable) op → place_of op ≡ Some place
+    → holder_among (entries writers) place ≡ None → ¬ (IsWriting writers number)
+    → again ≡ log → next ≡ opened_slot reserved (next_slot reserved term clock) → with_writer ≡ insert writers number writer → writer ≡ Open at op → at ≡ next_slot reserved term clock
+    → Changes store later place (held_by (past_at store place) (Some number))
+    → IsKept (ledger_node term role clock again next.slots with_writer next.mark applied stable) later
+kept_slot_opened term role clock log again reserved next writers with_writer applied stable at store later number writer op place kept new own free closed same slots put opens is changes =
+    let after = opened_slot reserved (next_slot reserved term clock) in
+    let all : with_writer ≡ insert writers number (Open (next_slot reserved term clock) op) = put ∙ ap (insert writers number) (opens ∙ ap (λ o. Open o op) is) in
+    subst (λ (l : List Entry). IsKept (ledger_node term role clock l next.slots with_writer next.mark applied stable) later) (sym same)
+    (subst (λ (r : Reserved). IsKept (ledger_node term role clock log r.slots with_writer r.mark applied stable) later) (sym slots)
+    (subst (λ (w : Writers). IsKept (ledger_node term role clock log after.slots w after.mark applied stable) later) (sym all)
+    (kept_opened (ledger_node term role clock log reserved.slots writers reserved.mark applied stable) store later number op place kept new own free closed changes)))
 
 -- what a primary shows is what its whole log leaves
 pub whole_documents : (node : Node) → node.role ≡ Primary → local_documents node ≡ docs node.log

@@ -16,7 +16,7 @@ use crate::Ledger;
 use batch_applier::{NoGate, apply_batch};
 use bson_doc::Mem;
 use oplog_entry::Entry;
-use oplog_store::Oplog;
+use oplog_store::OpenLog;
 use optime_slots::Slots;
 use rs_optime::OpTime;
 use std::thread::Threads;
@@ -28,10 +28,11 @@ const BATCH: usize = 5_000;
 const WORKERS: u32 = 4;
 
 /// Writes entries behind a log, in the room that there is.
-pub(crate) fn insert_all(log: &mut Oplog, slots: &mut Slots, entries: Vec<Entry>)
+pub(crate) fn insert_all(log: &mut OpenLog, slots: &mut Slots, entries: Vec<Entry>)
     requires room { length entries.items ≤ log.old.spare }
     requires stays { IsOplog (log.old.entries ++ entries.items) }
-    ensures log { log.new ≡ record { entries = log.old.entries ++ entries.items; spare = log.old.spare - length entries.items } }
+    ensures entries { log.new.entries ≡ log.old.entries ++ entries.items }
+    ensures spare { log.new.spare ≡ log.old.spare - length entries.items }
     ensures slots { slots.new ≡ record { slots = slots.old.slots; mark = seen_after slots.old.mark entries.items } }
 {
     for entry in entries {
@@ -75,16 +76,24 @@ impl Ledger {
     {
         self.is_sound();
         let start = self.applied();
-        let count = self
-            .log()
-            .up_to(to)
-            .len()
-            .saturating_sub(self.log().up_to(start).len());
+        let count = self.count_unapplied(to);
         let done = self.apply_batches(rt, count);
         if done.is_err() {
             self.unapply(start);
         }
         done
+    }
+
+    /// How many entries up to an optime aren't applied.
+    fn count_unapplied(&mut self, to: OpTime) -> usize
+        ensures count { result ≡ length (log_up_to to self.old.node.log) - length (log_up_to self.old.node.applied self.old.node.log) }
+        ensures same { self.new ≡ self.old }
+    {
+        self.log.gather();
+        let log = self.log.settled();
+        log.up_to(to)
+            .len()
+            .saturating_sub(log.up_to(self.applied).len())
     }
 
     /// Applies so many entries, batch by batch. Where memory is wanting, the first of them are applied.
@@ -111,7 +120,8 @@ impl Ledger {
         ensures ok { OnOk result (self.new ≡ applied_with self.old (take most (log_behind self.old.node.applied self.old.node.log))) }
         ensures err { OnErr result (self.new ≡ self.old) }
     {
-        let entries = self.log.after(self.applied);
+        self.log.gather();
+        let entries = self.log.settled().after(self.applied);
         let batch = &entries[..most.min(entries.len())];
         let Some(last) = batch.last() else {
             return Ok(0);

@@ -1,10 +1,9 @@
 // What a node has written and will write, and the documents that its log leaves.
-ghost use Rattle.std.specs.Prelude.{◌≡◌, ◌-◌, ◌^◌, ◌<◌, ◌≤◌, nat_lt, IfOk, OnOk, OnErr};
+ghost use Rattle.std.specs.Prelude.{◌≡◌, ◌-◌, ◌^◌, ◌<◌, ◌≤◌, nat_lt, IfOk, OnOk};
 ghost use Rattle.std.specs.Option.{option_copied};
 ghost use Rattle.std.specs.FinMap as maps;
 ghost use Rattle.set_model.specs.Node.{opening_node};
 ghost use Rattle.set_model.specs.Points.{applied_point, last_point, visible_point, next_optime};
-ghost use Rattle.set_model.specs.declared.role.Role.TheVariants.{Primary};
 ghost use Rattle.node_ledger.specs.Kept.{AreApart};
 ghost use Rattle.node_ledger.specs.Ledger.{nobody};
 ghost use Rattle.node_ledger.specs.Sound.{IsSound};
@@ -12,14 +11,14 @@ ghost use Rattle.node_ledger.specs.Writers.{is_open};
 
 use crate::writer_map::WriterMap;
 use bson_doc::Mem;
-use oplog_store::Oplog;
+use oplog_store::OpenLog;
 use optime_slots::Slots;
 use rs_optime::{OpTime, next_after};
 use set_model::{Role, Writer};
 use std::alloc::Global;
 use std::marker::Model;
 use version_store::VersionStore;
-use visibility_point::visible;
+use visibility_point::visible_open;
 
 /// How many shards the documents are spread over.
 pub(crate) const SHARDS: u32 = 64;
@@ -33,7 +32,7 @@ pub struct Ledger {
     pub(crate) term: u64,
     pub(crate) role: Role,
     pub(crate) clock: u32,
-    pub(crate) log: Oplog,
+    pub(crate) log: OpenLog,
     pub(crate) slots: Slots,
     pub(crate) writers: WriterMap,
     pub(crate) store: VersionStore,
@@ -74,7 +73,7 @@ impl Ledger {
             term: 0,
             role: Role::Secondary,
             clock: 0,
-            log: Oplog::new(alloc),
+            log: OpenLog::new(alloc),
             slots: Slots::new(alloc),
             writers: WriterMap::new(alloc),
             store: VersionStore::new(alloc, SHARDS)?,
@@ -116,13 +115,6 @@ impl Ledger {
         self.clock
     }
 
-    /// The entries that are written.
-    pub fn log(&self) -> &Oplog
-        ensures { result.now.entries ≡ self.now.node.log }
-    {
-        &self.log
-    }
-
     /// How far the log of a node that isn't primary is applied. On a primary it is how far it was once it had drained.
     pub fn applied(&self) -> OpTime
         ensures { result ≡ self.now.node.applied }
@@ -158,7 +150,7 @@ impl Ledger {
     pub fn visible(&self) -> OpTime
         ensures { result ≡ visible_point self.now.node }
     {
-        visible(&self.slots, &self.log)
+        visible_open(&self.slots, &self.log)
     }
 
     /// The greatest timestamp seen.

@@ -7,6 +7,7 @@ mod following;
 mod ledger;
 mod restoring;
 mod roles;
+mod sharing;
 mod slots;
 mod writer_map;
 mod writing;

@@ -17,7 +17,7 @@ use crate::following::insert_all;
 use crate::ledger::SHARDS;
 use crate::writer_map::WriterMap;
 use bson_doc::{Doc, IdKey, Mem, Text};
-use oplog_store::Oplog;
+use oplog_store::OpenLog;
 use optime_slots::Slots;
 use rs_optime::OpTime;
 use set_model::{EntryList, Role};
@@ -59,7 +59,7 @@ impl Ledger {
         ensures { IfOk result (λ ledger. ledger.node ≡ restored term clock entries at) }
     {
         let entries = entries.into_entries();
-        let mut log = Oplog::new(alloc);
+        let mut log = OpenLog::new(alloc);
         log.reserve(entries.len())?;
         let mut slots = Slots::new(alloc);
         insert_all(&mut log, &mut slots, entries);

@@ -52,6 +52,7 @@ impl Ledger {
         self.writers.release_all(&mut self.store);
         self.writers.lose_all();
         self.slots.abort_all();
+        self.log.gather();
         self.applied = reached;
         self.role = Role::Secondary;
     }

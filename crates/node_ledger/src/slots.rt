@@ -99,6 +99,7 @@ impl Ledger {
             self.writers.put_back(number, old);
             return Err(error);
         }
+        self.log.open(at);
         Ok(at)
     }
 
@@ -136,6 +137,7 @@ impl Ledger {
             unreachable!()
         };
         let _ = self.slots.abort(at);
+        self.log.close(at);
         self.store.release(ns.as_str(), &id);
     }
 

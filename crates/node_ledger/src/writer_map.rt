@@ -1,14 +1,14 @@
 // The writers of a node, by their numbers.
-ghost use Rattle.std.specs.Prelude.{◌≡◌, ◌⊎◌, ℕ, None, Some, IfOk, IfSome, OnOk, OnErr, IsSome, MatchOption};
+ghost use Rattle.std.specs.Prelude.{◌≡◌, None, Some, IfOk, OnOk, OnErr, IsSome, MatchOption};
 ghost use Rattle.std.specs.Option.{option_copied};
 ghost use Rattle.std.specs.FinMap as maps;
 ghost use Rattle.bson_doc.specs.Place.{Place};
 ghost use Rattle.rs_optime.specs.declared.optime.OpTime.{OpTime};
 ghost use Rattle.oplog_entry.specs.declared.entry.Op.{Op};
 ghost use Rattle.oplog_entry.specs.Step.{place_of};
-ghost use Rattle.version_store.specs.Store.{past_at, versions_at, holder_at};
+ghost use Rattle.version_store.specs.Store.{versions_at, holder_at};
 ghost use Rattle.set_model.specs.Changes.{all_lost, lost_writer};
-ghost use Rattle.node_ledger.specs.Kept.{IsHolder, is_held_by};
+ghost use Rattle.node_ledger.specs.Kept.{IsHolder};
 ghost use Rattle.node_ledger.specs.Writers.{HasOpen, IsWriting, held_place, put_back};
 
 use bson_doc::{IdKey, Mem, Text};

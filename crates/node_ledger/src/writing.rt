@@ -17,15 +17,16 @@ ghost use Rattle.node_ledger.specs.Versions.{IsSmall};
 use crate::Ledger;
 use bson_doc::{Doc, IdKey, Mem, Text};
 use oplog_entry::{Entry, Op};
-use oplog_store::Oplog;
+use oplog_store::OpenLog;
 use optime_slots::Slots;
 use rs_optime::OpTime;
 
 /// Writes an entry past all others, in the room that there is.
-fn append(log: &mut Oplog, slots: &mut Slots, optime: OpTime, op: Op)
+fn append(log: &mut OpenLog, slots: &mut Slots, optime: OpTime, op: Op)
     requires room { 0 < log.old.spare }
     requires stays { IsOplog (with_entry log.old.entries (record { optime = optime; op = op })) }
-    ensures log { log.new ≡ record { entries = with_entry log.old.entries (record { optime = optime; op = op }); spare = log.old.spare - 1 } }
+    ensures entries { log.new.entries ≡ with_entry log.old.entries (record { optime = optime; op = op }) }
+    ensures spare { log.new.spare ≡ log.old.spare - 1 }
     ensures slots { slots.new ≡ with_seen slots.old optime.ts }
 {
     log.insert(Entry { optime, op });

@@ -1,6 +1,6 @@
 -- Entries of a log that are found by their optimes.
-use Rattle.std.proofs.Common.{◌≡◌, ◌≢◌, ◌∙◌, ◌<◌, ◌+◌, ◌++◌, nat_lt, add-one, ap, sym, subst, refl, arith, inl, inr, ℕ, zero, suc, Bool, true, false, cond, take, map, length, min, Option, None, Some, List, [], ◌∷◌}
-use Rattle.std.specs.Prelude.{slice_get, slice_index_or, is_some, IfSome, ◌==◌}
+use Rattle.std.proofs.Common.{◌≡◌, ◌≢◌, ◌∙◌, ◌<◌, ◌+◌, ◌++◌, nat_lt, add-one, ap, sym, subst, refl, arith, inl, inr, ℕ, zero, suc, Bool, true, false, cond, take, map, length, Option, None, Some, List, [], ◌∷◌}
+use Rattle.std.specs.Prelude.{slice_get, slice_index_or, is_some, IfNone, IfSome, ◌==◌}
 use Rattle.std.proofs.Math.Seq.{take-suc}
 use Rattle.std.proofs.lemmas.List.Elements.{filter_map-append}
 use Rattle.std.proofs.lemmas.Bool.Decides.{nat_tests}
@@ -11,14 +11,14 @@ use Rattle.rs_optime.specs.declared.optime.OpTime.{OpTime}
 use Rattle.oplog_entry.specs.Lawful.{IsLawful}
 use Rattle.oplog_entry.specs.Visible.{last_of}
 use Rattle.oplog_entry.specs.declared.entry.Entry.{Entry}
-use Rattle.oplog_store.specs.Log.{IsOplog, StandsBefore, StandsAt}
+use Rattle.oplog_store.specs.Log.{IsOplog, StandsBefore}
+use Rattle.oplog_store.specs.Places.{IsEntryAt}
 use Rattle.oplog_store.proofs.Keeps.{all_tail, pairs_tail, pairs_head}
-use Rattle.repl_msg.specs.Logs.{same_optime}
-use Rattle.repl_msg.proofs.HasLemmas.{same_is, same_itself}
+use Rattle.repl_msg.specs.Logs.{has_entry, same_optime}
+use Rattle.repl_msg.proofs.HasLemmas.{has_found, same_is, same_itself}
 use Rattle.set_model.specs.Disk.{next_entries, next_durable, unkept}
 use Rattle.set_model.specs.Points.{visible_point, earlier_of}
 use Rattle.set_model.specs.Node.{Node}
-use Rattle.oplog_store.proofs.LogLemmas.{found_there}
 use Rattle.node_state.specs.Flushing.{entry_at, entries_at}
 use Rattle.node_state.proofs.EntryLemmas.{In, all_in, in_all, in_filter}
 use Rattle.node_state.proofs.MergeLemmas.{Rises, in_take, not_before_same}
@@ -62,15 +62,17 @@ get_within [] k x is = absurd (cc is)
 get_within (y ∷ ys) zero x is = omega arith
 get_within (y ∷ ys) (suc k) x is = let rest : k < length ys = get_within ys k x is in omega (arith, rest)
 
--- the entry at a place where one has this optime
-pub get-entry_at : (log : List Entry) (place : ℕ) (at : OpTime) → IsOplog log → StandsAt log place at → slice_get log place ≡ entry_at log at
-get-entry_at log place at oplog stands = go (slice_get log place) refl stands
-  where
-    go : (o : Option Entry) → slice_get log place ≡ o → option_map (λ (e : Entry). e.optime) o ≡ Some at → slice_get log place ≡ entry_at log at
-    go None is none = absurd (cc none)
-    go (Some entry) is here =
-        let same : entry.optime ≡ at = cc here in
-        is ∙ sym (entry_at-in log oplog.order entry (get_in log place entry is)) ∙ ap (entry_at log) same
+-- what a look-up gives is the entry with this optime
+pub looked_up : {B : Type 0} (found : Option B) (now : B → Entry) (log : List Entry) (at : OpTime) → IsOplog log → IfSome (option_map now found) (λ entry. IsEntryAt log at entry)
+    → IfNone found (All (λ (e : Entry). e.optime ≢ at) log) → option_map now found ≡ entry_at log at
+looked_up None now log at oplog some none = sym (entry_at-none log at none)
+looked_up (Some x) now log at oplog some none = sym (entry_at-in log oplog.order (now x) (get_in log some.0 (now x) some.1)) ∙ ap (entry_at log) some.2
+
+pub has_looked_up : {B : Type 0} (found : Option B) (now : B → Entry) (log : List Entry) (at : OpTime) → IfSome (option_map now found) (λ entry. IsEntryAt log at entry)
+    → IfNone found (All (λ (e : Entry). e.optime ≢ at) log) → has_entry log at ≡ is_some found
+has_looked_up None now log at some none = has_found log at None some none
+has_looked_up (Some x) now log at some none =
+    has_found log at (Some some.0) (ap (option_map (λ (e : Entry). e.optime)) some.1 ∙ ap (λ (o : OpTime). Some o) some.2) none
 
 -- ---- some of them
 
@@ -140,20 +142,6 @@ next_durable-long node optimes is long =
     let same : length optimes ≡ length (unkept node) = ap length is ∙ map-length (unkept node) in
     let test : nat_lt 2000 (length (unkept node)) ≡ true = grind arith in
     ap (λ b. cond b (earlier_of (visible_point node) (last_of (next_entries node))) (visible_point node)) test
-
--- what a look-up at the place of an optime finds
-pub got-entry_at : {B : Type 0} (found : Option B) (now : B → Entry) (log : List Entry) (place : ℕ) (at : OpTime) → IsOplog log → StandsAt log place at
-    → IfSome found (λ x. now x ≡ slice_index_or log place (now x)) → is_some found ≡ nat_lt place (length log) → option_map now found ≡ entry_at log at
-got-entry_at {B} found now log place at oplog stands here there = go (slice_get log place) refl stands found here there
-  where
-    go : (o : Option Entry) → slice_get log place ≡ o → option_map (λ (e : Entry). e.optime) o ≡ Some at → (r : Option B) → IfSome r (λ x. now x ≡ slice_index_or log place (now x))
-        → is_some r ≡ nat_lt place (length log) → option_map now r ≡ entry_at log at
-    go None is none r here there = absurd (cc none)
-    go (Some entry) is some None here there =
-        let within : place < length log = get_within log place entry is in let test : nat_lt place (length log) ≡ true = grind arith in absurd (cc (there, test))
-    go (Some entry) is some (Some x) here there =
-        let same : slice_index_or log place (now x) ≡ entry = found_there log place entry (now x) (sym is) in
-        ap (λ (e : Entry). Some e) (here ∙ same) ∙ sym is ∙ get-entry_at log place at oplog stands
 
 -- ---- whether a record is wanted
 

@@ -1,5 +1,5 @@
 -- A primary's writes keep the node coherent.
-use Rattle.std.proofs.Common.{◌≡◌, ◌≢◌, ◌≤◌, ◌<◌, inl, inr, ap, sym, subst, refl, arith, ℕ, Bool, true, false, Option, List}
+use Rattle.std.proofs.Common.{◌≡◌, ◌≤◌, ◌<◌, inl, inr, sym, subst, refl, arith, ℕ, Bool, true, false, Option, List}
 use Rattle.std.specs.List.{All}
 use Rattle.std.specs.FinMap as maps
 use Rattle.std.specs.FinSet as sets

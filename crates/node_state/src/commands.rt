@@ -1,5 +1,5 @@
 // The commands that store nothing and send nothing: writes, and what a node shows of itself.
-ghost use Rattle.std.specs.Prelude.{◌≡◌, true, false, IfOk, OnErr};
+ghost use Rattle.std.specs.Prelude.{◌≡◌, true, IfOk, OnErr};
 ghost use Rattle.set_model.specs.Clock.{set_clock};
 ghost use Rattle.set_model.specs.Limits.{is_within};
 ghost use Rattle.set_model.specs.Outcome.{replied};

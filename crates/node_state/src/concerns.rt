@@ -96,7 +96,7 @@ impl State {
     fn has(&self, at: OpTime) -> bool
         ensures { result ≡ has_entry self.now.node.log at }
     {
-        self.ledger.log().find(at).is_some()
+        self.ledger.entry_at(at).is_some()
     }
 
     /// Why the concern isn't met.

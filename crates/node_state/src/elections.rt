@@ -1,10 +1,9 @@
 // Campaigns, dry runs, draining and stepping down.
-ghost use Rattle.std.specs.Prelude.{◌≡◌, ◌-◌, ◌^◌, ◌<◌, Some, IfOk, OnErr};
+ghost use Rattle.std.specs.Prelude.{◌≡◌, Some, IfOk, OnErr};
 ghost use Rattle.set_model.specs.Elections as elections;
 ghost use Rattle.set_model.specs.Stores.{finished, stored};
 ghost use Rattle.node_state.specs.Bounds.{IsBounded, IsNumbered};
 ghost use Rattle.node_state.specs.Ready.{IsCandidacy, IsDrained, IsReadyTurn};
-ghost use Rattle.node_state.specs.Standing.{Standing};
 ghost use Rattle.node_state.specs.Turns.{Means, rest_of};
 ghost use Rattle.node_state.specs.declared.turn.Then.TheVariants as thens;
 

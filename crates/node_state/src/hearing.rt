@@ -1,12 +1,11 @@
 // Heartbeats, as they are heard.
-ghost use Rattle.std.specs.Prelude.{◌≡◌, ◌<◌, ◌∷◌, [], nat_lt, None, Some, IfOk};
+ghost use Rattle.std.specs.Prelude.{◌≡◌, ◌<◌, ◌∷◌, [], nat_lt, None, IfOk};
 ghost use Rattle.member_config.specs.Rule.{rule};
 ghost use Rattle.repl_msg.specs.declared.message.Body.TheVariants as bodies;
 ghost use Rattle.set_model.specs.Beats as beats;
 ghost use Rattle.set_model.specs.Changes.{heard_of};
 ghost use Rattle.set_model.specs.Outcome.{message_to};
 ghost use Rattle.set_model.specs.Stores.{finished, stored};
-ghost use Rattle.set_model.specs.declared.role.Role.TheVariants.{Secondary};
 ghost use Rattle.node_state.specs.Ahead.{Foretells, ahead, taking};
 ghost use Rattle.node_state.specs.Hearings.{beat_after, commit_learnt, installs, told_of};
 ghost use Rattle.node_state.specs.Ready.{IsHeard, IsInstall, IsReadyTold, IsReadyTurn};

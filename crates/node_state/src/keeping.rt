@@ -14,8 +14,8 @@ ghost use Rattle.node_state.specs.declared.turn.Then.TheVariants as thens;
 use crate::State;
 use crate::turn::{Then, Turn};
 use bson_doc::Mem;
+use node_ledger::Ledger;
 use oplog_entry::Entry;
-use oplog_store::Oplog;
 use repl_msg::{EntryList, Record};
 use rs_optime::OpTime;
 use set_model::{Refusal, Reply, Role, Store};
@@ -32,14 +32,11 @@ pub(crate) fn earlier(one: OpTime, other: OpTime) -> OpTime
 }
 
 /// The entry with an optime.
-fn entry_at(log: &Oplog, at: OpTime) -> Option<&Entry>
-    ensures { option_copied result ≡ entry_at log.now.entries at }
+fn entry_at(ledger: &Ledger, at: OpTime) -> Option<&Entry>
+    ensures { option_copied result ≡ entry_at ledger.now.node.log at }
 {
-    let _ = log.as_slice();
-    match log.find(at) {
-        Some(place) => log.as_slice().get(place),
-        None => None,
-    }
+    ledger.is_sound();
+    ledger.entry_at(at)
 }
 
 /// The optime of the last entry, or ZERO where there is none.
@@ -53,16 +50,16 @@ fn last_optime(list: &EntryList) -> OpTime
 }
 
 /// Copies of the entries with these optimes.
-fn copies_at(alloc: Global, log: &Oplog, optimes: &[OpTime]) -> Mem<EntryList>
-    ensures { IfOk result (λ list. list ≡ entries_at log.now.entries optimes.now) }
+fn copies_at(alloc: Global, ledger: &Ledger, optimes: &[OpTime]) -> Mem<EntryList>
+    ensures { IfOk result (λ list. list ≡ entries_at ledger.now.node.log optimes.now) }
 {
     let mut copies = Vec::with_capacity(alloc, optimes.len())?;
     for at in optimes {
-        if let Some(entry) = entry_at(log, *at) {
+        if let Some(entry) = entry_at(ledger, *at) {
             copies.push(entry.copy()?)?;
         }
     }
-    let _ = log.as_slice();
+    ledger.is_sound();
     Ok(EntryList::new(copies))
 }
 
@@ -135,7 +132,7 @@ impl State {
     {
         self.ledger.is_sound();
         let optimes = self.unkept.first(RECORD)?;
-        copies_at(self.alloc, self.ledger.log(), &optimes)
+        copies_at(self.alloc, &self.ledger, &optimes)
     }
 
     /// How far the log is durable once these next entries are in the records.

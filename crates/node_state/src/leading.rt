@@ -2,7 +2,6 @@
 ghost use Rattle.std.specs.Prelude.{◌≡◌, ◌-◌, ◌^◌, ◌<◌, ◌≤◌, false, IfOk, OnOk, OnErr};
 ghost use Rattle.oplog_entry.specs.declared.entry.Op.TheVariants.{Noop};
 ghost use Rattle.member_config.specs.Config.{in_term};
-ghost use Rattle.rs_optime.specs.declared.optime.OpTime.{OpTime};
 ghost use Rattle.set_model.specs.Changes.{logged};
 ghost use Rattle.set_model.specs.Elections.{drained};
 ghost use Rattle.set_model.specs.Points.{evaluated, last_point, next_optime};

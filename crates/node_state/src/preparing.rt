@@ -13,7 +13,6 @@ ghost use Rattle.set_model.specs.Taking.{CanTake};
 use crate::State;
 use crate::turn::Told;
 use bson_doc::Mem;
-use oplog_fetcher::reply_to;
 use repl_msg::{Body, Message};
 use rs_optime::OpTime;
 use set_model::{Ignored, Role};
@@ -77,21 +76,21 @@ impl State {
 
     /// A node wants the entries behind its last.
     fn prepare_fetch(
-        &self,
+        &mut self,
         next: u64,
         from: u32,
         term: u64,
         base: OpTime,
         raised: bool,
     ) -> Mem<Told>
-        ensures told { IfOk result (λ told. Foretells told raised term (λ node. finished (fetch_told next node from base)) self.now.node self.now.node) }
-        ensures ready { IfOk result (λ told. IsReadyTold told (ahead raised term self.now)) }
+        ensures told { IfOk result (λ told. Foretells told raised term (λ node. finished (fetch_told next node from base)) self.old.node self.new.node) }
+        ensures ready { IfOk result (λ told. IsReadyTold told (ahead raised term self.new)) }
+        ensures same { self.new ≡ self.old }
     {
         self.ledger.is_sound();
-        let log = self.ledger.log();
         let visible = self.visible_then(raised);
         let primary = self.leads_then(raised);
-        let reply = reply_to(self.alloc, log, visible, base, self.commit, primary)?;
+        let reply = self.ledger.fetched(visible, base, self.commit, primary)?;
         let sent = self.message_in(self.term_then(raised, term), from, Body::FetchReply(reply))?;
         Ok(Told::Answered { next, sent })
     }

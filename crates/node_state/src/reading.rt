@@ -1,5 +1,5 @@
 // What a node shows of itself.
-ghost use Rattle.std.specs.Prelude.{◌≡◌, ◌++◌, IfOk};
+ghost use Rattle.std.specs.Prelude.{◌≡◌, IfOk};
 ghost use Rattle.std.specs.Option.{option_copied};
 ghost use Rattle.std.specs.FinMap as maps;
 ghost use Rattle.bson_doc.specs.View.{tree_of};
@@ -15,7 +15,6 @@ use crate::State;
 use crate::listing::listed;
 use bson_doc::{Doc, IdKey, KeyError, Mem, Text, Value};
 use read_concern::{Level, ReadAt, snapshot};
-use repl_msg::EntryList;
 use rs_optime::OpTime;
 use set_model::{LostList, ReadLevel, Refusal, Reply, Role};
 use std::alloc::{AllocError, Global};
@@ -84,7 +83,7 @@ impl State {
     pub(crate) fn show_log(&self) -> Mem<Reply>
         ensures { IfOk result (λ reply. show_log self.now.node ≡ replied reply self.now.node) }
     {
-        Ok(Reply::Entries(EntryList::of_slice(self.alloc, self.ledger.log().as_slice())?))
+        Ok(Reply::Entries(self.ledger.entries()?))
     }
 
     /// Role, term, vote, points and configuration.

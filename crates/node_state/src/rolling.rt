@@ -1,10 +1,8 @@
 // Rolling back what a later primary doesn't have.
-ghost use Rattle.std.specs.Prelude.{◌≡◌, All, map, nat_lt, None, IfOk, OnErr, OnOk};
-ghost use Rattle.oplog_entry.specs.Lawful.{IsLawful};
+ghost use Rattle.std.specs.Prelude.{◌≡◌, map, nat_lt, None, IfOk, OnErr, OnOk};
 ghost use Rattle.repl_msg.specs.Logs.{log_behind};
 ghost use Rattle.repl_msg.specs.Rollback.{common_point};
 ghost use Rattle.rollback_core.specs.Lost.{lost_of};
-ghost use Rattle.set_model.specs.Points.{visible_log};
 ghost use Rattle.set_model.specs.Reads.{local_documents};
 ghost use Rattle.set_model.specs.Roles.{is_secondary};
 ghost use Rattle.set_model.specs.Rollback as rows;
@@ -24,10 +22,8 @@ use crate::State;
 use crate::keeping::earlier;
 use crate::turn::{Then, Told, Turn};
 use bson_doc::Mem;
-use oplog_entry::Entry;
-use oplog_fetcher::behind;
 use repl_msg::{Body, OptimeList, Record};
-use rollback_core::{LostDocument, RollbackRefusal, lost_documents, plan};
+use rollback_core::{LostDocument, RollbackRefusal};
 use rs_optime::OpTime;
 use set_model::{Ignored, LostList, Refusal, Reply, Role, Store};
 use std::alloc::Global;
@@ -35,17 +31,6 @@ use std::thread::Threads;
 
 /// The most optimes that are told at once.
 const MOST_OPTIMES: usize = 20_000;
-
-/// The optimes of some entries.
-fn optimes_of(alloc: Global, entries: &[Entry]) -> Mem<OptimeList>
-    ensures { IfOk result (λ list. list ≡ rows.optimes_of entries.now) }
-{
-    let mut optimes = OptimeList::new(alloc);
-    for entry in entries {
-        optimes.push(entry.optime)?;
-    }
-    Ok(optimes)
-}
 
 /// Lost documents, each by its place.
 fn listed(alloc: Global, documents: Vec<LostDocument>) -> Mem<LostList>
@@ -60,19 +45,14 @@ fn listed(alloc: Global, documents: Vec<LostDocument>) -> Mem<LostList>
 
 // What another node asks.
 impl State {
-    /// The visible entries behind an optime, once a message's term is taken.
-    fn visible_behind(&self, raised: bool, after: OpTime) -> &[Entry]
-        ensures { result.now ≡ log_behind after (visible_log (taking raised 0 self.now.node)) }
-    {
-        behind(self.ledger.log().up_to(self.visible_then(raised)), after)
-    }
-
     /// Too many optimes would be told.
-    pub(crate) fn common_refusal(&self, term: u64, after: OpTime) -> Option<Refusal>
-        ensures { result ≡ rows.common_refusal self.now.node term after }
+    pub(crate) fn common_refusal(&mut self, term: u64, after: OpTime) -> Option<Refusal>
+        ensures refusal { result ≡ rows.common_refusal self.old.node term after }
+        ensures same { self.new ≡ self.old }
     {
-        let raised = self.ledger.is_below(term);
-        if self.visible_behind(raised, after).len() > MOST_OPTIMES {
+        self.is_sound();
+        let visible = self.visible_then(self.ledger.is_below(term));
+        if self.ledger.count_between(after, visible) > MOST_OPTIMES {
             return Some(Refusal::TooManyOptimes);
         }
         None
@@ -80,20 +60,23 @@ impl State {
 
     /// A node asks what comes after its commit point.
     pub(crate) fn prepare_common_asked(
-        &self,
+        &mut self,
         next: u64,
         from: u32,
         term: u64,
         after: OpTime,
         raised: bool,
     ) -> Mem<Told>
-        ensures told { IfOk result (λ told. Foretells told raised term (λ node. finished (rows.common_asked next node from after)) self.now.node self.now.node) }
-        ensures ready { IfOk result (λ told. IsReadyTold told (ahead raised term self.now)) }
+        ensures told { IfOk result (λ told. Foretells told raised term (λ node. finished (rows.common_asked next node from after)) self.old.node self.new.node) }
+        ensures ready { IfOk result (λ told. IsReadyTold told (ahead raised term self.new)) }
+        ensures same { self.new ≡ self.old }
     {
+        self.is_sound();
+        let visible = self.visible_then(raised);
         let body = Body::CommonReply {
             after,
-            optimes: optimes_of(self.alloc, self.visible_behind(raised, after))?,
-            visible: self.visible_then(raised),
+            optimes: self.ledger.optimes_between(after, visible)?,
+            visible,
         };
         let sent = self.message_in(self.term_then(raised, term), from, body)?;
         Ok(Told::Answered { next, sent })
@@ -124,7 +107,7 @@ impl State {
             Ok(point) => point,
             Err(why) => return Ok(Told::Ignored(why)),
         };
-        let removed = self.ledger.log().after(point).len() as u64;
+        let removed = self.ledger.count_behind(point);
         let lost = self.lost_behind(point)?;
         self.reach(rt, point)?;
         Ok(Told::RolledBack {
@@ -136,14 +119,15 @@ impl State {
 
     /// Up to where the node rolls back, or why it doesn't.
     fn rollback_point(
-        &self,
+        &mut self,
         term: u64,
         after: OpTime,
         optimes: &OptimeList,
         visible: OpTime,
         raised: bool,
     ) -> Result<OpTime, Ignored>
-        ensures { result ≡ point_or (rows.rollback_reason (taking raised term self.now.node) term after optimes.now visible) (common_point self.now.node.log after optimes.now) }
+        ensures point { result ≡ point_or (rows.rollback_reason (taking raised term self.old.node) term after optimes.now visible) (common_point self.old.node.log after optimes.now) }
+        ensures same { self.new ≡ self.old }
     {
         if !self.is_secondary_then(raised) {
             return Err(Ignored::NotSecondary);
@@ -152,15 +136,10 @@ impl State {
         if term < own {
             return Err(Ignored::OldTerm);
         }
-        let log = self.ledger.log();
-        match plan(
-            own,
-            log,
-            self.ledger.last(),
-            visible,
-            after,
-            optimes.as_slice(),
-        ) {
+        match self
+            .ledger
+            .rollback_plan(own, visible, after, optimes.as_slice())
+        {
             Ok(point) => Ok(point),
             Err(RollbackRefusal::NotOlder) => Err(Ignored::NotOlder),
             Err(RollbackRefusal::SameBranch) => Err(Ignored::SameBranch),
@@ -177,15 +156,11 @@ impl State {
     }
 
     /// The documents that the entries behind a point touched, as they stand.
-    fn lost_behind(&self, point: OpTime) -> Mem<LostList>
-        ensures { IfOk result (λ lost. lost ≡ rows.lost_documents (local_documents self.now.node) (log_behind point self.now.node.log)) }
+    fn lost_behind(&mut self, point: OpTime) -> Mem<LostList>
+        ensures lost { IfOk result (λ lost. lost ≡ rows.lost_documents (local_documents self.old.node) (log_behind point self.old.node.log)) }
+        ensures same { self.new ≡ self.old }
     {
-        self.ledger.is_sound();
-        let removed = self.ledger.log().after(point);
-        listed(
-            self.alloc,
-            lost_documents(self.alloc, self.ledger.store(), removed)?,
-        )
+        listed(self.alloc, self.ledger.lost_behind(point)?)
     }
 
     /// Applies the log up to a point, so that it can be cut there.

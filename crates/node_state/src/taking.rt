@@ -53,8 +53,9 @@ impl State {
     }
 
     /// Why a message isn't taken at all.
-    fn body_refusal(&self, message: &Message) -> Option<Refusal>
-        ensures { result ≡ delivered.body_refusal self.now.node message.now.term message.now.body }
+    fn body_refusal(&mut self, message: &Message) -> Option<Refusal>
+        ensures refusal { result ≡ delivered.body_refusal self.old.node message.now.term message.now.body }
+        ensures same { self.new ≡ self.old }
     {
         match &message.body {
             Body::CommonAsk { commit } => self.common_refusal(message.term, *commit),

@@ -1,6 +1,5 @@
 // How a node counts the answers of the voters that it asked.
-ghost use Rattle.std.specs.Prelude.{◌≡◌, ◌<◌, Some, length, IfOk, OnOk, OnErr};
-ghost use Rattle.election_core.specs.declared.tally.Count.{Count};
+ghost use Rattle.std.specs.Prelude.{◌≡◌, length, IfOk, OnOk, OnErr};
 ghost use Rattle.member_config.specs.Voters.{majority};
 ghost use Rattle.set_model.specs.Stores.{finished};
 ghost use Rattle.set_model.specs.Votes as votes;

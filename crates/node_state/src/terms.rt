@@ -1,5 +1,5 @@
 // Terms and the votes in them: steps that several rows take.
-ghost use Rattle.std.specs.Prelude.{◌≡◌, ◌^◌, ◌<◌, ◌≤◌, ◌∷◌, [], Some, IfSome, if◌then◌else◌};
+ghost use Rattle.std.specs.Prelude.{◌≡◌, ◌^◌, ◌<◌, ◌≤◌, Some, IfSome, if◌then◌else◌};
 ghost use Rattle.member_config.specs.Voters.{voters};
 ghost use Rattle.set_model.specs.Changes.{in_new_term, stepped_down};
 ghost use Rattle.set_model.specs.Stores.{stored, vote_record};

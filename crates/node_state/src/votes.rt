@@ -1,5 +1,5 @@
 // Votes: what a node answers one who asks, and how it counts the answers.
-ghost use Rattle.std.specs.Prelude.{◌≡◌, ◌-◌, ◌^◌, ◌<◌, ◌∷◌, [], IfOk, IfSome, OnErr};
+ghost use Rattle.std.specs.Prelude.{◌≡◌, ◌^◌, ◌<◌, ◌∷◌, [], IfOk, IfSome, OnErr};
 ghost use Rattle.repl_msg.specs.declared.message.Body.TheVariants as bodies;
 ghost use Rattle.set_model.specs.Deliver.{vote_reply_told};
 ghost use Rattle.set_model.specs.Outcome.{message_to};

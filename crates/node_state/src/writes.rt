@@ -1,12 +1,10 @@
 // Writes that are reserved and committed at once.
-ghost use Rattle.std.specs.Prelude.{◌≡◌, ◌-◌, ◌^◌, ◌<◌, ◌≤◌, true, None, Ok, IfOk, OnOk, OnErr, length};
+ghost use Rattle.std.specs.Prelude.{◌≡◌, ◌-◌, ◌^◌, ◌<◌, true, None, Ok, IfOk, OnErr};
 ghost use Rattle.doc_update.specs.Check.{checked};
 ghost use Rattle.doc_update.specs.Lent.{shown};
-ghost use Rattle.entry_bytes.specs.Sizes.{IsWithinEntry};
 ghost use Rattle.set_model.specs.Holds.{holder};
 ghost use Rattle.set_model.specs.Limits.{IsSoundWrite, is_collection, collection_of};
 ghost use Rattle.set_model.specs.Outcome.{replied};
-ghost use Rattle.set_model.specs.Points.{next_optime};
 ghost use Rattle.set_model.specs.Write.{write, written};
 ghost use Rattle.node_state.specs.Admits.{Admits, CanBeLogged};
 

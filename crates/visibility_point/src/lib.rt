@@ -6,4 +6,4 @@ mod laws;
 mod point;
 
 pub use laws::nothing_appears_behind;
-pub use point::visible;
+pub use point::{visible, visible_open};

@@ -4,7 +4,7 @@ ghost use Rattle.rs_optime.specs.declared.optime.OpTime.{OpTime};
 ghost use Rattle.oplog_entry.specs.Visible as seen;
 
 use oplog_entry::Entry;
-use oplog_store::Oplog;
+use oplog_store::{OpenLog, Oplog};
 use optime_slots::Slots;
 use rs_optime::OpTime;
 
@@ -20,6 +20,17 @@ pub fn visible(slots: &Slots, log: &Oplog) -> OpTime
         None => log.last(),
         Some(slot) => last_optime(log.before(slot)),
     }
+}
+
+/// The same of a log that keeps places for open slots.
+#[tactic(auto, using(crate::proofs::Least::whole_is_visible, crate::proofs::Least::items_again))]
+pub fn visible_open(slots: &Slots, log: &OpenLog) -> OpTime
+    ensures { result ≡ seen.visible log.now.entries (items slots.now.slots) }
+{
+    let Some(slot) = slots.least() else {
+        return log.last();
+    };
+    log.last_before(slot)
 }
 
 fn last_optime(entries: &[Entry]) -> OpTime

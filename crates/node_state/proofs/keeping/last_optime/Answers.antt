@@ -1,4 +1,3 @@
-use Rattle.std.proofs.Common.{rules}
 use Rattle.oplog_store.proofs.LogLemmas.{last_is}
 use Rattle.node_state.proofs.keeping.last_optime.Goals as goal
 

@@ -19,7 +19,7 @@ invariant_of-self c =
     let pending = c.self.invariant.writers.pending c.args.number c.in-Some-slot.at slot.0 opens in
     let closed = slot_closed c.abort.result c.self.inside.slots c.abort.new.self c.in-Some-slot.at c.abort.ensures.open c.abort.ensures.ok pending.open_slot in
     let released = rw c.as_str.ensures at c.release.ensures in
-    rw (closed, c.take.ensures.map)
+    rw (c.close.ensures.entries, closed, c.take.ensures.map)
     (kept_aborted _ c.self.inside.store c.release.new.self c.args.number c.in-Some-slot.at slot.0 (c.in-Some-slot.ns, c.in-Some-slot.id) c.self.invariant opens slot.2 released)
 
 pub returns-clause-node : goal.returns-clause-node
@@ -28,4 +28,4 @@ returns-clause-node c =
     let opens = sym c.take.ensures.taken ∙ c.in-Some.is ∙ ap (λ (w : Writer). Some w) slot.1 in
     let pending = c.self.invariant.writers.pending c.args.number c.in-Some-slot.at slot.0 opens in
     let closed = slot_closed c.abort.result c.self.inside.slots c.abort.new.self c.in-Some-slot.at c.abort.ensures.open c.abort.ensures.ok pending.open_slot in
-    rw (← c.self.view_is, closed, c.take.ensures.map) (c.in-Some-slot.at, slot.0, opens, refl)
+    rw (← c.self.view_is, c.close.ensures.entries, closed, c.take.ensures.map) (c.in-Some-slot.at, slot.0, opens, refl)

@@ -13,4 +13,4 @@ pub invariant_of-self : goal.invariant_of-self
 invariant_of-self c =
     let next = rw (← c.self.view_is) at c.next-at.ensures in
     let role = rw (← c.self.view_is) at c.requires.role in
-    rw (c.append.ensures.log, c.append.ensures.slots, raised_to c.self.inside.term c.self.inside.slots.mark c.self.inside.clock _ next, next) (kept_noop _ c.self.inside.store c.self.invariant (new_noop _ role))
+    rw (c.append.ensures.entries, c.append.ensures.slots, raised_to c.self.inside.term c.self.inside.slots.mark c.self.inside.clock _ next, next) (kept_noop _ c.self.inside.store c.self.invariant (new_noop _ role))

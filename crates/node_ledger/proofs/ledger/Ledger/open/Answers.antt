@@ -1,6 +1,7 @@
-use Rattle.std.proofs.Common.{◌∙◌, refl, rules}
+use Rattle.std.proofs.Common.{◌∙◌, ap, refl, rules}
+use Rattle.oplog_store.specs.Places.{Holed}
 use Rattle.node_ledger.proofs.HolderLemmas.{holder_is}
-use Rattle.node_ledger.proofs.LedgerLemmas.{kept_opened, kept_put_back, new_open}
+use Rattle.node_ledger.proofs.LedgerLemmas.{kept_put_back, kept_slot_opened, new_open}
 use Rattle.node_ledger.proofs.WriterLemmas.{get-with-same, put_back-insert}
 use Rattle.node_ledger.proofs.ledger.Ledger.open.Goals as goal
 
@@ -24,14 +25,15 @@ returns-in-Err-clause-err c =
     let back = put_back-insert c.self.inside.writers c.args.number c.open.result c.in_ok-old.old c.in_ok-old.ensures.old in
     rw (c.put_back.ensures, c.in_ok-old.ensures.ok, back, c.in-Err.ensures.no_slot) (rw (← c.self.view_is) refl)
 
-pub invariant_of-self-in_default-hold : goal.invariant_of-self-in_default-hold
-invariant_of-self-in_default-hold c =
+pub invariant_of-self-2 : goal.invariant_of-self-2
+invariant_of-self-2 c =
     let next = rw (← c.self.view_is) at c.next-at.ensures in
     let role = rw (← c.self.view_is) at c.requires.role in
     let free = rw (← c.self.view_is) at c.requires.free in
     let closed = rw (← c.self.view_is) at c.requires.closed in
     let within = rw (← c.self.view_is) at c.requires.within in
     let small = rw (← c.self.view_is) at c.requires.small in
-    rw (c.in_default-hold.ensures.slot, c.in_ok-old.ensures.ok, c.open.ensures, next)
-    (kept_opened _ c.self.inside.store c.hold.new.store c.args.number c.args.op (c.args.ns.now, c.args.id.now) c.self.invariant
-    (new_open _ c.args.op (c.args.ns.now, c.args.id.now) role c.requires.lawful within c.requires.place small) c.requires.place free closed c.in_default-hold.ensures.held)
+    kept_slot_opened c.self.inside.term c.self.inside.role c.self.inside.clock c.self.inside.log.entries _ c.self.inside.slots c.hold.new.slots c.self.inside.writers c.insert.new.self c.self.inside.applied c.self.inside.stable c.next-at.result
+    c.self.inside.store c.hold.new.store c.args.number c.open.result c.args.op (c.args.ns.now, c.args.id.now) c.self.invariant
+    (new_open _ c.args.op (c.args.ns.now, c.args.id.now) role c.requires.lawful within c.requires.place small) c.requires.place free closed
+    (ap (λ (l : Holed). l.entries) c.open-2.ensures) c.in_default-hold.ensures.slot c.in_ok-old.ensures.ok c.open.ensures next c.in_default-hold.ensures.held

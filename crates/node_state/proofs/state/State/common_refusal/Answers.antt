@@ -1,14 +1,26 @@
-use Rattle.std.proofs.Common.{◌∙◌, ap, nat_lt}
+use Rattle.std.proofs.Common.{◌≡◌, ◌∙◌, ◌<◌, ◌≤◌, ap, subst, nat_lt, length, ℕ}
+use Rattle.oplog_entry.specs.Visible.{log_up_to}
+use Rattle.repl_msg.specs.Logs.{log_behind}
 use Rattle.node_state.specs.Standing.{Standing}
-use Rattle.node_state.proofs.TellLemmas.{refused_many, refused_few}
+use Rattle.node_state.proofs.TellLemmas.{refused_many, refused_few, told_behind}
 use Rattle.node_state.proofs.state.State.common_refusal.Goals as goal
 
-pub returns-then-visible_behind-gt-MOST_OPTIMES : goal.returns-then-visible_behind-gt-MOST_OPTIMES
-returns-then-visible_behind-gt-MOST_OPTIMES c =
-    refused_many c.args.self.now.node c.args.term c.args.after c.visible_behind.result.now c.is_below-raised.result
-    (c.is_below-raised.ensures ∙ ap (λ (s : Standing). nat_lt s.node.term c.args.term) c.self.view_is) c.visible_behind.ensures c.if-visible_behind-gt-MOST_OPTIMES.true
+pub returns-then-count_between-gt-MOST_OPTIMES-clause-refusal : goal.returns-then-count_between-gt-MOST_OPTIMES-clause-refusal
+returns-then-count_between-gt-MOST_OPTIMES-clause-refusal c =
+    let node = c.args.self.now.node in
+    let count : c.count_between.result ≡ length (log_behind c.args.after (log_up_to c.visible_then-visible.result node.log)) =
+    c.count_between.ensures.count ∙ ap (λ (s : Standing). length (log_behind c.args.after (log_up_to c.visible_then-visible.result s.node.log))) c.self.view_is in
+    refused_many node c.args.term c.args.after (log_behind c.args.after (log_up_to c.visible_then-visible.result node.log)) c.is_below.result
+    (c.is_below.ensures ∙ ap (λ (s : Standing). nat_lt s.node.term c.args.term) c.self.view_is)
+    (told_behind c.is_below.result node c.visible_then-visible.result c.args.after c.is_sound.ensures.sound.oplog c.visible_then-visible.ensures)
+    (subst (λ (n : ℕ). 20000 < n) count c.if-count_between-gt-MOST_OPTIMES.true)
 
-pub returns : goal.returns
-returns c =
-    refused_few c.args.self.now.node c.args.term c.args.after c.visible_behind.result.now c.is_below-raised.result
-    (c.is_below-raised.ensures ∙ ap (λ (s : Standing). nat_lt s.node.term c.args.term) c.self.view_is) c.visible_behind.ensures c.if-visible_behind-gt-MOST_OPTIMES.false
+pub returns-clause-refusal : goal.returns-clause-refusal
+returns-clause-refusal c =
+    let node = c.args.self.now.node in
+    let count : c.count_between.result ≡ length (log_behind c.args.after (log_up_to c.visible_then-visible.result node.log)) =
+    c.count_between.ensures.count ∙ ap (λ (s : Standing). length (log_behind c.args.after (log_up_to c.visible_then-visible.result s.node.log))) c.self.view_is in
+    refused_few node c.args.term c.args.after (log_behind c.args.after (log_up_to c.visible_then-visible.result node.log)) c.is_below.result
+    (c.is_below.ensures ∙ ap (λ (s : Standing). nat_lt s.node.term c.args.term) c.self.view_is)
+    (told_behind c.is_below.result node c.visible_then-visible.result c.args.after c.is_sound.ensures.sound.oplog c.visible_then-visible.ensures)
+    (subst (λ (n : ℕ). n ≤ 20000) count c.if-count_between-gt-MOST_OPTIMES.false)

@@ -10,9 +10,8 @@ use Rattle.node_state.proofs.state.State.next_entries.Goals as goal
 pub returns-clause-list : goal.returns-clause-list
 returns-clause-list c =
     let s = c.self.inside in
-    let found : entries_at c.log.result.now.entries c.deref.result.now ≡ next_entries c.args.self.now.node =
-    ap (λ xs. entries_at xs c.deref.result.now) c.log.ensures
-    ∙ ap (entries_at s.ledger.node.log) (c.deref.ensures.value ∙ c.in_ok-optimes.ensures.first)
+    let found : entries_at s.ledger.node.log c.deref.result.now ≡ next_entries c.args.self.now.node =
+    ap (entries_at s.ledger.node.log) (c.deref.ensures.value ∙ c.in_ok-optimes.ensures.first)
     ∙ next_entries-at (seen_node s.ledger.node (rest_in s)) s.unkept.optimes c.is_sound.ensures.node.oplog c.self.invariant.unkept
     ∙ ap (λ (x : Standing). next_entries x.node) c.self.view_is in
     subst (λ xs. IfOk c.copies_at.result (λ list. list ≡ xs)) found c.copies_at.ensures

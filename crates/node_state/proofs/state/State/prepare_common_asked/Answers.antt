@@ -1,18 +1,36 @@
-use Rattle.std.proofs.Common.{◌∙◌, ap, refl, ℕ, List, [], ◌∷◌}
+use Rattle.std.proofs.Common.{◌≡◌, ◌∙◌, ap, ℕ, List, [], ◌∷◌}
+use Rattle.oplog_entry.specs.Visible.{log_up_to}
 use Rattle.oplog_entry.specs.declared.entry.Entry.{Entry}
+use Rattle.repl_msg.specs.Logs.{log_behind}
 use Rattle.repl_msg.specs.declared.message.Body.TheVariants as bodies
+use Rattle.set_model.specs.Node.{Node}
 use Rattle.set_model.specs.Outcome.{message_to}
 use Rattle.set_model.specs.Rollback.{common_reply, optimes_of}
+use Rattle.node_ledger.specs.Ledger.{Ledger}
+use Rattle.node_state.specs.Ahead.{taking}
+use Rattle.node_state.specs.Seen.{seen_node}
+use Rattle.node_state.specs.Standing.{Standing}
 use Rattle.node_state.proofs.CommonLemmas.{common_body}
 use Rattle.node_state.proofs.ForeseenLemmas.{answered_is}
+use Rattle.node_state.proofs.Inside.{rest_in}
 use Rattle.node_state.proofs.TakenLemmas.{foretold}
+use Rattle.node_state.proofs.TellLemmas.{told_behind}
 use Rattle.node_state.proofs.state.State.prepare_common_asked.Goals as goal
 
 pub returns-clause-told : goal.returns-clause-told
 returns-clause-told c =
-    foretold _ c.args.raised c.args.term _ c.args.self.now.node c.args.self.now.node
-    (answered_is c.args.raised c.args.term c.args.next c.args.from c.args.self.now.node c.in_ok-sent.sent.items (bodies.CommonReply c.args.after c.in_ok-optimes_of.field-0 c.visible_then.result) (λ n. common_reply n c.args.after)
-    (c.in_ok-sent.ensures ∙ ap (λ (t : ℕ). message_to (record c.args.self.now.node { term = t }) c.args.from (bodies.CommonReply c.args.after c.in_ok-optimes_of.field-0 c.visible_then.result) ∷ []) c.term_then.ensures)
-    (common_body c.args.raised c.args.term c.args.self.now.node c.args.after c.visible_then.result c.in_ok-optimes_of.field-0
-    (c.in_ok-optimes_of.ensures ∙ ap (λ (list : List Entry). optimes_of list) c.visible_behind.ensures) c.visible_then.ensures))
-    refl
+    let old = c.args.self.now.node in
+    let same : seen_node c.optimes_between.new.self.node (rest_in c.self.inside) ≡ old =
+    ap (λ (l : Ledger). seen_node l.node (rest_in c.self.inside)) c.optimes_between.ensures.same ∙ ap (λ (s : Standing). s.node) c.self.view_is in
+    let body = bodies.CommonReply c.args.after c.in_ok-optimes_between.field-0 c.visible_then-visible.result in
+    foretold _ c.args.raised c.args.term _ old (seen_node c.optimes_between.new.self.node (rest_in c.self.inside))
+    (answered_is c.args.raised c.args.term c.args.next c.args.from old c.in_ok-sent.sent.items body (λ n. common_reply n c.args.after)
+    (c.in_ok-sent.ensures
+    ∙ ap (λ (n : Node). message_to (record n { term = c.term_then.result }) c.args.from body ∷ []) same
+    ∙ ap (λ (t : ℕ). message_to (record old { term = t }) c.args.from body ∷ []) (c.term_then.ensures ∙ ap (λ (n : Node). (taking c.args.raised c.args.term n).term) same))
+    (common_body c.args.raised c.args.term old c.args.after c.visible_then-visible.result c.in_ok-optimes_between.field-0
+    (c.in_ok-optimes_between.ensures.list
+    ∙ ap (λ (s : Standing). optimes_of (log_behind c.args.after (log_up_to c.visible_then-visible.result s.node.log))) c.self.view_is
+    ∙ ap (λ (list : List Entry). optimes_of list) (told_behind c.args.raised old c.visible_then-visible.result c.args.after c.is_sound.ensures.sound.oplog c.visible_then-visible.ensures))
+    c.visible_then-visible.ensures))
+    same
