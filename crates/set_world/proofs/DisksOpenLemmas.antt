@@ -3,8 +3,6 @@ use Rattle.std.proofs.Common.{◌≡◌, ◌∙◌, ◌<◌, ◌≤◌, ◌+◌,
 use Rattle.std.proofs.lemmas.List.{drop-drop}
 use Rattle.std.proofs.Math.Seq.{drop-append_seam, drop-append-add}
 use Rattle.rs_disk.specs.State.{State}
-use Rattle.record_file.specs.declared.error.FileError.{FileError}
-use Rattle.record_file.specs.declared.error.FileError.TheVariants.{Disk, Memory}
 use Rattle.set_model.specs.Node.{Node}
 use Rattle.node_core.specs.Acting.{Runs}
 use Rattle.set_world.specs.Acting.{NodesStand, StandsOn}
@@ -27,13 +25,6 @@ opens_none state nodes Fault disks none = record {
   cause = λ fault. absurd (none fault);
   only_armed = λ fault. absurd (none fault);
 }
-
--- memory was wanting
-pub opens_memory : {D : Type 0} (state : D → State) (nodes : ℕ) (error : FileError) (disks : List D) → error ≡ Memory → Opens state nodes (error ≡ Disk) disks disks
-opens_memory state nodes error disks is = opens_none state nodes (error ≡ Disk) disks (λ fault. no_disk (sym is ∙ fault))
-  where
-    no_disk : Memory ≡ Disk → ⊥
-    no_disk same = cc same
 
 -- ---- lists that begin alike
 

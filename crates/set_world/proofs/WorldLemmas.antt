@@ -17,7 +17,7 @@ use Rattle.node_core.specs.declared.done.Done.{Done}
 use Rattle.node_state.specs.Bounds.{IsBounded, IsNumbered}
 use Rattle.set_model.specs.Taking.{CanTake}
 use Rattle.rs_disk.specs.State.{State}
-use Rattle.set_world.specs.Acting.{OneOf, UnchangedSo}
+use Rattle.set_world.specs.Acting.{MayAct, OneOf, UnchangedSo}
 use Rattle.set_world.specs.Pool.{Pool, IsBetweenNodes}
 use Rattle.set_world.specs.World.{IsReached, IsStanding, Acts, event_of, nodes_in}
 use Rattle.set_world.proofs.NodesLemmas.{node_at, nodes_long, same_nodes}
@@ -132,15 +132,6 @@ module _ (sizes : Sizes) (history : List Event) (nodes new : List Node) (message
   sent_between k d within = subst (λ m. IsBetweenNodes sizes.nodes m) (at_behind messages sent k d)
       (all_between sizes (history ++ event ∷ []) new (messages ++ sent) more law (length messages + k) d
       (let both : length (messages ++ sent) ≡ length messages + length sent = length-append messages sent in omega (arith, both, within)))
-
--- a set as it stands, with room made for what an event sends
-pub record MayAct {D : Type 0} (nodes : List (Node × D × D)) (pool : Pool) : Type 0 where
-  pub size : pool.nodes ≡ length nodes
-  pub few : length nodes ≤ 50
-  pub bounds : (number : ℕ) (node : Node) → slice_get (nodes_in nodes) number ≡ Some node → IsBounded node
-  pub next : IsNumbered (length pool.messages)
-  pub messages : (message : Message) (node : Node) → Contains pool.messages message → slice_get (nodes_in nodes) message.to ≡ Some node → node.up ≡ true → CanTake node message
-  pub between : (message : Message) → Contains pool.messages message → message.to < length nodes
 
 module _ {D : Type 0} (sizes : Sizes) (history : List Event) (nodes : List (Node × D × D)) (old pool : Pool) (stands : IsStanding sizes history (nodes_in nodes) old) (size : pool.nodes ≡ old.nodes)
     (messages : pool.messages ≡ old.messages) (law : InEveryRun NumbersStaySmall) where

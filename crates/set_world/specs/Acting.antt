@@ -1,14 +1,18 @@
 -- What the node that a command is for came to, with its disks.
-use Rattle.std.specs.Prelude.{◌≡◌, ℕ, List, Some, slice_get, slice_set}
+use Rattle.std.specs.Prelude.{◌≡◌, ◌<◌, ◌≤◌, ℕ, true, Contains, List, Some, length, slice_get, slice_set}
 use Rattle.repl_msg.specs.declared.message.Message.{Message}
 use Rattle.rs_disk.specs.State.{State}
 use Rattle.set_model.specs.declared.command.Command.{Command}
 use Rattle.set_model.specs.Deliver.{deliver}
 use Rattle.set_model.specs.Node.{Node}
 use Rattle.set_model.specs.Rows.{row}
+use Rattle.set_model.specs.Taking.{CanTake}
+use Rattle.node_state.specs.Bounds.{IsBounded, IsNumbered}
 use Rattle.node_core.specs.declared.done.Done.{Done}
 use Rattle.node_core.specs.Acting.{Acted, Took, Unchanged}
 use Rattle.node_core.specs.Stands.{Stands}
+use Rattle.set_world.specs.Pool.{Pool}
+use Rattle.set_world.specs.World.{nodes_in}
 
 -- what stands at this place changed so, and nothing else in the list
 pub record OneOf {A : Type 0} (number : ℕ) (So : A → A → Type 0) (old new : List A) : Type 0 where
@@ -42,3 +46,12 @@ StandsOn state node = Stands node.0 (state node.1) (state node.2)
 -- and so for each of these nodes
 abbrev pub NodesStand : {D : Type 0} → (D → State) → List (Node × D × D) → Type 0
 NodesStand {D} state nodes = (number : ℕ) (node : Node × D × D) → slice_get nodes number ≡ Some node → StandsOn state node
+
+-- every command can be done: the nodes and the messages are within their bounds, and each message can be taken by its receiver
+pub record MayAct {D : Type 0} (nodes : List (Node × D × D)) (pool : Pool) : Type 0 where
+  pub size : pool.nodes ≡ length nodes
+  pub few : length nodes ≤ 50
+  pub bounds : (number : ℕ) (node : Node) → slice_get (nodes_in nodes) number ≡ Some node → IsBounded node
+  pub next : IsNumbered (length pool.messages)
+  pub messages : (message : Message) (node : Node) → Contains pool.messages message → slice_get (nodes_in nodes) message.to ≡ Some node → node.up ≡ true → CanTake node message
+  pub between : (message : Message) → Contains pool.messages message → message.to < length nodes

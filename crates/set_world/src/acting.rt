@@ -1,12 +1,11 @@
-ghost use Rattle.std.specs.Prelude.{◌≡◌, ◌<◌, ◌≤◌, ◌^◌, ℕ, [], true, false, length, IfOk, IsSome, OnErr, Some, slice_get, Contains};
-ghost use Rattle.repl_msg.specs.declared.message.Message.{Message as AMessage};
+ghost use Rattle.std.specs.Prelude.{◌≡◌, ◌<◌, ◌^◌, ℕ, [], true, false, length, IfOk, IsSome, OnErr, Some, slice_get};
 ghost use Rattle.set_model.specs.Limits.{is_for, is_within};
 ghost use Rattle.set_model.specs.Node.{Node as Standing};
 ghost use Rattle.set_model.specs.Taking.{CanTake};
 ghost use Rattle.set_model.specs.World.{touched_node};
 ghost use Rattle.node_state.specs.Bounds.{IsBounded, IsNumbered};
 ghost use Rattle.node_core.specs.Acting.{DisksActed, is_here};
-ghost use Rattle.set_world.specs.Acting.{ActedSo, DisksSo, NodesStand, OneOf, TookSo, UnchangedSo};
+ghost use Rattle.set_world.specs.Acting.{ActedSo, DisksSo, MayAct, NodesStand, OneOf, TookSo, UnchangedSo};
 ghost use Rattle.set_world.specs.Disks.{AtMostOne};
 ghost use Rattle.set_world.specs.World.{Acts, nodes_in};
 
@@ -29,12 +28,7 @@ pub(crate) fn act<D: Disk, R: Threads + Sync>(
     pool: &Pool,
     command: &Command,
 ) -> Mem<Done>
-    requires size { pool.now.nodes ≡ length nodes.old }
-    requires few { length nodes.old ≤ 50 }
-    requires bounds { (number : ℕ) (node : Standing) → slice_get (nodes_in nodes.old) number ≡ Some node → IsBounded node }
-    requires next { IsNumbered (length pool.now.messages) }
-    requires messages { (message : AMessage) (node : Standing) → Contains pool.now.messages message → slice_get (nodes_in nodes.old) message.to ≡ Some node → node.up ≡ true → CanTake node message }
-    requires between { (message : AMessage) → Contains pool.now.messages message → message.to < length nodes.old }
+    requires may { MayAct nodes.old pool.now }
     requires command { is_for pool.now.nodes command.now ≡ true }
     ensures ok { IfOk result (λ done. Acts (record { nodes = nodes_in nodes.old; messages = pool.now.messages }) command.now (nodes_in nodes.new) done) }
     ensures disks { IfOk result (λ done. AtMostOne nodes.old nodes.new (OneOf (touched_node (record { nodes = nodes_in nodes.old; messages = pool.now.messages }) command.now) (DisksSo D.state (DisksActed command.now done.reply (IsSome done.failed))) nodes.old nodes.new)) }

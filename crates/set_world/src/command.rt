@@ -4,7 +4,6 @@ ghost use Rattle.set_model.specs.World.{World, acts, nothing, takes, task};
 ghost use Rattle.node_core.specs.Acting.{is_here};
 
 use crate::pool::Pool;
-use doc_update::WriteOp;
 use repl_msg::Message;
 use set_model::Command;
 
@@ -78,50 +77,7 @@ pub(crate) fn brings_sound(command: &Command)
             operators.is_sound();
         }
         Command::Delete { id, .. } => id.is_sound(),
-        Command::Begin { op, .. } => is_sound(op),
-        Command::Campaign { .. }
-        | Command::Drain { .. }
-        | Command::Commit { .. }
-        | Command::Abort { .. }
-        | Command::Ack { .. }
-        | Command::Read { .. }
-        | Command::Dump { .. }
-        | Command::Log { .. }
-        | Command::State { .. }
-        | Command::Rolled { .. }
-        | Command::DryRun { .. }
-        | Command::StepDown { .. }
-        | Command::Heartbeat { .. }
-        | Command::Report { .. }
-        | Command::Common { .. }
-        | Command::Fetch { .. }
-        | Command::Deliver { .. }
-        | Command::DeliverLatest { .. }
-        | Command::Apply { .. }
-        | Command::Flush { .. }
-        | Command::Checkpoint { .. }
-        | Command::Reconfig { .. }
-        | Command::Crash { .. }
-        | Command::Restart { .. }
-        | Command::DiskFail { .. }
-        | Command::Clock { .. } => {}
-    }
-}
-
-/// And so is what a writer's write brings.
-fn is_sound(op: &WriteOp)
-    ensures { IsSoundWrite op.now }
-{
-    match op {
-        WriteOp::Insert { doc, .. } => doc.is_sound(),
-        WriteOp::Replace { id, doc, .. } => {
-            id.is_sound();
-            doc.is_sound();
-        }
-        WriteOp::Update { id, operators, .. } => {
-            id.is_sound();
-            operators.is_sound();
-        }
-        WriteOp::Delete { id, .. } => id.is_sound(),
+        Command::Begin { op, .. } => op.is_sound(),
+        _ => {}
     }
 }

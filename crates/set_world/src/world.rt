@@ -1,4 +1,4 @@
-ghost use Rattle.std.specs.Prelude.{◌≡◌, ◌<◌, ◌↔◌, [], true, All, length, vec_len, IfErr, IfOk, IfSome, IsErrOf, OnErr, Some, slice_get};
+ghost use Rattle.std.specs.Prelude.{◌≡◌, ◌<◌, ◌↔◌, [], true, All, length, vec_len, IfErr, IfOk, IsErrOf, OnErr, Some, slice_get};
 ghost use Rattle.rs_disk.specs.File.{IsEmpty};
 ghost use Rattle.set_model.specs.Limits.{IsRun, is_for};
 ghost use Rattle.set_model.specs.Run.{AreSizes, run};

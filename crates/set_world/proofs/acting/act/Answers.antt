@@ -7,10 +7,10 @@ use Rattle.set_world.proofs.DiskLemmas.{stand_acted, stand_took}
 use Rattle.set_world.proofs.acting.act.Goals as goal
 
 pub take_at-requires-clause-known : goal.take_at-requires-clause-known
-take_at-requires-clause-known g c κs within = c.requires.between c.in-Some-delivered.message.now c.in-Some-delivered.ensures.sent
+take_at-requires-clause-known g c κs within = c.requires.may.between c.in-Some-delivered.message.now c.in-Some-delivered.ensures.sent
 
 pub take_at-requires-clause-message : goal.take_at-requires-clause-message
-take_at-requires-clause-message g c κs within node there up = c.requires.messages c.in-Some-delivered.message.now node c.in-Some-delivered.ensures.sent there up
+take_at-requires-clause-message g c κs within node there up = c.requires.may.messages c.in-Some-delivered.message.now node c.in-Some-delivered.ensures.sent there up
 
 pub returns-in-Some-clause-ok : goal.returns-in-Some-clause-ok
 returns-in-Some-clause-ok g c =

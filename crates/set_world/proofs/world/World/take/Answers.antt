@@ -9,35 +9,10 @@ use Rattle.set_world.proofs.NodesLemmas.{whole}
 use Rattle.set_world.proofs.WorldLemmas.{GoesOn, acts_now, goes_on, stands_still}
 use Rattle.set_world.proofs.world.World.take.Goals as goal
 
-pub act-requires-clause-size : goal.act-requires-clause-size
-act-requires-clause-size g c κs within =
-    (acts_now (record { nodes = c.self.inside.size; members = c.self.inside.members }) c.self.inside.history.items c.self.inside.nodes.items c.deref_mut.result.now c.self.inside.pool c.reserve-2.new.self
-    c.self.invariant.0 c.deref_mut.ensures.value c.reserve-2.ensures.nodes c.reserve-2.ensures.messages c.numbers_stay_small.ensures c.messages_can_be_taken.ensures).size
-
-pub act-requires-clause-few : goal.act-requires-clause-few
-act-requires-clause-few g c κs within =
-    (acts_now (record { nodes = c.self.inside.size; members = c.self.inside.members }) c.self.inside.history.items c.self.inside.nodes.items c.deref_mut.result.now c.self.inside.pool c.reserve-2.new.self
-    c.self.invariant.0 c.deref_mut.ensures.value c.reserve-2.ensures.nodes c.reserve-2.ensures.messages c.numbers_stay_small.ensures c.messages_can_be_taken.ensures).few
-
-pub act-requires-clause-bounds : goal.act-requires-clause-bounds
-act-requires-clause-bounds g c κs within =
-    (acts_now (record { nodes = c.self.inside.size; members = c.self.inside.members }) c.self.inside.history.items c.self.inside.nodes.items c.deref_mut.result.now c.self.inside.pool c.reserve-2.new.self
-    c.self.invariant.0 c.deref_mut.ensures.value c.reserve-2.ensures.nodes c.reserve-2.ensures.messages c.numbers_stay_small.ensures c.messages_can_be_taken.ensures).bounds
-
-pub act-requires-clause-next : goal.act-requires-clause-next
-act-requires-clause-next g c κs within =
-    (acts_now (record { nodes = c.self.inside.size; members = c.self.inside.members }) c.self.inside.history.items c.self.inside.nodes.items c.deref_mut.result.now c.self.inside.pool c.reserve-2.new.self
-    c.self.invariant.0 c.deref_mut.ensures.value c.reserve-2.ensures.nodes c.reserve-2.ensures.messages c.numbers_stay_small.ensures c.messages_can_be_taken.ensures).next
-
-pub act-requires-clause-messages : goal.act-requires-clause-messages
-act-requires-clause-messages g c κs within =
-    (acts_now (record { nodes = c.self.inside.size; members = c.self.inside.members }) c.self.inside.history.items c.self.inside.nodes.items c.deref_mut.result.now c.self.inside.pool c.reserve-2.new.self
-    c.self.invariant.0 c.deref_mut.ensures.value c.reserve-2.ensures.nodes c.reserve-2.ensures.messages c.numbers_stay_small.ensures c.messages_can_be_taken.ensures).messages
-
-pub act-requires-clause-between : goal.act-requires-clause-between
-act-requires-clause-between g c κs within =
-    (acts_now (record { nodes = c.self.inside.size; members = c.self.inside.members }) c.self.inside.history.items c.self.inside.nodes.items c.deref_mut.result.now c.self.inside.pool c.reserve-2.new.self
-    c.self.invariant.0 c.deref_mut.ensures.value c.reserve-2.ensures.nodes c.reserve-2.ensures.messages c.numbers_stay_small.ensures c.messages_can_be_taken.ensures).between
+pub act-requires-clause-may : goal.act-requires-clause-may
+act-requires-clause-may g c κs within =
+    acts_now (record { nodes = c.self.inside.size; members = c.self.inside.members }) c.self.inside.history.items c.self.inside.nodes.items c.deref_mut.result.now c.self.inside.pool c.reserve-2.new.self
+    c.self.invariant.0 c.deref_mut.ensures.value c.reserve-2.ensures.nodes c.reserve-2.ensures.messages c.numbers_stay_small.ensures c.messages_can_be_taken.ensures
 
 pub add-requires-clause-room : goal.add-requires-clause-room
 add-requires-clause-room g c =
