@@ -11,7 +11,7 @@ use Rattle.std.proofs.Math.Facts.{Fits-of_z}
 use Rattle.std.proofs.lemmas.Int.{to_z-of_z}
 use Rattle.std.proofs.lemmas.List.{length-append, drop_at}
 use Rattle.bson_doc.specs.Tree as tree
-use Rattle.bson_doc.specs.Tree.{Tree, Fields, no_fields, field, Trees, no_items, item, found, with_field, with_item, items_count, IsDocument}
+use Rattle.bson_doc.specs.Tree.{Tree, Fields, no_fields, field, Trees, no_items, item, found, with_field, with_item, IsDocument}
 use Rattle.bson_doc.specs.Key.{type_byte}
 use Rattle.bson_doc.proofs.DocLemmas.{not_first}
 use Rattle.bson_codec.specs.declared.kind.Kind as declared

@@ -7,7 +7,7 @@ use Rattle.std.proofs.lemmas.List.{append-nil, length-append, length-drop}
 use Rattle.bson_doc.specs.Bind.{◌>>=◌}
 use Rattle.bson_doc.proofs.BindLemmas.{bind_ok}
 use Rattle.bson_doc.specs.Tree as tree
-use Rattle.bson_doc.specs.Tree.{Tree, Fields, no_fields, field, Trees, no_items, item, with_item, items_count, IsDocument}
+use Rattle.bson_doc.specs.Tree.{Tree, Fields, no_fields, Trees, no_items, item, with_item, items_count}
 use Rattle.bson_doc.specs.Key.{type_byte}
 use Rattle.bson_codec.specs.declared.kind.Kind as declared
 use Rattle.bson_codec.specs.declared.error.DecodeError.{DecodeError}

@@ -1,6 +1,5 @@
 -- The bytes of a document are as many as its length says.
 use Rattle.std.proofs.Common.{ℕ, ◌≡◌, ◌+◌, ◌-◌, List, [], ◌∷◌, ◌++◌, length, take, drop, refl, ap, append_assoc, arith}
-use Rattle.std.specs.Prelude.{Result, Ok, Err, OnOk}
 use Rattle.std.specs.Fmt.{decimal}
 use Rattle.std.proofs.lemmas.List.{length-append, take_at, drop_at}
 use Rattle.byteorder.specs.Numbers.{length-bytes_low_first}

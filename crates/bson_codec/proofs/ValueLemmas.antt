@@ -10,7 +10,7 @@ use Rattle.std.proofs.lemmas.List.{append-nil}
 use Rattle.bson_doc.specs.Bind.{◌>>=◌}
 use Rattle.bson_doc.proofs.BindLemmas.{bind_ok, guard_ok}
 use Rattle.bson_doc.specs.Tree as tree
-use Rattle.bson_doc.specs.Tree.{Tree, Fields, no_fields, field, Trees, no_items, item, found, with_field, with_item, IsDocument}
+use Rattle.bson_doc.specs.Tree.{Tree, Fields, no_fields, field, found, with_field, IsDocument}
 use Rattle.bson_doc.specs.Key.{type_byte}
 use Rattle.bson_doc.proofs.DocLemmas.{IsDocument-with_field}
 use Rattle.bson_codec.specs.declared.kind.Kind as declared

@@ -1,4 +1,4 @@
-ghost use Rattle.std.specs.Prelude.{◌≡◌, ◌<◌, ◌≤◌, ◌^◌, ◌↔◌, IfOk, OnOk, IsErrOf};
+ghost use Rattle.std.specs.Prelude.{◌<◌, ◌≤◌, ◌^◌, ◌↔◌, IfOk, OnOk, IsErrOf};
 ghost use Rattle.bson_doc.specs.Length.{document_length, document_levels};
 ghost use Rattle.bson_codec.specs.Sound.{IsSound};
 ghost use Rattle.bson_codec.specs.Spelling.{IsSpelling};

@@ -1,7 +1,7 @@
 // Numbers in little-endian bytes.
-ghost use Rattle.std.specs.Prelude.{◌≡◌, ◌≤◌, ◌<◌, ◌+◌, ◌-◌, ◌^◌, ◌++◌, ◌∷◌, [], OnOk, length, take, drop};
+ghost use Rattle.std.specs.Prelude.{◌≡◌, ◌≤◌, ◌+◌, ◌++◌, OnOk, length, take, drop};
 ghost use Rattle.std.specs.Int.{w32, w64, cast_unsigned};
-ghost use Rattle.bson_codec.specs.Numbers.{number_bytes, number_in};
+ghost use Rattle.bson_codec.specs.Numbers.{number_bytes};
 ghost use Rattle.bson_codec.specs.Outcome.{Gives};
 ghost use Rattle.bson_codec.specs.Reading.{number_at, bytes_at};
 

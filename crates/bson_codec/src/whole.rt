@@ -1,4 +1,4 @@
-ghost use Rattle.std.specs.Prelude.{◌≡◌, ◌<◌, ◌^◌, IfOk, Ok};
+ghost use Rattle.std.specs.Prelude.{◌<◌, ◌^◌, IfOk, Ok};
 ghost use Rattle.bson_doc.specs.Tree.{Fields};
 ghost use Rattle.bson_codec.specs.Outcome.{Gives};
 ghost use Rattle.bson_codec.specs.Sound.{IsSound};

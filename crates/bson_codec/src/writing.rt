@@ -2,7 +2,6 @@
 ghost use Rattle.std.specs.Prelude.{◌≡◌, ◌++◌, ◌∷◌, [], ◌<◌, ◌≤◌, ◌+◌, ◌-◌, ◌^◌, OnOk, length, take, drop};
 ghost use Rattle.std.specs.Fmt.{decimal};
 ghost use Rattle.bson_doc.specs.View.{tree_of};
-ghost use Rattle.bson_doc.specs.Key.{type_byte};
 ghost use Rattle.bson_doc.specs.Tree.{array};
 ghost use Rattle.bson_doc.specs.Length.{value_length, document_length, items_length};
 ghost use Rattle.bson_codec.specs.Numbers.{number_bytes};

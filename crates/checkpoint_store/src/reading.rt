@@ -1,5 +1,5 @@
 // The parts of records as they are read.
-ghost use Rattle.std.specs.Prelude.{◌≡◌, ◌<◌, ◌^◌, ◌++◌, ℕ, true, List, length, Some, IsSome, IfOk};
+ghost use Rattle.std.specs.Prelude.{◌≡◌, ◌<◌, ◌^◌, ℕ, true, List, length, Some, IsSome, IfOk};
 ghost use Rattle.std.specs.Str.{is_utf8};
 ghost use Rattle.rs_optime.specs.declared.optime.OpTime.{OpTime as AnOpTime};
 ghost use Rattle.bson_doc.specs.Sound.{IsSound};

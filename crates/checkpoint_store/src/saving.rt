@@ -1,5 +1,5 @@
 // The records of a checkpoint, added one behind the other. Only the last of them makes it count.
-ghost use Rattle.std.specs.Prelude.{◌≡◌, All, IsSome, IsErrOf, OnOk, map};
+ghost use Rattle.std.specs.Prelude.{All, IsSome, IsErrOf, OnOk, map};
 ghost use Rattle.rs_disk.specs.State.{Keeps};
 ghost use Rattle.version_store.specs.Store.{shown_at};
 ghost use Rattle.checkpoint_store.specs.Checkpoint.{checkpoint_of, pieces};

@@ -1,5 +1,5 @@
 // Batches applied to a new store: documents at their optimes, and workers side by side.
-ghost use Rattle.std.specs.Prelude.{◌≡◌, ◌+◌, ◌<◌, ◌≤◌, ◌^◌, ℕ, IfOk, length, slice_index_or};
+ghost use Rattle.std.specs.Prelude.{◌≡◌, ◌+◌, ◌<◌, ◌≤◌, ℕ, IfOk, length, slice_index_or};
 ghost use Rattle.oplog_entry.specs.declared.entry.Entry.{Entry as Seen};
 ghost use Rattle.oplog_entry.specs.Lawful.{IsLawful};
 

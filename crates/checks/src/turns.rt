@@ -1,5 +1,5 @@
 // Threads that take turns on a list of marks.
-ghost use Rattle.std.specs.Prelude.{◌≡◌, ℕ, ◌<◌, List, [], length, if◌then◌else◌, ◌==◌};
+ghost use Rattle.std.specs.Prelude.{◌≡◌, ◌<◌, [], length, if◌then◌else◌, ◌==◌};
 ghost use Rattle.turn_board.specs.Passes.{view, point_count, IsPassOf, IsFree};
 
 use std::alloc::Global;

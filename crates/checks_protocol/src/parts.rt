@@ -1,6 +1,6 @@
 // The protocol's parts: texts of configurations, and each call once, with answers worked out by hand from the rules
 // (MongoDB manual, replica set configuration, write concern, read concern).
-ghost use Rattle.std.specs.Prelude.{◌≡◌, ◌≤◌, IfOk, length};
+ghost use Rattle.std.specs.Prelude.{◌≤◌, IfOk, length};
 
 use commit_point::{Progress, learn};
 use election_core::{Count, Tally, VoterView, decide};

@@ -1,5 +1,5 @@
 // Runs of bytes of one class.
-ghost use Rattle.std.specs.Prelude.{◌≡◌, ◌≤◌, ◌+◌, length};
+ghost use Rattle.std.specs.Prelude.{◌≡◌, ◌+◌, length};
 ghost use Rattle.std.specs.List.{take_while};
 ghost use Rattle.doc_text.specs.Bytes.{is_name_start};
 

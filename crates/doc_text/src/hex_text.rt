@@ -1,5 +1,5 @@
 // Bytes as hexadecimal digits between quotation marks.
-ghost use Rattle.std.specs.Prelude.{◌≡◌, ◌≤◌, ◌<◌, IfOk, length};
+ghost use Rattle.std.specs.Prelude.{◌≡◌, ◌<◌, IfOk, length};
 ghost use Rattle.doc_text.specs.Fault.{Gives};
 ghost use Rattle.doc_text.specs.HexText.{hex_fault, binary_hex_at, id_hex_at};
 

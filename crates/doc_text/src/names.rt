@@ -1,5 +1,5 @@
 // Names of fields.
-ghost use Rattle.std.specs.Prelude.{◌≡◌, ◌<◌, IfOk, length, Contains};
+ghost use Rattle.std.specs.Prelude.{◌<◌, IfOk, length, Contains};
 ghost use Rattle.doc_text.specs.Fault.{Gives};
 ghost use Rattle.doc_text.specs.Names.{name_at};
 

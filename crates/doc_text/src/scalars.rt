@@ -1,5 +1,5 @@
 // Values that hold no others.
-ghost use Rattle.std.specs.Prelude.{◌≡◌, ◌<◌, ◌≤◌, IfOk, IsAscii, codes, length};
+ghost use Rattle.std.specs.Prelude.{◌<◌, ◌≤◌, IfOk, IsAscii, codes, length};
 ghost use Rattle.bson_doc.specs.Tree as tree;
 ghost use Rattle.bson_doc.specs.View.{tree_of};
 ghost use Rattle.doc_text.specs.Fault.{Gives};

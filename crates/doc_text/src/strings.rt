@@ -1,5 +1,5 @@
 // Strings and their escapes.
-ghost use Rattle.std.specs.Prelude.{◌≡◌, ◌≤◌, ◌<◌, ℕ, IfOk, length, string_bytes, true, Contains};
+ghost use Rattle.std.specs.Prelude.{◌<◌, IfOk, length};
 ghost use Rattle.std.specs.Char.{IsScalar};
 ghost use Rattle.doc_text.specs.Fault.{Gives};
 ghost use Rattle.doc_text.specs.Strings.{hex_digit_at, unicode_at, escape_at, letters_at};

@@ -1,5 +1,5 @@
 // Values, with the documents and arrays among them.
-ghost use Rattle.std.specs.Prelude.{◌≡◌, ◌<◌, ◌≤◌, ℕ, IfOk, IfErr, Ok, None, length, Contains, IsCharBoundary};
+ghost use Rattle.std.specs.Prelude.{◌≡◌, ◌<◌, ℕ, IfOk, IfErr, Ok, None, length, Contains, IsCharBoundary};
 ghost use Rattle.bson_doc.specs.Tree.{Tree, found};
 ghost use Rattle.bson_doc.specs.View.{tree_of};
 ghost use Rattle.doc_text.specs.Fault.{Gives};

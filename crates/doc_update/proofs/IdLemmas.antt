@@ -1,5 +1,5 @@
 -- A document with an `_id` in front.
-use Rattle.std.proofs.Common.{◌≡◌, ℕ, true, List, [], ◌∷◌, Contains, codes, Option, None, Some, refl, ap, sym, subst, ◌∙◌, arith, rules}
+use Rattle.std.proofs.Common.{◌≡◌, ℕ, true, List, [], ◌∷◌, Contains, codes, ap, sym, subst, ◌∙◌, arith}
 use Rattle.std.proofs.lemmas.Grind.{common_steps}
 use Rattle.bson_doc.specs.Tree.{Tree, Fields, no_fields, field, found, fields_from, without, IsDocument}
 use Rattle.bson_doc.proofs.NameLemmas.{IsDocument-without}

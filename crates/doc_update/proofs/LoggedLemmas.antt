@@ -1,5 +1,5 @@
 -- What is logged of a write stands at its place.
-use Rattle.std.proofs.Common.{◌≡◌, Option, Result, Ok, Err, IfOk, sym, ap, ◌∙◌}
+use Rattle.std.proofs.Common.{Option, Result, Ok, Err, IfOk, sym, ap, ◌∙◌}
 use Rattle.std.specs.FinMap as maps
 use Rattle.bson_doc.specs.Tree.{Fields}
 use Rattle.bson_doc.specs.Place.{Place}

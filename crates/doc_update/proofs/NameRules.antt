@@ -4,13 +4,13 @@ use Rattle.std.specs.Str.{bytes_eq}
 use Rattle.std.specs.Ordering.{nat_cmp, is_eq}
 use Rattle.std.specs.Cmp.Lexicographic.{slice_cmp}
 use Rattle.std.proofs.lemmas.Map.Text.{is_eq-slice_cmp}
-use Rattle.bson_doc.specs.Tree.{Tree, Fields, no_fields, field, found, fields_from}
+use Rattle.bson_doc.specs.Tree.{Fields, no_fields, field, found, fields_from}
 use Rattle.bson_doc.proofs.DocLemmas.{fields_from-zero, fields_from-end, trees_from-zero, trees_from-end}
 use Rattle.oplog_entry.specs.Lawful.{is_among}
 use Rattle.oplog_entry.proofs.FieldLemmas.{alike_swapped}
 use Rattle.doc_update.specs.Increment.{has_wrong_side}
 use Rattle.doc_update.proofs.OrderLemmas.{placed_all-join}
-use Rattle.doc_update.specs.Check.{names_of, all_names, given, all_good, is_good, has_twice}
+use Rattle.doc_update.specs.Check.{names_of, all_names, given, all_good, has_twice}
 
 pub all_good-append : (a b : List (List ℕ)) → all_good (a ++ b) ≡ (all_good a && all_good b)
 all_good-append [] b = refl

@@ -1,5 +1,5 @@
 -- Fields in byte order.
-use Rattle.std.proofs.Common.{◌≡◌, ℕ, Bool, true, false, List, [], ◌∷◌, ◌++◌, Contains, Option, None, Some, if◌then◌else◌, refl, sym, ap, ◌∙◌, arith, subst, cond, map}
+use Rattle.std.proofs.Common.{◌≡◌, ℕ, Bool, true, false, List, [], ◌∷◌, Contains, None, Some, if◌then◌else◌, refl, sym, ap, ◌∙◌, arith, map}
 use Rattle.std.specs.Ordering.{nat_cmp, is_eq}
 use Rattle.std.specs.Str.{bytes_eq}
 use Rattle.std.specs.Cmp.Lexicographic.{slice_cmp}
@@ -7,14 +7,14 @@ use Rattle.std.specs.declared.cmp.Ordering.{Ordering}
 use Rattle.std.specs.declared.cmp.Ordering.TheVariants.{Less, Equal, Greater}
 use Rattle.std.specs.BTreeMap.{insert_entry}
 use Rattle.std.proofs.lemmas.Map.Text.{is_eq-slice_cmp}
-use Rattle.bson_doc.specs.Tree.{Tree, text, Fields, no_fields, field, Trees, no_items, item, found, with_field, with_item, IsDocument}
+use Rattle.bson_doc.specs.Tree.{Tree, Fields, no_fields, field, Trees, no_items, item, found, with_item, IsDocument}
 use Rattle.bson_doc.specs.View.{tree_of}
 use Rattle.bson_doc.specs.declared.doc.Value.{Value}
 use Rattle.oplog_entry.specs.Walk.{join}
-use Rattle.oplog_entry.proofs.FieldLemmas.{same_name, same_itself, alike_front, alike_back, alike_swapped}
+use Rattle.oplog_entry.proofs.FieldLemmas.{alike_front, alike_back, alike_swapped}
 use Rattle.doc_update.specs.Check.{names_of}
 use Rattle.doc_update.specs.Entries.{fields_in}
-use Rattle.doc_update.specs.Ordered.{by_order, placed, placed_all, in_byte_order, as_strings}
+use Rattle.doc_update.specs.Ordered.{placed, placed_all, in_byte_order}
 
 -- a map's entries with one more
 pub fields_in-insert : (entries : List (List ℕ × Value)) (name : List ℕ) (value : Value) → fields_in (insert_entry (slice_cmp nat_cmp) entries name value) ≡ placed (fields_in entries) name (tree_of value)

@@ -1,31 +1,31 @@
 -- What is logged of a write is lawful.
-use Rattle.std.proofs.Common.{◌≡◌, ◌≢◌, ◌<◌, ℕ, Bool, true, false, not, ◌&&◌, ◌||◌, if◌then◌else◌, List, [], ◌∷◌, ◌++◌, Contains, Option, None, Some, IsSome, is_some, option_and_then, Result, Ok, Err, IfOk, OnOk, codes, refl, sym, ap, ◌∙◌, arith, rules, subst, option_map}
+use Rattle.std.proofs.Common.{◌≡◌, ◌<◌, ℕ, Bool, true, false, ◌||◌, if◌then◌else◌, List, [], ◌∷◌, ◌++◌, Option, None, Some, IsSome, is_some, option_and_then, Result, Ok, Err, IfOk, codes, refl, sym, ap, ◌∙◌, arith, rules, subst}
 use Rattle.std.specs.Str.{bytes_eq}
 use Rattle.std.proofs.lemmas.List.{append-nil}
-use Rattle.bson_doc.specs.Tree.{Tree, null, Fields, no_fields, field, found, without, count, IsDocument}
+use Rattle.bson_doc.specs.Tree.{Tree, null, Fields, no_fields, field, found, count, IsDocument}
 use Rattle.bson_doc.specs.Sound.{IsSound as IsSoundDocument, IsSoundValue, AreSoundFields}
 use Rattle.bson_doc.specs.Key.{key_of, same_key}
 use Rattle.bson_doc.specs.Place.{Place}
 use Rattle.bson_doc.specs.View.{tree_of}
 use Rattle.bson_doc.specs.declared.key.IdKey.{IdKey}
 use Rattle.bson_doc.specs.declared.doc.Value.{Value}
-use Rattle.oplog_entry.specs.Lawful.{is_among, BeginsWithId, AreUnsets, IsLawfulOp}
-use Rattle.oplog_entry.specs.Step.{id_key, place_in, changed, strings_of}
+use Rattle.oplog_entry.specs.Lawful.{is_among, AreUnsets}
+use Rattle.oplog_entry.specs.Step.{id_key, place_in, strings_of}
 use Rattle.oplog_entry.specs.Walk.{join}
 use Rattle.oplog_entry.specs.declared.entry.Op.{Op}
 use Rattle.oplog_entry.specs.declared.entry.Op.TheVariants as ops
-use Rattle.oplog_entry.proofs.FieldLemmas.{alike_swapped, same_name, same_itself, alike_front}
+use Rattle.oplog_entry.proofs.FieldLemmas.{same_name, same_itself}
 use Rattle.doc_update.specs.Check.{names_of, all_names, given, has_twice, replace_checked, same_id, update_checked, by_rule, broken_rule, names_id}
 use Rattle.doc_update.specs.Effect.{under, fields_under, present, id_first, stored, written, is_too_large, sets_of, unsets_of, updated, update_prepared, replace_prepared}
 use Rattle.doc_update.specs.Increment.{sums, added, has_wrong_side, has_overflow}
 use Rattle.doc_update.specs.Ordered.{in_byte_order, as_strings}
-use Rattle.doc_update.specs.Refusal.{Answers, Refuses}
+use Rattle.doc_update.specs.Refusal.{Answers}
 use Rattle.doc_update.specs.Same.{same_fields}
 use Rattle.doc_update.specs.Sound.{IsNamed, IsSound}
 use Rattle.doc_update.specs.declared.write.Prepared.{Prepared}
-use Rattle.doc_update.specs.declared.write.Prepared.TheVariants.{Entry, NoMatch, Unchanged}
+use Rattle.doc_update.specs.declared.write.Prepared.TheVariants.{Entry, Unchanged}
 use Rattle.doc_update.specs.declared.write.WriteRefusal.{WriteRefusal}
-use Rattle.doc_update.specs.declared.write.WriteRefusal.TheVariants.{DocTooLarge, ImmutableId, IncType, IncOverflow, Memory}
+use Rattle.doc_update.specs.declared.write.WriteRefusal.TheVariants.{DocTooLarge, ImmutableId, IncType, IncOverflow}
 use Rattle.doc_update.proofs.NameRules.{is_among-append, found-names_of, has_twice-append}
 use Rattle.doc_update.proofs.OrderLemmas.{found-in_byte_order, IsDocument-in_byte_order}
 

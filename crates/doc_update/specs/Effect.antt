@@ -1,7 +1,6 @@
 -- What a write comes to, given the document that is there.
-use Rattle.std.specs.Prelude.{ℕ, Bool, true, false, not, ◌&&◌, ◌||◌, nat_lt, List, Option, None, Some, Result, Ok, Err, codes, is_some, if◌then◌else◌}
-use Rattle.bson_doc.specs.Tree.{Tree, null, document, Fields, no_fields, field, found, without, Trees}
-use Rattle.bson_doc.specs.View.{tree_of}
+use Rattle.std.specs.Prelude.{ℕ, Bool, ◌||◌, nat_lt, List, Option, None, Some, Result, Ok, Err, codes, is_some, if◌then◌else◌}
+use Rattle.bson_doc.specs.Tree.{Tree, null, Fields, no_fields, field, found, without, Trees}
 use Rattle.bson_doc.specs.declared.doc.Value.{Value}
 use Rattle.bson_doc.specs.Length.{document_length, document_levels}
 use Rattle.oplog_entry.specs.Step.{changed}

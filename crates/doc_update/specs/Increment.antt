@@ -1,7 +1,6 @@
 -- What `$inc` makes of numbers.
 use Rattle.std.specs.Prelude.{◌≡◌, ⊤, ℕ, ℤ, pos, neg_ℤ, ◌+ℤ◌, ◌^◌, ◌-◌, Bool, true, false, not, ◌&&◌, ◌||◌, int_le, Option, None, Some, is_some, unwrap_or, Result, Ok, Err, if◌then◌else◌}
 use Rattle.bson_doc.specs.View.{tree_of}
-use Rattle.bson_doc.specs.declared.doc.Value.{Value}
 use Rattle.doc_update.specs.declared.increment.Sum.{Sum}
 use Rattle.doc_update.specs.declared.increment.Sum.TheVariants.{Whole, WrongSide, NoRoom}
 use Rattle.doc_update.specs.Ordered.{placed_all}

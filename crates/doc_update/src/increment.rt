@@ -1,5 +1,5 @@
 // The sums of `$inc`.
-ghost use Rattle.std.specs.Prelude.{◌≡◌, Option, option_map};
+ghost use Rattle.std.specs.Prelude.{◌≡◌, option_map};
 ghost use Rattle.bson_doc.specs.View.{tree_of};
 ghost use Rattle.doc_update.specs.Increment.{integer_of, IsSum, AddsSums};
 

@@ -1,7 +1,6 @@
 // What a write that was checked comes to.
-ghost use Rattle.std.specs.Prelude.{◌≡◌, [], ◌∷◌, false, Contains, if◌then◌else◌, IfOk, IfSome, IsOk, IsSome, IsTrue, OnOk, None, Some, codes, unwrap_or};
+ghost use Rattle.std.specs.Prelude.{◌≡◌, [], ◌∷◌, false, Contains, if◌then◌else◌, IfOk, IfSome, IsOk, IsSome, IsTrue, OnOk, None, codes, unwrap_or};
 ghost use Rattle.std.specs.Option.{option_copied};
-ghost use Rattle.bson_doc.specs.Key.{key_of};
 ghost use Rattle.bson_doc.specs.Tree.{found, field, without, with_field, no_fields};
 ghost use Rattle.bson_doc.specs.View.{tree_of};
 ghost use Rattle.oplog_entry.specs.Lawful.{is_among};

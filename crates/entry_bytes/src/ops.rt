@@ -6,7 +6,7 @@ ghost use Rattle.bson_doc.specs.View.{tree_of};
 ghost use Rattle.oplog_entry.specs.Lawful.{AreUnsets, BeginsWithId};
 ghost use Rattle.oplog_entry.specs.Step.{id_key};
 ghost use Rattle.entry_bytes.specs.Answer.{Reads};
-ghost use Rattle.entry_bytes.specs.Layout.{marks, new_primary, only_id};
+ghost use Rattle.entry_bytes.specs.Layout.{marks, new_primary};
 ghost use Rattle.entry_bytes.specs.Parts.{are_marks, given, is_mark, names_in, ReadsChange, ReadsFields, ReadsIfLawful, ReadsOp, ReadsParts};
 
 use crate::EntryError;

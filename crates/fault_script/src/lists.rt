@@ -1,5 +1,5 @@
 // Lists of commands, each with the number of its line, which contracts see as lists.
-ghost use Rattle.std.specs.Prelude.{◌≡◌, [], ◌∷◌, ◌++◌, length, IfOk};
+ghost use Rattle.std.specs.Prelude.{◌≡◌, [], ◌∷◌, ◌++◌, IfOk};
 ghost use Rattle.fault_script.specs.Script.{in_last};
 
 use bson_doc::Mem;
@@ -41,6 +41,7 @@ impl Lines {
         &self.lines
     }
 
+    /// The lines, each with its number, to be taken out one by one.
     pub fn into_vec(self) -> Vec<(u32, Command)>
         ensures { result.items ≡ self }
     {
@@ -97,6 +98,7 @@ impl Threads {
         &self.threads
     }
 
+    /// The lists, to be taken out one by one.
     pub fn into_vec(self) -> Vec<Lines>
         ensures { result.items ≡ self }
     {

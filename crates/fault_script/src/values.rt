@@ -1,5 +1,4 @@
 // The values at the end of a line, in the notation of documents.
-ghost use Rattle.std.specs.Prelude.{◌≡◌};
 ghost use Rattle.std.specs.Option.{option_copied};
 ghost use Rattle.bson_doc.specs.View.{tree_of};
 ghost use Rattle.fault_script.specs.Gives.{Reads, Gives};

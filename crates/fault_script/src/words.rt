@@ -6,7 +6,7 @@ ghost use Rattle.std.specs.Option.{option_copied};
 ghost use Rattle.set_model.specs.Limits.{is_collection, is_name_byte};
 ghost use Rattle.fault_script.specs.declared.rule.ScriptRule.TheVariants.{BadWord};
 ghost use Rattle.fault_script.specs.Gives.{Reads};
-ghost use Rattle.fault_script.specs.Words.{is_space, behind_word, skip, has_shape, word_at, ended, number_of, numbered, number_at, optional_at, pick_at, node_at, other_node_at, writer_at, message_at, collection_at};
+ghost use Rattle.fault_script.specs.Words.{is_space, behind_word, skip, has_shape, word_at, number_of, numbered, number_at, optional_at, pick_at, node_at, other_node_at, writer_at, message_at, collection_at};
 
 use crate::rule::ScriptRule;
 use crate::shape::Shape;

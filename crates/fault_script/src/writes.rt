@@ -1,5 +1,4 @@
 // The words of a write.
-ghost use Rattle.std.specs.Prelude.{◌≡◌};
 ghost use Rattle.std.specs.Option.{option_copied};
 ghost use Rattle.fault_script.specs.Gives.{Gives};
 ghost use Rattle.fault_script.specs.Commands.{insert_at, replace_at, update_at, delete_at, write_at};

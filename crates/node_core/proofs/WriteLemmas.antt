@@ -1,5 +1,5 @@
 -- What a write comes to at a node that is up: it is answered, and its disks are left alone.
-use Rattle.std.proofs.Common.{◌≡◌, ◌∙◌, sym, subst, refl, ℕ, Bool, true, false, []}
+use Rattle.std.proofs.Common.{◌≡◌, ◌∙◌, subst, refl, ℕ, Bool, true, false, []}
 use Rattle.rs_disk.specs.State.{State}
 use Rattle.set_model.specs.declared.command.Command.{Command}
 use Rattle.set_model.specs.declared.command.Command.TheVariants.{Insert, Replace, Update, Delete, Begin, Commit, Abort, Deliver, DeliverLatest, Crash, Restart, DiskFail}

@@ -1,8 +1,7 @@
 // A node that is down opens its disks anew, learns what is there of what was in doubt, and comes up with that.
-ghost use Rattle.std.specs.Prelude.{◌≡◌, ◌≢◌, ◌<◌, ◌≤◌, ◌-◌, ◌^◌, List, [], Option, None, Some, true, false, length, Err, IfOk, OnOk, OnErr, IsErrOf, IsSome};
+ghost use Rattle.std.specs.Prelude.{◌≡◌, ◌<◌, ◌≤◌, ◌-◌, ◌^◌, [], None, Some, true, false, IfOk, OnOk, OnErr, IsErrOf, IsSome};
 ghost use Rattle.record_file.specs.Files.{spare};
-ghost use Rattle.repl_msg.specs.declared.record.Record.{Record as ARecord};
-ghost use Rattle.node_journal.specs.Files.{IsAtRest as JournalRests, IsJournalDisk};
+ghost use Rattle.node_journal.specs.Files.{IsJournalDisk};
 ghost use Rattle.checkpoint_store.specs.Files.{IsCheckpointDisk};
 ghost use Rattle.set_model.specs.Disk.{has_more as is_more, recovered, restart, settled_doubt};
 ghost use Rattle.set_model.specs.Limits.{passes_first};
@@ -12,7 +11,7 @@ ghost use Rattle.node_state.specs.WellKept.{IsWellKept};
 ghost use Rattle.node_core.specs.Acting.{Follows, Runs};
 ghost use Rattle.node_core.specs.Coming.{IsFound, IsPrepared, IsRead, cut_point, cut_records, is_there as is_kept, settled as settled_node};
 ghost use Rattle.node_core.specs.Down.{down_node, left_in, seen_node};
-ghost use Rattle.node_core.specs.Putting.{IsKeepable, Puts, SHORT};
+ghost use Rattle.node_core.specs.Putting.{SHORT};
 ghost use Rattle.node_core.specs.Resting.{IsResting, Lies, Rests};
 ghost use Rattle.node_core.specs.Stands.{Stands};
 

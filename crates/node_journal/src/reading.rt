@@ -1,5 +1,5 @@
 // Records as they are read.
-ghost use Rattle.std.specs.Prelude.{◌≡◌, ◌++◌, ◌≤◌, ℕ, List, [], length, IfOk};
+ghost use Rattle.std.specs.Prelude.{◌≡◌, List, IfOk};
 ghost use Rattle.oplog_entry.specs.declared.entry.Entry.{Entry as AnEntry};
 ghost use Rattle.member_config.specs.declared.config.Member.{Member as AMember};
 ghost use Rattle.repl_msg.specs.declared.record.Record.{Record as ARecord};

@@ -1,5 +1,5 @@
 // The records that a node stored. They exist in proofs alone and take no memory.
-ghost use Rattle.std.specs.Prelude.{◌≡◌, List, []};
+ghost use Rattle.std.specs.Prelude.{◌≡◌, List};
 ghost use Rattle.std.specs.Borrow.{ftrue};
 ghost use Rattle.std.specs.Coded.{coded_list};
 ghost use Rattle.repl_msg.specs.declared.record.Record.{Record};

@@ -1,4 +1,4 @@
-ghost use Rattle.std.specs.Prelude.{◌≡◌, ◌≢◌, false, Contains, IfOk, OnOk, None, Option, is_some, unwrap_or, if◌then◌else◌};
+ghost use Rattle.std.specs.Prelude.{◌≡◌, false, Contains, IfOk, OnOk, None, is_some, unwrap_or, if◌then◌else◌};
 ghost use Rattle.bson_doc.specs.Tree.{found, with_field, IsDocument};
 ghost use Rattle.bson_doc.specs.View.{tree_of};
 ghost use Rattle.oplog_entry.specs.Lawful.{is_among};

@@ -1,15 +1,14 @@
 -- A log in two parts, after each call.
-use Rattle.std.proofs.Common.{◌≡◌, ◌≢◌, ◌∙◌, ◌<◌, ◌≤◌, ◌+◌, ◌-◌, ap, sym, subst, refl, arith, true, false, not, cond, Bool, List, [], ◌∷◌, ◌++◌, ℕ, suc, zero, length, Some, None, Option}
+use Rattle.std.proofs.Common.{◌≡◌, ◌∙◌, ◌<◌, ◌≤◌, ◌+◌, ◌-◌, ap, sym, subst, refl, arith, true, false, not, cond, Bool, List, [], ◌∷◌, ◌++◌, ℕ, suc, zero, length, Some, None, Option}
 use Rattle.std.proofs.lemmas.List.{append-nil}
-use Rattle.std.proofs.lemmas.List.Elements.{All-append, filter-append}
 use Rattle.std.proofs.lemmas.Bool.Decides.{nat_tests}
-use Rattle.std.specs.Prelude.{nat_lt, slice_get, slice_index_or, IfSome, IfNone, option_map}
-use Rattle.std.specs.List.{All, AllPairs, filter}
+use Rattle.std.specs.Prelude.{nat_lt, slice_get, IfSome, option_map}
+use Rattle.std.specs.List.{AllPairs}
 use Rattle.rs_optime.specs.declared.optime.OpTime.{OpTime}
 use Rattle.oplog_entry.specs.declared.entry.Entry.{Entry}
 use Rattle.oplog_entry.specs.Visible.{is_before, last_of, log_up_to}
 use Rattle.oplog_store.specs.Log.{IsOplog, Log, StandsAt, StandsBefore, with_entry}
-use Rattle.oplog_store.specs.Places.{IsEntryAt, IsHeld, IsHoled, Moved, Placed, StandsFirst, written}
+use Rattle.oplog_store.specs.Places.{IsEntryAt, IsHeld, IsHoled, Moved, Placed, written}
 use Rattle.oplog_store.specs.declared.places.Place.{Place}
 use Rattle.oplog_store.proofs.Keeps.{pairs_head, pairs_tail}
 use Rattle.oplog_store.proofs.LogLemmas.{oplog_filter}

@@ -1,4 +1,4 @@
-ghost use Rattle.std.specs.Prelude.{◌≡◌, ◌-◌, ◌^◌, ◌<◌, ◌≤◌, IfOk, OnOk, OnErr, MatchOption, is_ok};
+ghost use Rattle.std.specs.Prelude.{◌≡◌, ◌-◌, ◌^◌, ◌<◌, IfOk, OnOk, OnErr, MatchOption, is_ok};
 ghost use Rattle.std.specs.FinSet as set;
 ghost use Rattle.optime_slots.specs.Reserved.{AreSeen, IsLeast, none_reserved, next_slot, opened, closed, all_closed, with_seen};
 

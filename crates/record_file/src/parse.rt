@@ -1,5 +1,5 @@
 // The records that stand in some bytes.
-ghost use Rattle.std.specs.Prelude.{◌+◌, ◌<◌, List, ℕ, IfOk, MatchOption};
+ghost use Rattle.std.specs.Prelude.{List, ℕ, IfOk, MatchOption};
 ghost use Rattle.record_file.specs.Records.{AreInFront, lists};
 ghost use Rattle.record_file.specs.Parsed.{IsFirst, IsParsed};
 

@@ -1,5 +1,5 @@
 // A call that is to fail.
-ghost use Rattle.std.specs.Prelude.{◌≡◌, None, Some, MatchOption, false, true};
+ghost use Rattle.std.specs.Prelude.{◌≡◌, Some, MatchOption, false, true};
 
 #[derive(Clone, Copy, Drop)]
 pub(crate) struct Arm {

@@ -1,6 +1,5 @@
 -- What a fetched log owes: the answers to fetches can be taken (MongoDB's replication architecture guide, oplog fetching).
 use Rattle.std.specs.Prelude.{◌≡◌, ◌≤◌, ℕ, ◌++◌, List, length, take, All, Contains}
-use Rattle.oplog_entry.specs.declared.entry.Entry.{Entry}
 use Rattle.oplog_store.specs.Log.{IsOplog}
 pub use Rattle.entry_bytes.specs.Sizes.{IsWithinEntry}
 use Rattle.repl_msg.specs.declared.message.Body.TheVariants as bodies

@@ -1,5 +1,5 @@
 -- Whatever was sent, the node that it is for can take it.
-use Rattle.std.specs.Prelude.{◌≤◌, ℕ, List, length, Contains}
+use Rattle.std.specs.Prelude.{◌≤◌, List, length, Contains}
 use Rattle.repl_msg.specs.declared.message.Message.{Message}
 use Rattle.set_model.specs.declared.command.Event.{Event}
 use Rattle.set_model.specs.Node.{Node}

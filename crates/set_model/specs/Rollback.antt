@@ -1,13 +1,12 @@
 -- Rolling back what a later primary doesn't have (MongoDB's replication architecture guide, rollback; RaftMongo).
-use Rattle.std.specs.Prelude.{ℕ, ◌+◌, ◌==◌, Bool, not, ◌&&◌, nat_lt, List, map, length, Option, None, Some, if◌then◌else◌}
+use Rattle.std.specs.Prelude.{ℕ, ◌+◌, Bool, not, nat_lt, List, map, length, Option, None, Some, if◌then◌else◌}
 use Rattle.std.specs.FinMap as maps
-use Rattle.rs_optime.specs.Order.{is_before}
 use Rattle.rs_optime.specs.declared.optime.OpTime.{OpTime}
 use Rattle.bson_doc.specs.Place.{Place}
 use Rattle.bson_doc.specs.Tree.{Fields}
 use Rattle.oplog_entry.specs.declared.entry.Entry.{Entry}
 use Rattle.oplog_entry.specs.Docs.{Documents}
-use Rattle.oplog_entry.specs.Visible.{last_of, log_up_to}
+use Rattle.oplog_entry.specs.Visible.{log_up_to}
 use Rattle.repl_msg.specs.Rollback as known
 pub use Rattle.repl_msg.specs.Rollback.{is_common, common_point, touched_documents}
 use Rattle.repl_msg.specs.declared.message.Body.{Body}
@@ -22,7 +21,7 @@ use Rattle.set_model.specs.declared.store.Store.{Store}
 use Rattle.set_model.specs.declared.store.Store.TheVariants as stores
 use Rattle.set_model.specs.Node.{Node}
 use Rattle.set_model.specs.Roles.{is_secondary}
-use Rattle.set_model.specs.Points.{same_optime, earlier_of, log_behind, last_point, visible_log, visible_point}
+use Rattle.set_model.specs.Points.{earlier_of, log_behind, last_point, visible_log, visible_point}
 use Rattle.set_model.specs.Reads.{local_documents}
 use Rattle.set_model.specs.Outcome.{Outcome, replied, ignored, sending}
 use Rattle.set_model.specs.Stores.{Plan, finished, then_stored}

@@ -1,19 +1,18 @@
 -- How a call ends.
 use Rattle.std.proofs.Common.{ℕ, ◌≡◌, ◌<◌, List, [], ◌∷◌, length, Option, None, Some, Result, Ok, Err, String, refl, ap, sym, subst, arith, inl, inr, ⊎_elim, ◌∙◌}
-use Rattle.std.specs.Prelude.{◌≢◌, ◌⊎◌, IfSome, Vec}
+use Rattle.std.specs.Prelude.{◌≢◌, IfSome, Vec}
 use Rattle.std.specs.declared.alloc.Global.{Global}
 use Rattle.rs_io.specs.Fault.{Rose}
 use Rattle.rs_io.specs.ReadAll.{ReadsAll}
 use Rattle.rs_io.specs.declared.reading.ReadAllError.{ReadAllError}
 use Rattle.rs_io.specs.declared.reading.ReadAllError.TheVariants.{ReadFault as SourceFailed, TooLong as OverLimit, Memory as NoMemory}
 use Rattle.set_model.specs.Limits.{IsRun}
-use Rattle.set_model.specs.Run.{Sizes, AreSizes, run}
+use Rattle.set_model.specs.Run.{Sizes, AreSizes}
 use Rattle.set_model.specs.Safety.{Safe}
 use Rattle.safety_laws.specs.Laws.{InEveryRun}
 use Rattle.fault_script.specs.declared.rule.ScriptFault.{ScriptFault}
 use Rattle.fault_script.specs.declared.script.Part.{Part}
 use Rattle.fault_script.specs.declared.script.Script.{Script}
-use Rattle.fault_script.specs.Script.{script}
 use Rattle.set_world.specs.World.{Set}
 use Rattle.set_program.specs.declared.outcome.Left.{Left}
 use Rattle.set_program.specs.declared.outcome.Left.TheVariants.{World, Parts}

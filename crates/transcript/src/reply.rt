@@ -24,7 +24,7 @@ pub fn write_reply(line: u32, reply: &Reply, out: &mut String) -> Mem<()>
     out.push_str(&text)
 }
 
-/// Puts the same in place of what stood in `text`, whose memory serves again. Want of memory leaves a front of it there.
+/// Puts the same in place of what stood in `text`, whose memory serves again. After want of memory `text` means nothing.
 pub fn set_reply(line: u32, reply: &Reply, text: &mut String) -> Mem<()>
     ensures { OnOk result (string_bytes text.new ≡ line_text (line, reply.now)) }
 {

@@ -1,9 +1,9 @@
-ghost use Rattle.std.specs.Prelude.{◌≡◌, ◌≢◌, ◌↔◌, [], ◌<◌, ◌≤◌, ◌∷◌, ◌++◌, ℕ, All, Contains, Some, None, is_some, IsSome, true, IfOk, IsErrOf, MatchOption, OnOk, OnErr};
+ghost use Rattle.std.specs.Prelude.{◌≡◌, ◌≢◌, ◌↔◌, [], ◌<◌, ℕ, All, Contains, Some, None, is_some, IsSome, true, IfOk, IsErrOf, MatchOption, OnOk, OnErr};
 ghost use Rattle.std.specs.Option.{option_copied};
 ghost use Rattle.bson_doc.specs.Place.{Place, place_cmp};
 ghost use Rattle.std.specs.BTreeSet.{contains};
 ghost use Rattle.std.specs.List.Sorted.{IsStrictlySortedBy};
-ghost use Rattle.version_store.specs.Past.{no_past, is_before, latest_of, shown, with_version, held_by, back_to, back_before, pruned, IsRising};
+ghost use Rattle.version_store.specs.Past.{no_past, is_before, latest_of, with_version, held_by, back_to, back_before, pruned, IsRising};
 ghost use Rattle.version_store.specs.Cuts.{left_by};
 ghost use Rattle.version_store.specs.Shards.{past_of};
 ghost use Rattle.version_store.specs.Store.{past_at, versions_at, holder_at, shown_at, AreShards, AreAllOrNone, Changes, ChangesEach};

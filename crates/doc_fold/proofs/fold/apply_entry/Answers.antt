@@ -1,5 +1,4 @@
-use Rattle.std.proofs.Common.{◌≡◌, sym, ap, ◌∙◌}
-use Rattle.std.specs.Option.{option_copied}
+use Rattle.std.proofs.Common.{sym, ap, ◌∙◌}
 use Rattle.oplog_entry.specs.Step.{document_after}
 use Rattle.doc_fold.proofs.MapLemmas.{applied-documents_of, applied-documents_of-twice}
 use Rattle.doc_fold.proofs.fold.apply_entry.Goals as goal

@@ -1,4 +1,4 @@
-use Rattle.std.proofs.Common.{◌≡◌, Bool, Option, None, Some, is_some, option_map, refl, sym, ap, ◌∙◌}
+use Rattle.std.proofs.Common.{◌≡◌, Option, None, Some, is_some, option_map, refl, sym, ap, ◌∙◌}
 use Rattle.doc_update.proofs.NameRules.{found-names_of}
 use Rattle.doc_update.proofs.checks.has_name.Goals as goal
 

@@ -1,8 +1,7 @@
-use Rattle.std.proofs.Common.{◌≡◌, ◌-◌, ◌+◌, ◌++◌, ◌∷◌, ◌||◌, Bool, true, false, not, List, ℕ, ap, cond, sym, ◌∙◌, arith}
+use Rattle.std.proofs.Common.{◌≡◌, ◌-◌, ◌+◌, ◌++◌, ◌∷◌, ◌||◌, true, false, List, ℕ, ap, sym, ◌∙◌, arith}
 use Rattle.std.proofs.lemmas.Grind.{common_steps}
 use Rattle.bson_doc.specs.Tree.{fields_from}
 use Rattle.bson_doc.specs.View.{tree_of}
-use Rattle.bson_doc.proofs.DocLemmas.{fields_from-zero}
 use Rattle.oplog_entry.specs.Lawful.{is_among}
 use Rattle.doc_update.specs.Check.{all_names, given, names_of, has_twice}
 use Rattle.doc_update.proofs.NameRules.{fields_from-first, seen-step, has_twice-names_of, has_twice-all_names}

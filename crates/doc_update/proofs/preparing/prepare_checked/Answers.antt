@@ -1,4 +1,4 @@
-use Rattle.std.proofs.Common.{◌≡◌, IfOk, IfSome, codes, subst, ap, sym, ◌∙◌}
+use Rattle.std.proofs.Common.{IfOk, IfSome, codes, subst, ap, sym}
 use Rattle.std.specs.Option.{option_copied}
 use Rattle.doc_update.specs.Check.{checked}
 use Rattle.doc_update.specs.Effect.{replace_prepared, update_prepared}

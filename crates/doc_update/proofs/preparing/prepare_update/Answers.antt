@@ -1,4 +1,4 @@
-use Rattle.std.proofs.Common.{◌≡◌, sym, subst, codes}
+use Rattle.std.proofs.Common.{sym, subst, codes}
 use Rattle.bson_doc.specs.Tree.{IsDocument}
 use Rattle.doc_update.proofs.SoundLemmas.{IsDocument-sets, IsDocument-under}
 use Rattle.doc_update.proofs.preparing.prepare_update.Goals as goal

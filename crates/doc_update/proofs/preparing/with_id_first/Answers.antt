@@ -1,6 +1,6 @@
-use Rattle.std.proofs.Common.{◌≡◌, ◌+◌, [], ◌∷◌, codes, ap, sym, subst, ◌∙◌, arith}
+use Rattle.std.proofs.Common.{◌≡◌, ◌+◌, [], ◌∷◌, codes, ap, sym, ◌∙◌, arith}
 use Rattle.std.proofs.lemmas.Grind.{common_steps}
-use Rattle.bson_doc.specs.Tree.{no_fields, field, fields_from, IsDocument}
+use Rattle.bson_doc.specs.Tree.{no_fields, field, fields_from}
 use Rattle.bson_doc.specs.View.{tree_of}
 use Rattle.bson_doc.proofs.DocLemmas.{fields_from-zero, fields_from-end}
 use Rattle.oplog_entry.specs.Walk.{join, kept}

@@ -1,4 +1,4 @@
-use Rattle.std.proofs.Common.{◌≡◌, ◌∙◌, ◌<◌, ◌-◌, [], ap, arith, rules, subst, sym, Some, length}
+use Rattle.std.proofs.Common.{◌≡◌, ◌∙◌, ◌<◌, ◌-◌, ap, arith, rules, subst, Some, length}
 use Rattle.std.specs.Prelude.{slice_get, slice_index_or}
 use Rattle.oplog_store.specs.Places.{Precedes}
 use Rattle.oplog_store.proofs.PlaceLemmas.{all_precede, all_precede_end, last_there, no_length}

@@ -1,5 +1,5 @@
-use Rattle.std.proofs.Common.{◌≡◌, ◌≢◌, ◌∙◌, ◌<◌, ◌≤◌, ap, arith, rules, sym, length, Some}
-use Rattle.std.proofs.lemmas.Option.{slice_get-get_or, slice_get_within}
+use Rattle.std.proofs.Common.{◌≡◌, ◌≢◌, ◌∙◌, ◌<◌, ◌≤◌, ap, arith, rules, length, Some}
+use Rattle.std.proofs.lemmas.Option.{slice_get_within}
 use Rattle.std.specs.Prelude.{slice_get}
 use Rattle.oplog_store.specs.declared.places.Place.{Place}
 use Rattle.oplog_store.proofs.PlaceLemmas.{at_place, none_at, none_there, other_there, written_at}

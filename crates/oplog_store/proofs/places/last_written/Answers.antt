@@ -1,4 +1,4 @@
-use Rattle.std.proofs.Common.{◌≡◌, ◌++◌, arith, take, length}
+use Rattle.std.proofs.Common.{◌++◌, arith, take}
 use Rattle.oplog_store.specs.Places.{written}
 use Rattle.oplog_store.proofs.PlaceLemmas.{last_more}
 use Rattle.oplog_store.proofs.places.last_written.Goals as goal

@@ -1,4 +1,3 @@
-use Rattle.std.proofs.Common.{arith}
 use Rattle.oplog_store.proofs.PlaceLemmas.{moved_more, moved_none}
 use Rattle.oplog_store.proofs.places.settle.Goals as goal
 

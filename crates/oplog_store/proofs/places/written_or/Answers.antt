@@ -1,4 +1,4 @@
-use Rattle.std.proofs.Common.{◌≡◌, ◌∙◌, ◌++◌, ◌∷◌, [], ap, sym}
+use Rattle.std.proofs.Common.{◌∙◌, ◌++◌, ◌∷◌, [], ap, sym}
 use Rattle.oplog_entry.specs.Visible.{last_of}
 use Rattle.oplog_store.specs.Places.{written}
 use Rattle.oplog_store.specs.declared.places.Place.{Place}

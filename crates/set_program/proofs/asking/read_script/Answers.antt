@@ -1,6 +1,6 @@
 use Rattle.std.proofs.Common.{refl}
 use Rattle.std.proofs.lemmas.Result.{err_from_is_err_and}
-use Rattle.set_program.proofs.EndLemmas.{if_read, read_stops}
+use Rattle.set_program.proofs.EndLemmas.{read_stops}
 use Rattle.set_program.proofs.asking.read_script.Goals as goal
 
 pub returns-in_err-bytes-clause-reads : goal.returns-in_err-bytes-clause-reads

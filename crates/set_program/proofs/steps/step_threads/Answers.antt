@@ -1,4 +1,4 @@
-use Rattle.std.proofs.Common.{ℕ, ◌≡◌, ◌+◌, ◌≤◌, true, List, [], ◌∷◌, length, refl, rules, arith, subst, sym}
+use Rattle.std.proofs.Common.{◌≡◌, [], ◌∷◌, length, refl, rules, subst, sym}
 use Rattle.std.specs.Vec.Iter.{into_iter_items}
 use Rattle.std.specs.List.{list_all, AllPass}
 use Rattle.std.proofs.lemmas.List.{nil_from_length}

@@ -1,4 +1,4 @@
-use Rattle.std.proofs.Common.{◌≡◌, ap, sym, ◌∙◌}
+use Rattle.std.proofs.Common.{ap, ◌∙◌}
 use Rattle.bson_doc.specs.View.{tree_of}
 use Rattle.doc_update.specs.Entries.{fields_in}
 use Rattle.doc_update.specs.Ordered.{placed}
