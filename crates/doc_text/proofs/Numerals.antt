@@ -3,7 +3,7 @@ use Rattle.std.proofs.Common.{◌≡◌, ◌≢◌, ℕ, suc, lit<, ◌+◌, ◌
 use Rattle.std.specs.List.{prefix_len}
 use Rattle.std.specs.Char.{is_ascii_digit, digit_value}
 use Rattle.std.specs.Str.{IsUtf8, IsCharBoundary}
-use Rattle.std.specs.Str.Parse.{AllDigits, IsNumeral, without_leading_sign}
+use Rattle.std.specs.Str.Parse.{AllDigits}
 use Rattle.std.proofs.lemmas.Bool.{cases_eq}
 use Rattle.std.proofs.lemmas.List.{take-append-drop, take_at, drop_at, length-append}
 use Rattle.std.proofs.lemmas.Str.{IsCharBoundary-at_seam, IsCharBoundary-after_ascii, IsUtf8-drop}
@@ -24,13 +24,6 @@ all_digits false c rest n e digits = tt
 pub run_of_digits : (text : List ℕ) → AllDigits 10 (take (prefix_len is_ascii_digit text) text)
 run_of_digits [] = tt
 run_of_digits (c ∷ rest) = all_digits (is_ascii_digit c) c rest (prefix_len is_ascii_digit rest) refl (run_of_digits rest)
-
--- a numeral of digits alone has no sign
-pub no_sign : (digits : List ℕ) → IsNumeral 10 digits → without_leading_sign digits ≡ digits
-no_sign [] numeral = absurd (omega (arith, numeral.0))
-no_sign (c ∷ rest) numeral =
-    let digit = digit_from_value c numeral.1.0 in
-    grind arith
 
 -- the digits are the front of the text
 pub digits_parts : (text digits rest : List ℕ) → digits_at text ≡ Ok (digits, rest) → text ≡ digits ++ rest

@@ -84,12 +84,3 @@ item_smaller place items rest value is = omega (arith, trees_from-size place ite
 
 pub field_smaller : (place : ℕ) (fields rest : Fields) (name : List ℕ) (value : Tree) → fields_from place fields ≡ field name value rest → 2 * tree_size value + 1 < 2 * fields_size fields
 field_smaller place fields rest name value is = omega (arith, fields_from-size place fields, ap fields_size is)
-
--- a separator is written where there is something before
-pub some_separator : (place : ℕ) → 0 < place → separator place ≡ codes ", "
-some_separator zero some = absurd (omega arith)
-some_separator (suc place) some = refl
-
-pub no_separator : (place : ℕ) → place ≤ 0 → separator place ≡ []
-no_separator zero none = refl
-no_separator (suc place) none = absurd (omega arith)

@@ -17,7 +17,7 @@ use Rattle.oplog_entry.specs.declared.entry.Op.TheVariants as ops
 use Rattle.oplog_entry.proofs.FieldLemmas.{same_name, same_itself}
 use Rattle.doc_update.specs.Check.{names_of, all_names, given, has_twice, replace_checked, same_id, update_checked, by_rule, broken_rule, names_id}
 use Rattle.doc_update.specs.Effect.{under, fields_under, present, id_first, stored, written, is_too_large, sets_of, unsets_of, updated, update_prepared, replace_prepared}
-use Rattle.doc_update.specs.Increment.{sums, added, has_wrong_side, has_overflow}
+use Rattle.doc_update.specs.Increment.{sums, has_wrong_side, has_overflow}
 use Rattle.doc_update.specs.Ordered.{in_byte_order, as_strings}
 use Rattle.doc_update.specs.Refusal.{Answers}
 use Rattle.doc_update.specs.Same.{same_fields}

@@ -25,18 +25,7 @@ impl WriteOp {
     pub fn is_sound(&self)
         ensures { IsSoundWrite self.now }
     {
-        match self {
-            WriteOp::Insert { doc, .. } => doc.is_sound(),
-            WriteOp::Replace { id, doc, .. } => {
-                id.is_sound();
-                doc.is_sound();
-            }
-            WriteOp::Update { id, operators, .. } => {
-                id.is_sound();
-                operators.is_sound();
-            }
-            WriteOp::Delete { id, .. } => id.is_sound(),
-        }
+        self.lent().is_sound();
     }
 
     /// The same write once more.

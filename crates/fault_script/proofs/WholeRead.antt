@@ -8,7 +8,6 @@ use Rattle.fault_script.specs.declared.rule.ScriptError.TheVariants.{Fault, Memo
 use Rattle.fault_script.specs.declared.rule.ScriptFault.{ScriptFault}
 use Rattle.fault_script.specs.declared.rule.ScriptRule.{ScriptRule}
 use Rattle.fault_script.specs.declared.rule.ScriptRule.TheVariants.{TooManyLines}
-use Rattle.fault_script.specs.declared.script.Script.{Script}
 use Rattle.fault_script.specs.Lines.{text_of}
 use Rattle.fault_script.specs.Script.{start, with_line, whole, and_then, script_from, script, Stops, StopsLine}
 
@@ -48,10 +47,6 @@ read_stops bytes rest line behind reading number (Fault fault) so_far cut stops 
 pub read_whole : (bytes rest : List ℕ) (reading : Reading) (number : ℕ) → ReadSoFar bytes reading number rest → length rest ≡ 0 → script bytes ≡ whole number reading reading.set reading.block
 read_whole bytes [] reading number so_far none = sym so_far.whole
 read_whole bytes (c ∷ rest) reading number so_far none = absurd (omega arith)
-
--- what the end gives
-pub read_end : (bytes : List ℕ) (ended : Result Script ScriptFault) (error : ScriptError) (fault : ScriptFault) → script bytes ≡ ended → ended ≡ Err fault → error ≡ Fault fault → Stops (script bytes) error
-read_end bytes ended error fault whole is named = rw named (whole ∙ is)
 
 -- a line that is read is one of the first 200,000
 pub counted : (number : ℕ) (reading next : Reading) (line : List ℕ) → with_line number reading line ≡ Ok next → number ≤ 200000

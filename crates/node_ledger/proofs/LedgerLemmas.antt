@@ -123,7 +123,7 @@ kept_noop node store kept new = record {
         none_touches None e some = absurd (cc some)
         none_touches (Some p) e some = cc
 
-pub kept_opened : (node : Node) (store later : Store) (writer : ℕ) (op : Op) (place : Place) → IsKept node store → IsNew node op → place_of op ≡ Some place
+kept_opened : (node : Node) (store later : Store) (writer : ℕ) (op : Op) (place : Place) → IsKept node store → IsNew node op → place_of op ≡ Some place
     → holder_among (entries node.writers) place ≡ None → ¬ (IsWriting node.writers writer)
     → Changes store later place (held_by (past_at store place) (Some writer))
     → IsKept (opened node writer op) later

@@ -57,11 +57,6 @@ get_in [] k x is = absurd (cc is)
 get_in (y ∷ ys) zero x is = inl (cc is)
 get_in (y ∷ ys) (suc k) x is = inr (get_in ys k x is)
 
-get_within : (xs : List Entry) (k : ℕ) (x : Entry) → slice_get xs k ≡ Some x → k < length xs
-get_within [] k x is = absurd (cc is)
-get_within (y ∷ ys) zero x is = omega arith
-get_within (y ∷ ys) (suc k) x is = let rest : k < length ys = get_within ys k x is in omega (arith, rest)
-
 -- what a look-up gives is the entry with this optime
 pub looked_up : {B : Type 0} (found : Option B) (now : B → Entry) (log : List Entry) (at : OpTime) → IsOplog log → IfSome (option_map now found) (λ entry. IsEntryAt log at entry)
     → IfNone found (All (λ (e : Entry). e.optime ≢ at) log) → option_map now found ≡ entry_at log at

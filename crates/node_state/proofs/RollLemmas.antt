@@ -1,5 +1,5 @@
 -- How a node that rolls back makes it ready, while it may still be in its own term.
-use Rattle.std.proofs.Common.{◌≡◌, ◌∙◌, ◌⊎◌, ◌<◌, ◌-◌, ◌^◌, inl, inr, ap, sym, subst, refl, ℕ, Bool, true, false, not, nat_lt, cond, length, Option, None, Some, List}
+use Rattle.std.proofs.Common.{◌≡◌, ◌∙◌, ◌⊎◌, ◌<◌, ◌-◌, ◌^◌, inl, inr, ap, sym, subst, refl, ℕ, Bool, true, false, not, cond, length, Option, None, Some, List}
 use Rattle.std.specs.Prelude.{Result, Ok, Err, OnOk, OnErr}
 use Rattle.std.specs.declared.alloc.AllocError.{AllocError}
 use Rattle.bson_doc.specs.Place.{Place}
@@ -14,9 +14,6 @@ use Rattle.repl_msg.specs.Logs.{later_of, log_behind}
 use Rattle.repl_msg.specs.Rollback.{is_common, common_point}
 use Rattle.election_core.specs.Counting.{Tallied}
 use Rattle.rollback_core.proofs.Greatest.{greatest_last}
-use Rattle.rollback_core.specs.Plan.{plan}
-use Rattle.rollback_core.specs.declared.point.RollbackRefusal.{RollbackRefusal}
-use Rattle.rollback_core.specs.declared.point.RollbackRefusal.TheVariants as refusals
 use Rattle.set_model.specs.declared.reply.Ignored.{Ignored}
 use Rattle.set_model.specs.declared.reply.Ignored.TheVariants as ignored
 use Rattle.set_model.specs.declared.role.Role.{Role}
@@ -25,7 +22,7 @@ use Rattle.set_model.specs.Node.{Node}
 use Rattle.set_model.specs.Points.{if_primary, last_point}
 use Rattle.set_model.specs.Reads.{local_documents}
 use Rattle.set_model.specs.Roles.{is_secondary}
-use Rattle.set_model.specs.Rollback.{common_told, is_of_later_branch, lost_documents, roll_back, rolled_back, rollback_reason}
+use Rattle.set_model.specs.Rollback.{common_told, lost_documents, roll_back, rolled_back, rollback_reason}
 use Rattle.set_model.specs.Safety.{AtMost, Has}
 use Rattle.node_state.specs.Ahead.{Foretells, Tells, taking}
 use Rattle.node_state.specs.Coherent.{IsCoherent}
@@ -56,41 +53,6 @@ taken_documents true term node oplog = by_role node.role
     by_role Draining = refl
 
 -- ---- why a node doesn't roll back
-
--- a refusal of two logs, as a node's
-abbrev pub as_ignored : Result OpTime RollbackRefusal → Result OpTime Ignored
-as_ignored (Ok point) = Ok point
-as_ignored (Err refusals.NotOlder) = Err ignored.NotOlder
-as_ignored (Err refusals.SameBranch) = Err ignored.SameBranch
-
-planned : (other common : Bool) (point : OpTime)
-    → as_ignored (cond other (Err refusals.NotOlder) (cond common (Err refusals.SameBranch) (Ok point)))
-    ≡ point_or (cond other (Some ignored.NotOlder) (cond common (Some ignored.SameBranch) None)) point
-planned true true point = refl
-planned true false point = refl
-planned false true point = refl
-planned false false point = refl
-
-reason_by : (secondary old other common : Bool) → Option Ignored
-reason_by secondary old other common =
-    cond (not secondary) (Some ignored.NotSecondary) (cond old (Some ignored.OldTerm) (cond other (Some ignored.NotOlder) (cond common (Some ignored.SameBranch) None)))
-
-point_by : (secondary old other common : Bool) (point : OpTime) → secondary ≡ true → old ≡ false
-    → as_ignored (cond other (Err refusals.NotOlder) (cond common (Err refusals.SameBranch) (Ok point))) ≡ point_or (reason_by secondary old other common) point
-unfolding reason_by
-point_by secondary old other common point is late =
-    planned other common point ∙ sym (ap (λ (p : Bool × Bool). point_or (reason_by p.0 p.1 other common) point) (λ i. (is i, late i)))
-
--- of a secondary in no later term, what its log says
-pub point_is : (raised : Bool) (term : ℕ) (node : Node) (after : OpTime) (optimes : List OpTime) (visible : OpTime)
-    → is_secondary (taking raised 0 node).role ≡ true → nat_lt term (taking raised term node).term ≡ false
-    → as_ignored (plan (taking raised term node).term node.log (last_point node) visible after optimes)
-    ≡ point_or (rollback_reason (taking raised term node) term after optimes visible) (common_point node.log after optimes)
-unfolding reason_by
-point_is true term node after optimes visible is late =
-    point_by true (nat_lt term term) (not (is_of_later_branch (taking true term node) visible)) (is_common after optimes (last_point node)) (common_point node.log after optimes) refl late
-point_is false term node after optimes visible is late =
-    point_by (is_secondary node.role) (nat_lt term node.term) (not (is_of_later_branch node visible)) (is_common after optimes (last_point node)) (common_point node.log after optimes) is late
 
 -- what a point or its want says of the reason
 pub no_reason : (reason : Option Ignored) (point found : OpTime) → Ok found ≡ point_or reason point → (reason ≡ None) × (found ≡ point)

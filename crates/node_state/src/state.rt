@@ -121,7 +121,8 @@ impl State {
     }
 
     /// Begins what a command asks of a node, in a set of so many nodes, where the next message gets this number. For a write
-    /// there is `write`. Only memory can be wanting, and then the node is as it was. What may want memory as it stores has changed nothing before.
+    /// there is `write`. Only memory can be wanting, and then the node is as it was. What may want memory as it stores has
+    /// changed nothing before.
     #[tactic(auto, using(crate::proofs::TurnLemmas::while_up))]
     pub fn start<R: Threads + Sync>(
         &mut self,

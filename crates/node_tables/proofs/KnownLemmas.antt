@@ -1,5 +1,5 @@
 -- A table of what was heard, place by place.
-use Rattle.std.proofs.Common.{◌≡◌, ◌∙◌, ◌<◌, ◌+◌, ap, sym, refl, arith, Bool, true, false, cond, List, [], ◌∷◌, ◌++◌, map, append_assoc, ℕ, suc, zero, length, Option, None, Some, replicate, take}
+use Rattle.std.proofs.Common.{◌≡◌, ◌∙◌, ◌<◌, ◌+◌, ap, sym, refl, arith, Bool, true, false, cond, List, [], ◌∷◌, ◌++◌, map, append_assoc, ℕ, suc, zero, length, Option, None, Some, take}
 use Rattle.std.specs.Prelude.{◌==◌, slice_index_or, slice_set}
 use Rattle.std.proofs.lemmas.List.{map-append, take_more, length-take-le}
 use Rattle.std.proofs.lemmas.Bool.Decides.{nat_tests}
@@ -20,10 +20,6 @@ abbrev heard_by : Known → words.Heard
 heard_by known = record { last = known.last; primary = known.primary }
 
 -- ---- nothing is heard
-
-pub heard_from-replicate : (count place : ℕ) → heard_from place (replicate count None) ≡ []
-heard_from-replicate zero place = refl
-heard_from-replicate (suc count) place = heard_from-replicate count (place + 1)
 
 pub heard_from-none : (places : List (Option Heard)) (place : ℕ) → ((k : ℕ) (d : Option Heard) → k < length places → slice_index_or places k d ≡ None) → heard_from place places ≡ []
 heard_from-none [] place none = refl

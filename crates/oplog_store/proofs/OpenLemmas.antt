@@ -1,5 +1,5 @@
 -- A log in two parts, after each call.
-use Rattle.std.proofs.Common.{◌≡◌, ◌∙◌, ◌<◌, ◌≤◌, ◌+◌, ◌-◌, ap, sym, subst, refl, arith, true, false, not, cond, Bool, List, [], ◌∷◌, ◌++◌, ℕ, suc, zero, length, Some, None, Option}
+use Rattle.std.proofs.Common.{◌≡◌, ◌∙◌, ◌<◌, ◌≤◌, ◌-◌, ap, sym, subst, refl, arith, true, false, not, cond, Bool, List, [], ◌∷◌, ◌++◌, ℕ, suc, zero, length, Some, None, Option}
 use Rattle.std.proofs.lemmas.List.{append-nil}
 use Rattle.std.proofs.lemmas.Bool.Decides.{nat_tests}
 use Rattle.std.specs.Prelude.{nat_lt, slice_get, IfSome, option_map}
@@ -75,11 +75,6 @@ holed_new log [] none empty = record {
   room = omega arith;
 }
 holed_new log (place ∷ places) none empty = absurd (cc empty)
-
--- the entries are the same, and there is room
-pub holed_same : (log new : Log) (places places_new : List Place) (at : OpTime) (spare spare_new : ℕ) → IsHoled log places at spare → IsHeld new.entries places_new
-    → new.entries ++ written places_new ≡ log.entries ++ written places → spare_new + length places_new ≤ new.spare → IsHoled new places_new at spare_new
-holed_same log new places places_new at spare spare_new holed held same room = record { held = held; last = holed.last ∙ ap last_of (sym same); room = room }
 
 -- where an entry is put among the places, and what is settled then moves
 pub holed_placed : (log new : Log) (places put places_new : List Place) (at at_new : OpTime) (spare : ℕ) (entry : Entry) → IsHoled log places at spare → 0 < spare

@@ -173,21 +173,6 @@ late_apart place ts first log late rises earlier other there = by_test (is_at (p
     by_test false is = is
     by_test true is = let before : other.optime.ts < ts = earlier other there is in let from : ts ≤ other.optime.ts = after there in absurd (omega (arith, before, from))
 
-pub here_doc : (place : Place) (entry : Entry) → is_at (place_of entry.op) place ≡ true → (before : Option Fields) (log : List Entry) → Rises log → AreEarlier place entry.optime.ts log
-    → doc_from place before (with_entry log entry) ≡ document_after entry.op (doc_from place before log)
-here_doc place entry here before [] rises earlier = ap (λ b. cond b (document_after entry.op before) before) here
-here_doc place entry here before (first ∷ log) rises earlier =
-    by_test (nat_lt first.optime.ts entry.optime.ts) refl (here_doc place entry here (next_at place before first) log rises.1 (λ other there. earlier other (inr there)))
-  where
-    by_test : (b : Bool) → nat_lt first.optime.ts entry.optime.ts ≡ b → doc_from place (next_at place before first) (with_entry log entry) ≡ document_after entry.op (doc_from place (next_at place before first) log)
-        → doc_from place before (cond b (first ∷ with_entry log entry) (entry ∷ first ∷ log)) ≡ document_after entry.op (doc_from place before (first ∷ log))
-    by_test true is later = later
-    by_test false is later =
-        let apart : AreApart place (first ∷ log) = late_apart place entry.optime.ts first log is rises earlier in
-        apart_doc place (next_at place before entry) (first ∷ log) apart
-        ∙ ap (λ b. cond b (document_after entry.op before) before) here
-        ∙ ap (document_after entry.op) (sym (apart_doc place before (first ∷ log) apart))
-
 here_stored : (place : Place) (entry : Entry) → is_at (place_of entry.op) place ≡ true → (before : Option Fields) (log : List Entry) → Rises log → AreEarlier place entry.optime.ts log
     → AreStoredFrom place before log → IsStored place (document_after entry.op (doc_from place before log)) → AreStoredFrom place before (with_entry log entry)
 here_stored place entry here before [] rises earlier stored new = (stored, subst (λ b. IsStored place (cond b (document_after entry.op before) before)) (sym here) new)

@@ -1,6 +1,6 @@
 -- How a call ends.
-use Rattle.std.proofs.Common.{ℕ, ◌≡◌, ◌<◌, List, [], ◌∷◌, length, Option, None, Some, Result, Ok, Err, String, refl, ap, sym, subst, arith, inl, inr, ⊎_elim, ◌∙◌}
-use Rattle.std.specs.Prelude.{◌≢◌, IfSome, Vec}
+use Rattle.std.proofs.Common.{ℕ, ◌≡◌, ◌<◌, List, [], ◌∷◌, length, Option, None, Some, Result, Ok, Err, String, refl, sym, subst, arith, inl, inr, ⊎_elim, ◌∙◌}
+use Rattle.std.specs.Prelude.{◌≢◌, IfSome}
 use Rattle.std.specs.declared.alloc.Global.{Global}
 use Rattle.rs_io.specs.Fault.{Rose}
 use Rattle.rs_io.specs.ReadAll.{ReadsAll}
@@ -20,7 +20,7 @@ use Rattle.set_program.specs.declared.stop.Stop.{Stop}
 use Rattle.set_program.specs.declared.stop.Stop.TheVariants.{Memory, Usage, Script as NoScript, ReadFault, WriteFault, TooLong, DiskFault}
 use Rattle.set_program.specs.Asking.{RunsScript}
 use Rattle.set_program.specs.Causes.{of_read}
-use Rattle.set_program.specs.Headline.{AsksRun, Ends, EndsRun, EndsUnrun, HasNoFault, IfRead, IsFaulty, IsOneOf, IsRead, IsReadable, limit, status_of}
+use Rattle.set_program.specs.Headline.{AsksRun, Ends, EndsRun, EndsUnrun, HasNoFault, IsFaulty, IsOneOf, IsRead, IsReadable, limit, status_of}
 use Rattle.set_program.specs.Left.{IfSet}
 use Rattle.set_program.specs.Plays.{Plays}
 use Rattle.set_program.proofs.PlayLemmas.{Keeps-same, follows_so}
@@ -37,11 +37,6 @@ read_stops words left rest held OverLimit asks reads = (asks, Keeps-same held, o
     over None r reads = tt
     over (Some before) None reads = absurd reads
     over (Some before) (Some after) reads = omega (arith, reads)
-
-pub if_read : (left rest : Option (List ℕ)) (bytes : Vec ℕ Global) (P : List ℕ → Type 0) → ReadsAll limit left rest (Ok bytes) → P bytes.items → IfRead left rest P
-if_read None rest bytes P reads holds = tt
-if_read (Some before) None bytes P reads holds = absurd reads
-if_read (Some before) (Some after) bytes P reads holds = (reads.2, ap Some reads.1, rw reads.0 at holds)
 
 -- ---- it is run
 

@@ -1,9 +1,8 @@
 -- The lines of a part, played one after another.
-use Rattle.std.proofs.Common.{ℕ, suc, ◌≡◌, ◌+◌, ◌≤◌, ◌<◌, Bool, true, List, [], ◌∷◌, ◌++◌, length, length-append, take, get_or, append_assoc, refl, ap, sym, subst, arith, ◌∙◌}
+use Rattle.std.proofs.Common.{ℕ, suc, ◌≡◌, ◌+◌, ◌≤◌, Bool, true, List, [], ◌∷◌, ◌++◌, length, length-append, append_assoc, refl, ap, sym, subst, arith, ◌∙◌}
 use Rattle.std.specs.Prelude.{map}
-use Rattle.std.specs.List.{flat_map, AllPass}
-use Rattle.std.proofs.lemmas.List.{append-nil, map-append, take_more, length-map}
-use Rattle.std.proofs.lemmas.List.Concat.{flat_map-append}
+use Rattle.std.specs.List.{AllPass}
+use Rattle.std.proofs.lemmas.List.{append-nil, map-append, length-map}
 use Rattle.rs_disk.specs.State.{State}
 use Rattle.set_model.specs.declared.command.Command.{Command}
 use Rattle.set_model.specs.declared.command.Event.{Event}
@@ -136,15 +135,6 @@ line_undone state line command old new fits is sizes = record {
   adds = adds_none old.history new.history is.history;
   disks = undone_ran state old new command fits is sizes;
 }
-
--- a list to behind one of its places
-pub next_take : {A : Type 0} (xs : List A) (i : ℕ) (x : A) → i < length xs → x ≡ get_or xs i x → take (i + 1) xs ≡ take i xs ++ x ∷ []
-next_take {A} xs i x within is = take_more xs i x within ∙ ap (λ (y : A). take i xs ++ y ∷ []) (sym is)
-
--- the pieces of a list's items, one after another
-pub next_pieces : {A B : Type 0} (f : A → List B) (xs : List A) (i : ℕ) (x : A) → i < length xs → x ≡ get_or xs i x → flat_map f (take (i + 1) xs) ≡ flat_map f (take i xs) ++ f x
-next_pieces {A} {B} f xs i x within is =
-    ap (flat_map f) (next_take xs i x within is) ∙ flat_map-append f (take i xs) (x ∷ []) ∙ ap (λ (ys : List B). flat_map f (take i xs) ++ ys) (append-nil (f x))
 
 -- how long a history is behind some lines
 pub longer_by : (lines : List (ℕ × Command)) (old new : List Event) → Adds lines old new → length new ≡ length old + length lines

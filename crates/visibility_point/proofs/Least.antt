@@ -34,11 +34,6 @@ turned Less h = refl
 turned Equal h = refl
 turned Greater h = cc h
 
-turned_back : (r : Ordering) → is_lt (ordering_reverse r) ≡ false → is_gt r ≡ false
-turned_back Less h = refl
-turned_back Equal h = refl
-turned_back Greater h = cc h
-
 left_over : (r : Ordering) → is_gt r ≡ false → is_eq r ≡ false → is_lt r ≡ true
 left_over Less h k = refl
 left_over Equal h k = cc k
