@@ -133,7 +133,7 @@ unfolding set_line
 set_sized text =
     bind_any (word_at (Some text)) _ (λ set. AreSizes (line_sizes set)) (λ first.
     tested (bytes_eq first.0 (codes "set")) _ NoSetLine (λ set. AreSizes (line_sizes set)) (λ named.
-    tested (has_shape (Words 2 3) text) _ WordCount (λ set. AreSizes (line_sizes set)) (λ shaped. sizes_sized first.1)))
+    tested (has_shape (Words 1 2) first.1) _ WordCount (λ set. AreSizes (line_sizes set)) (λ shaped. sizes_sized first.1)))
 
 -- ---- any line
 

@@ -78,34 +78,34 @@ as_verb None = None
 abbrev pub verb_of : List ℕ → Option Verb
 verb_of word = if bytes_eq word (codes "deliver") then Some verbs.Deliver else as_verb (node_verb word)
 
--- how many words a line with this first word has
+-- how many words a line with this first word has behind it
 abbrev pub node_shape : NodeVerb → Shape
-node_shape (asks.Write kind) = Value 3
-node_shape asks.Begin = Value 5
-node_shape asks.Commit = Words 3 3
-node_shape asks.Abort = Words 3 3
-node_shape asks.Ack = Words 4 4
-node_shape asks.Read = Value 4
-node_shape asks.Dump = Words 3 3
-node_shape asks.Log = Words 2 2
-node_shape asks.State = Words 2 2
-node_shape asks.Rolled = Words 2 2
-node_shape asks.Campaign = Words 2 2
-node_shape asks.DryRun = Words 2 2
-node_shape asks.Drain = Words 2 2
-node_shape asks.StepDown = Words 2 2
-node_shape asks.Heartbeat = Words 3 3
-node_shape asks.Report = Words 3 3
-node_shape asks.Common = Words 3 3
-node_shape asks.Fetch = Words 2 2
-node_shape asks.Apply = Words 2 3
-node_shape asks.Flush = Words 2 2
-node_shape asks.Checkpoint = Words 2 2
-node_shape asks.Reconfig = Value 2
-node_shape asks.Crash = Words 2 3
-node_shape asks.Restart = Words 2 2
-node_shape asks.DiskFail = Words 4 5
-node_shape asks.Clock = Words 3 3
+node_shape (asks.Write kind) = Value 2
+node_shape asks.Begin = Value 4
+node_shape asks.Commit = Words 2 2
+node_shape asks.Abort = Words 2 2
+node_shape asks.Ack = Words 3 3
+node_shape asks.Read = Value 3
+node_shape asks.Dump = Words 2 2
+node_shape asks.Log = Words 1 1
+node_shape asks.State = Words 1 1
+node_shape asks.Rolled = Words 1 1
+node_shape asks.Campaign = Words 1 1
+node_shape asks.DryRun = Words 1 1
+node_shape asks.Drain = Words 1 1
+node_shape asks.StepDown = Words 1 1
+node_shape asks.Heartbeat = Words 2 2
+node_shape asks.Report = Words 2 2
+node_shape asks.Common = Words 2 2
+node_shape asks.Fetch = Words 1 1
+node_shape asks.Apply = Words 1 2
+node_shape asks.Flush = Words 1 1
+node_shape asks.Checkpoint = Words 1 1
+node_shape asks.Reconfig = Value 1
+node_shape asks.Crash = Words 1 2
+node_shape asks.Restart = Words 1 1
+node_shape asks.DiskFail = Words 3 4
+node_shape asks.Clock = Words 2 2
 
 -- a line of this shape ends in a value
 abbrev pub ends_in_value : Shape → Bool
@@ -113,7 +113,7 @@ ends_in_value (Words least most) = false
 ends_in_value (Value before) = true
 
 abbrev pub shape_of : Verb → Shape
-shape_of verbs.Deliver = Words 2 3
+shape_of verbs.Deliver = Words 1 2
 shape_of (verbs.Node verb) = node_shape verb
 
 abbrev pub as_command : Option Verb → Option Keyword
@@ -129,9 +129,9 @@ keyword_of word =
     else as_command (verb_of word)
 
 abbrev pub keyword_shape : Keyword → Shape
-keyword_shape keywords.Par = Words 1 1
-keyword_shape keywords.Thread = Words 1 1
-keyword_shape keywords.End = Words 1 1
+keyword_shape keywords.Par = Words 0 0
+keyword_shape keywords.Thread = Words 0 0
+keyword_shape keywords.End = Words 0 0
 keyword_shape (keywords.Command verb) = shape_of verb
 
 abbrev pub known : Option Keyword → Result Keyword ScriptRule
@@ -143,7 +143,7 @@ unfoldable pub keyword_at : List ℕ → Result (Keyword × Left) ScriptRule
 keyword_at text = do
   first ← word_at (Some text)
   keyword ← known (keyword_of first.0)
-  if has_shape (keyword_shape keyword) text then Ok (keyword, first.1) else Err WordCount
+  if has_shape (keyword_shape keyword) first.1 then Ok (keyword, first.1) else Err WordCount
 
 -- ---- writes
 

@@ -17,4 +17,4 @@ sizes_at left = do
 unfoldable pub set_line : List ℕ → Result SetLine ScriptRule
 set_line text = do
   first ← word_at (Some text)
-  if bytes_eq first.0 (codes "set") then (if has_shape (Words 2 3) text then sizes_at first.1 else Err WordCount) else Err NoSetLine
+  if bytes_eq first.0 (codes "set") then (if has_shape (Words 1 2) first.1 then sizes_at first.1 else Err WordCount) else Err NoSetLine

@@ -52,10 +52,14 @@ has_text None = false
 has_text (Some []) = false
 has_text (Some (c ∷ rest)) = true
 
--- a line has as many words as its form asks for
-abbrev pub has_shape : Shape → List ℕ → Bool
-has_shape (Words least most) text = nat_le least (count_by is_space text + 1) && nat_le (count_by is_space text + 1) most
-has_shape (Value before) text = has_text (skip before (Some text))
+abbrev pub word_count : Left → ℕ
+word_count None = 0
+word_count (Some text) = count_by is_space text + 1
+
+-- behind its first word a line has as many words as its form asks for
+abbrev pub has_shape : Shape → Left → Bool
+has_shape (Words least most) left = nat_le least (word_count left) && nat_le (word_count left) most
+has_shape (Value before) left = has_text (skip before left)
 
 -- ---- words
 

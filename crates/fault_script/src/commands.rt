@@ -29,7 +29,7 @@ pub fn keyword(text: &str) -> Result<(Keyword, Left<'_>), ScriptRule>
     let Some(keyword) = Keyword::named(first) else {
         return Err(ScriptRule::UnknownCommand);
     };
-    if has_shape(text, keyword.shape()) {
+    if has_shape(left, keyword.shape()) {
         Ok((keyword, left))
     } else {
         Err(ScriptRule::WordCount)

@@ -1,5 +1,5 @@
 // Lists of commands, each with the number of its line, which contracts see as lists.
-ghost use Rattle.std.specs.Prelude.{◌≡◌, [], ◌∷◌, ◌++◌, IfOk};
+ghost use Rattle.std.specs.Prelude.{◌≡◌, [], ◌∷◌, ◌++◌, OnOk};
 ghost use Rattle.fault_script.specs.Script.{in_last};
 
 use bson_doc::Mem;
@@ -48,11 +48,11 @@ impl Lines {
         self.lines
     }
 
-    fn with(mut self, line: (u32, Command)) -> Mem<Self>
-        ensures { IfOk result (λ lines. lines ≡ self ++ line ∷ []) }
+    fn push(&mut self, line: (u32, Command)) -> Mem<()>
+        ensures { OnOk result (self.new ≡ self.old ++ line ∷ []) }
     {
         self.lines.push(line)?;
-        Ok(self)
+        Ok(())
     }
 
     /// The same in no more memory than it needs.
@@ -105,34 +105,35 @@ impl Threads {
         self.threads
     }
 
-    /// One thread more, without a command.
-    pub(crate) fn with_thread(self, alloc: Global) -> Mem<Self>
-        ensures { IfOk result (λ threads. threads ≡ self ++ [] ∷ []) }
+    /// Begins one thread more. The one before it is in no more memory than it needs.
+    pub(crate) fn begin_thread(&mut self, alloc: Global) -> Mem<()>
+        ensures { OnOk result (self.new ≡ self.old ++ [] ∷ []) }
     {
-        let mut next = self.shrunk()?;
-        next.threads.push(Lines::new(alloc))?;
-        Ok(next)
+        self.shrink_last()?;
+        self.threads.push(Lines::new(alloc))?;
+        Ok(())
     }
 
     /// One command more, in the last thread. Where there is no thread there is no command more.
-    pub(crate) fn with_line(mut self, line: (u32, Command)) -> Mem<Self>
-        ensures { IfOk result (λ threads. threads ≡ in_last self line) }
+    pub(crate) fn push(&mut self, line: (u32, Command)) -> Mem<()>
+        ensures { OnOk result (self.new ≡ in_last self.old line) }
     {
-        let Some(last) = self.threads.pop() else {
-            return Ok(self);
+        let Some(mut last) = self.threads.pop() else {
+            return Ok(());
         };
-        self.threads.push(last.with(line)?)?;
-        Ok(self)
+        last.push(line)?;
+        self.threads.push(last)?;
+        Ok(())
     }
 
-    /// The same, the last thread in no more memory than it needs.
-    pub(crate) fn shrunk(mut self) -> Mem<Self>
-        ensures { IfOk result (λ threads. threads ≡ self) }
+    /// Gives back what the last thread doesn't need.
+    pub(crate) fn shrink_last(&mut self) -> Mem<()>
+        ensures { OnOk result (self.new ≡ self.old) }
     {
         let Some(last) = self.threads.pop() else {
-            return Ok(self);
+            return Ok(());
         };
         self.threads.push(last.shrunk())?;
-        Ok(self)
+        Ok(())
     }
 }

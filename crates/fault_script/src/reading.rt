@@ -1,7 +1,7 @@
 // What is known of a script behind some of its lines.
 ghost use Rattle.std.specs.Prelude.{◌≡◌};
 ghost use Rattle.std.specs.Option.{option_copied};
-ghost use Rattle.fault_script.specs.Gives.{Gives};
+ghost use Rattle.fault_script.specs.Gives.{Reads, Gives};
 ghost use Rattle.fault_script.specs.Commands.{words_at};
 ghost use Rattle.fault_script.specs.Script.{start, add_command, begin_block, begin_thread, end_block, with_command, with_set, with_text, with_line, whole};
 
@@ -40,132 +40,111 @@ impl Reading {
         }
     }
 
-    /// What a line adds, which has this number.
+    /// Adds a line, which has this number.
     #[tactic(auto, unfolding(crate::specs::Script::with_line))]
-    pub fn with_line(self, alloc: Global, number: u32, line: &[u8]) -> Result<Reading, LineError>
-        ensures { Gives (λ reading. reading) result (with_line number self line.now) }
+    pub fn add_line(&mut self, alloc: Global, number: u32, line: &[u8]) -> Result<(), LineError>
+        ensures { Gives (λ _. self.new) result (with_line number self.old line.now) }
     {
         let text = text_of(number, line)?;
         if is_passed_over(text) {
-            return Ok(self);
+            return Ok(());
         }
-        self.with_text(alloc, number, text)
+        self.add_text(alloc, number, text)
     }
 
-    fn with_text(self, alloc: Global, number: u32, text: &str) -> Result<Reading, LineError>
-        ensures { Gives (λ reading. reading) result (with_text number self text.now self.set) }
+    fn add_text(&mut self, alloc: Global, number: u32, text: &str) -> Result<(), LineError>
+        ensures { Gives (λ _. self.new) result (with_text number self.old text.now self.old.set) }
     {
         match self.set {
-            Some(set) => self.with_command(alloc, set.nodes, number, text),
-            None => self.with_set(text),
+            Some(set) => self.add_command(alloc, set.nodes, number, text),
+            None => self.add_set(text),
         }
     }
 
     /// The first command is `set`.
-    fn with_set(self, text: &str) -> Result<Reading, LineError>
-        ensures { Gives (λ reading. reading) result (with_set self text.now) }
+    fn add_set(&mut self, text: &str) -> Result<(), LineError>
+        ensures { Gives (λ _. self.new) result (with_set self.old text.now) }
     {
-        let set = set_line(text)?;
-        Ok(Reading {
-            set: Some(set),
-            parts: self.parts,
-            block: self.block,
-        })
+        self.set = Some(set_line(text)?);
+        Ok(())
     }
 
-    /// What a later command adds, in a set of so many nodes.
+    /// A later command, in a set of so many nodes.
     #[tactic(auto, unfolding(crate::specs::Script::with_command))]
-    fn with_command(
-        self,
+    fn add_command(
+        &mut self,
         alloc: Global,
         nodes: u32,
         number: u32,
         text: &str,
-    ) -> Result<Reading, LineError>
-        ensures { Gives (λ reading. reading) result (with_command nodes number self text.now) }
+    ) -> Result<(), LineError>
+        ensures { Gives (λ _. self.new) result (with_command nodes number self.old text.now) }
     {
         let (keyword, left) = keyword(text)?;
         match keyword {
             Keyword::Par => Ok(self.begin_block(alloc)?),
             Keyword::Thread => self.begin_thread(alloc),
             Keyword::End => self.end_block(),
-            Keyword::Command(verb) => self.add_command(alloc, nodes, number, verb, left),
+            Keyword::Command(verb) => self.add_words(alloc, nodes, number, verb, left),
         }
     }
 
-    fn begin_block(self, alloc: Global) -> Result<Reading, ScriptRule>
-        ensures { result ≡ begin_block self self.block }
+    fn begin_block(&mut self, alloc: Global) -> Result<(), ScriptRule>
+        ensures { Reads (λ _. self.new) result (begin_block self.old self.old.block) }
     {
         if self.block.is_some() {
             return Err(ScriptRule::NestedPar);
         }
-        Ok(Reading {
-            set: self.set,
-            parts: self.parts,
-            block: Some(Threads::new(alloc)),
-        })
+        self.block = Some(Threads::new(alloc));
+        Ok(())
     }
 
-    fn begin_thread(self, alloc: Global) -> Result<Reading, LineError>
-        ensures { Gives (λ reading. reading) result (begin_thread self self.block) }
+    fn begin_thread(&mut self, alloc: Global) -> Result<(), LineError>
+        ensures { Gives (λ _. self.new) result (begin_thread self.old self.old.block) }
     {
-        let Reading { set, parts, block } = self;
-        let Some(threads) = block else {
+        let Some(threads) = &mut self.block else {
             return Err(LineError::Rule(ScriptRule::StrayLine));
         };
         if threads.as_slice().len() >= MAX_THREADS {
             return Err(LineError::Rule(ScriptRule::TooManyThreads));
         }
-        Ok(Reading {
-            set,
-            parts,
-            block: Some(threads.with_thread(alloc)?),
-        })
+        threads.begin_thread(alloc)?;
+        Ok(())
     }
 
-    fn end_block(self) -> Result<Reading, LineError>
-        ensures { Gives (λ reading. reading) result (end_block self self.block) }
+    fn end_block(&mut self) -> Result<(), LineError>
+        ensures { Gives (λ _. self.new) result (end_block self.old self.old.block) }
     {
-        let Reading { set, parts, block } = self;
-        let Some(threads) = block else {
+        let Some(mut threads) = self.block.take() else {
             return Err(LineError::Rule(ScriptRule::StrayLine));
         };
-        Ok(Reading {
-            set,
-            parts: parts.with(Part::Par(threads.shrunk()?))?,
-            block: None,
-        })
+        threads.shrink_last()?;
+        self.parts.push(Part::Par(threads))?;
+        Ok(())
     }
 
     /// A command is a part of its own, or belongs to the last thread of a block.
-    fn add_command(
-        self,
+    fn add_words(
+        &mut self,
         alloc: Global,
         nodes: u32,
         number: u32,
         verb: Verb,
         left: Left<'_>,
-    ) -> Result<Reading, LineError>
-        ensures { Gives (λ reading. reading) result (add_command number self self.block (words_at nodes verb (option_copied left.entry))) }
+    ) -> Result<(), LineError>
+        ensures { Gives (λ _. self.new) result (add_command number self.old self.old.block (words_at nodes verb (option_copied left.entry))) }
     {
-        let Reading { set, parts, block } = self;
-        let Some(threads) = block else {
+        let Some(threads) = &mut self.block else {
             let command = words(alloc, nodes, verb, left)?;
-            return Ok(Reading {
-                set,
-                parts: parts.with(Part::Line(number, command))?,
-                block: None,
-            });
+            self.parts.push(Part::Line(number, command))?;
+            return Ok(());
         };
         if threads.as_slice().is_empty() {
             return Err(LineError::Rule(ScriptRule::StrayLine));
         }
         let command = words(alloc, nodes, verb, left)?;
-        Ok(Reading {
-            set,
-            parts,
-            block: Some(threads.with_line((number, command))?),
-        })
+        threads.push((number, command))?;
+        Ok(())
     }
 
     /// The script whose last line has the number before this one.

@@ -1,5 +1,5 @@
 // What a script is.
-ghost use Rattle.std.specs.Prelude.{◌≡◌, [], ◌∷◌, ◌++◌, IfOk, MatchOption};
+ghost use Rattle.std.specs.Prelude.{◌≡◌, [], ◌∷◌, ◌++◌, OnOk, MatchOption};
 
 use crate::lists::Threads;
 use bson_doc::Mem;
@@ -73,11 +73,11 @@ impl Parts {
         Rest { parts: self.parts }
     }
 
-    pub(crate) fn with(mut self, part: Part) -> Mem<Self>
-        ensures { IfOk result (λ parts. parts ≡ self ++ part ∷ []) }
+    pub(crate) fn push(&mut self, part: Part) -> Mem<()>
+        ensures { OnOk result (self.new ≡ self.old ++ part ∷ []) }
     {
         self.parts.push(part)?;
-        Ok(self)
+        Ok(())
     }
 
     /// The same in no more memory than they need.

@@ -26,7 +26,7 @@ pub fn set_line(text: &str) -> Result<SetLine, ScriptRule>
     if first != "set" {
         return Err(ScriptRule::NoSetLine);
     }
-    if !has_shape(text, Shape::Words { least: 2, most: 3 }) {
+    if !has_shape(left, Shape::Words { least: 1, most: 2 }) {
         return Err(ScriptRule::WordCount);
     }
     sizes(left)

@@ -94,10 +94,10 @@ impl NodeVerb {
         ensures { result ≡ node_shape self }
     {
         match self {
-            NodeVerb::Write(_) => Shape::Value { before: 3 },
-            NodeVerb::Begin => Shape::Value { before: 5 },
-            NodeVerb::Read => Shape::Value { before: 4 },
-            NodeVerb::Reconfig => Shape::Value { before: 2 },
+            NodeVerb::Write(_) => Shape::Value { before: 2 },
+            NodeVerb::Begin => Shape::Value { before: 4 },
+            NodeVerb::Read => Shape::Value { before: 3 },
+            NodeVerb::Reconfig => Shape::Value { before: 1 },
             NodeVerb::Log
             | NodeVerb::State
             | NodeVerb::Rolled
@@ -108,17 +108,17 @@ impl NodeVerb {
             | NodeVerb::Fetch
             | NodeVerb::Flush
             | NodeVerb::Checkpoint
-            | NodeVerb::Restart => Shape::Words { least: 2, most: 2 },
+            | NodeVerb::Restart => Shape::Words { least: 1, most: 1 },
             NodeVerb::Commit
             | NodeVerb::Abort
             | NodeVerb::Dump
             | NodeVerb::Heartbeat
             | NodeVerb::Report
             | NodeVerb::Common
-            | NodeVerb::Clock => Shape::Words { least: 3, most: 3 },
-            NodeVerb::Apply | NodeVerb::Crash => Shape::Words { least: 2, most: 3 },
-            NodeVerb::Ack => Shape::Words { least: 4, most: 4 },
-            NodeVerb::DiskFail => Shape::Words { least: 4, most: 5 },
+            | NodeVerb::Clock => Shape::Words { least: 2, most: 2 },
+            NodeVerb::Apply | NodeVerb::Crash => Shape::Words { least: 1, most: 2 },
+            NodeVerb::Ack => Shape::Words { least: 3, most: 3 },
+            NodeVerb::DiskFail => Shape::Words { least: 3, most: 4 },
         }
     }
 }
@@ -178,12 +178,12 @@ impl Verb {
         }
     }
 
-    /// How many words a line with this first word has.
+    /// How many words a line with this first word has behind it.
     fn shape(self) -> Shape
         ensures { result ≡ shape_of self }
     {
         match self {
-            Verb::Deliver => Shape::Words { least: 2, most: 3 },
+            Verb::Deliver => Shape::Words { least: 1, most: 2 },
             Verb::Node(verb) => verb.shape(),
         }
     }
@@ -202,13 +202,13 @@ impl Keyword {
         }
     }
 
-    /// How many words a line with this first word has.
+    /// How many words a line with this first word has behind it.
     pub fn shape(self) -> Shape
         ensures { result ≡ keyword_shape self }
     {
         match self {
             Keyword::Command(verb) => verb.shape(),
-            Keyword::Par | Keyword::Thread | Keyword::End => Shape::Words { least: 1, most: 1 },
+            Keyword::Par | Keyword::Thread | Keyword::End => Shape::Words { least: 0, most: 0 },
         }
     }
 }

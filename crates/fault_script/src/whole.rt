@@ -1,5 +1,5 @@
 // A whole script.
-ghost use Rattle.std.specs.Prelude.{◌≡◌, ◌≤◌, length, true, Ok, IfOk, IfErr, MatchResult};
+ghost use Rattle.std.specs.Prelude.{◌≡◌, ◌≤◌, length, true, Ok, IfOk, OnOk, IfErr, MatchResult};
 ghost use Rattle.std.specs.List.{list_all};
 ghost use Rattle.fault_script.specs.Script.{is_part_for, lines_in, script, sizes_of, with_line, IsCause, StopsLine};
 ghost use Rattle.set_model.specs.Run.{AreSizes};
@@ -25,22 +25,27 @@ pub fn parse(alloc: Global, bytes: &[u8]) -> Result<Script, ScriptError>
     let mut rest = bytes;
     while !rest.is_empty() {
         let (line, behind) = next_line(rest);
-        reading = next(alloc, reading, number, line)?;
+        add_line(alloc, &mut reading, number, line)?;
         number += 1;
         rest = behind;
     }
     Ok(reading.finish(number)?)
 }
 
-/// What is known behind a line, which has this number.
-fn next(alloc: Global, reading: Reading, number: u32, line: &[u8]) -> Result<Reading, ScriptError>
-    ensures next { MatchResult result
-        (λ next. with_line number reading line.now ≡ Ok next)
-        (StopsLine number (with_line number reading line.now)) }
-    ensures few { IfOk result (λ next. number ≤ 200000) }
+/// Adds a line, which has this number.
+fn add_line(
+    alloc: Global,
+    reading: &mut Reading,
+    number: u32,
+    line: &[u8],
+) -> Result<(), ScriptError>
+    ensures read { MatchResult result
+        (λ _. with_line number reading.old line.now ≡ Ok reading.new)
+        (StopsLine number (with_line number reading.old line.now)) }
+    ensures few { OnOk result (number ≤ 200000) }
 {
-    match reading.with_line(alloc, number, line) {
-        Ok(next) => Ok(next),
+    match reading.add_line(alloc, number, line) {
+        Ok(()) => Ok(()),
         Err(LineError::Rule(rule)) => Err(ScriptError::Fault(ScriptFault { line: number, rule })),
         Err(LineError::Memory) => Err(ScriptError::Memory),
     }

@@ -1,12 +1,12 @@
 // The words of a line, each with what is left of the line behind it.
-ghost use Rattle.std.specs.Prelude.{◌≡◌, ◌<◌, ◌+◌, Ok, Some};
+ghost use Rattle.std.specs.Prelude.{◌≡◌, ◌<◌, Ok, Some};
 ghost use Rattle.std.specs.Char.{is_ascii_digit};
 ghost use Rattle.std.specs.List.{list_all, count_by, position};
 ghost use Rattle.std.specs.Option.{option_copied};
 ghost use Rattle.set_model.specs.Limits.{is_collection, is_name_byte};
 ghost use Rattle.fault_script.specs.declared.rule.ScriptRule.TheVariants.{BadWord};
 ghost use Rattle.fault_script.specs.Gives.{Reads};
-ghost use Rattle.fault_script.specs.Words.{is_space, behind_word, skip, has_shape, word_at, number_of, numbered, number_at, optional_at, pick_at, node_at, other_node_at, writer_at, message_at, collection_at};
+ghost use Rattle.fault_script.specs.Words.{is_space, behind_word, skip, word_count, has_shape, word_at, number_of, numbered, number_at, optional_at, pick_at, node_at, other_node_at, writer_at, message_at, collection_at};
 
 use crate::rule::ScriptRule;
 use crate::shape::Shape;
@@ -38,24 +38,32 @@ fn skip(left: Left<'_>, words: u32) -> Left<'_>
     rest
 }
 
-/// How many words a line has.
-fn word_count(text: &str) -> usize
-    ensures { result ≡ count_by is_space text.now + 1 }
+/// How many words are left.
+fn word_count(left: Left<'_>) -> usize
+    ensures { result ≡ word_count (option_copied left.entry) }
 {
-    let spaces = text.as_bytes().iter().filter(|byte| **byte == b' ').count();
-    spaces + 1
+    match left {
+        Some(text) => space_count(text) + 1,
+        None => 0,
+    }
 }
 
-/// Whether a line has as many words as its form asks for.
-pub fn has_shape(text: &str, shape: Shape) -> bool
-    ensures { result ≡ has_shape shape text.now }
+fn space_count(text: &str) -> usize
+    ensures { result ≡ count_by is_space text.now }
+{
+    text.as_bytes().iter().filter(|byte| **byte == b' ').count()
+}
+
+/// Whether a line has as many words behind its first one as its form asks for.
+pub fn has_shape(left: Left<'_>, shape: Shape) -> bool
+    ensures { result ≡ has_shape shape (option_copied left.entry) }
 {
     match shape {
         Shape::Words { least, most } => {
-            let count = word_count(text);
+            let count = word_count(left);
             least as usize <= count && count <= most as usize
         }
-        Shape::Value { before } => match skip(Some(text), before) {
+        Shape::Value { before } => match skip(left, before) {
             Some(rest) => !rest.is_empty(),
             None => false,
         },
