@@ -8,6 +8,7 @@ use Rattle.std.proofs.lemmas.Bool.Decides.{nat_tests}
 use Rattle.bson_doc.specs.Place.{Place}
 use Rattle.oplog_entry.specs.declared.entry.Entry.{Entry}
 use Rattle.oplog_entry.specs.Step.{place_of}
+use Rattle.oplog_entry.proofs.PlaceLemmas.{is_at-only}
 use Rattle.version_store.specs.Hash.{place_hash}
 use Rattle.version_store.specs.Past.{Past, is_before, back_before}
 use Rattle.version_store.specs.Shards.{Shard, past_of}
@@ -16,7 +17,7 @@ use Rattle.version_store.proofs.HistoryLemmas.{not_behind, not_before_itself}
 use Rattle.version_store.proofs.StoreLemmas.{get_at, past_there, shard_there, found_is, found_within}
 use Rattle.batch_applier.specs.Applied.{past_after, IsBatch, HasApplied}
 use Rattle.batch_applier.specs.Parts.{is_in, part_of, AreParts, IsReady, IsApplied, IsBegun, AreReady, Each, IsEachReady, EachOf}
-use Rattle.batch_applier.proofs.PastLemmas.{at_only, past_filtered, past_back}
+use Rattle.batch_applier.proofs.PastLemmas.{past_filtered, past_back}
 
 -- ---- parts
 
@@ -90,7 +91,7 @@ past_in_shard count shards place are = sym (past_there count shards place _ (get
 
 -- the entries on documents of its shard are all that touch the place
 whole_part : (count : ℕ) (place : Place) (past : Past) (entries : List Entry) → past_after place past (part_of entries count (place_hash place % count)) ≡ past_after place past entries
-whole_part count place past entries = past_filtered (λ (e : Entry). is_in count (place_hash place % count) (place_of e.op)) place past entries (λ entry touched. kept (place_of entry.op) (at_only (place_of entry.op) place touched))
+whole_part count place past entries = past_filtered (λ (e : Entry). is_in count (place_hash place % count) (place_of e.op)) place past entries (λ entry touched. kept (place_of entry.op) (is_at-only (place_of entry.op) place touched))
   where
     kept : (own : Option Place) → own ≡ Some place → is_in count (place_hash place % count) own ≡ true
     kept own is = ap (is_in count (place_hash place % count)) is ∙ grind (arith, nat_tests)

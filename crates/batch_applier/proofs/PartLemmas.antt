@@ -9,12 +9,13 @@ use Rattle.bson_doc.specs.Tree.{Fields}
 use Rattle.bson_doc.specs.Place.{Place}
 use Rattle.oplog_entry.specs.declared.entry.Entry.{Entry}
 use Rattle.oplog_entry.specs.Step.{place_of, document_after}
+use Rattle.oplog_entry.proofs.PlaceLemmas.{same_place}
 use Rattle.version_store.specs.declared.history.Version.{Version}
 use Rattle.version_store.specs.Past.{Past, is_before, latest_of, with_version}
 use Rattle.version_store.specs.Shards.{Shard, past_of, BelongsTo, ChangesOf}
 use Rattle.batch_applier.specs.Applied.{past_with, past_after}
 use Rattle.batch_applier.specs.Parts.{is_in, part_of, AreParts, IsAdded, IsReady, IsApplied}
-use Rattle.batch_applier.proofs.PastLemmas.{same_place, past_here, past_elsewhere, past_more, after_all}
+use Rattle.batch_applier.proofs.PastLemmas.{past_here, past_elsewhere, past_more, after_all}
 
 pub same_or_apart : (m n : ℕ) → (m ≡ n) ⊎ (m ≢ n)
 same_or_apart zero zero = inl refl

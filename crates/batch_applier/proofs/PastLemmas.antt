@@ -1,20 +1,18 @@
 -- The pasts of documents after entries.
-use Rattle.std.proofs.Common.{◌≡◌, ◌≢◌, ◌⊎◌, inl, inr, ◌∙◌, ap, sym, refl, arith, Bool, true, false, cond, List, [], ◌∷◌, ◌++◌, ℕ, suc, zero, Option, None, Some, Result, Ok, Err, OnOk, OnErr, append-nil}
+use Rattle.std.proofs.Common.{◌≡◌, ◌≢◌, ◌∙◌, ap, sym, refl, arith, Bool, true, false, cond, List, [], ◌∷◌, ◌++◌, ℕ, suc, zero, Option, Some, Result, Ok, Err, OnOk, OnErr, append-nil}
 use Rattle.std.specs.Prelude.{filter}
 use Rattle.std.specs.List.{All}
-use Rattle.std.specs.Ordering.{is_eq}
-use Rattle.std.specs.Cmp.{tied_itself, Equal-is}
 use Rattle.std.proofs.lemmas.List.Sums.{fold-append}
 use Rattle.std.proofs.lemmas.List.Elements.{filter-append, All-append}
 use Rattle.rs_optime.specs.declared.optime.OpTime.{OpTime}
 use Rattle.bson_doc.specs.Tree.{Fields}
 use Rattle.bson_doc.specs.Place.{Place}
-use Rattle.bson_doc.proofs.KeyLemmas.{place_cmp-total, place_cmp-antisymmetric}
 use Rattle.oplog_entry.specs.declared.entry.Entry.{Entry}
-use Rattle.oplog_entry.specs.Step.{place_of, document_after}
+use Rattle.oplog_entry.specs.Step.{place_of, document_after, is_at}
+use Rattle.oplog_entry.proofs.PlaceLemmas.{is_at-itself, is_at-other}
 use Rattle.version_store.specs.declared.history.Version.{Version}
 use Rattle.version_store.specs.Past.{Past, is_before, latest_of, back_before, with_version}
-use Rattle.batch_applier.specs.Applied.{is_at, touches, past_with, past_after}
+use Rattle.batch_applier.specs.Applied.{touches, past_with, past_after}
 
 -- what follows from a success
 pub on_ok : {T E P Q : Type 0} (r : Result T E) → (P → Q) → OnOk r P → OnOk r Q
@@ -30,32 +28,6 @@ pub on_ok_both : {T E P Q S : Type 0} (r : Result T E) → (P → Q → S) → O
 on_ok_both (Ok x) f h k = f h k
 on_ok_both (Err e) f h k = tt
 
--- ---- places
-
-pub at_itself : (place : Place) → is_at (Some place) place ≡ true
-at_itself place = ap is_eq (tied_itself place_cmp-total place)
-
-pub at_only : (own : Option Place) (place : Place) → is_at own place ≡ true → own ≡ Some place
-at_only None place here = cc here
-at_only (Some own) place here = ap (λ (p : Place). Some p) (place_cmp-antisymmetric own place ((Equal-is _).0 here))
-
-pub at_other : (own : Option Place) (place : Place) → own ≢ Some place → is_at own place ≡ false
-at_other own place apart = by_test (is_at own place) refl
-  where
-    by_test : (b : Bool) → is_at own place ≡ b → is_at own place ≡ false
-    by_test true is = absurd (apart (at_only own place is))
-    by_test false is = is
-
-pub same_place : (one two : Place) → (one ≡ two) ⊎ (one ≢ two)
-same_place one two = by_test (is_at (Some one) two) refl
-  where
-    some_same : Some one ≡ Some two → one ≡ two
-    some_same e = cc
-
-    by_test : (b : Bool) → is_at (Some one) two ≡ b → (one ≡ two) ⊎ (one ≢ two)
-    by_test true is = inl (some_same (at_only (Some one) two is))
-    by_test false is = inr (λ same. let also : is_at (Some one) two ≡ true = ap (λ p. is_at (Some one) p) (sym same) ∙ at_itself one in cc)
-
 -- ---- one entry
 
 -- the version that an entry makes
@@ -63,10 +35,10 @@ abbrev pub version_by : Past → Entry → Version
 version_by past entry = record { at = entry.optime; doc = document_after entry.op (latest_of past.versions) }
 
 pub past_here : (entry : Entry) (place : Place) (past : Past) → place_of entry.op ≡ Some place → past_with place past entry ≡ with_version past (version_by past entry)
-past_here entry place past own = ap (λ b. cond b (with_version past (version_by past entry)) past) (ap (λ o. is_at o place) own ∙ at_itself place)
+past_here entry place past own = ap (λ b. cond b (with_version past (version_by past entry)) past) (ap (λ o. is_at o place) own ∙ is_at-itself place)
 
 pub past_elsewhere : (entry : Entry) (place : Place) (past : Past) → place_of entry.op ≢ Some place → past_with place past entry ≡ past
-past_elsewhere entry place past apart = ap (λ b. cond b (with_version past (version_by past entry)) past) (at_other (place_of entry.op) place apart)
+past_elsewhere entry place past apart = ap (λ b. cond b (with_version past (version_by past entry)) past) (is_at-other (place_of entry.op) place apart)
 
 -- ---- entries after entries
 

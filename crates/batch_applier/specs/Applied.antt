@@ -1,17 +1,12 @@
 -- What entries of an oplog, applied one after another, leave of the documents of a store.
-use Rattle.std.specs.Prelude.{◌≡◌, Bool, true, false, List, Option, None, Some, fold, if◌then◌else◌}
+use Rattle.std.specs.Prelude.{◌≡◌, Bool, true, List, fold, if◌then◌else◌}
 use Rattle.std.specs.List.{All, AllPairs}
-use Rattle.std.specs.Ordering.{eq_by_cmp}
-use Rattle.bson_doc.specs.Place.{Place, place_cmp}
+use Rattle.bson_doc.specs.Place.{Place}
 use Rattle.oplog_entry.specs.declared.entry.Entry.{Entry}
 use Rattle.oplog_entry.specs.Lawful.{IsLawful}
-use Rattle.oplog_entry.specs.Step.{place_of, document_after}
+use Rattle.oplog_entry.specs.Step.{place_of, is_at, document_after}
 use Rattle.version_store.specs.Past.{Past, is_before, latest_of, with_version}
 use Rattle.version_store.specs.Store.{Store, past_at, versions_at}
-
-abbrev pub is_at : Option Place → Place → Bool
-is_at None place = false
-is_at (Some own) place = eq_by_cmp place_cmp own place
 
 -- whether an entry touches the document at a place
 abbrev pub touches : Entry → Place → Bool

@@ -6,6 +6,7 @@ use Rattle.std.specs.Str.{bytes_eq}
 use Rattle.std.specs.Str.Parse.{digits_value}
 use Rattle.rs_optime.specs.declared.optime.OpTime.{OpTime}
 use Rattle.bson_doc.specs.Bind.{◌>>=◌}
+pub use Rattle.doc_text.specs.Bytes.{is_space}
 use Rattle.set_model.specs.declared.command.AckConcern.{AckConcern}
 use Rattle.set_model.specs.declared.command.AckConcern.TheVariants as concerns
 use Rattle.set_model.specs.declared.command.DiskName.{DiskName}
@@ -27,9 +28,6 @@ Left = Option (List ℕ)
 -- what is read, with what is left then
 abbrev pub Read : Type 0 → Type 0
 Read A = Result (A × Left) ScriptRule
-
-abbrev pub is_space : ℕ → Bool
-is_space c = c == 32
 
 -- ---- how many words there are
 

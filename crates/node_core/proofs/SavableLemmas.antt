@@ -11,19 +11,19 @@ use Rattle.bson_doc.specs.View.{tree_of}
 use Rattle.rs_optime.specs.declared.optime.OpTime.{OpTime}
 use Rattle.oplog_entry.specs.Docs.{Documents, docs, applied}
 use Rattle.oplog_entry.specs.Lawful.{IsLawful}
-use Rattle.oplog_entry.specs.Step.{id_key, place_of, document_after}
+use Rattle.oplog_entry.specs.Step.{id_key, place_of, document_after, is_at}
 use Rattle.oplog_entry.specs.Visible.{is_before, log_up_to}
 use Rattle.oplog_entry.specs.declared.entry.Entry.{Entry}
 use Rattle.oplog_entry.specs.declared.entry.Op.{Op}
 use Rattle.oplog_entry.specs.declared.entry.Op.TheVariants.{Insert, Replace, Fields as SetFields, Delete, Noop}
+use Rattle.oplog_entry.proofs.PlaceLemmas.{is_at-only}
 use Rattle.oplog_store.proofs.Keeps.{all_tail}
 use Rattle.entry_bytes.specs.Layout.{collection_of, document_of, members}
 use Rattle.entry_bytes.specs.Sizes.{IsWithinEntry}
 use Rattle.doc_update.proofs.StoredLemmas.{not_large, place-key}
 use Rattle.checkpoint_store.specs.Shown.{CanBeSaved}
 use Rattle.checkpoint_store.specs.Spelled.{NAME}
-use Rattle.set_model.proofs.HoldLemmas.{get-step, is_at-only}
-use Rattle.set_model.specs.Holds.{is_at}
+use Rattle.set_model.proofs.HoldLemmas.{get-step}
 use Rattle.set_model.specs.Node.{Node}
 use Rattle.node_ledger.proofs.FollowLemmas.{small_up_to}
 use Rattle.node_ledger.proofs.OwnLemmas.{IsOwn, own_docs}

@@ -24,7 +24,7 @@ use Rattle.version_store.specs.declared.history.Version.{Version}
 use Rattle.version_store.specs.Past.{Past, latest_of, with_version}
 use Rattle.version_store.specs.Store.{Store, past_at, versions_at}
 use Rattle.version_store.proofs.HistoryLemmas.{at_most_trans, not_behind}
-use Rattle.set_model.specs.Holds.{is_at}
+use Rattle.oplog_entry.specs.Step.{is_at}
 use Rattle.set_model.specs.Node.{Node}
 use Rattle.set_model.specs.Points.{visible_point}
 use Rattle.set_model.specs.Roles.{is_primary}

@@ -11,17 +11,16 @@ use Rattle.bson_doc.specs.Tree.{Fields}
 use Rattle.rs_optime.specs.declared.optime.OpTime.{OpTime}
 use Rattle.oplog_entry.specs.Docs.{docs, applied}
 use Rattle.oplog_entry.specs.Log.{StandsBefore, with_entry}
-use Rattle.oplog_entry.specs.Step.{place_of, document_after}
+use Rattle.oplog_entry.specs.Step.{place_of, document_after, is_at}
 use Rattle.oplog_entry.specs.Visible.{is_before, log_up_to}
 use Rattle.oplog_entry.specs.declared.entry.Entry.{Entry}
+use Rattle.oplog_entry.proofs.PlaceLemmas.{is_at-here, is_at-only, is_at-other}
 use Rattle.oplog_store.proofs.Keeps.{all_tail, pairs_tail}
 use Rattle.oplog_store.proofs.Optimes.{before_both}
 use Rattle.repl_msg.specs.Logs.{log_behind}
 use Rattle.version_store.specs.declared.history.Version.{Version}
 use Rattle.version_store.specs.Past.{latest_of, last_version, up_to, behind, shown, standing}
 use Rattle.version_store.proofs.HistoryLemmas.{at_most_trans, before_trans}
-use Rattle.set_model.proofs.HoldLemmas.{is_at-here, is_at-only, is_at-other}
-use Rattle.set_model.specs.Holds.{is_at}
 use Rattle.node_ledger.specs.Kept.{IsNewest, FitsBeside}
 use Rattle.node_ledger.specs.Versions.{versions_from, HasVersions}
 use Rattle.node_ledger.proofs.LogLemmas.{every_late, parts, up_to-up_to, up_to-late, behind-late, filter-swap, filter-within, filter-all, filter-none, filter-passes}

@@ -11,16 +11,15 @@ use Rattle.bson_doc.specs.Place.{Place}
 use Rattle.rs_optime.specs.declared.optime.OpTime.{OpTime}
 use Rattle.oplog_entry.specs.declared.entry.Op.{Op}
 use Rattle.oplog_entry.specs.Step.{place_of}
+use Rattle.oplog_entry.proofs.PlaceLemmas.{is_at-here, is_at-only, is_at-other, same_place}
 use Rattle.version_store.specs.Store.{Store, holder_at, Changes}
 use Rattle.version_store.specs.Past.{Past}
-use Rattle.set_model.proofs.HoldLemmas.{is_at-here, is_at-only, is_at-other}
 use Rattle.set_model.specs.declared.writer.Writer.{Writer}
 use Rattle.set_model.specs.declared.writer.Writer.TheVariants.{Open, Done, Lost}
 use Rattle.set_model.specs.Holds.{holds, holder_among}
 use Rattle.set_model.specs.Node.{Node}
 use Rattle.node_ledger.specs.Writers.{HasOpen}
 use Rattle.node_ledger.specs.Kept.{is_held_by, IsHolder, IsKept}
-use Rattle.node_ledger.proofs.VersionLemmas.{same_place}
 use Rattle.node_ledger.specs.Writers.{Writers}
 use Rattle.node_ledger.proofs.WriterLemmas.{same_or_apart, get-with-same, get-with-other}
 

@@ -16,6 +16,7 @@ use Rattle.oplog_entry.specs.Visible.{log_up_to}
 use Rattle.oplog_entry.specs.declared.entry.Entry.{Entry}
 use Rattle.oplog_entry.specs.declared.entry.Op.{Op}
 use Rattle.oplog_entry.specs.declared.entry.Op.TheVariants.{Noop}
+use Rattle.oplog_entry.proofs.PlaceLemmas.{same_place}
 use Rattle.version_store.specs.declared.history.Version.{Version}
 use Rattle.version_store.specs.Past.{Past, with_version, held_by}
 use Rattle.version_store.specs.Store.{Store, past_at, versions_at, Changes}
@@ -40,7 +41,6 @@ use Rattle.node_ledger.proofs.HasLemmas.{has_before, has_with, has_with_other}
 use Rattle.node_ledger.proofs.HolderLemmas.{held_open, open_held, nobody_holds, holders_opened, holders_closed}
 use Rattle.node_ledger.proofs.SoundLemmas.{IsNew, writing_primary, next_newest, next_unstable, sound_logged, apart_logged, sound_opened, apart_opened, sound_settled, apart_settled, sound_aborted, apart_aborted}
 use Rattle.node_ledger.proofs.StoreLemmas.{versions_stay, holders_stay, changes_twice}
-use Rattle.node_ledger.proofs.VersionLemmas.{same_place}
 use Rattle.node_ledger.proofs.WriterLemmas.{get-with-same, get-with-other, get-without-same, get-without-other}
 
 -- a primary shows its whole log

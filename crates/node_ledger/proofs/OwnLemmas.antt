@@ -9,14 +9,14 @@ use Rattle.bson_doc.specs.View.{tree_of}
 use Rattle.bson_doc.specs.declared.key.IdKey.{IdKey}
 use Rattle.oplog_entry.specs.Docs.{Documents, docs, applied}
 use Rattle.oplog_entry.specs.Lawful.{BeginsWithId, AreUnsets, IsLawful, IsLawfulOp}
-use Rattle.oplog_entry.specs.Step.{id_key, place_in, place_of, document_after, with_sets, strings_of, changed}
+use Rattle.oplog_entry.specs.Step.{id_key, place_in, place_of, document_after, with_sets, strings_of, changed, is_at}
 use Rattle.oplog_entry.specs.declared.entry.Entry.{Entry}
 use Rattle.oplog_entry.specs.declared.entry.Op.{Op}
 use Rattle.oplog_entry.specs.declared.entry.Op.TheVariants.{Insert, Replace, Fields as SetFields, Delete, Noop}
 use Rattle.oplog_store.proofs.Keeps.{all_tail}
 use Rattle.oplog_entry.proofs.FieldLemmas.{same_itself, alike_swapped}
-use Rattle.set_model.proofs.HoldLemmas.{get-step, is_at-only}
-use Rattle.set_model.specs.Holds.{is_at}
+use Rattle.oplog_entry.proofs.PlaceLemmas.{is_at-only}
+use Rattle.set_model.proofs.HoldLemmas.{get-step}
 
 -- a document whose first field is its `_id`, of a value
 abbrev StartsWith : Tree → Fields → Type 0

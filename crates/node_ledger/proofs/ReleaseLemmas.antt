@@ -7,13 +7,12 @@ use Rattle.bson_doc.specs.Place.{Place}
 use Rattle.version_store.specs.Past.{Past, held_by}
 use Rattle.version_store.specs.Store.{Store, Changes, holder_at, past_at, versions_at}
 use Rattle.oplog_entry.specs.Step.{place_of}
-use Rattle.set_model.proofs.HoldLemmas.{is_at-only}
+use Rattle.oplog_entry.proofs.PlaceLemmas.{is_at-only, same_place}
 use Rattle.set_model.specs.declared.writer.Writer.{Writer}
 use Rattle.set_model.specs.declared.writer.Writer.TheVariants.{Open, Done, Lost}
 use Rattle.set_model.specs.Holds.{holds}
 use Rattle.node_ledger.specs.Kept.{IsHolder, is_held_by}
 use Rattle.node_ledger.specs.Writers.{Writers, held_place}
-use Rattle.node_ledger.proofs.VersionLemmas.{same_place}
 
 -- one of them holds the document
 abbrev pub SomeHeld : Place → List (ℕ × Writer) → Type 0

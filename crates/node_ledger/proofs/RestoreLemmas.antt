@@ -25,6 +25,7 @@ use Rattle.oplog_entry.specs.Log.{StandsBefore}
 use Rattle.oplog_entry.specs.Visible.{last_of, log_up_to}
 use Rattle.oplog_entry.specs.declared.entry.Entry.{Entry}
 use Rattle.oplog_entry.proofs.Optimes.{not_before_by}
+use Rattle.oplog_entry.proofs.PlaceLemmas.{is_at-other, same_place}
 use Rattle.oplog_store.specs.Log.{IsOplog}
 use Rattle.oplog_store.proofs.Keeps.{pairs_head, pairs_tail}
 use Rattle.repl_msg.specs.Logs.{log_behind}
@@ -32,7 +33,6 @@ use Rattle.version_store.specs.declared.history.Version.{Version}
 use Rattle.version_store.specs.Past.{Past, no_past, latest_of, with_version}
 use Rattle.version_store.specs.Store.{Store, past_at, versions_at, holder_at, Changes}
 use Rattle.version_store.proofs.HistoryLemmas.{not_before_itself}
-use Rattle.set_model.proofs.HoldLemmas.{is_at-other}
 use Rattle.set_model.specs.declared.role.Role.TheVariants.{Secondary}
 use Rattle.set_model.specs.declared.writer.Writer.TheVariants.{Open}
 use Rattle.set_model.specs.Fetching.{seen_after}
@@ -44,7 +44,6 @@ use Rattle.node_ledger.proofs.LogLemmas.{filter-none, filter-passes, last_with, 
 use Rattle.node_ledger.proofs.HasLemmas.{not_late}
 use Rattle.node_ledger.proofs.RoleLemmas.{apart_idle}
 use Rattle.node_ledger.proofs.StoreLemmas.{holders_stay}
-use Rattle.node_ledger.proofs.VersionLemmas.{same_place}
 use Rattle.node_ledger.proofs.BatchesLemmas.{later_first, later_second}
 
 -- ---- a store of documents

@@ -17,6 +17,7 @@ use Rattle.oplog_entry.specs.Log.{StandsBefore}
 use Rattle.oplog_entry.specs.Step.{place_of, document_after}
 use Rattle.oplog_entry.specs.Visible.{ZERO, last_of, visible}
 use Rattle.oplog_entry.proofs.Optimes.{before_both}
+use Rattle.oplog_entry.proofs.PlaceLemmas.{same_place}
 use Rattle.oplog_store.specs.Log.{IsOplog, with_entry}
 use Rattle.oplog_store.proofs.Keeps.{all_with_entry, with_entry_keeps}
 use Rattle.optime_slots.proofs.SlotLemmas.{open_with, open_without}
@@ -36,7 +37,7 @@ use Rattle.node_ledger.specs.Sound.{IsSound}
 use Rattle.node_ledger.specs.Versions.{versions_of, IsSmall, AreSmall}
 use Rattle.node_ledger.specs.Writers.{HasOpen, IsWriting}
 use Rattle.node_ledger.proofs.OpenLemmas.{newest_with, slot-itself, slot-more, slot-other, opened_cases, done_cases, gone_cases, three_ways}
-use Rattle.node_ledger.proofs.VersionLemmas.{same_place, latest_of-versions_of, versions_of-with, versions_of-with-other}
+use Rattle.node_ledger.proofs.VersionLemmas.{latest_of-versions_of, versions_of-with, versions_of-with-other}
 use Rattle.node_ledger.proofs.VisibleLemmas.{IsShown, IsBeforeSlots, SomeEntry, some_fact, some_with, some_more, some_both, some_to_last, last_to_some, visible_shown, shown_visible, zero_least}
 
 -- ---- roles

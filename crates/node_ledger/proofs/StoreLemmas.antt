@@ -3,11 +3,11 @@ use Rattle.std.proofs.Common.{◌≡◌, inl, inr, ◌∙◌, ℕ, Option, None,
 use Rattle.std.specs.FinSet as sets
 use Rattle.bson_doc.specs.Place.{Place}
 use Rattle.rs_optime.specs.declared.optime.OpTime.{OpTime}
+use Rattle.oplog_entry.proofs.PlaceLemmas.{same_place}
 use Rattle.optime_slots.specs.Reserved.{Reserved, closed}
 use Rattle.optime_slots.specs.declared.slots.NoSuchSlot.{NoSuchSlot}
 use Rattle.version_store.specs.Past.{Past, held_by}
 use Rattle.version_store.specs.Store.{Store, past_at, versions_at, holder_at, Changes}
-use Rattle.node_ledger.proofs.VersionLemmas.{same_place}
 
 pub versions_stay : (store later : Store) (place : Place) (past : Past) → Changes store later place past → past.versions ≡ versions_at store place → (p : Place) → versions_at later p ≡ versions_at store p
 versions_stay store later place past changes same p = elim (same_place place p) [

@@ -1,5 +1,5 @@
 -- The versions that a log makes of a document.
-use Rattle.std.proofs.Common.{◌≡◌, ◌≢◌, ◌⊎◌, inl, inr, ◌≤◌, ℕ, suc, zero, Bool, true, false, cond, not, List, [], ◌∷◌, ◌++◌, Option, None, Some, refl, sym, ap, ◌∙◌, arith, fold}
+use Rattle.std.proofs.Common.{◌≡◌, ◌≢◌, inl, inr, ◌≤◌, ℕ, suc, zero, Bool, true, false, cond, not, List, [], ◌∷◌, ◌++◌, Option, None, Some, refl, sym, ap, ◌∙◌, arith, fold}
 use Rattle.std.specs.Prelude.{nat_lt, slice_index_or}
 use Rattle.std.specs.List.{All, AllPairs}
 use Rattle.std.specs.FinMap.{get, get-empty, empty}
@@ -7,30 +7,18 @@ use Rattle.bson_doc.specs.Tree.{Fields}
 use Rattle.bson_doc.specs.Place.{Place, place_cmp}
 use Rattle.rs_optime.specs.declared.optime.OpTime.{OpTime}
 use Rattle.oplog_entry.specs.Docs.{Documents, docs, applied}
-use Rattle.oplog_entry.specs.Step.{place_of, document_after}
+use Rattle.oplog_entry.specs.Step.{place_of, document_after, is_at}
 use Rattle.oplog_entry.specs.Visible.{is_before, log_up_to}
 use Rattle.oplog_entry.specs.declared.entry.Entry.{Entry}
+use Rattle.oplog_entry.proofs.PlaceLemmas.{is_at-here, is_at-other}
 use Rattle.oplog_store.specs.Log.{StandsBefore, with_entry}
 use Rattle.oplog_store.proofs.Keeps.{all_tail, pairs_head, pairs_tail}
 use Rattle.oplog_store.proofs.Optimes.{before_by, before_both, earlier_term}
 use Rattle.version_store.specs.declared.history.Version.{Version}
 use Rattle.version_store.specs.Past.{latest_of, up_to}
-use Rattle.set_model.proofs.HoldLemmas.{get-step, is_at-here, is_at-only, is_at-other}
-use Rattle.set_model.specs.Holds.{is_at}
+use Rattle.set_model.proofs.HoldLemmas.{get-step}
 use Rattle.node_ledger.specs.Versions.{versions_from, versions_of}
 use Rattle.node_ledger.specs.Kept.{IsNewest}
-
--- ---- places
-
-pub same_place : (one two : Place) → (one ≡ two) ⊎ (one ≢ two)
-same_place one two = by_test (is_at (Some one) two) refl
-  where
-    some_same : Some one ≡ Some two → one ≡ two
-    some_same e = cc
-
-    by_test : (b : Bool) → is_at (Some one) two ≡ b → (one ≡ two) ⊎ (one ≢ two)
-    by_test true is = inl (some_same (is_at-only (Some one) two is))
-    by_test false is = inr (λ same. let also : is_at (Some one) two ≡ true = is_at-here (Some one) two (ap (λ (p : Place). Some p) same) in cc)
 
 -- ---- the latest version
 

@@ -1,30 +1,16 @@
 -- How a proof tells apart the tables of a node.
-use Rattle.std.specs.Prelude.{ℕ, Bool, List, refl}
-use Rattle.std.specs.Coded.{Coded, code_by, coded×, coded_list, coded_ℕ, coded_bool}
-use Rattle.rs_optime.specs.Order.{optime_cmp, optime_code}
-use Rattle.rs_optime.specs.declared.optime.OpTime.{OpTime}
+use Rattle.std.specs.Coded.{Coded, coded_ℕ}
 use Rattle.std.specs.Ordering.{nat_cmp}
 use Rattle.std.specs.FinMap as maps
 use Rattle.std.specs.FinSet as sets
-use Rattle.member_config.specs.declared.config.Config.{Config}
-use Rattle.member_config.specs.contracts.config.Config.{the_row as config_row}
+use Rattle.rs_optime.specs.Order.{optime_cmp, optime_code}
 use Rattle.repl_msg.specs.contracts.message.Report.{the_row as report_row}
-use Rattle.set_model.specs.Node.{DryTally, Report, Heard}
+use Rattle.set_model.specs.Node.{Report}
+pub use Rattle.set_model.specs.Code.{known_code, tally_code}
 pub use Rattle.node_ledger.specs.Writers.{writers_code}
-
-abbrev heard_code : Coded Heard
-heard_code = code_by (OpTime × Bool) (coded× optime_code coded_bool) (λ h. (h.last, h.primary)) (λ p. record { last = p.0; primary = p.1 }) (λ _. refl)
-
-abbrev pub tally_code : Coded DryTally
-tally_code =
-    code_by (ℕ × (Config × List ℕ)) (coded× coded_ℕ (coded× config_row.coded (coded_list coded_ℕ))) (λ t. (t.term, (t.config, t.yes)))
-    (λ p. record { term = p.0; config = p.1.0; yes = p.1.1 }) (λ _. refl)
 
 abbrev pub slots_code : Coded (sets.FinSet optime_cmp)
 slots_code = sets.code optime_code
 
 abbrev pub progress_code : Coded (maps.FinMap nat_cmp Report)
 progress_code = maps.code coded_ℕ report_row.coded
-
-abbrev pub known_code : Coded (maps.FinMap nat_cmp Heard)
-known_code = maps.code coded_ℕ heard_code

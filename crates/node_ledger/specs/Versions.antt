@@ -7,13 +7,12 @@ use Rattle.rs_optime.specs.Order.{is_before}
 use Rattle.rs_optime.specs.declared.optime.OpTime.{OpTime}
 use Rattle.oplog_entry.specs.Docs.{docs}
 use Rattle.oplog_entry.specs.declared.entry.Entry.{Entry}
-use Rattle.oplog_entry.specs.Step.{place_of, document_after}
+use Rattle.oplog_entry.specs.Step.{place_of, document_after, is_at}
 use Rattle.oplog_entry.specs.Visible.{log_up_to}
 use Rattle.doc_update.specs.Effect.{is_too_large}
 use Rattle.repl_msg.specs.Logs.{log_behind}
 use Rattle.version_store.specs.declared.history.Version.{Version}
 use Rattle.version_store.specs.Past.{latest_of}
-use Rattle.set_model.specs.Holds.{is_at}
 
 -- each entry that touches the document makes a version of what stood there before
 abbrev pub versions_from : Place → Option Fields → List Entry → List Version

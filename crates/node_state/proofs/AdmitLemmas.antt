@@ -8,9 +8,10 @@ use Rattle.bson_doc.specs.Tree.{Fields}
 use Rattle.bson_doc.proofs.KeyLemmas.{place_cmp-total}
 use Rattle.oplog_entry.specs.Docs.{Documents, docs, applied}
 use Rattle.oplog_entry.specs.Lawful.{BeginsWithId}
-use Rattle.oplog_entry.specs.Step.{id_key, place_of, document_after}
+use Rattle.oplog_entry.specs.Step.{id_key, place_of, document_after, is_at}
 use Rattle.oplog_entry.specs.declared.entry.Entry.{Entry}
 use Rattle.oplog_entry.proofs.DocsLemmas.{get-applied-here, get-applied-other, applied-nothing}
+use Rattle.oplog_entry.proofs.PlaceLemmas.{is_at-only}
 use Rattle.oplog_store.proofs.Keeps.{all_tail}
 use Rattle.doc_update.proofs.StoredLemmas.{IsLogged, IsStored, write-logged}
 use Rattle.doc_update.specs.Check.{checked}
@@ -22,13 +23,12 @@ use Rattle.doc_update.specs.declared.write.Prepared.TheVariants as made
 use Rattle.doc_update.specs.declared.write.WriteOp.{WriteOp}
 use Rattle.doc_update.specs.declared.write.WriteRefusal.{WriteRefusal}
 use Rattle.doc_update.specs.declared.write.WriteRefusal.TheVariants.{DuplicateKey, NoId, BadIdKind, ImmutableId, IncType, IncOverflow, DocTooLarge, BadUpdate, Memory}
-use Rattle.set_model.proofs.HoldLemmas.{is_at-only}
 use Rattle.set_model.specs.declared.reply.Refusal.{Refusal}
 use Rattle.set_model.specs.declared.reply.Refusal.TheVariants.{WriteConflict, WriterOpen}
 use Rattle.set_model.specs.declared.writer.Writer.{Writer}
 use Rattle.set_model.specs.declared.writer.Writer.TheVariants.{Open, Done, Lost}
 use Rattle.set_model.specs.Admitted.{admitted, or_refused}
-use Rattle.set_model.specs.Holds.{holder, is_at}
+use Rattle.set_model.specs.Holds.{holder}
 use Rattle.set_model.specs.Limits.{IsSoundWrite, collection_of, is_collection}
 use Rattle.set_model.specs.Node.{Node}
 use Rattle.set_model.specs.Outcome.{Outcome, refused}

@@ -11,7 +11,7 @@ use Rattle.bson_doc.specs.Tree.{Fields}
 use Rattle.rs_optime.specs.declared.optime.OpTime.{OpTime}
 use Rattle.doc_update.specs.Effect.{is_too_large}
 use Rattle.oplog_entry.specs.Docs.{Documents, applied, docs}
-use Rattle.oplog_entry.specs.Step.{place_of, document_after}
+use Rattle.oplog_entry.specs.Step.{place_of, document_after, is_at}
 use Rattle.oplog_entry.specs.Visible.{is_before}
 use Rattle.oplog_entry.specs.declared.entry.Entry.{Entry}
 use Rattle.oplog_store.proofs.Keeps.{all_tail}
@@ -27,7 +27,6 @@ use Rattle.repl_msg.proofs.HasLemmas.{same_is}
 use Rattle.set_model.proofs.HoldLemmas.{get-step}
 use Rattle.set_model.specs.Fetched.{Follows, AreWithinDocument}
 use Rattle.set_model.specs.Fetching.{with_fetched}
-use Rattle.set_model.specs.Holds.{is_at}
 use Rattle.set_model.specs.Node.{Node, Heard}
 use Rattle.set_model.specs.Points.{last_point, visible_point, visible_log}
 use Rattle.set_model.specs.Safety.{AtMost}

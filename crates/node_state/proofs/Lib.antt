@@ -1,4 +1,3 @@
-pub mod AckLemmas
 pub mod AdmitLemmas
 pub mod AppliedLemmas
 pub mod BeatLemmas

@@ -1,8 +1,6 @@
-pub mod Acks
 pub mod Admits
 pub mod Ahead
 pub mod Bounds
-pub mod Changing
 pub mod Coherent
 pub mod Flushing
 pub mod Hearings

@@ -4,7 +4,7 @@ ghost use Rattle.std.specs.FinMap as maps;
 ghost use Rattle.repl_msg.specs.Logs.{has_entry};
 ghost use Rattle.set_model.specs.Concerns as concerns;
 ghost use Rattle.set_model.specs.Stores.{finished};
-ghost use Rattle.node_state.specs.Acks.{concern_of, refusal_of};
+ghost use Rattle.part_laws.specs.Concerns.{concern_of, refusal_of};
 ghost use Rattle.node_state.specs.Ready.{IsReadyTurn};
 ghost use Rattle.node_state.specs.Turns.{Means};
 

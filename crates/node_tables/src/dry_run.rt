@@ -20,11 +20,11 @@ impl Model for DryRun {
     ghost use Rattle.std.specs.Prelude.{◌≡◌};
     ghost use Rattle.member_config.specs.Voters.{voters};
     ghost use Rattle.set_model.specs.Node.{DryTally};
-    ghost use Rattle.node_tables.specs.Code.{dry_tally_code};
+    ghost use Rattle.node_tables.specs.Code.{tally_code};
 
     ghost Value = { DryTally };
 
-    ghost coded = { dry_tally_code };
+    ghost coded = { tally_code };
 
     ghost view = { λ d. record { term = d.term; config = d.config; yes = d.tally.yes } };
 

@@ -1,5 +1,5 @@
 -- The entries of a log in their order.
-use Rattle.std.specs.Prelude.{◌<◌, ◌≤◌, List, [], ◌∷◌, nat_lt, if◌then◌else◌}
+use Rattle.std.specs.Prelude.{◌≡◌, ◌<◌, ◌≤◌, List, [], ◌∷◌, ◌++◌, nat_lt, if◌then◌else◌}
 use Rattle.std.specs.List.{All, AllPairs}
 use Rattle.oplog_entry.specs.declared.entry.Entry.{Entry}
 use Rattle.oplog_entry.specs.Lawful.{IsLawful}
@@ -19,3 +19,7 @@ abbrev pub with_entry : List Entry → Entry → List Entry
 with_entry [] entry = entry ∷ []
 with_entry (other ∷ log) entry =
     if nat_lt other.optime.ts entry.optime.ts then other ∷ with_entry log entry else entry ∷ other ∷ log
+
+-- a log begins with another one
+abbrev pub Begins : List Entry → List Entry → Type 0
+Begins front log = (rest : List Entry) × (log ≡ front ++ rest)

@@ -1,8 +1,9 @@
 -- What an op does to one document.
-use Rattle.std.specs.Prelude.{ℕ, List, [], ◌∷◌, fold, Option, None, Some, codes, option_and_then, option_map}
+use Rattle.std.specs.Prelude.{ℕ, Bool, false, List, [], ◌∷◌, fold, Option, None, Some, codes, option_and_then, option_map}
+use Rattle.std.specs.Ordering.{eq_by_cmp}
 use Rattle.bson_doc.specs.Tree.{text, Fields, no_fields, field, Trees, no_items, item, found, with_set, without}
 use Rattle.bson_doc.specs.Key.{key_of}
-use Rattle.bson_doc.specs.Place.{Place}
+use Rattle.bson_doc.specs.Place.{Place, place_cmp}
 use Rattle.bson_doc.specs.View.{tree_of}
 use Rattle.bson_doc.specs.declared.key.IdKey.{IdKey}
 use Rattle.oplog_entry.specs.declared.entry.Op.{Op}
@@ -23,6 +24,11 @@ place_of (Replace ns id o) = place_in ns (key_of (tree_of id))
 place_of (SetFields ns id sets unsets) = place_in ns (key_of (tree_of id))
 place_of (Delete ns id) = place_in ns (key_of (tree_of id))
 place_of Noop = None
+
+-- what an op touches is the document at a place
+abbrev pub is_at : Option Place → Place → Bool
+is_at None place = false
+is_at (Some own) place = eq_by_cmp place_cmp own place
 
 -- with each of these fields set, in their order: a present name keeps its place, and a new one goes to the end
 abbrev pub with_sets : Fields → Fields → Fields

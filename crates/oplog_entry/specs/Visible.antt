@@ -36,3 +36,7 @@ visible log slots = last_of (entries_before (least slots) log)
 -- the log up to an optime
 abbrev pub log_up_to : OpTime → List Entry → List Entry
 log_up_to o log = filter (λ entry. not (is_before o entry.optime)) log
+
+-- the entries behind an optime
+abbrev pub log_behind : OpTime → List Entry → List Entry
+log_behind o log = filter (λ entry. is_before o entry.optime) log

@@ -14,14 +14,15 @@ use Rattle.doc_update.specs.declared.write.WriteOp.{WriteOp}
 use Rattle.doc_update.specs.declared.write.WriteRefusal.{WriteRefusal}
 use Rattle.oplog_entry.specs.Docs.{docs}
 use Rattle.oplog_entry.specs.Lawful.{IsLawfulOp}
-use Rattle.oplog_entry.specs.Step.{place_of, document_after}
+use Rattle.oplog_entry.specs.Step.{place_of, document_after, is_at}
 use Rattle.oplog_entry.specs.declared.entry.Entry.{Entry}
 use Rattle.oplog_entry.specs.declared.entry.Op.{Op}
 use Rattle.oplog_store.specs.Log.{with_entry}
 use Rattle.rs_optime.specs.declared.optime.OpTime.{OpTime}
-use Rattle.set_model.proofs.HoldLemmas.{is_at-only, is_at-other, held_by_none}
+use Rattle.oplog_entry.proofs.PlaceLemmas.{is_at-only, is_at-other}
+use Rattle.set_model.proofs.HoldLemmas.{held_by_none}
 use Rattle.set_model.specs.Admitted.{admitted, or_refused, refusal_of, unless_held}
-use Rattle.set_model.specs.Holds.{is_at, holder}
+use Rattle.set_model.specs.Holds.{holder}
 use Rattle.set_model.specs.Limits.{IsSoundWrite, collection_of, is_collection}
 use Rattle.set_model.specs.Node.{Node}
 use Rattle.set_model.specs.Points.{next_optime}

@@ -14,11 +14,10 @@ use Rattle.bson_doc.specs.Tree.{Fields}
 use Rattle.doc_update.specs.Effect.{is_too_large}
 use Rattle.doc_update.proofs.StoredLemmas.{IsStored}
 use Rattle.oplog_entry.specs.Docs.{Documents, docs, applied}
-use Rattle.oplog_entry.specs.Step.{place_of, document_after}
+use Rattle.oplog_entry.specs.Step.{place_of, document_after, is_at}
 use Rattle.oplog_entry.specs.declared.entry.Entry.{Entry}
 use Rattle.oplog_store.specs.Log.{with_entry}
 use Rattle.set_model.proofs.HoldLemmas.{get-step}
-use Rattle.set_model.specs.Holds.{is_at}
 use Rattle.commit_machine.specs.Words.{Begins, Follows, Rises}
 use Rattle.commit_machine.specs.Nodes.{In}
 use Rattle.safety_laws.proofs.Places.{in_at}

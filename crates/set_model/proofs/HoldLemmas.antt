@@ -1,39 +1,22 @@
 -- Places that ops touch, and who holds a document.
 use Rattle.std.proofs.Common.{◌≡◌, ◌≢◌, ◌∙◌, ℕ, Bool, true, false, cond, List, [], ◌∷◌, Option, None, Some, refl, sym, ap}
-use Rattle.std.specs.Cmp.{tied_itself, Equal-is, eq_by_cmp_equiv}
+use Rattle.std.specs.Cmp.{eq_by_cmp_equiv}
 use Rattle.std.specs.FinMap.{find, get, get-entries, entries, FinMap}
-use Rattle.std.specs.Ordering.{eq_by_cmp, is_eq, nat_cmp}
+use Rattle.std.specs.Ordering.{eq_by_cmp, nat_cmp}
 use Rattle.bson_doc.specs.Place.{Place}
-use Rattle.bson_doc.proofs.KeyLemmas.{place_cmp-total, place_cmp-antisymmetric}
+use Rattle.bson_doc.proofs.KeyLemmas.{place_cmp-total}
 use Rattle.rs_optime.specs.declared.optime.OpTime.{OpTime}
 use Rattle.oplog_entry.specs.Docs.{Documents, applied}
-use Rattle.oplog_entry.specs.Step.{place_of, document_after}
+use Rattle.oplog_entry.specs.Step.{place_of, document_after, is_at}
 use Rattle.oplog_entry.specs.declared.entry.Entry.{Entry}
 use Rattle.oplog_entry.specs.declared.entry.Op.{Op}
 use Rattle.oplog_entry.proofs.DocsLemmas.{get-applied, applied-nothing}
+use Rattle.oplog_entry.proofs.PlaceLemmas.{is_at-here, is_at-only}
 use Rattle.set_model.specs.declared.writer.Writer.{Writer}
 use Rattle.set_model.specs.declared.writer.Writer.TheVariants.{Open}
-use Rattle.set_model.specs.Holds.{is_at, holds, holder_among}
+use Rattle.set_model.specs.Holds.{holds, holder_among}
 
 -- ---- places
-
-is_at-itself : (place : Place) → is_at (Some place) place ≡ true
-is_at-itself place = ap is_eq (tied_itself place_cmp-total place)
-
--- an op that touches a place touches it, and no other
-pub is_at-here : (own : Option Place) (place : Place) → own ≡ Some place → is_at own place ≡ true
-is_at-here own place same = ap (λ o. is_at o place) same ∙ is_at-itself place
-
-pub is_at-only : (own : Option Place) (place : Place) → is_at own place ≡ true → own ≡ Some place
-is_at-only None place here = cc here
-is_at-only (Some own) place here = ap (λ (p : Place). Some p) (place_cmp-antisymmetric own place ((Equal-is _).0 here))
-
-pub is_at-other : (own : Option Place) (place : Place) → own ≢ Some place → is_at own place ≡ false
-is_at-other own place apart = by_test (is_at own place) refl
-  where
-    by_test : (b : Bool) → is_at own place ≡ b → is_at own place ≡ false
-    by_test true is = absurd (apart (is_at-only own place is))
-    by_test false is = is
 
 some_place : (one two : Place) → Some one ≡ Some two → one ≡ two
 some_place one two same = cc same

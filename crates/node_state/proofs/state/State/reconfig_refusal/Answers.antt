@@ -5,7 +5,8 @@ use Rattle.set_model.specs.Reconfig.{reconfig_refusal}
 use Rattle.set_model.specs.declared.role.Role.TheVariants.{Primary}
 use Rattle.node_state.specs.Seen.{seen_node}
 use Rattle.node_state.specs.Standing.{Standing}
-use Rattle.node_state.proofs.ChangeLemmas.{checked, refused_as}
+use Rattle.part_laws.specs.Points.{checked}
+use Rattle.node_state.proofs.ChangeLemmas.{refused_as}
 use Rattle.node_state.proofs.Inside.{rest_in}
 use Rattle.node_state.proofs.VoterLemmas.{few_members}
 use Rattle.node_state.proofs.state.State.reconfig_refusal.Goals as goal
