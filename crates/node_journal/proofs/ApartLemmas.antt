@@ -16,12 +16,13 @@ use Rattle.vote_store.specs.declared.vote.Vote.{Vote}
 use Rattle.repl_msg.specs.declared.record.Record.{Record}
 use Rattle.repl_msg.specs.declared.record.Record.TheVariants as records
 use Rattle.record_file.proofs.ParseLemmas.{one_list}
+use Rattle.record_file.proofs.ItemLemmas.{same_head, same_tail}
+use Rattle.record_file.proofs.ListLemmas.{piece_is, behind_is}
 use Rattle.node_journal.specs.Files.{HasJournal}
 use Rattle.node_journal.specs.Layout.{NOBODY, optime_bytes, vote_bytes, truth_byte, member_bytes, config_bytes, entry_bytes, sized_entry, batch_bytes, record_bytes}
 use Rattle.node_journal.specs.Spelled.{IsOptime, IsVote, IsMember, IsConfig, IsEntry, AreEntries, IsRecord}
-use Rattle.node_journal.proofs.LoopLemmas.{same_head, same_tail}
 use Rattle.node_journal.proofs.NumberLemmas.{number_read, rest_read, truth_read, truth_rest, truth_back}
-use Rattle.node_journal.proofs.PartLemmas.{optime_parts, member_parts, entry_parts, entry_short, piece_is, behind_is, spelled_here}
+use Rattle.node_journal.proofs.PartLemmas.{optime_parts, member_parts, entry_parts, entry_short, spelled_here}
 
 -- bytes begin with one such item at most
 abbrev Tells : {A : Type 0} → (A → Type 0) → (A → List ℕ) → Type 0

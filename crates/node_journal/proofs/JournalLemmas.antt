@@ -1,16 +1,16 @@
 -- A journal's disk is a record file's, and what a crash leaves of the one it leaves of the other.
-use Rattle.std.proofs.Common.{⊎_elim, ◌≡◌, inl, inr, ℕ, List, [], ◌∷◌, ◌++◌, map, suc, zero, sym, ap, subst, ◌∙◌, arith}
+use Rattle.std.proofs.Common.{⊎_elim, ◌≡◌, inl, inr, ℕ, List, [], ◌∷◌, ◌++◌, map, subst}
 use Rattle.std.specs.Prelude.{All, Result, Ok, Err, OnOk}
-use Rattle.std.proofs.lemmas.List.{map-append, append-nil}
+use Rattle.std.proofs.lemmas.List.Elements.{All-push}
 use Rattle.rs_disk.specs.File.{File, IsImage, LeavesOnly, contents}
 use Rattle.rs_disk.specs.Images.{read_is_image, only_image}
 use Rattle.rs_disk.specs.Moments.{EachMoment, weakens, starts}
 use Rattle.rs_disk.specs.State.{State}
 use Rattle.record_file.specs.Records.{HasRecords, body}
 use Rattle.record_file.specs.declared.error.FileError.{FileError}
-use Rattle.record_file.specs.declared.error.FileError.TheVariants.{Memory}
 use Rattle.record_file.specs.Files as files
 use Rattle.record_file.proofs.ParseLemmas.{one_list}
+use Rattle.record_file.proofs.ItemLemmas.{pieces_push}
 use Rattle.repl_msg.specs.declared.record.Record.{Record}
 use Rattle.node_journal.specs.Layout.{record_bytes}
 use Rattle.node_journal.specs.Spelled.{IsRecord, IsSpelled}
@@ -23,31 +23,19 @@ pub open_is : (state : State) → IsOpen state → files.IsOpen state
 open_is state is = record { records = map record_bytes is.records; rests = is.rests.rests }
 
 -- one record more
-pub all_push : (records : List Record) (item : Record) → All IsRecord records → IsRecord item → All IsRecord (records ++ item ∷ [])
-all_push [] item each here zero d within = here
-all_push [] item each here (suc k) d within = absurd (omega arith)
-all_push (first ∷ records) item each here zero d within = each zero d (omega arith)
-all_push (first ∷ records) item each here (suc k) d within =
-    all_push records item (λ j e inside. each (suc j) e (omega arith)) here k d (omega arith)
-
-pub pieces_push : (records : List Record) (item : Record) (piece : List ℕ) → piece ≡ record_bytes item
-    → map record_bytes records ++ piece ∷ [] ≡ map record_bytes (records ++ item ∷ [])
-pieces_push records item piece is =
-    ap (λ (p : List ℕ). map record_bytes records ++ p ∷ []) is ∙ sym (map-append record_bytes records (item ∷ []))
-
 pub rests_push : (state : State) (records : List Record) (item : Record) (piece : List ℕ) → All IsRecord records → IsSpelled item piece
     → files.IsAtRest state (map record_bytes records ++ piece ∷ []) → IsAtRest state (records ++ item ∷ [])
 rests_push state records item piece each here rests = record {
-  each = all_push records item each here.lawful;
-  rests = subst (λ (l : List (List ℕ)). files.IsAtRest state l) (pieces_push records item piece here.spelled) rests;
+  each = All-push IsRecord records item each here.lawful;
+  rests = subst (λ (l : List (List ℕ)). files.IsAtRest state l) (pieces_push record_bytes records item piece here.spelled) rests;
 }
 
 either : (records : List Record) (item : Record) (piece : List ℕ) → All IsRecord records → IsSpelled item piece
     → (image : List ℕ) → files.IsBeforeOrAfter (map record_bytes records) piece image → IsBeforeOrAfter records item image
 either records item piece each here image (inl before) = inl (record { each = each; has = before })
 either records item piece each here image (inr after) = inr (record {
-  each = all_push records item each here.lawful;
-  has = subst (λ (l : List (List ℕ)). HasRecords image l) (pieces_push records item piece here.spelled) after;
+  each = All-push IsRecord records item each here.lawful;
+  has = subst (λ (l : List (List ℕ)). HasRecords image l) (pieces_push record_bytes records item piece here.spelled) after;
 })
 
 -- each moment of an append is one of an addition
@@ -125,12 +113,8 @@ pub open_after : {X E : Type 0} (result : Result X E) (old new : State) (item : 
 open_after (Ok x) old new item is added = record { records = is.records ++ item ∷ []; rests = added is.records is.rests }
 open_after (Err e) old new item is added = tt
 
--- the calls of an addition, and those of an opening that wanted memory behind them
+-- the calls of an addition
 pub calls_of : {X : Type 0} (result : Result X FileError) (at : ℕ) (item : Record) (piece : List ℕ) (old new : State) → IsSpelled item piece
     → files.EndsBy result (files.append_steps at (body piece ++ 0 ∷ [])) old new → files.EndsBy result (files.append_steps at (body (record_bytes item) ++ 0 ∷ [])) old new
 calls_of result at item piece old new here calls =
     subst (λ (l : List ℕ). files.EndsBy result (files.append_steps at (body l ++ 0 ∷ [])) old new) here.spelled calls
-
-pub opened_calls : {X : Type 0} (result : Result X FileError) (old new : State) → result ≡ Err Memory → files.OpensBy {T = Unit {0}} (Ok tt) old new → files.OpensBy result old new
-opened_calls {X} result old new is (steps, are, made) =
-    subst (λ (r : Result X FileError). files.OpensBy r old new) (sym is) (steps, are, (steps, [], sym (append-nil steps), made))

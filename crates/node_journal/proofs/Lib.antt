@@ -1,6 +1,5 @@
 mod NumberLemmas
 mod PartLemmas
-mod TurnLemmas
 mod LoopLemmas
 mod OrderLemmas
 pub mod SizeLemmas

@@ -1,7 +1,6 @@
 -- The parts of what stands in front of some bytes.
-use Rattle.std.proofs.Common.{◌≡◌, ℕ, ◌<◌, ◌^◌, List, ◌∷◌, ◌++◌, length, take, drop, Option, None, Some, refl, sym, ap, subst, ◌∙◌, arith, append_assoc}
+use Rattle.std.proofs.Common.{◌≡◌, ℕ, ◌<◌, ◌^◌, List, ◌∷◌, ◌++◌, length, Option, None, Some, refl, sym, ap, subst, ◌∙◌, arith, append_assoc}
 use Rattle.std.specs.Prelude.{◌≢◌, Err, unwrap_or}
-use Rattle.std.proofs.lemmas.List.{take_at, drop_at}
 use Rattle.bson_codec.specs.Numbers.{number_bytes}
 use Rattle.bson_codec.specs.Spelling.{IsSpelling}
 use Rattle.bson_codec.specs.declared.error.DecodeError.{DecodeError}
@@ -29,13 +28,6 @@ entry_parts e behind bytes is = is ∙ append_assoc (number_bytes 4 (length (ent
 
 pub entry_short : (e : Entry) → IsEntry e → length (entry_bytes e) < 256 ^ 4
 entry_short e is = omega (arith, is.spelling.in_bytes)
-
--- the bytes of an entry, by their length
-pub piece_is : (front behind rest piece : List ℕ) (size : ℕ) → rest ≡ front ++ behind → size ≡ length front → piece ≡ take size rest → piece ≡ front
-piece_is front behind rest piece size is size_is read = read ∙ ap (λ (l : List ℕ). take size l) is ∙ take_at front behind size (sym size_is)
-
-pub behind_is : (front behind rest after : List ℕ) (size : ℕ) → rest ≡ front ++ behind → size ≡ length front → after ≡ drop size rest → after ≡ behind
-behind_is front behind rest after size is size_is read = read ∙ ap (λ (l : List ℕ). drop size l) is ∙ drop_at front behind size (sym size_is)
 
 pub spelled_here : (e : Entry) (piece : List ℕ) → IsEntry e → piece ≡ entry_bytes e → IsSpelling 1048576 103 (document_of e) piece
 spelled_here e piece is same = subst (λ (l : List ℕ). IsSpelling 1048576 103 (document_of e) l) (sym same) is.spelling

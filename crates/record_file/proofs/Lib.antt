@@ -2,5 +2,7 @@ pub mod CutLemmas
 pub mod ListLemmas
 pub mod AppendLemmas
 pub mod ParseLemmas
-mod OpenLemmas
+pub mod TurnLemmas
+pub mod ItemLemmas
+pub mod OpenLemmas
 mod StepLemmas

@@ -1,7 +1,7 @@
 -- Lists of open records, and lists of which a front is known.
 use Rattle.std.proofs.Common.{◌≡◌, ◌≢◌, ℕ, ◌^◌, ◌<◌, ◌≤◌, List, [], ◌∷◌, ◌++◌, length, take, drop, refl, sym, ◌∙◌, ap, arith, length-take, take-append-drop}
 use Rattle.std.specs.Prelude.{slice_index}
-use Rattle.std.proofs.lemmas.List.{append_assoc, append-nil, ext_get_or, get_or-take}
+use Rattle.std.proofs.lemmas.List.{append_assoc, append-nil, drop_at, ext_get_or, get_or-take, take_at}
 use Rattle.record_file.specs.Records.{AreOpen, body}
 
 -- a list that has these elements in front
@@ -26,3 +26,10 @@ open_push (first ∷ records) front gate piece (first_gate, rest, first_open, fi
   ap (λ (l : List ℕ). l ++ gate ∷ body piece) is ∙ append_assoc (first_gate ∷ body first) rest (gate ∷ body piece),
   open_push records rest gate piece others is_open small,
 )
+
+-- a front by its length, and what stands behind it
+pub piece_is : (front behind rest piece : List ℕ) (size : ℕ) → rest ≡ front ++ behind → size ≡ length front → piece ≡ take size rest → piece ≡ front
+piece_is front behind rest piece size is size_is read = read ∙ ap (λ (l : List ℕ). take size l) is ∙ take_at front behind size (sym size_is)
+
+pub behind_is : (front behind rest after : List ℕ) (size : ℕ) → rest ≡ front ++ behind → size ≡ length front → after ≡ drop size rest → after ≡ behind
+behind_is front behind rest after size is size_is read = read ∙ ap (λ (l : List ℕ). drop size l) is ∙ drop_at front behind size (sym size_is)

@@ -1,7 +1,7 @@
 -- What a crash leaves in each step of an opening.
 use Rattle.std.proofs.Common.{◌≡◌, inl, inr, ℕ, ◌+◌, ◌≤◌, ◌<◌, List, [], ◌∷◌, ◌++◌, length, get_or, take, drop, refl, sym, ◌∙◌, ap, subst, arith, length-append}
-use Rattle.std.specs.Prelude.{Result, Err}
-use Rattle.std.proofs.lemmas.List.{append_assoc, take_at, get_or_append_left}
+use Rattle.std.specs.Prelude.{Result, Ok, Err}
+use Rattle.std.proofs.lemmas.List.{append_assoc, append-nil, take_at, get_or_append_left}
 use Rattle.std.proofs.lemmas.Bool.{cases_lt}
 use Rattle.rs_disk.specs.File.{File, IsImage, LeavesOnly, changed, write, cut, settled, contents}
 use Rattle.rs_disk.specs.Images.{read_is_image, length-overwritten}
@@ -13,6 +13,7 @@ use Rattle.record_file.specs.Files.{IsAtRest, IsOneOf, IsRecordDisk, AreOpeningS
 use Rattle.record_file.specs.Parsed.{IsParsed}
 use Rattle.record_file.specs.Records.{HasRecords}
 use Rattle.record_file.specs.declared.error.FileError.{FileError}
+use Rattle.record_file.specs.declared.error.FileError.TheVariants.{Memory}
 use Rattle.record_file.proofs.ListLemmas.{begins_with}
 use Rattle.record_file.proofs.StepLemmas.{ended_moments, ends_more, stops_ends, stops_before}
 
@@ -131,3 +132,8 @@ module _ {T : Type 0} (result : Result T FileError) (old : State) where
       inr (omega (arith, ap length same), records, end, subst (λ (l : List ℕ). IsParsed l records end) same parsed, refl),
       ends_more result syncs (reads ∷ changes (cut end) ∷ syncs ∷ []) old mid new is_synced ends,
     )
+
+-- the calls of an opening that wanted memory behind them
+pub opened_calls : {X : Type 0} (result : Result X FileError) (old new : State) → result ≡ Err Memory → OpensBy {T = Unit {0}} (Ok tt) old new → OpensBy result old new
+opened_calls {X} result old new is (steps, are, made) =
+    subst (λ (r : Result X FileError). OpensBy r old new) (sym is) (steps, are, (steps, [], sym (append-nil steps), made))

@@ -6,3 +6,4 @@ pub mod Causes
 pub mod Records
 pub mod Parsed
 pub mod Files
+pub mod Turn

@@ -2,7 +2,8 @@ use Rattle.std.proofs.Common.{◌≡◌, ◌∙◌, ap, rules}
 use Rattle.std.specs.Prelude.{Err}
 use Rattle.record_file.specs.Records.{lists}
 use Rattle.record_file.specs.declared.error.FileError.TheVariants.{Memory}
-use Rattle.node_journal.proofs.JournalLemmas.{found_records, open_now, opened_calls, opened_left, opens, pieces_are, rests_now}
+use Rattle.record_file.proofs.OpenLemmas.{opened_calls}
+use Rattle.node_journal.proofs.JournalLemmas.{found_records, open_now, opened_left, opens, pieces_are, rests_now}
 use Rattle.node_journal.proofs.journal.Journal.reopen.Goals as goal
 
 pub returns-in_err-pieces-clause-left : goal.returns-in_err-pieces-clause-left
