@@ -12,13 +12,14 @@ use Rattle.oplog_entry.specs.declared.entry.Entry.{Entry}
 use Rattle.oplog_entry.specs.Lawful.{IsLawful}
 use Rattle.oplog_entry.specs.Visible.{is_before, last_of, log_up_to}
 use Rattle.oplog_entry.proofs.Optimes.{before_too}
+use Rattle.std.proofs.Math.Nat.{eq-or-lt_of_le}
 use Rattle.std.proofs.Math.Seq.{take-suc}
 use Rattle.oplog_store.specs.Log.{IsOplog, StandsBefore, with_entry}
 use Rattle.oplog_store.specs.Places.{AllPrecede, IsBehind, IsHeld, Moved, Placed, Precedes, StandsFirst, optime_of, written}
 use Rattle.oplog_store.specs.declared.places.Place.{Place}
 use Rattle.oplog_store.specs.declared.places.Place.TheVariants.{Open, Written, Closed}
 use Rattle.oplog_store.proofs.Keeps.{all_cons, all_tail, pairs_head, pairs_tail, with_last}
-use Rattle.oplog_store.proofs.LogLemmas.{below_or_at, earlier_of, found_there, later_of}
+use Rattle.oplog_store.proofs.LogLemmas.{earlier_of, found_there, later_of}
 
 pub precedes_on : (a b c : OpTime) → Precedes a b → Precedes b c → Precedes a c
 precedes_on a b c one two = record { earlier = omega (arith, one.earlier, two.earlier); term = omega (arith, one.term, two.term) }
@@ -168,10 +169,10 @@ places_before places last at rise is before k d within =
     let there : slice_index_or places (length places - 1) last ≡ last = found_there places (length places - 1) last last (sym is) in
     let same : slice_index_or places k d ≡ slice_index_or places k last = search (rules, get_or_default) in
     subst (λ place. Precedes (optime_of place) at) (sym same)
-    (elim (below_or_at k (length places - 1) (omega arith)) [
-      | inl less ↦
+    (elim (eq-or-lt_of_le {n = k} {m = length places - 1} (omega arith)) [
+      | inr less ↦
           precedes_on _ (optime_of last) at (subst (λ place. StandsFirst (slice_index_or places k last) place) there (rise k (length places - 1) last less (omega arith))) before
-      | inr here ↦ subst (λ place. Precedes (optime_of place) at) (sym (ap (λ n. slice_index_or places n last) here ∙ there)) before
+      | inl here ↦ subst (λ place. Precedes (optime_of place) at) (sym (ap (λ n. slice_index_or places n last) here ∙ there)) before
     ])
 
 -- and each entry that is settled
@@ -309,9 +310,9 @@ moved_empty settled first rest spare same held =
 
 pub places_rise : (places : List Place) → AllPairs StandsFirst places → IsNonDecreasingBy (λ place. (optime_of place).ts) places
 places_rise places rise i j d within inside =
-    elim (below_or_at i j within) [
-      | inl less ↦ let first : StandsFirst (slice_index_or places i d) (slice_index_or places j d) = rise i j d less inside in omega (arith, first.earlier)
-      | inr same ↦ rw same (omega arith)
+    elim (eq-or-lt_of_le within) [
+      | inr less ↦ let first : StandsFirst (slice_index_or places i d) (slice_index_or places j d) = rise i j d less inside in omega (arith, first.earlier)
+      | inl same ↦ rw same (omega arith)
     ]
 
 -- places parted by a timestamp
@@ -371,9 +372,9 @@ last_is_one (one ∷ two ∷ log) entry = last_is_one (two ∷ log) entry
 
 pub places_before_come_first : (places : List Place) (at : OpTime) → AllPairs StandsFirst places → IsPartitionedBy (λ place. is_before (optime_of place) at) places
 places_before_come_first places at rise i j d within inside late =
-    elim (below_or_at i j within) [
-      | inl less ↦ let first : StandsFirst (slice_index_or places i d) (slice_index_or places j d) = rise i j d less inside in before_too _ _ at (omega (arith, first.earlier)) first.term late
-      | inr same ↦ rw same late
+    elim (eq-or-lt_of_le within) [
+      | inr less ↦ let first : StandsFirst (slice_index_or places i d) (slice_index_or places j d) = rise i j d less inside in before_too _ _ at (omega (arith, first.earlier)) first.term late
+      | inl same ↦ rw same late
     ]
 
 -- the entries before an optime are those at the places before it

@@ -1,6 +1,7 @@
 -- What reads show after a prune, and after going back.
 use Rattle.std.proofs.Common.{◌≡◌, ◌∙◌, ap, sym, refl, arith, Bool, true, false, not, cond, List, [], ◌∷◌, ◌++◌, suc, zero, Option, None, Some}
 use Rattle.std.specs.Prelude.{filter, is_some}
+use Rattle.std.proofs.lemmas.Bool.{not-true}
 use Rattle.bson_doc.specs.Tree.{Fields}
 use Rattle.rs_optime.specs.declared.optime.OpTime.{OpTime}
 use Rattle.rs_optime.specs.Later.{earlier_of}
@@ -128,10 +129,6 @@ stronger p q follows (v ∷ vs) = go (stronger p q follows vs) (q v) refl
     go more false is =
         ap (λ b. filter p (cond b (v ∷ filter q vs) (filter q vs))) is ∙ more ∙ sym (ap (λ b. cond b (v ∷ filter q vs) (filter q vs)) is)
 
-not_not : (b : Bool) → not b ≡ true → b ≡ false
-not_not true h = cc
-not_not false h = refl
-
 -- what is at or before an optime is so at one that isn't before it
 pub back_to_shows : (past : Past) (at read : OpTime) → shown read (back_to at past).versions ≡ shown (earlier_of read at) past.versions
 back_to_shows past at read = go (is_before read at) refl
@@ -139,7 +136,7 @@ back_to_shows past at read = go (is_before read at) refl
     go : (b : Bool) → is_before read at ≡ b → shown read (back_to at past).versions ≡ shown (earlier_of read at) past.versions
     go true is =
         ap latest_of (weaker (λ (v : Version). not (is_before read v.at)) (λ (v : Version). not (is_before at v.at))
-        (λ v own. ap not (within v (not_not _ own) (is_before at v.at) refl)) past.versions)
+        (λ v own. ap not (within v (not-true _ own) (is_before at v.at) refl)) past.versions)
         ∙ sym (ap (λ b. shown (cond b read at) past.versions) is)
       where
         within : (v : Version) → is_before read v.at ≡ false → (b : Bool) → is_before at v.at ≡ b → is_before at v.at ≡ false
@@ -147,5 +144,5 @@ back_to_shows past at read = go (is_before read at) refl
         within v own false early = early
     go false is =
         ap latest_of (stronger (λ (v : Version). not (is_before read v.at)) (λ (v : Version). not (is_before at v.at))
-        (λ v own. ap not (late_reads at read v.at is (not_not _ own))) past.versions)
+        (λ v own. ap not (late_reads at read v.at is (not-true _ own))) past.versions)
         ∙ sym (ap (λ b. shown (cond b read at) past.versions) is)

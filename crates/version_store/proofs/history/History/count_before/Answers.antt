@@ -1,7 +1,8 @@
 use Rattle.std.proofs.Common.{rules}
 use Rattle.std.proofs.lemmas.List.Sorted.{IsPartitionPoint-from_clause}
+use Rattle.rs_optime.proofs.PartLemmas.{take_is_filter}
 use Rattle.version_store.specs.Past.{is_before}
-use Rattle.version_store.proofs.HistoryLemmas.{before_parted, take_is_filter}
+use Rattle.version_store.proofs.HistoryLemmas.{before_parted}
 use Rattle.version_store.proofs.history.History.count_before.Goals as goal
 
 pub returns-clause-before : goal.returns-clause-before
