@@ -1,24 +1,15 @@
--- The order of optimes, and a set of slots after one is opened or closed.
+-- A set of slots after one is opened or closed.
 use Rattle.std.proofs.Common.{◌≡◌, ◌∙◌, ◌≤◌, ◌<◌, ◌↔◌, ◌⊎◌, inl, inr, ap, sym, subst, refl, arith, Bool, true, false, cond, not, ◌&&◌, ◌||◌, List, [], ◌∷◌, ℕ, length, Option, None, Some, IsTrue, IsSome, IfSome, MatchOption}
 use Rattle.std.specs.List.{list_any}
-use Rattle.std.specs.Ordering.{nat_cmp, is_gt, eq_by_cmp}
-use Rattle.std.specs.Cmp.{IsTotalOrder, Equal-is, nat_cmp_total, eq_by_cmp_equiv}
-use Rattle.std.proofs.lemmas.Cmp.{on_total, then_total}
-use Rattle.std.proofs.lemmas.Map.Lookups.{exact_pairs, exact_unsigned}
-use Rattle.std.specs.FinSet.{FinSet, IsAntisymmetric, empty, contains, from_list, insert, remove, contains-empty, contains-from_list, contains-insert, contains-remove, same_set}
+use Rattle.std.specs.Ordering.{is_gt, eq_by_cmp}
+use Rattle.std.specs.Cmp.{Equal-is, eq_by_cmp_equiv}
+use Rattle.std.specs.FinSet.{FinSet, empty, contains, from_list, insert, remove, contains-empty, contains-from_list, contains-insert, contains-remove, same_set}
 use Rattle.std.specs.BTreeMap.{is_at}
+pub use Rattle.rs_optime.proofs.OrderLemmas.{optime_total, optime_exact}
 use Rattle.rs_optime.specs.declared.optime.OpTime.{OpTime}
 use Rattle.optime_slots.specs.Reserved.{optime_cmp, IsSeen, AreSeen, IsLeast}
 use Rattle.std.specs.Option.{option_copied}
 use Rattle.std.specs.Borrow.{Bor}
-
-pub optime_total : IsTotalOrder optime_cmp
-optime_total = then_total (on_total (λ o. o.term) nat_cmp_total) (on_total (λ o. o.ts) nat_cmp_total)
-
-pub optime_exact : IsAntisymmetric optime_cmp
-optime_exact a b h =
-    ap (λ (p : ℕ × ℕ). record { term = p.0; ts = p.1 })
-    (exact_pairs nat_cmp nat_cmp exact_unsigned exact_unsigned (a.term, a.ts) (b.term, b.ts) h)
 
 cond-or : (b c : Bool) → cond b true c ≡ (b || c)
 cond-or true c = refl
