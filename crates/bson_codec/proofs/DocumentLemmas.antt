@@ -2,7 +2,7 @@
 use Rattle.std.proofs.Common.{◌≡◌, ℕ, zero, suc, ◌+◌, ◌-◌, ◌^◌, ◌≤◌, Bool, true, false, cond, ltb, List, [], ◌∷◌, ◌++◌, length, drop, Result, Ok, Err, refl, sym, ap, subst, ◌∙◌, append_assoc, arith, inl, inr}
 use Rattle.std.specs.Prelude.{IfOk, nat_lt, nat_le, ◌||◌, if◌then◌else◌}
 use Rattle.std.specs.Fmt.{decimal}
-use Rattle.std.proofs.lemmas.Bool.{cases_Bool, ltb-false, le-ltb}
+use Rattle.std.proofs.lemmas.Bool.{cases_Bool, ltb-false, le-ltb, or_parts}
 use Rattle.std.proofs.lemmas.List.{append-nil, length-append, length-drop}
 use Rattle.bson_doc.specs.Bind.{◌>>=◌}
 use Rattle.bson_doc.proofs.BindLemmas.{bind_ok}
@@ -21,7 +21,7 @@ use Rattle.bson_codec.specs.Spelling.{element, value_bytes, fields_bytes, items_
 use Rattle.bson_codec.specs.Wholes.{outer_length, fields_within, fields_behind, read_document}
 use Rattle.bson_codec.proofs.PartLemmas.{IsBytes, IsBytes-drop, ok_is, Takes, Takes-then, bytes_take, length_takes, byte_takes, known_name_takes, wide4, number_takes}
 use Rattle.bson_codec.proofs.SpellingLemmas.{length-fields_bytes, length-items_bytes}
-use Rattle.bson_codec.proofs.ValueLemmas.{ValueTakes, InnerTakes, kind_takes, value_takes, ends_here, fields_take}
+use Rattle.bson_codec.proofs.ValueLemmas.{ValueTakes, InnerTakes, read_pair, kind_takes, value_takes, ends_here, fields_take}
 
 -- ---- items
 
@@ -119,9 +119,6 @@ content_takes bytes content fits e =
     let t1 = bytes_take (a.0.0 - 4) a.0.1 content.0 content.1 t0.0.rest_fits a.2 in
     (a.0.0, Takes-then bytes (number_bytes 4 a.0.0) a.0.1 content.0 content.1 t0.0 t1.0, t0.1, t1.1, t1.2)
 
-abbrev inner_read : Tree → List ℕ → Tree × List ℕ
-inner_read value rest = (value, rest)
-
 pub inner_takes : (levels : ℕ) → InnerTakes levels (inner_at levels)
 unfolding inner_at
 inner_takes zero is_array bytes value rest fits e = absurd cc
@@ -138,7 +135,7 @@ inner_takes (suc levels) false bytes value rest fits e =
       sound = (all.names, all.sound);
       in_levels = omega (arith, all.in_levels);
     } in
-    let is : inner_read (tree.document c.0) a.0.1 ≡ inner_read value rest = ap (λ (t : Tree). (t, a.0.1)) (ok_is _ _ c.2) ∙ ok_is _ _ b.2 in
+    let is : read_pair (tree.document c.0) a.0.1 ≡ read_pair value rest = ap (λ (t : Tree). (t, a.0.1)) (ok_is _ _ c.2) ∙ ok_is _ _ b.2 in
     subst (λ (p : Tree × List ℕ). ValueTakes (suc levels) bytes p.0 p.1 × (type_byte p.0 ≡ 3)) is (made, refl)
 inner_takes (suc levels) true bytes value rest fits e =
     let inner = inner_at levels in
@@ -153,7 +150,7 @@ inner_takes (suc levels) true bytes value rest fits e =
       sound = all.sound;
       in_levels = omega (arith, all.in_levels);
     } in
-    let is : inner_read (tree.array c.0) a.0.1 ≡ inner_read value rest = ap (λ (t : Tree). (t, a.0.1)) (ok_is _ _ c.2) ∙ ok_is _ _ b.2 in
+    let is : read_pair (tree.array c.0) a.0.1 ≡ read_pair value rest = ap (λ (t : Tree). (t, a.0.1)) (ok_is _ _ c.2) ∙ ok_is _ _ b.2 in
     subst (λ (p : Tree × List ℕ). ValueTakes (suc levels) bytes p.0 p.1 × (type_byte p.0 ≡ 4)) is (made, refl)
 
 -- ---- the whole
@@ -170,10 +167,6 @@ chosen_err : (b : Bool) (d : DecodeError) (other : Result ℕ DecodeError) (n : 
 chosen_err true d other n e = absurd cc
 chosen_err false d other n e = (refl, e)
 
-or_false : (a b : Bool) → (a || b) ≡ false → (a ≡ false) × (b ≡ false)
-or_false true b e = absurd cc
-or_false false b e = (refl, e)
-
 outer_passes : (bound : ℕ) (bytes : List ℕ) (n : ℕ) → outer_length bound bytes ≡ Ok n → Passes bound bytes n
 outer_passes bound bytes n e =
     let m = number_in 4 bytes in
@@ -183,7 +176,7 @@ outer_passes bound bytes n e =
     let d = chosen_err (nat_lt (length bytes) m) rules.Short _ n c.1 in
     let f = chosen_err (nat_lt m (length bytes)) rules.Trailing _ n d.1 in
     let is : m ≡ n = cc (f.1) in
-    let tests = or_false (nat_lt m 5) (nat_le (2 ^ 31) m) b.0 in
+    let tests = or_parts (nat_lt m 5) (nat_le (2 ^ 31) m) b.0 in
     let least : 5 ≤ m = ltb-false _ _ tests.0 in
     let in_bound : m ≤ bound = ltb-false _ _ c.0 in
     let short : m ≤ length bytes = ltb-false _ _ d.0 in

@@ -5,7 +5,7 @@ use Rattle.std.specs.List.{position_or_len}
 use Rattle.std.specs.Str.Lossy.{utf8_valid_len, utf8_error_len}
 use Rattle.std.proofs.lemmas.List.Quantifiers.{position-Some}
 use Rattle.std.specs.Str.{is_utf8}
-use Rattle.std.proofs.lemmas.Bool.{cases_Bool, cases_lt, ltb-false, le-ltb, lt-ltb, eqb-true}
+use Rattle.std.proofs.lemmas.Bool.{cases_Bool, cases_lt, ltb-false, le-ltb, lt-ltb, eqb-true, or_parts}
 use Rattle.std.proofs.lemmas.Bool.Decides.{nat_tests}
 use Rattle.std.proofs.lemmas.List.{take_at, drop_at, take-append-drop, length-append, length-take, get_or-drop, get_or-take, get_or_past}
 use Rattle.std.proofs.lemmas.Nat.{le_bytes_4, le_bytes_8}
@@ -45,10 +45,6 @@ done x = Ok x
 
 pub ok_is : {A : Type 0} (x y : A) → done x ≡ done y → x ≡ y
 ok_is x y e = cc
-
-or_false : (a b : Bool) → (a || b) ≡ false → (a ≡ false) × (b ≡ false)
-or_false true b e = absurd cc
-or_false false b e = (refl, e)
 
 -- what a reader took from the front
 pub record Takes (bytes text rest : List ℕ) : Type 0 where
@@ -120,7 +116,7 @@ unfolding length_at
 length_takes least bytes n rest fits e =
     let b = bind_ok (number_at 4 bytes) (λ n. cond (nat_lt n.0 least || nat_le (2 ^ 31) n.0) (Err rules.Length) (Ok n)) (n, rest) e in
     let g = guard_ok (nat_lt b.0.0 least || nat_le (2 ^ 31) b.0.0) rules.Length b.0 (n, rest) b.2 in
-    let tests = or_false (nat_lt b.0.0 least) (nat_le (2 ^ 31) b.0.0) g.0 in
+    let tests = or_parts (nat_lt b.0.0 least) (nat_le (2 ^ 31) b.0.0) g.0 in
     let t = number_takes 4 wide4 bytes b.0.0 b.0.1 fits b.1 in
     let enough : least ≤ b.0.0 = ltb-false _ _ tests.0 in
     let below : b.0.0 < 2 ^ 31 = grind (arith, nat_tests, tests.1) in

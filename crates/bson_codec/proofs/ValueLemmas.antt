@@ -63,7 +63,7 @@ abbrev pub InnerTakes : ℕ → Inner → Type 0
 InnerTakes levels inner = (is_array : Bool) (bytes : List ℕ) (value : Tree) (rest : List ℕ) → IsBytes bytes → inner is_array bytes ≡ Ok (value, rest)
     → ValueTakes levels bytes value rest × (type_byte value ≡ (if is_array then 4 else 3))
 
-abbrev read_pair : Tree → List ℕ → Tree × List ℕ
+abbrev pub read_pair : Tree → List ℕ → Tree × List ℕ
 read_pair value rest = (value, rest)
 
 -- a number of a kind, made of the bytes' number
