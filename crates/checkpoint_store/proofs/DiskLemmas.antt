@@ -1,6 +1,6 @@
 -- A checkpoint store's disk is a record file's, and what a crash leaves of the one it leaves of the other.
 use Rattle.std.proofs.Common.{◌≡◌, inl, inr, ℕ, List, [], ◌∷◌, ◌++◌, map, refl, sym, ap, subst, ◌∙◌, append-nil}
-use Rattle.std.specs.Prelude.{All, Result, Ok, Err, OnOk}
+use Rattle.std.specs.Prelude.{All, Result, Err, OnOk}
 use Rattle.std.specs.FinMap.{entries}
 use Rattle.rs_disk.specs.File.{contents}
 use Rattle.rs_disk.specs.Images.{read_is_image}
@@ -55,11 +55,6 @@ opens old new is moments = weakens (files.IsOneOf old) (IsOneOf old) (one_of old
 pub opened_left : (old new : State) → IsCheckpointDisk old → EachMoment (files.IsOneOf old) old new → IsCheckpointDisk new
 opened_left old new is moments =
     record { leaves = λ image left. let one = one_of old is image (moments.now image left) in (one.0, one.1) }
-
--- the calls of an opening that wanted memory behind them
-pub opened_calls : {X : Type 0} (result : Result X FileError) (old new : State) → result ≡ Err Memory → files.OpensBy {T = Unit {0}} (Ok tt) old new → files.OpensBy result old new
-opened_calls {X} result old new is (steps, are, made) =
-    subst (λ (r : Result X FileError). files.OpensBy r old new) (sym is) (steps, are, (steps, [], sym (append-nil steps), made))
 
 -- the records that were read are those of the file
 pub found_records : (state : State) (pieces : List (List ℕ)) → IsCheckpointDisk state → HasRecords (contents state.file) pieces

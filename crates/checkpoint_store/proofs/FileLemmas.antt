@@ -1,13 +1,14 @@
 -- Records that are added to a file one behind the other, and what a crash leaves of it meanwhile.
-use Rattle.std.proofs.Common.{◌≡◌, inl, inr, ℕ, List, [], ◌∷◌, ◌++◌, map, suc, zero, refl, sym, ap, subst, ◌∙◌, arith, append-nil, append_assoc}
+use Rattle.std.proofs.Common.{◌≡◌, inl, inr, ℕ, List, [], ◌∷◌, ◌++◌, map, refl, sym, ap, subst, ◌∙◌, append-nil, append_assoc}
 use Rattle.std.specs.Prelude.{◌≢◌, All, Result, Ok, Err, OnOk}
-use Rattle.std.proofs.lemmas.List.{map-append}
+use Rattle.std.proofs.lemmas.List.Elements.{All-push}
 use Rattle.rs_disk.specs.File.{File, IsImage, LeavesOnly}
 use Rattle.rs_disk.specs.Images.{only_image}
 use Rattle.rs_disk.specs.Moments.{EachMoment, joins, starts, weakens}
 use Rattle.rs_disk.specs.State.{State, SameButRoom}
 use Rattle.record_file.specs.Records.{HasRecords}
 use Rattle.record_file.specs.Files as files
+use Rattle.record_file.proofs.ItemLemmas.{pieces_push}
 use Rattle.record_file.specs.declared.error.FileError.{FileError}
 use Rattle.record_file.specs.declared.error.FileError.TheVariants.{Memory}
 use Rattle.checkpoint_store.specs.Layout.{Record, record_bytes}
@@ -18,23 +19,11 @@ pub open_is : (state : State) → IsOpen state → files.IsOpen state
 open_is state is = record { records = map record_bytes is.records; rests = is.rests.rests }
 
 -- one record more
-all_push : (records : List Record) (item : Record) → All IsRecord records → IsRecord item → All IsRecord (records ++ item ∷ [])
-all_push [] item each here zero d within = here
-all_push [] item each here (suc k) d within = absurd (omega arith)
-all_push (first ∷ records) item each here zero d within = each zero d (omega arith)
-all_push (first ∷ records) item each here (suc k) d within =
-    all_push records item (λ j e inside. each (suc j) e (omega arith)) here k d (omega arith)
-
-pieces_push : (records : List Record) (item : Record) (piece : List ℕ) → piece ≡ record_bytes item
-    → map record_bytes records ++ piece ∷ [] ≡ map record_bytes (records ++ item ∷ [])
-pieces_push records item piece is =
-    ap (λ (p : List ℕ). map record_bytes records ++ p ∷ []) is ∙ sym (map-append record_bytes records (item ∷ []))
-
 rests_push : (state : State) (records : List Record) (item : Record) (piece : List ℕ) → All IsRecord records → IsSpelled item piece
     → files.IsAtRest state (map record_bytes records ++ piece ∷ []) → RestsWith state (records ++ item ∷ [])
 rests_push state records item piece each here rests = record {
-  each = all_push records item each here.lawful;
-  rests = subst (λ (l : List (List ℕ)). files.IsAtRest state l) (pieces_push records item piece here.spelled) rests;
+  each = All-push IsRecord records item each here.lawful;
+  rests = subst (λ (l : List (List ℕ)). files.IsAtRest state l) (pieces_push record_bytes records item piece here.spelled) rests;
 }
 
 -- a synced list of records is what every crash leaves
@@ -83,8 +72,8 @@ front_of_one records item piece each here image (inr after) = (
   [],
   refl,
   record {
-    each = all_push records item each here.lawful;
-    has = subst (λ (l : List (List ℕ)). HasRecords image l) (pieces_push records item piece here.spelled) after;
+    each = All-push IsRecord records item each here.lawful;
+    has = subst (λ (l : List (List ℕ)). HasRecords image l) (pieces_push record_bytes records item piece here.spelled) after;
   },
 )
 

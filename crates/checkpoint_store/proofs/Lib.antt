@@ -1,6 +1,5 @@
 mod NumberLemmas
 mod PartLemmas
-mod TurnLemmas
 mod LoopLemmas
 mod SizeLemmas
 mod FileLemmas

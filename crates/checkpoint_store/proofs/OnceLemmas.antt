@@ -6,6 +6,7 @@ use Rattle.std.proofs.lemmas.List.{take_at, drop_at}
 use Rattle.rs_disk.specs.File.{LeavesOnly}
 use Rattle.rs_disk.specs.State.{State}
 use Rattle.record_file.proofs.ParseLemmas.{one_list}
+use Rattle.record_file.proofs.ItemLemmas.{same_head, same_tail}
 use Rattle.rs_optime.specs.declared.optime.OpTime.{OpTime}
 use Rattle.bson_doc.specs.declared.key.IdKey.{IdKey}
 use Rattle.bson_codec.specs.Numbers.{number_bytes, number_in}
@@ -84,12 +85,6 @@ record_once (holds a) (begins b) first second is = absurd (omega (arith, first_b
 record_once (holds a) ends first second is = absurd (omega (arith, first_byte 2 3 (documents_bytes a) [] is))
 record_once ends (begins b) first second is = absurd (omega (arith, first_byte 3 1 [] (optime_bytes b) is))
 record_once ends (holds b) first second is = absurd (omega (arith, first_byte 3 2 [] (documents_bytes b) is))
-
-same_head : (x y : List ℕ) (xs ys : List (List ℕ)) → x ∷ xs ≡ y ∷ ys → x ≡ y
-same_head x y xs ys same = cc
-
-same_tail : (x y : List ℕ) (xs ys : List (List ℕ)) → x ∷ xs ≡ y ∷ ys → xs ≡ ys
-same_tail x y xs ys same = cc
 
 records_once : (one two : List Record) → All IsRecord one → All IsRecord two → map record_bytes one ≡ map record_bytes two → one ≡ two
 records_once [] [] ones twos is = refl

@@ -1,6 +1,5 @@
 -- The parts of what stands in front of some bytes.
-use Rattle.std.proofs.Common.{◌≡◌, ℕ, ◌<◌, ◌^◌, List, ◌++◌, length, take, drop, sym, ap, subst, ◌∙◌, arith, append_assoc}
-use Rattle.std.proofs.lemmas.List.{take_at, drop_at}
+use Rattle.std.proofs.Common.{◌≡◌, ℕ, ◌<◌, ◌^◌, List, ◌++◌, length, sym, subst, ◌∙◌, arith, append_assoc}
 use Rattle.bson_codec.specs.Numbers.{number_bytes}
 use Rattle.bson_codec.specs.Spelling.{IsSpelling, document_bytes}
 use Rattle.rs_optime.specs.declared.optime.OpTime.{OpTime}
@@ -23,13 +22,6 @@ name_short saved is = omega (arith, is.short)
 
 pub document_short : (saved : Saved) → IsSaved saved → length (document_bytes saved.1) < 2 ^ 32
 document_short saved is = omega (arith, is.spelling.in_bytes)
-
--- the bytes behind a length
-pub piece_is : (front behind rest piece : List ℕ) (size : ℕ) → rest ≡ front ++ behind → size ≡ length front → piece ≡ take size rest → piece ≡ front
-piece_is front behind rest piece size is size_is read = read ∙ ap (λ (l : List ℕ). take size l) is ∙ take_at front behind size (sym size_is)
-
-pub behind_is : (front behind rest after : List ℕ) (size : ℕ) → rest ≡ front ++ behind → size ≡ length front → after ≡ drop size rest → after ≡ behind
-behind_is front behind rest after size is size_is read = read ∙ ap (λ (l : List ℕ). drop size l) is ∙ drop_at front behind size (sym size_is)
 
 pub spelled_here : (saved : Saved) (piece : List ℕ) → IsSaved saved → piece ≡ document_bytes saved.1 → IsSpelling 262144 100 saved.1 piece
 spelled_here saved piece is same = subst (λ (l : List ℕ). IsSpelling 262144 100 saved.1 l) (sym same) is.spelling

@@ -1,8 +1,7 @@
 -- Which bytes are a record's.
-use Rattle.std.specs.Prelude.{◌≡◌, ◌<◌, ◌≤◌, ◌^◌, ℕ, true, List, ◌++◌, length, Some, All, ⊤}
-use Rattle.std.specs.List.{flat_map}
+use Rattle.std.specs.Prelude.{◌≡◌, ◌≤◌, ℕ, true, List, length, Some, All, ⊤}
 use Rattle.std.specs.Str.{is_utf8}
-use Rattle.rs_optime.specs.declared.optime.OpTime.{OpTime}
+pub use Rattle.rs_optime.specs.Order.{IsOptime}
 use Rattle.bson_doc.specs.Sound.{IsSound}
 use Rattle.bson_codec.specs.Spelling.{IsSpelling, document_bytes}
 use Rattle.oplog_entry.specs.Step.{id_key}
@@ -14,10 +13,6 @@ NAME = 1048576
 
 abbrev pub PIECE : ℕ
 PIECE = 1000
-
--- numbers that fit their bytes
-abbrev pub IsOptime : OpTime → Type 0
-IsOptime at = (at.term < 2 ^ 64) × (at.ts < 2 ^ 64)
 
 -- a document within the bounds of its bytes, at its own key, under a name that isn't too long
 pub record IsSaved (saved : Saved) : Type 0 where
@@ -39,18 +34,3 @@ IsRecord ends = ⊤
 pub record IsSpelled (item : Record) (bytes : List ℕ) : Type 0 where
   pub lawful : IsRecord item
   pub spelled : bytes ≡ record_bytes item
-
--- so many items stand one behind the other
-pub record StandInTurn {A : Type 0} (IsItem : A → Type 0) (item_bytes : A → List ℕ) (count : ℕ) (items : List A) (bytes : List ℕ) : Type 0 where
-  pub number : length items ≡ count
-  pub each : All IsItem items
-  pub spelled : bytes ≡ flat_map item_bytes items
-
--- wherever such a thing stands in front of the bytes, it is the one that was read, and the rest is behind it
-abbrev pub Reads : {A : Type 0} → (A → Type 0) → (A → List ℕ) → List ℕ → A → List ℕ → Type 0
-Reads {A = A} IsItem item_bytes bytes read rest =
-    (item : A) (behind : List ℕ) → IsItem item → bytes ≡ item_bytes item ++ behind → (read ≡ item) × (rest ≡ behind)
-
--- such a thing stands in front of the bytes
-abbrev pub BeginsWith : {A : Type 0} → (A → Type 0) → (A → List ℕ) → List ℕ → Type 0
-BeginsWith {A = A} IsItem item_bytes bytes = (item : A) × (behind : List ℕ) × IsItem item × (bytes ≡ item_bytes item ++ behind)

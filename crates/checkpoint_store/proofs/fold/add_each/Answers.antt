@@ -5,7 +5,7 @@ use Rattle.oplog_entry.specs.Docs.{Documents}
 use Rattle.checkpoint_store.specs.Checkpoint.{with_documents}
 use Rattle.checkpoint_store.specs.Layout.{Saved, saved_bytes}
 use Rattle.checkpoint_store.specs.Spelled.{IsSaved}
-use Rattle.checkpoint_store.proofs.TurnLemmas.{starts, another, goes_on, ends}
+use Rattle.record_file.proofs.TurnLemmas.{starts, another, goes_on, ends}
 use Rattle.checkpoint_store.proofs.fold.add_each.Goals as goal
 
 pub loop-init : goal.loop-init

@@ -2,7 +2,7 @@ use Rattle.std.proofs.Common.{◌≡◌, List}
 use Rattle.checkpoint_store.specs.Checkpoint.{with_documents}
 use Rattle.checkpoint_store.specs.Layout.{Saved, saved_bytes}
 use Rattle.checkpoint_store.specs.Spelled.{IsSaved}
-use Rattle.checkpoint_store.proofs.TurnLemmas.{ReadSoFar}
+use Rattle.record_file.proofs.TurnLemmas.{ReadSoFar}
 use Rattle.checkpoint_store.proofs.fold.add_each.Given as goal
 
 abbrev pub invariant-loop : goal.invariant-loop

@@ -2,7 +2,8 @@ use Rattle.std.proofs.Common.{◌≡◌, ◌∙◌, [], ap, rules}
 use Rattle.std.specs.Prelude.{Err}
 use Rattle.record_file.specs.Records.{lists}
 use Rattle.record_file.specs.declared.error.FileError.TheVariants.{Memory}
-use Rattle.checkpoint_store.proofs.DiskLemmas.{disk_is, found_records, opened_calls, opened_left, opens, reads_so, rests_so, at_rest_open}
+use Rattle.record_file.proofs.OpenLemmas.{opened_calls}
+use Rattle.checkpoint_store.proofs.DiskLemmas.{disk_is, found_records, opened_left, opens, reads_so, rests_so, at_rest_open}
 use Rattle.checkpoint_store.proofs.checkpoints.Checkpoints.reopen.Goals as goal
 
 pub reopen-requires : goal.reopen-requires
