@@ -3,25 +3,12 @@ use Rattle.std.proofs.Common.{◌≡◌, ◌-◌, inl, inr, List, [], ◌∷◌,
 use Rattle.std.specs.Prelude.{Result, Ok, Err}
 use Rattle.rs_disk.specs.File.{write}
 use Rattle.rs_disk.specs.Moments.{EachMoment}
-use Rattle.rs_disk.specs.State.{State, IsDone, Writes}
-use Rattle.rs_disk.specs.Steps.{Step, in_step, after_step, Makes, MakesFirst, changes, syncs}
+use Rattle.rs_disk.specs.State.{State, IsDone}
+use Rattle.rs_disk.specs.Steps.{Step, in_step, after_step, Makes, changes, syncs}
 use Rattle.rs_disk.proofs.MomentLemmas.{EachLeaves, makes_more, made_moments, broken_moments, first_moments}
-use Rattle.rs_disk.specs.declared.disk.DiskError.{DiskError}
-use Rattle.rs_disk.specs.declared.disk.DiskError.TheVariants.{Failed, Memory as NoRoom}
-use Rattle.record_file.specs.Causes.{file_error}
 use Rattle.record_file.specs.Files.{StopsBy, EndsBy, append_steps}
 use Rattle.record_file.specs.declared.error.FileError.{FileError}
 use Rattle.record_file.specs.declared.error.FileError.TheVariants.{Disk, Memory}
-
--- no call was made
-pub none_made : (steps : List Step) (state : State) → MakesFirst steps state state
-none_made steps state = ([], steps, refl, record { file = refl; past = refl })
-
--- a write that is answered with an error
-pub write_stops : (at : ℕ) (bytes : List ℕ) (error : DiskError) (steps : List Step) (old new : State) → Writes at bytes (Err error) old new
-    → StopsBy (file_error error) (changes (write at bytes) ∷ steps) old new
-write_stops at bytes Failed steps old new is = inl is
-write_stops at bytes NoRoom steps old new is = ([], changes (write at bytes) ∷ steps, refl, record { file = ap (λ (s : State). s.file) is; past = ap (λ (s : State). s.past) is })
 
 -- one call before the others
 pub stops_more : (error : FileError) (step : Step) (steps : List Step) (old mid new : State) → IsDone (in_step step old.file) (after_step step old.file) old mid
