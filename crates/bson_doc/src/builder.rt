@@ -94,7 +94,9 @@ impl DocBuilder {
         doc
     }
 
-    /// The document whose last field this is, under a name that is new and has no zero byte.
+    /// The document whose last field this is, under a name that is new and has no zero byte. It is inlined, so that the document
+    /// is moved once less.
+    #[inline(always)]
     pub fn finish_with(self, name: Text, value: Value) -> Mem<Doc>
         requires clean { ¬ Contains name 0 }
         requires new { found name self ≡ None }

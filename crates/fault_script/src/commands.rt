@@ -305,7 +305,8 @@ fn begin(alloc: Global, node: u32, left: Left<'_>) -> Result<Command, LineError>
     Ok(Command::Begin { node, writer, op })
 }
 
-/// A write that is reserved and committed at once.
+/// A write that is reserved and committed at once. It is inlined, so that the write is moved once less.
+#[inline(always)]
 fn write_command(node: u32, op: WriteOp) -> Command
     ensures { result ≡ write_command node op }
 {

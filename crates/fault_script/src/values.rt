@@ -39,7 +39,8 @@ pub fn behind_space(text: &str) -> Result<&str, ScriptRule>
     }
 }
 
-/// The value that a text is.
+/// The value that a text is. This and the next one are inlined, so that values are moved less.
+#[inline(always)]
 #[tactic(auto, unfolding(crate::specs::Values::last_value))]
 pub fn last_value(alloc: Global, text: &str) -> Result<Value, LineError>
     ensures { Gives tree_of result (last_value text.now) }
@@ -53,6 +54,7 @@ pub fn last_value(alloc: Global, text: &str) -> Result<Value, LineError>
 }
 
 /// The document that a text is.
+#[inline(always)]
 #[tactic(auto, unfolding(crate::specs::Values::last_document))]
 pub fn last_document(alloc: Global, text: &str) -> Result<Doc, LineError>
     ensures { Gives (λ document. document) result (last_document text.now) }
