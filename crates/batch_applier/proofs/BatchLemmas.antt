@@ -5,6 +5,8 @@ use Rattle.std.specs.List.{All, AllPairs}
 use Rattle.std.proofs.lemmas.List.Elements.{All-filter, filter_passes}
 use Rattle.std.proofs.lemmas.List.Kept.{AllPairs-filter}
 use Rattle.std.proofs.lemmas.Bool.Decides.{nat_tests}
+use Rattle.std.proofs.lemmas.Option.{slice_get-get_or}
+use Rattle.rs_optime.proofs.Optimes.{at_most_refl, before_at_most}
 use Rattle.bson_doc.specs.Place.{Place}
 use Rattle.oplog_entry.specs.declared.entry.Entry.{Entry}
 use Rattle.oplog_entry.specs.Step.{place_of}
@@ -13,8 +15,7 @@ use Rattle.version_store.specs.Hash.{place_hash}
 use Rattle.version_store.specs.Past.{Past, is_before, back_before}
 use Rattle.version_store.specs.Shards.{Shard, past_of}
 use Rattle.version_store.specs.Store.{Store, past_at, AreShards, AreAllOrNone, ChangesEach}
-use Rattle.version_store.proofs.HistoryLemmas.{not_behind, not_before_itself}
-use Rattle.version_store.proofs.StoreLemmas.{get_at, past_there, shard_there, found_is, found_within}
+use Rattle.version_store.proofs.StoreLemmas.{past_there, shard_there, found_is, found_within}
 use Rattle.batch_applier.specs.Applied.{past_after, IsBatch, HasApplied}
 use Rattle.batch_applier.specs.Parts.{is_in, part_of, AreParts, IsReady, IsApplied, IsBegun, AreReady, Each, IsEachReady, EachOf}
 use Rattle.batch_applier.proofs.PastLemmas.{past_filtered, past_back}
@@ -51,7 +52,7 @@ passes_at count k (Some other) place test own = ap (λ (p : Place). place_hash p
 
 pub batch_ready : (count : ℕ) (shards : List Shard) (entries : List Entry) → AreShards count shards → IsBatch (record { count = count; shards = shards }) entries → IsEachReady shards entries
 batch_ready count shards entries are batch k s inside =
-    let there : slice_get shards k ≡ Some (slice_index_or shards k s) = get_at shards k s inside in
+    let there : slice_get shards k ≡ Some (slice_index_or shards k s) = slice_get-get_or shards k s inside in
     let here : (slice_index_or shards k s).number ≡ k = are.numbered k _ there in
     let all : (slice_index_or shards k s).count ≡ count = are.counted k _ there in
     record {
@@ -75,10 +76,10 @@ shards_kept count old new entries are done = record {
   long = done.long ∙ are.long;
   numbered = λ i s is.
       let within : i < length old = found_within new i s is (length old) done.long in
-      ap (λ (x : Shard). x.number) (sym (found_is new i s s is)) ∙ (done.each i s within).1.number ∙ are.numbered i _ (get_at old i s within);
+      ap (λ (x : Shard). x.number) (sym (found_is new i s s is)) ∙ (done.each i s within).1.number ∙ are.numbered i _ (slice_get-get_or old i s within);
   counted = λ i s is.
       let within : i < length old = found_within new i s is (length old) done.long in
-      ap (λ (x : Shard). x.count) (sym (found_is new i s s is)) ∙ (done.each i s within).1.count ∙ are.counted i _ (get_at old i s within);
+      ap (λ (x : Shard). x.count) (sym (found_is new i s s is)) ∙ (done.each i s within).1.count ∙ are.counted i _ (slice_get-get_or old i s within);
 }
 
 no_shard : Shard
@@ -87,7 +88,7 @@ no_shard = record { number = 0; count = 0; collections = [] }
 -- the past of a place, in its shard
 past_in_shard : (count : ℕ) (shards : List Shard) (place : Place) → AreShards count shards
     → past_at (record { count = count; shards = shards }) place ≡ past_of (slice_index_or shards (place_hash place % count) no_shard) place
-past_in_shard count shards place are = sym (past_there count shards place _ (get_at shards (place_hash place % count) no_shard (shard_there count shards place are)))
+past_in_shard count shards place are = sym (past_there count shards place _ (slice_get-get_or shards (place_hash place % count) no_shard (shard_there count shards place are)))
 
 -- the entries on documents of its shard are all that touch the place
 whole_part : (count : ℕ) (place : Place) (past : Past) (entries : List Entry) → past_after place past (part_of entries count (place_hash place % count)) ≡ past_after place past entries
@@ -122,8 +123,8 @@ all_take P (suc n) (x ∷ xs) all (suc k) d within = all_take P n xs (λ i e sho
 -- no entry is before the first
 none_earlier : (first : Entry) (rest : List Entry) → AllPairs (λ one two. is_before one.optime two.optime ≡ true) (first ∷ rest)
     → All (λ entry. is_before entry.optime first.optime ≡ false) (first ∷ rest)
-none_earlier first rest rising zero d within = not_before_itself first.optime
-none_earlier first rest rising (suc k) d within = not_behind first.optime (slice_index_or rest k d).optime (rising zero (suc k) d (omega arith) within)
+none_earlier first rest rising zero d within = at_most_refl first.optime
+none_earlier first rest rising (suc k) d within = before_at_most first.optime (slice_index_or rest k d).optime (rising zero (suc k) d (omega arith) within)
 
 pub batch_undone : (count : ℕ) (old new : List Shard) (last : Store) (first : Entry) (rest entries : List Entry) → entries ≡ first ∷ rest → AreShards count old → AreShards count new
     → IsBatch (record { count = count; shards = old }) entries → EachOf IsBegun old new entries

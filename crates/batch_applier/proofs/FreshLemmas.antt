@@ -1,9 +1,10 @@
 -- Lawful entries with rising optimes are a batch for a new store. For callers.
-use Rattle.std.proofs.Common.{◌≡◌, ◌∙◌, ◌<◌, ◌≤◌, ◌+◌, ◌⊎◌, inl, inr, ap, sym, subst, refl, arith, true, List, [], ◌∷◌, ◌++◌, ℕ, suc, zero, length, length-append}
+use Rattle.std.proofs.Common.{◌≡◌, ◌∙◌, ◌<◌, ◌+◌, inl, inr, ap, sym, subst, refl, arith, true, List, [], ◌∷◌, ◌++◌, ℕ, length, length-append}
+use Rattle.std.proofs.lemmas.Bool.{cases_lt}
 use Rattle.std.proofs.lemmas.List.{get_or_append_left, get_or_push}
 use Rattle.std.specs.Prelude.{slice_index_or}
 use Rattle.std.specs.List.{All}
-use Rattle.rs_optime.specs.declared.optime.OpTime.{OpTime}
+use Rattle.rs_optime.proofs.Optimes.{earlier_time}
 use Rattle.bson_doc.specs.Place.{Place}
 use Rattle.oplog_entry.specs.declared.entry.Entry.{Entry}
 use Rattle.oplog_entry.specs.Lawful.{IsLawful}
@@ -12,20 +13,12 @@ use Rattle.version_store.specs.Past.{Past, no_past, is_before}
 use Rattle.version_store.specs.Store.{Store, past_at}
 use Rattle.batch_applier.specs.Applied.{IsBatch}
 
-earlier_time : (a b : OpTime) → a.term ≡ b.term → a.ts < b.ts → is_before a b ≡ true
-earlier_time a b same less = grind arith
-
-below : (m n : ℕ) → (m < n) ⊎ (n ≤ m)
-below m zero = inr (omega arith)
-below zero (suc n) = inl (omega arith)
-below (suc m) (suc n) = elim (below m n) [ inl h ↦ inl (omega arith) | inr h ↦ inr (omega arith) ]
-
 -- lawful entries, numbered from 1 by their timestamps
 abbrev pub AreNumbered : List Entry → Type 0
 AreNumbered entries = (k : ℕ) (d : Entry) → k < length entries → IsLawful (slice_index_or entries k d) × ((slice_index_or entries k d).optime ≡ record { term = 1; ts = k + 1 })
 
 pub numbered_more : (entries : List Entry) (entry : Entry) → AreNumbered entries → IsLawful entry × (entry.optime ≡ record { term = 1; ts = length entries + 1 }) → AreNumbered (entries ++ entry ∷ [])
-numbered_more entries entry all own k d within = elim (below k (length entries)) [
+numbered_more entries entry all own k d within = elim (cases_lt k (length entries)) [
   | inl less ↦ rw (get_or_append_left entries (entry ∷ []) d k less) (all k d less)
   | inr late ↦
       let same : length entries ≡ k = omega (arith, length-append entries (entry ∷ [])) in

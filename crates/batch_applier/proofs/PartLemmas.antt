@@ -1,5 +1,5 @@
 -- Entries applied to a shard, and a batch parted over shards.
-use Rattle.std.proofs.Common.{◌≡◌, ◌≢◌, ◌⊎◌, inl, inr, ◌∙◌, ◌<◌, ◌+◌, ap, sym, subst, refl, arith, true, List, [], ◌∷◌, ◌++◌, ℕ, suc, zero, length, take, Option, Some}
+use Rattle.std.proofs.Common.{◌≡◌, inl, inr, ◌∙◌, ◌<◌, ◌+◌, ap, sym, subst, arith, true, List, [], ◌∷◌, ◌++◌, ℕ, length, take, Option, Some}
 use Rattle.std.specs.Prelude.{slice_index_or}
 use Rattle.std.specs.List.{All}
 use Rattle.std.proofs.lemmas.List.{take_more, get_or_default}
@@ -16,12 +16,6 @@ use Rattle.version_store.specs.Shards.{Shard, past_of, BelongsTo, ChangesOf}
 use Rattle.batch_applier.specs.Applied.{past_with, past_after}
 use Rattle.batch_applier.specs.Parts.{is_in, part_of, AreParts, IsAdded, IsReady, IsApplied}
 use Rattle.batch_applier.proofs.PastLemmas.{past_here, past_elsewhere, past_more, after_all}
-
-pub same_or_apart : (m n : ℕ) → (m ≡ n) ⊎ (m ≢ n)
-same_or_apart zero zero = inl refl
-same_or_apart zero (suc n) = inr (λ e. absurd (omega (arith, e)))
-same_or_apart (suc m) zero = inr (λ e. absurd (omega (arith, e)))
-same_or_apart (suc m) (suc n) = elim (same_or_apart m n) [ inl e ↦ inl (ap (λ k. suc k) e) | inr apart ↦ inr (λ e. apart (omega (arith, e))) ]
 
 -- ---- one entry
 

@@ -1,9 +1,9 @@
 -- The pasts of documents after entries.
-use Rattle.std.proofs.Common.{◌≡◌, ◌≢◌, ◌∙◌, ap, sym, refl, arith, Bool, true, false, cond, List, [], ◌∷◌, ◌++◌, ℕ, suc, zero, Option, Some, Result, Ok, Err, OnOk, OnErr, append-nil}
+use Rattle.std.proofs.Common.{◌≡◌, ◌≢◌, ◌∙◌, ap, sym, refl, arith, Bool, true, false, cond, List, [], ◌∷◌, ◌++◌, ℕ, zero, Option, Some, Result, Ok, Err, OnErr, append-nil}
 use Rattle.std.specs.Prelude.{filter}
 use Rattle.std.specs.List.{All}
 use Rattle.std.proofs.lemmas.List.Sums.{fold-append}
-use Rattle.std.proofs.lemmas.List.Elements.{filter-append, All-append}
+use Rattle.std.proofs.lemmas.List.Elements.{filter-append, All-append, All-tail, All-cons, All-nil}
 use Rattle.rs_optime.specs.declared.optime.OpTime.{OpTime}
 use Rattle.bson_doc.specs.Tree.{Fields}
 use Rattle.bson_doc.specs.Place.{Place}
@@ -14,19 +14,10 @@ use Rattle.version_store.specs.declared.history.Version.{Version}
 use Rattle.version_store.specs.Past.{Past, is_before, latest_of, back_before, with_version}
 use Rattle.batch_applier.specs.Applied.{touches, past_with, past_after}
 
--- what follows from a success
-pub on_ok : {T E P Q : Type 0} (r : Result T E) → (P → Q) → OnOk r P → OnOk r Q
-on_ok (Ok x) f h = f h
-on_ok (Err e) f h = tt
-
 -- what follows from a failure
 pub after_err : {T E P Q : Type 0} (r : Result T E) → (P → Q) → OnErr r P → OnErr r Q
 after_err (Ok x) f h = tt
 after_err (Err e) f h = f h
-
-pub on_ok_both : {T E P Q S : Type 0} (r : Result T E) → (P → Q → S) → OnOk r P → OnOk r Q → OnOk r S
-on_ok_both (Ok x) f h k = f h k
-on_ok_both (Err e) f h k = tt
 
 -- ---- one entry
 
@@ -62,17 +53,10 @@ past_filtered keep place past (entry ∷ entries) kept = by_test (λ next. past_
 
 -- ---- optimes
 
-all_tail : {X : Type 0} (P : X → Type 0) (x : X) (xs : List X) → All P (x ∷ xs) → All P xs
-all_tail P x xs all k d within = all (suc k) d (omega arith)
-
-all_one : {X : Type 0} (P : X → Type 0) (x : X) → P x → All P (x ∷ [])
-all_one P x here zero d within = here
-all_one P x here (suc k) d within = absurd (omega arith)
-
 -- one version more
 with_all : (P : Version → Type 0) (place : Place) (past : Past) (entry : Entry) → All P past.versions → ((doc : Option Fields) → P (record { at = entry.optime; doc = doc })) → All P (past_with place past entry).versions
 with_all P place past entry all here = elim (touches entry place) as (λ b. All P (cond b (with_version past (version_by past entry)) past).versions) [
-  | true ↦ All-append P past.versions (version_by past entry ∷ []) all (all_one P (version_by past entry) (here _))
+  | true ↦ All-append P past.versions (version_by past entry ∷ []) all (All-cons P (version_by past entry) [] (here _) (All-nil P))
   | false ↦ all
 ]
 
@@ -82,7 +66,7 @@ pub after_all : (P : Version → Type 0) (place : Place) (entries : List Entry) 
 after_all P place [] past all made = all
 after_all P place (entry ∷ entries) past all made =
     after_all P place entries (past_with place past entry) (with_all P place past entry all (λ doc. made zero entry (omega arith) doc))
-    (all_tail (λ (e : Entry). (doc : Option Fields) → P (record { at = e.optime; doc = doc })) entry entries made)
+    (All-tail (λ (e : Entry). (doc : Option Fields) → P (record { at = e.optime; doc = doc })) entry entries made)
 
 -- ---- going back
 
@@ -95,7 +79,7 @@ kept_all at [] early = refl
 kept_all at (version ∷ versions) early =
     let here : is_before version.at at ≡ true = early zero version (omega arith) in
     ap (λ b. cond b (version ∷ filter (λ (v : Version). is_before v.at at) versions) (filter (λ (v : Version). is_before v.at at) versions)) here
-    ∙ ap (λ vs. version ∷ vs) (kept_all at versions (all_tail (λ (v : Version). is_before v.at at ≡ true) version versions early))
+    ∙ ap (λ vs. version ∷ vs) (kept_all at versions (All-tail (λ (v : Version). is_before v.at at ≡ true) version versions early))
 
 -- an entry's version is gone
 back_one : (at : OpTime) (place : Place) (past : Past) (entry : Entry) → is_before entry.optime at ≡ false → back_before at (past_with place past entry) ≡ back_before at past
@@ -110,7 +94,7 @@ back_one at place past entry late = elim (touches entry place) as (λ b. back_be
 back_all : (at : OpTime) (place : Place) (entries : List Entry) (past : Past) → All (λ entry. is_before entry.optime at ≡ false) entries → back_before at (past_after place past entries) ≡ back_before at past
 back_all at place [] past late = refl
 back_all at place (entry ∷ entries) past late =
-    back_all at place entries (past_with place past entry) (all_tail (λ (e : Entry). is_before e.optime at ≡ false) entry entries late)
+    back_all at place entries (past_with place past entry) (All-tail (λ (e : Entry). is_before e.optime at ≡ false) entry entries late)
     ∙ back_one at place past entry (late zero entry (omega arith))
 
 -- back before the entries the past is as it was

@@ -13,6 +13,7 @@ use Rattle.bson_codec.specs.declared.kind.Kind as declared
 use Rattle.bson_codec.specs.declared.error.DecodeError.{DecodeError}
 use Rattle.bson_codec.specs.declared.error.DecodeError.TheVariants as rules
 use Rattle.bson_doc.specs.Length.{value_levels, fields_levels, items_levels, fields_length, items_length}
+use Rattle.bson_doc.proofs.SoundLemmas.{AreSoundItems-with_item}
 use Rattle.bson_codec.specs.Numbers.{number_bytes, number_in}
 use Rattle.bson_codec.specs.Outcome.{Gives}
 use Rattle.bson_codec.specs.Reading.{Inner, number_at, bytes_at, byte_at, kind_of, value_at, ends_at, fields_in, item_at, items_in, content_at, members_in, inner_at, known_name_at, length_at}
@@ -62,10 +63,6 @@ count-with : (seen : Trees) (value : Tree) → items_count (with_item seen value
 count-with no_items value = omega arith
 count-with (item one rest) value = omega (arith, count-with rest value)
 
-AreSound-with : (seen : Trees) (value : Tree) → AreSoundItems seen → IsSoundValue value → AreSoundItems (with_item seen value)
-AreSound-with no_items value sound one = (one, tt)
-AreSound-with (item first rest) value sound one = (sound.0, AreSound-with rest value sound.1 one)
-
 levels-with : (seen : Trees) (value : Tree) (levels : ℕ) → items_levels seen ≤ levels → value_levels value ≤ levels → items_levels (with_item seen value) ≤ levels
 levels-with no_items value levels before one = omega arith
 levels-with (item first rest) value levels before one = omega (arith, levels-with rest value levels (omega arith) one)
@@ -97,7 +94,7 @@ items_take (suc turns) levels inner within place seen bytes all fits e counts so
           let b = bind_ok (item_at inner place bytes) (λ next. items_in turns inner (place + 1) (with_item seen next.0) next.1) all step in
           let one = item_takes levels inner within place bytes b.0 fits b.1 in
           let later = items_take turns levels inner within (place + 1) (with_item seen b.0.0) b.0.1 all one.takes.rest_fits b.2
-          (omega (arith, count-with seen b.0.0)) (AreSound-with seen b.0.0 sound one.sound) (levels-with seen b.0.0 levels flat one.in_levels) in
+          (omega (arith, count-with seen b.0.0)) (AreSoundItems-with_item seen b.0.0 sound one.sound) (levels-with seen b.0.0 levels flat one.in_levels) in
           let moved : items_bytes 0 seen ++ bytes ≡ items_bytes 0 (with_item seen b.0.0) ++ b.0.1 =
           ap (λ (t : List ℕ). items_bytes 0 seen ++ t) one.takes.parts ∙ sym (append_assoc (items_bytes 0 seen) _ b.0.1) ∙ ap (λ (t : List ℕ). t ++ b.0.1) (sym (items_bytes-with 0 place seen b.0.0 (omega arith))) in
           record { parts = moved ∙ later.parts; sound = later.sound; in_levels = later.in_levels }

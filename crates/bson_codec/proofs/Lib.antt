@@ -1,5 +1,6 @@
 pub mod AgainLemmas
 pub mod DocumentLemmas
+pub mod NumberLemmas
 pub mod PartLemmas
 pub mod ReadingLemmas
 pub mod SpellingLemmas

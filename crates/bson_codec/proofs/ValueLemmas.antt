@@ -1,5 +1,5 @@
 -- What is read is spelled so: values, fields, items and documents.
-use Rattle.std.proofs.Common.{◌≡◌, ℕ, zero, suc, ◌≤◌, Bool, true, false, cond, ltb, List, [], ◌∷◌, ◌++◌, Contains, Option, None, Some, Result, Ok, Err, refl, sym, ap, subst, ◌∙◌, append_assoc, arith, inl, inr}
+use Rattle.std.proofs.Common.{◌≡◌, ℕ, zero, suc, ◌≤◌, Bool, true, false, cond, ltb, List, [], ◌∷◌, ◌++◌, Contains, None, Result, Ok, Err, refl, sym, ap, subst, ◌∙◌, append_assoc, arith, inl, inr}
 use Rattle.std.specs.Prelude.{is_some, nat_lt, ◌==◌, if◌then◌else◌}
 use Rattle.std.specs.Int.{w32, w64, cast_signed}
 use Rattle.std.specs.Str.{is_utf8}
@@ -12,12 +12,13 @@ use Rattle.bson_doc.proofs.BindLemmas.{bind_ok, guard_ok}
 use Rattle.bson_doc.specs.Tree as tree
 use Rattle.bson_doc.specs.Tree.{Tree, Fields, no_fields, field, found, with_field, IsDocument}
 use Rattle.bson_doc.specs.Key.{type_byte}
-use Rattle.bson_doc.proofs.DocLemmas.{IsDocument-with_field}
+use Rattle.bson_doc.proofs.DocLemmas.{IsDocument-with_field, not_found}
 use Rattle.bson_codec.specs.declared.kind.Kind as declared
 use Rattle.bson_codec.specs.declared.kind.Kind.TheVariants as kinds
 use Rattle.bson_codec.specs.declared.error.DecodeError.{DecodeError}
 use Rattle.bson_codec.specs.declared.error.DecodeError.TheVariants as rules
 use Rattle.bson_doc.specs.Length.{value_levels, fields_levels}
+use Rattle.bson_doc.proofs.SoundLemmas.{AreSoundFields-with_field}
 use Rattle.bson_codec.specs.Numbers.{number_bytes}
 use Rattle.bson_codec.specs.Reading.{Inner, number_at, bytes_at, byte_at, text_at, binary_at, boolean_at, kind_of, value_at, new_name, field_at, ends_at, fields_in, name_at, length_at}
 use Rattle.bson_codec.specs.Sound.{IsSoundValue, AreSoundFields}
@@ -176,10 +177,6 @@ element_takes bytes behind_kind behind_name rest name value kind first second th
     let all = Takes-then bytes (kind ∷ (name ++ 0 ∷ [])) behind_name value rest both third in
     subst (λ (t : List ℕ). Takes bytes (kind ∷ t) rest) (append_assoc name (0 ∷ []) value) all
 
-not_found : (o : Option Tree) → is_some o ≡ false → o ≡ None
-not_found None e = refl
-not_found (Some value) e = absurd cc
-
 abbrev behind_new : Inner → declared.Kind → List ℕ × List ℕ → List ℕ → Result ((List ℕ × Tree) × List ℕ) DecodeError
 behind_new inner kind name new = value_at inner kind name.1 >>= λ value. Ok ((new, value.0), value.1)
 
@@ -222,10 +219,6 @@ fields_bytes-with no_fields name value = append-nil _
 fields_bytes-with (field first one rest) name value =
     ap (λ (t : List ℕ). element (type_byte one) first (value_bytes one) ++ t) (fields_bytes-with rest name value) ∙ sym (append_assoc (element (type_byte one) first (value_bytes one)) (fields_bytes rest) _)
 
-AreSound-with : (seen : Fields) (name : List ℕ) (value : Tree) → AreSoundFields seen → is_utf8 name ≡ true → IsSoundValue value → AreSoundFields (with_field seen name value)
-AreSound-with no_fields name value sound valid one = (valid, one, tt)
-AreSound-with (field first other rest) name value sound valid one = (sound.0, sound.1, AreSound-with rest name value sound.2 valid one)
-
 levels-with : (seen : Fields) (name : List ℕ) (value : Tree) (levels : ℕ) → fields_levels seen ≤ levels → value_levels value ≤ levels → fields_levels (with_field seen name value) ≤ levels
 levels-with no_fields name value levels before one = omega arith
 levels-with (field first other rest) name value levels before one = omega (arith, levels-with rest name value levels (omega arith) one)
@@ -264,7 +257,7 @@ fields_take (suc turns) levels inner within seen bytes all fits e names sound fl
           let b = bind_ok (field_at inner seen bytes) (λ next. fields_in turns inner (with_field seen next.0.0 next.0.1) next.1) all step in
           let one = field_takes levels inner within seen bytes b.0 fits b.1 in
           let later = fields_take turns levels inner within (with_field seen b.0.0.0 b.0.0.1) b.0.1 all one.takes.rest_fits b.2
-          (IsDocument-with_field seen b.0.0.0 b.0.0.1 names one.clean one.new) (AreSound-with seen b.0.0.0 b.0.0.1 sound one.valid one.sound) (levels-with seen b.0.0.0 b.0.0.1 levels flat one.in_levels) in
+          (IsDocument-with_field seen b.0.0.0 b.0.0.1 names one.clean one.new) (AreSoundFields-with_field seen b.0.0.0 b.0.0.1 sound one.valid one.sound) (levels-with seen b.0.0.0 b.0.0.1 levels flat one.in_levels) in
           let moved : fields_bytes seen ++ bytes ≡ fields_bytes (with_field seen b.0.0.0 b.0.0.1) ++ b.0.1 =
           ap (λ (t : List ℕ). fields_bytes seen ++ t) one.takes.parts ∙ sym (append_assoc (fields_bytes seen) _ b.0.1) ∙ ap (λ (t : List ℕ). t ++ b.0.1) (sym (fields_bytes-with seen b.0.0.0 b.0.0.1)) in
           record { parts = moved ∙ later.parts; names = later.names; sound = later.sound; in_levels = later.in_levels }

@@ -1,5 +1,6 @@
 -- What holds of what is read, step by step.
 use Rattle.std.proofs.Common.{◌≡◌, Bool, true, false, cond, Result, Ok, Err, refl}
+use Rattle.std.specs.Prelude.{OnOk}
 use Rattle.bson_doc.specs.Bind.{◌>>=◌}
 
 -- a fact of what is read, if something is
@@ -28,3 +29,12 @@ bind_ok (Err d) f y e = absurd cc
 pub guard_ok : {A E : Type 0} (b : Bool) (d : E) (x y : A) → cond b (Err d) (Ok x) ≡ Ok y → (b ≡ false) × (x ≡ y)
 guard_ok true d x y e = absurd cc
 guard_ok false d x y e = (refl, cc)
+
+-- what holds of a call that went well
+pub on_ok : {T E P Q : Type 0} (r : Result T E) → (P → Q) → OnOk r P → OnOk r Q
+on_ok (Ok x) f h = f h
+on_ok (Err e) f h = tt
+
+pub on_ok_both : {T E P Q S : Type 0} (r : Result T E) → (P → Q → S) → OnOk r P → OnOk r Q → OnOk r S
+on_ok_both (Ok x) f h k = f h k
+on_ok_both (Err e) f h k = tt

@@ -11,12 +11,12 @@ use Rattle.bson_doc.specs.View.{tree_of, fields_of, trees_of}
 use Rattle.bson_doc.proofs.DocLemmas.{fields_of-append, trees_of-append, IsDocument-with_field}
 use Rattle.bson_doc.proofs.NameLemmas.{IsDocument-with_set, IsDocument-without}
 
-AreSoundFields-with_field : (fs : Fields) (name : List ℕ) (value : Tree) → AreSoundFields fs → is_utf8 name ≡ true → IsSoundValue value → AreSoundFields (with_field fs name value)
+pub AreSoundFields-with_field : (fs : Fields) (name : List ℕ) (value : Tree) → AreSoundFields fs → is_utf8 name ≡ true → IsSoundValue value → AreSoundFields (with_field fs name value)
 AreSoundFields-with_field no_fields name value sound utf8 one = (utf8, one, tt)
 AreSoundFields-with_field (field first it rest) name value sound utf8 one =
     (sound.0, sound.1, AreSoundFields-with_field rest name value sound.2 utf8 one)
 
-AreSoundItems-with_item : (ts : Trees) (value : Tree) → AreSoundItems ts → IsSoundValue value → AreSoundItems (with_item ts value)
+pub AreSoundItems-with_item : (ts : Trees) (value : Tree) → AreSoundItems ts → IsSoundValue value → AreSoundItems (with_item ts value)
 AreSoundItems-with_item no_items value sound one = (one, tt)
 AreSoundItems-with_item (item first rest) value sound one = (sound.0, AreSoundItems-with_item rest value sound.1 one)
 

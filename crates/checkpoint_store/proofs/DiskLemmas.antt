@@ -2,6 +2,7 @@
 use Rattle.std.proofs.Common.{◌≡◌, inl, inr, ℕ, List, [], ◌∷◌, ◌++◌, map, refl, sym, ap, subst, ◌∙◌, append-nil}
 use Rattle.std.specs.Prelude.{All, Result, Err, OnOk}
 use Rattle.std.specs.FinMap.{entries}
+use Rattle.bson_doc.proofs.BindLemmas.{on_ok}
 use Rattle.rs_disk.specs.File.{contents}
 use Rattle.rs_disk.specs.Images.{read_is_image}
 use Rattle.rs_disk.specs.Moments.{EachMoment, starts, weakens}
@@ -22,7 +23,6 @@ use Rattle.checkpoint_store.specs.Spelled.{IsRecord}
 use Rattle.checkpoint_store.specs.declared.stable.Stable.{Stable}
 use Rattle.checkpoint_store.proofs.CheckpointLemmas.{front_keeps, checkpoint_counts}
 use Rattle.checkpoint_store.proofs.FileLemmas.{rest_leaves}
-use Rattle.checkpoint_store.proofs.LoopLemmas.{on_ok}
 use Rattle.checkpoint_store.proofs.OnceLemmas.{rest_has}
 
 pub disk_is : (state : State) → IsCheckpointDisk state → files.IsRecordDisk state

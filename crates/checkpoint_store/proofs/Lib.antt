@@ -1,4 +1,3 @@
-mod NumberLemmas
 mod PartLemmas
 mod LoopLemmas
 mod SizeLemmas

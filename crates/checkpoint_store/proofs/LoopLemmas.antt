@@ -1,6 +1,6 @@
 -- One record more, and what is known of its bytes.
 use Rattle.std.proofs.Common.{◌≡◌, ℕ, ◌+◌, ◌≤◌, List, [], ◌∷◌, ◌++◌, length, take, map, sym, ap, subst, ◌∙◌, arith}
-use Rattle.std.specs.Prelude.{All, fold, Result, Ok, Err, OnOk}
+use Rattle.std.specs.Prelude.{All, fold}
 use Rattle.std.specs.List.{flat_map}
 use Rattle.std.proofs.lemmas.List.{length-map}
 use Rattle.std.proofs.lemmas.List.Elements.{All-map}
@@ -12,11 +12,6 @@ use Rattle.bson_codec.specs.Numbers.{number_bytes}
 use Rattle.checkpoint_store.specs.Layout.{Record, Saved, holds, saved_bytes}
 use Rattle.checkpoint_store.specs.Spelled.{PIECE, IsSaved, IsSpelled}
 
--- what holds after an `Ok`, in other words
-pub on_ok : {X E A B : Type 0} (r : Result X E) → (A → B) → OnOk r A → OnOk r B
-on_ok (Ok x) f a = f a
-on_ok (Err e) f a = tt
-
 pub spelled_as : (item : Record) (one other : List ℕ) → other ≡ one → IsSpelled item one → IsSpelled item other
 spelled_as item one other same is = subst (λ (l : List ℕ). IsSpelled item l) (sym same) is
 
@@ -27,10 +22,6 @@ come_to records = fold with_record nothing_yet records
 pub one_record_more : (records : List Record) (i : ℕ) (item : Record) → take (i + 1) records ≡ take i records ++ item ∷ []
     → with_record (come_to (take i records)) item ≡ come_to (take (i + 1) records)
 one_record_more records i item is = sym (ap come_to is ∙ fold-append with_record nothing_yet (take i records) (item ∷ []))
-
-pub on_ok_both : {X E A B C : Type 0} (r : Result X E) → (A → B → C) → OnOk r A → OnOk r B → OnOk r C
-on_ok_both (Ok x) f a b = f a b
-on_ok_both (Err e) f a b = tt
 
 -- the record of the documents at some places
 pub spelled_documents : (f : Place → Saved) (places : List Place) (bytes : List ℕ) → length places ≤ PIECE → All (λ place. IsSaved (f place)) places

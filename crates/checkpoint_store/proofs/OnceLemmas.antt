@@ -3,31 +3,24 @@ use Rattle.std.proofs.Common.{◌≡◌, ℕ, ◌^◌, ◌<◌, List, [], ◌∷
 use Rattle.std.specs.Prelude.{All, slice_index}
 use Rattle.std.specs.List.{flat_map}
 use Rattle.std.proofs.lemmas.List.{take_at, drop_at}
+use Rattle.entry_bytes.proofs.OptimeLemmas.{optime_once}
+use Rattle.entry_bytes.specs.Optimes.{optime_bytes}
 use Rattle.rs_disk.specs.File.{LeavesOnly}
 use Rattle.rs_disk.specs.State.{State}
 use Rattle.record_file.proofs.ParseLemmas.{one_list}
 use Rattle.record_file.proofs.ItemLemmas.{same_head, same_tail}
-use Rattle.rs_optime.specs.declared.optime.OpTime.{OpTime}
 use Rattle.bson_doc.specs.declared.key.IdKey.{IdKey}
-use Rattle.bson_codec.specs.Numbers.{number_bytes, number_in}
 use Rattle.oplog_entry.specs.Step.{id_key}
 use Rattle.bson_codec.specs.Spelling.{document_bytes}
 use Rattle.bson_codec.proofs.AgainLemmas.{one_document}
-use Rattle.bson_codec.proofs.PartLemmas.{number_back}
-use Rattle.bson_codec.proofs.SpellingLemmas.{length-number_bytes}
+use Rattle.bson_codec.proofs.NumberLemmas.{number_once}
 use Rattle.checkpoint_store.specs.Checkpoint.{last_whole}
 use Rattle.checkpoint_store.specs.Files.{HasCheckpoint, IsAtRest}
-use Rattle.checkpoint_store.specs.Layout.{Saved, Record, begins, holds, ends, optime_bytes, sized, saved_bytes, documents_bytes, record_bytes}
-use Rattle.checkpoint_store.specs.Spelled.{IsOptime, IsSaved, AreSaved, IsRecord}
+use Rattle.checkpoint_store.specs.Layout.{Saved, Record, begins, holds, ends, sized, saved_bytes, documents_bytes, record_bytes}
+use Rattle.checkpoint_store.specs.Spelled.{IsSaved, AreSaved, IsRecord}
 use Rattle.checkpoint_store.specs.declared.stable.Stable.{Stable}
 use Rattle.checkpoint_store.proofs.FileLemmas.{rest_leaves}
 use Rattle.checkpoint_store.proofs.PartLemmas.{sized_parts, saved_parts, name_short, document_short, spelled_here}
-
-number_once : (n x y : ℕ) (more others : List ℕ) → x < 256 ^ n → y < 256 ^ n → number_bytes n x ++ more ≡ number_bytes n y ++ others → (x ≡ y) × (more ≡ others)
-number_once n x y more others small short is = (
-  sym (number_back n x more small) ∙ ap (λ (l : List ℕ). number_in n l) is ∙ number_back n y others short,
-  sym (drop_at (number_bytes n x) more n (length-number_bytes n x)) ∙ ap (λ (l : List ℕ). drop n l) is ∙ drop_at (number_bytes n y) others n (length-number_bytes n y),
-)
 
 sized_once : (a b more others : List ℕ) → length a < 2 ^ 32 → length b < 2 ^ 32 → sized a ++ more ≡ sized b ++ others → (a ≡ b) × (more ≡ others)
 sized_once a b more others small short is =
@@ -57,12 +50,6 @@ each_once (a ∷ one) (b ∷ two) ones twos long is =
     let first = saved_once a b (flat_map saved_bytes one) (flat_map saved_bytes two) (ones zero a (omega arith)) (twos zero b (omega arith)) is in
     let rest = each_once one two (λ k d within. ones (suc k) d (omega arith)) (λ k d within. twos (suc k) d (omega arith)) (omega (arith, long)) first.1 in
     λ i. first.0 i ∷ rest i
-
-optime_once : (a b : OpTime) → IsOptime a → IsOptime b → optime_bytes a ≡ optime_bytes b → a ≡ b
-optime_once a b one two is =
-    let first = number_once 8 a.term b.term (number_bytes 8 a.ts) (number_bytes 8 b.ts) (omega (arith, one.0)) (omega (arith, two.0)) is in
-    let second = number_once 8 a.ts b.ts [] [] (omega (arith, one.1)) (omega (arith, two.1)) (ap (λ (l : List ℕ). l ++ []) first.1) in
-    λ i. record { term = first.0 i; ts = second.0 i }
 
 documents_once : (one two : List Saved) → AreSaved one → AreSaved two → documents_bytes one ≡ documents_bytes two → one ≡ two
 documents_once one two ones twos is =

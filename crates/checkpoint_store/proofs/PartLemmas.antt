@@ -2,13 +2,8 @@
 use Rattle.std.proofs.Common.{◌≡◌, ℕ, ◌<◌, ◌^◌, List, ◌++◌, length, sym, subst, ◌∙◌, arith, append_assoc}
 use Rattle.bson_codec.specs.Numbers.{number_bytes}
 use Rattle.bson_codec.specs.Spelling.{IsSpelling, document_bytes}
-use Rattle.rs_optime.specs.declared.optime.OpTime.{OpTime}
-use Rattle.checkpoint_store.specs.Layout.{Saved, optime_bytes, saved_bytes, sized}
+use Rattle.checkpoint_store.specs.Layout.{Saved, saved_bytes, sized}
 use Rattle.checkpoint_store.specs.Spelled.{IsSaved}
-
-pub optime_parts : (o : OpTime) (behind bytes : List ℕ) → bytes ≡ optime_bytes o ++ behind
-    → bytes ≡ number_bytes 8 o.term ++ (number_bytes 8 o.ts ++ behind)
-optime_parts o behind bytes is = is ∙ append_assoc (number_bytes 8 o.term) (number_bytes 8 o.ts) behind
 
 pub sized_parts : (piece behind bytes : List ℕ) → bytes ≡ sized piece ++ behind → bytes ≡ number_bytes 4 (length piece) ++ (piece ++ behind)
 sized_parts piece behind bytes is = is ∙ append_assoc (number_bytes 4 (length piece)) piece behind

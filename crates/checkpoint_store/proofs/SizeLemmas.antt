@@ -2,11 +2,12 @@
 use Rattle.std.proofs.Common.{◌≡◌, ℕ, ◌+◌, ◌*◌, ◌≤◌, ◌<◌, ◌^◌, List, [], ◌∷◌, length, suc, zero, arith, length-append}
 use Rattle.std.specs.Prelude.{All}
 use Rattle.std.specs.List.{flat_map}
+use Rattle.entry_bytes.specs.Optimes.{optime_bytes}
 use Rattle.rs_optime.specs.declared.optime.OpTime.{OpTime}
 use Rattle.bson_codec.specs.Numbers.{number_bytes}
 use Rattle.bson_codec.specs.Spelling.{document_bytes}
 use Rattle.bson_codec.proofs.SpellingLemmas.{length-number_bytes}
-use Rattle.checkpoint_store.specs.Layout.{Saved, Record, begins, holds, ends, optime_bytes, sized, saved_bytes, record_bytes}
+use Rattle.checkpoint_store.specs.Layout.{Saved, Record, begins, holds, ends, sized, saved_bytes, record_bytes}
 use Rattle.checkpoint_store.specs.Spelled.{IsSaved, IsRecord}
 
 optime_size : (o : OpTime) → length (optime_bytes o) ≡ 16

@@ -1,6 +1,7 @@
 -- The bytes of a checkpoint's records: the kind, and then its parts. A number has its lowest byte first.
 use Rattle.std.specs.Prelude.{ℕ, List, [], ◌∷◌, ◌++◌, length}
 use Rattle.std.specs.List.{flat_map}
+use Rattle.entry_bytes.specs.Optimes.{optime_bytes}
 use Rattle.rs_optime.specs.declared.optime.OpTime.{OpTime}
 use Rattle.bson_doc.specs.Place.{Place}
 use Rattle.bson_doc.specs.Tree.{Fields}
@@ -18,9 +19,6 @@ pub data Record : Type 0 where
   holds : (documents : List Saved) → Record
   -- it ends
   ends : Record
-
-abbrev pub optime_bytes : OpTime → List ℕ
-optime_bytes at = number_bytes 8 at.term ++ number_bytes 8 at.ts
 
 -- some bytes behind their length
 abbrev pub sized : List ℕ → List ℕ

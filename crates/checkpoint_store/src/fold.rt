@@ -1,11 +1,12 @@
 // What the records of a file come to.
 ghost use Rattle.std.specs.Prelude.{◌≡◌, List, All, map, IfOk, OnOk};
 ghost use Rattle.std.specs.FinMap as maps;
+ghost use Rattle.entry_bytes.specs.Optimes.{optime_bytes};
 ghost use Rattle.rs_optime.specs.declared.optime.OpTime.{OpTime as AnOpTime};
 ghost use Rattle.record_file.specs.Records.{lists};
 ghost use Rattle.record_file.specs.Turn.{StandInTurn};
 ghost use Rattle.checkpoint_store.specs.Checkpoint.{last_whole, nothing_yet, with_documents, with_more, with_record};
-ghost use Rattle.checkpoint_store.specs.Layout.{Record as ARecord, Saved, documents_bytes, optime_bytes, record_bytes, saved_bytes};
+ghost use Rattle.checkpoint_store.specs.Layout.{Record as ARecord, Saved, documents_bytes, record_bytes, saved_bytes};
 ghost use Rattle.checkpoint_store.specs.Spelled.{AreSaved, IsOptime, IsRecord, IsSaved, IsSpelled};
 ghost use Rattle.checkpoint_store.specs.Folded.{so_far};
 

@@ -1,13 +1,14 @@
 // The parts of records as they are read.
 ghost use Rattle.std.specs.Prelude.{◌≡◌, ◌<◌, ◌^◌, ℕ, true, List, length, Some, IsSome, IfOk};
 ghost use Rattle.std.specs.Str.{is_utf8};
+ghost use Rattle.entry_bytes.specs.Optimes.{optime_bytes};
 ghost use Rattle.rs_optime.specs.declared.optime.OpTime.{OpTime as AnOpTime};
 ghost use Rattle.record_file.specs.Turn.{BeginsWith, Reads};
 ghost use Rattle.bson_doc.specs.Sound.{IsSound};
 ghost use Rattle.bson_doc.specs.Tree.{Fields};
 ghost use Rattle.bson_codec.specs.Spelling.{IsSpelling};
 ghost use Rattle.oplog_entry.specs.Step.{id_key};
-ghost use Rattle.checkpoint_store.specs.Layout.{optime_bytes, saved_bytes, sized};
+ghost use Rattle.checkpoint_store.specs.Layout.{saved_bytes, sized};
 ghost use Rattle.checkpoint_store.specs.Spelled.{IsOptime, IsSaved};
 
 use crate::numbers::{u32_of, u64_of};

@@ -1,8 +1,9 @@
 // Records as they are written.
 ghost use Rattle.std.specs.Prelude.{◌≡◌, ◌<◌, ◌≤◌, ◌^◌, ◌++◌, All, IsSome, OnOk, length, map};
 ghost use Rattle.std.specs.List.{flat_map};
+ghost use Rattle.entry_bytes.specs.Optimes.{optime_bytes};
 ghost use Rattle.version_store.specs.Store.{shown_at};
-ghost use Rattle.checkpoint_store.specs.Layout.{begins, ends, holds, optime_bytes, saved_bytes, sized};
+ghost use Rattle.checkpoint_store.specs.Layout.{begins, ends, holds, saved_bytes, sized};
 ghost use Rattle.checkpoint_store.specs.Shown.{AllCanBeSaved, CanBeSaved, saved_at};
 ghost use Rattle.checkpoint_store.specs.Spelled.{PIECE, IsOptime, IsSaved, IsSpelled};
 

@@ -1,6 +1,5 @@
 -- The members of a document or an array are read one after the other.
-use Rattle.std.proofs.Common.{◌≡◌, ◌≢◌, ℕ, zero, suc, ◌-◌, ◌<◌, true, false, List, [], ◌∷◌, length, Option, Some, None, Ok, refl, sym, ap, ◌∙◌, arith, inl, inr}
-use Rattle.std.specs.Prelude.{is_some}
+use Rattle.std.proofs.Common.{◌≡◌, ◌≢◌, ℕ, zero, suc, ◌-◌, ◌<◌, true, false, List, [], ◌∷◌, length, Ok, refl, sym, ap, ◌∙◌, arith, inl, inr}
 use Rattle.std.proofs.lemmas.Bool.{cases_eq}
 use Rattle.bson_doc.specs.Tree.{Tree, Fields, Trees, with_field, with_item}
 use Rattle.doc_text.specs.declared.fault.ReadError.{ReadError}
@@ -17,10 +16,6 @@ not_begun mark (c ∷ rest) other =
       | inl same ↦ absurd (other rest (ap (λ (x : ℕ). x ∷ rest) same))
       | inr wrong ↦ grind arith
     ]
-
-pub not_found : (o : Option Tree) → is_some o ≡ false → o ≡ None
-not_found None h = refl
-not_found (Some x) h = absurd cc
 
 pub opened : {A : Type 0} (more : A → List ℕ → Read A) (opening close : ℕ) (none : A) (text inside rest : List ℕ) → mark_at opening text ≡ Ok inside → begins_with close (behind_spaces inside) ≡ false → rest ≡ behind_spaces inside
     → members_at more close (suc (length rest)) none rest ≡ listed_at more opening close none text

@@ -4,7 +4,7 @@ use Rattle.std.specs.Prelude.{is_some, Contains}
 use Rattle.std.proofs.lemmas.List.{length-drop, length-append}
 use Rattle.bson_doc.specs.Length.{value_levels, fields_levels, items_levels}
 use Rattle.bson_doc.specs.Tree.{Tree, document, array, Fields, no_fields, field, Trees, no_items, item, IsDocument, found, with_field, with_item}
-use Rattle.bson_doc.proofs.DocLemmas.{IsDocument-with_field}
+use Rattle.bson_doc.proofs.DocLemmas.{IsDocument-with_field, not_found}
 use Rattle.doc_text.specs.declared.fault.Rule.TheVariants.{TooDeep}
 use Rattle.doc_text.specs.Class.{behind_spaces}
 use Rattle.doc_text.specs.Fault.{Read, fails}
@@ -13,7 +13,6 @@ use Rattle.doc_text.specs.Names.{name_at}
 use Rattle.doc_text.specs.Scalars.{scalar_at}
 use Rattle.doc_text.specs.Values.{key_at, field_at, item_at, members_at, inside_at, listed_at, document_at, array_at, value_at}
 use Rattle.doc_text.specs.Spelling.{IsSpaced, IsClosing, SpellsName, SpellsField, Spells, SpellsFields, SpellsItems, SpellsLaterFields, SpellsLaterItems, Stands}
-use Rattle.doc_text.proofs.Members.{not_found}
 use Rattle.doc_text.proofs.SpelledIsRead.{joined, joined-is, joined_items, joined_items-is}
 use Rattle.doc_text.proofs.ReadIsSpelled.{same, Behind, StandsAs, mark_gets, spaced_gets, spaces_front}
 use Rattle.doc_text.proofs.ReadStrings.{NameRead, name_gets}

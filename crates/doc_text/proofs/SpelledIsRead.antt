@@ -8,7 +8,7 @@ use Rattle.std.proofs.lemmas.List.{length-append, length-drop}
 use Rattle.bson_doc.specs.Length.{value_levels, fields_levels, items_levels}
 use Rattle.bson_doc.specs.Tree.{Tree, null, int32, int64, text, document, array, binary, object_id, boolean, date, timestamp, Fields, no_fields, field, Trees, no_items, item, IsDocument, found, with_field, with_item}
 use Rattle.doc_text.specs.declared.fault.Fault.{Fault}
-use Rattle.bson_doc.proofs.DocLemmas.{not_first}
+use Rattle.bson_doc.proofs.DocLemmas.{not_first, found-with_field}
 use Rattle.doc_text.specs.Class.{behind_spaces}
 use Rattle.doc_text.specs.Fault.{placed}
 use Rattle.doc_text.specs.Marks.{begins_with, spaced_at}
@@ -21,13 +21,6 @@ use Rattle.doc_text.proofs.SpelledFields.{Reads, value_scalar, value_no_space, v
 
 -- ---- names apart
 
--- a name that is nowhere isn't at a new field of another name
-found_with : (fs : Fields) (wanted name : List ℕ) (value : Tree) → found wanted fs ≡ None → bytes_eq name wanted ≡ false → found wanted (with_field fs name value) ≡ None
-found_with no_fields wanted name value none other = rw other refl
-found_with (field first one rest) wanted name value none other =
-    let parts = not_first (bytes_eq first wanted) one (found wanted rest) none in
-    rw parts.0 (found_with rest wanted name value parts.1 other)
-
 -- none of these fields' names is there
 abbrev pub Absent : Fields → Fields → Type 0
 Absent so_far no_fields = Unit {0}
@@ -38,7 +31,7 @@ absent_with so_far name value no_fields absent new = tt
 absent_with so_far name value (field other one rest) absent new =
     let parts = not_first (bytes_eq other name) one (found name rest) new in
     let apart : bytes_eq name other ≡ false = nat_list_eq_equiv.symm name other ∙ parts.0 in
-    (found_with so_far other name value absent.0 apart, absent_with so_far name value rest absent.1 parts.1)
+    (found-with_field so_far other name value absent.0 apart, absent_with so_far name value rest absent.1 parts.1)
 
 absent_empty : (fields : Fields) → Absent no_fields fields
 absent_empty no_fields = tt

@@ -19,7 +19,7 @@ use std::alloc::Global;
 pub const LEVELS: u32 = 100;
 
 /// The name of a field behind those that were read, and the text of its value.
-#[tactic(auto, using(crate::proofs::Members::not_found), unfolding(crate::specs::Values::key_at))]
+#[tactic(auto, using(bson_doc::proofs::DocLemmas::not_found), unfolding(crate::specs::Values::key_at))]
 fn key<'a>(alloc: Global, fields: &DocBuilder, text: &'a str) -> Read<'a, Text>
     ensures gives { Gives (λ x. (x.0, x.1.now)) result (key_at fields.now text.now) }
     ensures shorter { IfOk result (λ x. length x.1.now < length text.now) }

@@ -2,6 +2,7 @@
 use Rattle.std.proofs.Common.{◌≡◌, ◌∙◌, ℕ, Bool, true, false, ◌||◌, List, [], ◌∷◌, ◌++◌, Some, is_some, refl, sym, ap}
 use Rattle.std.specs.Prelude.{cond}
 use Rattle.std.specs.Str.{bytes_eq}
+use Rattle.std.proofs.lemmas.Bool.{or_left, or_right}
 use Rattle.bson_doc.specs.Tree.{Tree, Fields, no_fields, field, found, IsDocument}
 use Rattle.bson_doc.specs.Sound.{IsSoundValue, AreSoundFields}
 use Rattle.oplog_entry.specs.Lawful.{is_among}
@@ -9,14 +10,6 @@ use Rattle.oplog_entry.proofs.FieldLemmas.{same_name}
 use Rattle.doc_update.specs.Check.{names_of, all_names, given, has_twice}
 use Rattle.doc_update.specs.Effect.{under, fields_under}
 use Rattle.doc_update.proofs.NameRules.{is_among-append, found-names_of, has_twice-append}
-
-or_left : (a b : Bool) → a ≡ true → (a || b) ≡ true
-or_left true b is = refl
-or_left false b is = cc is
-
-or_right : (a b : Bool) → b ≡ true → (a || b) ≡ true
-or_right true b is = refl
-or_right false b is = is
 
 -- a name that an operator is given is among all names
 pub among_all : (q operator : List ℕ) (operators : Fields) → is_some (found q (under operator operators)) ≡ true → is_among q (all_names operators) ≡ true

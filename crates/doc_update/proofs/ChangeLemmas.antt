@@ -15,7 +15,7 @@ use Rattle.doc_update.specs.Ordered.{in_byte_order, as_strings}
 use Rattle.doc_update.proofs.ApartLemmas.{twice-operators}
 use Rattle.doc_update.proofs.LengthLemmas.{found-without-other, names_length, AreNamedIn, names-in}
 use Rattle.doc_update.proofs.NameRules.{found-names_of}
-use Rattle.doc_update.proofs.OrderLemmas.{found-in_byte_order}
+use Rattle.doc_update.proofs.OrderLemmas.{found-in_byte_order, strings_of-as_strings}
 
 -- ---- the first field stays
 
@@ -128,10 +128,6 @@ in_present doc (field name value rest) q there = by_presence (is_some (found nam
     by_presence false is there again =
         let both : (is_some (found q rest) ≡ true) × (is_some (found q doc) ≡ true) = again there in (found-more name q value rest both.0, both.1)
 
-strings-names : (names : List (List ℕ)) → strings_of (as_strings names) ≡ names
-strings-names [] = refl
-strings-names (name ∷ names) = ap (λ rest. name ∷ rest) (strings-names names)
-
 -- an operator's names among those that are set, or taken out
 in_sets : (operators doc : Fields) (q : List ℕ) → is_some (found q (sets_of operators doc)) ≡ true
     → (is_some (found q (under (codes "$set") operators)) ≡ true) ⊎ (is_some (found q (under (codes "$inc") operators)) ≡ true)
@@ -143,7 +139,7 @@ in_sets operators doc q there =
 
 among_gone : (operators doc : Fields) (q : List ℕ) → is_among q (strings_of (unsets_of operators doc)) ≡ is_some (found q (present doc (under (codes "$unset") operators)))
 among_gone operators doc q =
-    ap (is_among q) (strings-names (names_of (in_byte_order (present doc (under (codes "$unset") operators)))))
+    ap (is_among q) (strings_of-as_strings (names_of (in_byte_order (present doc (under (codes "$unset") operators)))))
     ∙ sym (found-names_of q (in_byte_order (present doc (under (codes "$unset") operators))))
     ∙ ap is_some (found-in_byte_order (present doc (under (codes "$unset") operators)) q)
 
@@ -186,7 +182,7 @@ strings-length (field name value rest) = ap (λ n. 2 + length name + n) (strings
 apart-unsets : (fields : Fields) → AreUnsets (as_strings (names_of fields)) → IsDocument fields
 apart-unsets no_fields lawful = tt
 apart-unsets (field name value rest) lawful =
-    (lawful.0, none (found name rest) (found-names_of name rest ∙ ap (is_among name) (sym (strings-names (names_of rest))) ∙ lawful.2), apart-unsets rest lawful.3)
+    (lawful.0, none (found name rest) (found-names_of name rest ∙ ap (is_among name) (sym (strings_of-as_strings (names_of rest))) ∙ lawful.2), apart-unsets rest lawful.3)
   where
     none : (o : Option Tree) → is_some o ≡ false → o ≡ None
     none None is = refl

@@ -7,14 +7,15 @@ use Rattle.std.specs.declared.cmp.Ordering.{Ordering}
 use Rattle.std.specs.declared.cmp.Ordering.TheVariants.{Less, Equal, Greater}
 use Rattle.std.specs.BTreeMap.{insert_entry}
 use Rattle.std.proofs.lemmas.Map.Text.{is_eq-slice_cmp}
-use Rattle.bson_doc.specs.Tree.{Tree, Fields, no_fields, field, Trees, no_items, item, found, with_item, IsDocument}
+use Rattle.bson_doc.specs.Tree.{Tree, Fields, no_fields, field, found, IsDocument}
 use Rattle.bson_doc.specs.View.{tree_of}
 use Rattle.bson_doc.specs.declared.doc.Value.{Value}
+use Rattle.oplog_entry.specs.Step.{strings_of}
 use Rattle.oplog_entry.specs.Walk.{join}
 use Rattle.oplog_entry.proofs.FieldLemmas.{alike_front, alike_back, alike_swapped}
 use Rattle.doc_update.specs.Check.{names_of}
 use Rattle.doc_update.specs.Entries.{fields_in}
-use Rattle.doc_update.specs.Ordered.{placed, placed_all, in_byte_order}
+use Rattle.doc_update.specs.Ordered.{placed, placed_all, in_byte_order, as_strings}
 
 -- a map's entries with one more
 pub fields_in-insert : (entries : List (List ℕ × Value)) (name : List ℕ) (value : Value) → fields_in (insert_entry (slice_cmp nat_cmp) entries name value) ≡ placed (fields_in entries) name (tree_of value)
@@ -77,20 +78,12 @@ IsDocument-in_byte_order no_fields names = tt
 IsDocument-in_byte_order (field name value rest) names =
     IsDocument-placed (in_byte_order rest) name value (IsDocument-in_byte_order rest names.2) names.0 (found-in_byte_order rest name ∙ names.1)
 
--- ---- strings, one after another
-abbrev pub both_items : Trees → Trees → Trees
-both_items no_items later = later
-both_items (item value rest) later = item value (both_items rest later)
-
-pub both_items-nothing : (a : Trees) → both_items a no_items ≡ a
-both_items-nothing no_items = refl
-both_items-nothing (item value rest) = ap (λ r. item value r) (both_items-nothing rest)
-
-pub both_items-with_item : (a : Trees) (value : Tree) (later : Trees) → both_items (with_item a value) later ≡ both_items a (item value later)
-both_items-with_item no_items value later = refl
-both_items-with_item (item first rest) value later = ap (λ r. item first r) (both_items-with_item rest value later)
-
 -- the names of a map's entries
 pub names_of-fields_in : (entries : List (List ℕ × Value)) → names_of (fields_in entries) ≡ map (λ e. e.0) entries
 names_of-fields_in [] = refl
 names_of-fields_in (e ∷ entries) = ap (λ names. e.0 ∷ names) (names_of-fields_in entries)
+
+-- names as strings, and back
+pub strings_of-as_strings : (names : List (List ℕ)) → strings_of (as_strings names) ≡ names
+strings_of-as_strings [] = refl
+strings_of-as_strings (name ∷ names) = ap (λ rest. name ∷ rest) (strings_of-as_strings names)

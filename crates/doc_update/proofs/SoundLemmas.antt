@@ -3,14 +3,14 @@ use Rattle.std.proofs.Common.{◌≡◌, ◌<◌, ℕ, Bool, true, false, ◌||�
 use Rattle.std.specs.Str.{bytes_eq}
 use Rattle.std.proofs.lemmas.List.{append-nil}
 use Rattle.bson_doc.specs.Tree.{Tree, null, Fields, no_fields, field, found, count, IsDocument}
-use Rattle.bson_doc.specs.Sound.{IsSound as IsSoundDocument, IsSoundValue, AreSoundFields}
+use Rattle.bson_doc.specs.Sound.{IsSound as IsSoundDocument, IsSoundValue}
 use Rattle.bson_doc.specs.Key.{key_of, same_key}
 use Rattle.bson_doc.specs.Place.{Place}
 use Rattle.bson_doc.specs.View.{tree_of}
 use Rattle.bson_doc.specs.declared.key.IdKey.{IdKey}
 use Rattle.bson_doc.specs.declared.doc.Value.{Value}
 use Rattle.oplog_entry.specs.Lawful.{is_among, AreUnsets}
-use Rattle.oplog_entry.specs.Step.{id_key, place_in, strings_of}
+use Rattle.oplog_entry.specs.Step.{id_key, place_in}
 use Rattle.oplog_entry.specs.Walk.{join}
 use Rattle.oplog_entry.specs.declared.entry.Op.{Op}
 use Rattle.oplog_entry.specs.declared.entry.Op.TheVariants as ops
@@ -27,7 +27,8 @@ use Rattle.doc_update.specs.declared.write.Prepared.TheVariants.{Entry, Unchange
 use Rattle.doc_update.specs.declared.write.WriteRefusal.{WriteRefusal}
 use Rattle.doc_update.specs.declared.write.WriteRefusal.TheVariants.{DocTooLarge, ImmutableId, IncType, IncOverflow}
 use Rattle.doc_update.proofs.NameRules.{is_among-append, found-names_of, has_twice-append}
-use Rattle.doc_update.proofs.OrderLemmas.{found-in_byte_order, IsDocument-in_byte_order}
+use Rattle.doc_update.proofs.OrderLemmas.{found-in_byte_order, IsDocument-in_byte_order, strings_of-as_strings}
+use Rattle.doc_update.proofs.ApartLemmas.{among_all}
 
 -- what is wanted of an answer holds of the answer
 pub sound-answer : (P : Prepared → Type 0) (result wanted : Result Prepared WriteRefusal) → Answers result wanted → IfOk wanted P → IfOk result P
@@ -61,14 +62,6 @@ IsDocument-given (Tree.object_id b) sound = tt
 IsDocument-given (Tree.boolean b) sound = tt
 IsDocument-given (Tree.date d) sound = tt
 IsDocument-given (Tree.timestamp t) sound = tt
-
-pub IsDocument-under : (operator : List ℕ) (operators : Fields) → AreSoundFields operators → IsDocument (under operator operators)
-IsDocument-under operator no_fields sound = tt
-IsDocument-under operator (field name value rest) sound =
-    elim (bytes_eq name operator) as (λ b. IsDocument (fields_under (if b then Some value else found operator rest))) [
-      | true ↦ IsDocument-given value sound.1
-      | false ↦ IsDocument-under operator rest sound.2
-    ]
 
 -- ---- a replacement
 replace-entry : (ns : List ℕ) (id : Value) (doc before : Fields) (key : IdKey) (own : Option Tree) → found (codes "_id") before ≡ own → key_of (tree_of id) ≡ Some key → option_and_then key_of own ≡ Some key → IsSound (Ok (ns, key)) (Some before) (Entry (ops.Replace ns id (id_first own doc)) (Some (id_first own doc)))
@@ -117,14 +110,6 @@ among-under q operator (field name value rest) none =
     by_test true here later = here
     by_test false here later = later
 
--- a name that is given to an operator is among all
-under-among : (q operator : List ℕ) (operators : Fields) → is_some (found q (under operator operators)) ≡ true → is_among q (all_names operators) ≡ true
-under-among q operator operators there = by_test (is_among q (all_names operators)) (λ e. among-under q operator operators e)
-  where
-    by_test : (b : Bool) → (b ≡ false → found q (under operator operators) ≡ None) → b ≡ true
-    by_test true none = refl
-    by_test false none = cc (none refl)
-
 -- where no name stands twice, a name of the front isn't among those behind
 apart-append : (q : List ℕ) (a b : List (List ℕ)) → has_twice (a ++ b) ≡ false → is_among q a ≡ true → is_among q b ≡ false
 apart-append q [] b once here = cc
@@ -172,7 +157,7 @@ apart-operators (field name value rest) q once there =
         two : false ≡ true → ⊥
         two e = cc
     by_tests true false is also later there = among-under q (codes "$inc") rest (apart-append q (names_of (given value)) (all_names rest) once (sym (found-names_of q (given value)) ∙ there))
-    by_tests false true is also later there = here_none (under-among q (codes "$set") rest there)
+    by_tests false true is also later there = here_none (among_all q (codes "$set") rest there)
     by_tests false false is also later there = later there
 
 -- ---- fields, one list after another
@@ -218,10 +203,6 @@ IsDocument-sets operators doc once set inc =
     IsDocument-in_byte_order _ (IsDocument-join _ _ set (IsDocument-sums doc (under (codes "$inc") operators) inc) (λ q there. found-sums doc (under (codes "$inc") operators) q (apart-operators operators q once there)))
 
 -- ---- an update
-strings_of-as_strings : (names : List (List ℕ)) → strings_of (as_strings names) ≡ names
-strings_of-as_strings [] = refl
-strings_of-as_strings (name ∷ names) = ap (λ rest. name ∷ rest) (strings_of-as_strings names)
-
 AreUnsets-names_of : (fields : Fields) → IsDocument fields → found (codes "_id") fields ≡ None → AreUnsets (as_strings (names_of fields))
 AreUnsets-names_of no_fields names none = tt
 AreUnsets-names_of (field name value rest) names none =

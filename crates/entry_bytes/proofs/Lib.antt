@@ -1,5 +1,6 @@
 pub mod AnswerLemmas
 pub mod LayoutLemmas
 pub mod MarkLemmas
+pub mod OptimeLemmas
 pub mod PartLemmas
 pub mod PlaceLemmas

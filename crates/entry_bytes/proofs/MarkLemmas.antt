@@ -1,7 +1,8 @@
 -- Names as marks, and back.
-use Rattle.std.proofs.Common.{◌≡◌, ◌<◌, ℕ, zero, suc, Bool, true, false, not, ◌&&◌, List, Contains, None, codes, refl, sym, ap, subst, ◌∙◌, arith}
+use Rattle.std.proofs.Common.{◌≡◌, ◌<◌, ℕ, zero, suc, true, false, not, ◌&&◌, List, Contains, None, codes, refl, sym, ap, subst, ◌∙◌, arith}
+use Rattle.std.proofs.lemmas.Bool.{and_parts, not-true}
 use Rattle.std.specs.Str.{bytes_eq}
-use Rattle.bson_doc.specs.Tree.{Tree, null, int32, int64, text, document, array, binary, object_id, boolean, date, timestamp, Fields, no_fields, field, Trees, no_items, item, found, with_item, items_count, trees_from, IsDocument}
+use Rattle.bson_doc.specs.Tree.{Tree, null, int32, int64, text, document, array, binary, object_id, boolean, date, timestamp, Fields, no_fields, field, Trees, no_items, item, found, items_count, trees_from, IsDocument}
 use Rattle.oplog_entry.specs.Lawful.{AreUnsets, is_among}
 use Rattle.oplog_entry.specs.Step.{strings_of}
 use Rattle.oplog_entry.proofs.FieldLemmas.{alike_swapped}
@@ -91,18 +92,10 @@ among-names_in : (d : Fields) (q : List ℕ) → found q d ≡ None → is_among
 among-names_in no_fields q none = refl
 among-names_in (field name value rest) q none = grind (arith, alike_swapped name q, among-names_in rest q)
 
-both : (a b : Bool) → (a && b) ≡ true → (a ≡ true) × (b ≡ true)
-both true b is = (refl, is)
-both false b is = cc
-
-not_true : (a : Bool) → not a ≡ true → a ≡ false
-not_true true is = cc
-not_true false is = refl
-
 mark_is : (name : List ℕ) (value : Tree) → is_mark name value ≡ true → (value ≡ boolean true) × (bytes_eq name (codes "_id") ≡ false)
 mark_is name (boolean truth) is =
-    let parts = both truth (not (bytes_eq name (codes "_id"))) is in
-    (ap (λ t. boolean t) parts.0, not_true (bytes_eq name (codes "_id")) parts.1)
+    let parts = and_parts truth (not (bytes_eq name (codes "_id"))) is in
+    (ap (λ t. boolean t) parts.0, not-true (bytes_eq name (codes "_id")) parts.1)
 mark_is name null is = cc
 mark_is name (int32 n) is = cc
 mark_is name (int64 n) is = cc
@@ -117,7 +110,7 @@ mark_is name (timestamp t) is = cc
 -- what `are_marks` tells of the first field
 first_mark : (name : List ℕ) (value : Tree) (rest : Fields) → are_marks (field name value rest) ≡ true → (value ≡ boolean true) × (bytes_eq name (codes "_id") ≡ false) × (are_marks rest ≡ true)
 first_mark name value rest is =
-    let parts = both (is_mark name value) (are_marks rest) is in
+    let parts = and_parts (is_mark name value) (are_marks rest) is in
     let here = mark_is name value parts.0 in
     (here.0, here.1, parts.1)
 
@@ -142,16 +135,3 @@ marks-next unsets place so_far name copied rest here same held =
 pub next_mark : (unsets : Trees) (so_far : Fields) (name : List ℕ) (rest : Fields) → AreUnsets unsets → join so_far (field name (boolean true) rest) ≡ marks unsets → (¬ Contains name 0) × (found name so_far ≡ None)
 next_mark unsets so_far name rest law held =
     next_name so_far name (boolean true) rest (subst IsDocument (sym held) (IsDocument-marks unsets law))
-
--- ---- strings, one after another
-abbrev pub both_items : Trees → Trees → Trees
-both_items no_items later = later
-both_items (item value rest) later = item value (both_items rest later)
-
-pub both_items-nothing : (a : Trees) → both_items a no_items ≡ a
-both_items-nothing no_items = refl
-both_items-nothing (item value rest) = ap (λ r. item value r) (both_items-nothing rest)
-
-pub both_items-with_item : (a : Trees) (value : Tree) (later : Trees) → both_items (with_item a value) later ≡ both_items a (item value later)
-both_items-with_item no_items value later = refl
-both_items-with_item (item first rest) value later = ap (λ r. item first r) (both_items-with_item rest value later)

@@ -1,4 +1,5 @@
 pub mod Answer
 pub mod Layout
+pub mod Optimes
 pub mod Parts
 pub mod Sizes

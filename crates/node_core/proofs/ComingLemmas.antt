@@ -1,14 +1,17 @@
 -- How a node comes up with what was found: its records with a cut at the point, where entries stand behind it, and the row.
-use Rattle.std.proofs.Common.{◌≡◌, ◌∙◌, inl, inr, ap, sym, subst, refl, ℕ, Bool, true, false, not, cond, List, Option, Some, None, arith}
+use Rattle.std.proofs.Common.{◌≡◌, ◌∙◌, ap, sym, subst, refl, ℕ, Bool, true, false, not, cond, List, Option, Some, None}
 use Rattle.rs_optime.specs.declared.optime.OpTime.{OpTime}
+use Rattle.rs_optime.proofs.Optimes.{at_most_antisym}
+use Rattle.rs_optime.specs.Membership.{In}
+use Rattle.rs_optime.proofs.MembershipLemmas.{in_filter}
 use Rattle.oplog_entry.specs.Docs.{docs}
 use Rattle.oplog_entry.specs.Visible.{is_before, last_of, log_up_to}
 use Rattle.oplog_entry.specs.declared.entry.Entry.{Entry}
-use Rattle.oplog_entry.proofs.Optimes.{not_before_by}
 use Rattle.repl_msg.specs.Kept.{kept}
 use Rattle.repl_msg.specs.declared.record.Kept.{Kept}
 use Rattle.repl_msg.specs.declared.record.Record.{Record}
 use Rattle.repl_msg.specs.declared.record.Record.TheVariants as records
+use Rattle.repl_msg.proofs.KeptLemmas.{kept_more}
 use Rattle.checkpoint_store.specs.declared.stable.Stable.{Stable}
 use Rattle.member_config.specs.declared.config.Config.{Config}
 use Rattle.node_journal.proofs.DiskLemmas.{kept_count}
@@ -17,9 +20,9 @@ use Rattle.set_model.specs.Node.{Node}
 use Rattle.set_model.specs.Safety.{AtMost}
 use Rattle.node_ledger.proofs.LogLemmas.{up_to-up_to}
 use Rattle.node_state.specs.WellKept.{IsReadAs, IsWellKept, coming}
-use Rattle.node_state.proofs.EntryLemmas.{In, in_filter, last_most}
+use Rattle.node_state.proofs.EntryLemmas.{last_most}
 use Rattle.node_state.proofs.RestartLemmas.{no_further}
-use Rattle.node_state.proofs.WellKeptLemmas.{kept_more, read_recovered, read_whole, well_recovered}
+use Rattle.node_state.proofs.WellKeptLemmas.{read_recovered, read_whole, well_recovered}
 use Rattle.node_core.specs.Coming.{IsFound, IsPrepared, cut_point, cut_records}
 use Rattle.node_core.specs.Down.{Left, down_node}
 use Rattle.node_core.specs.declared.coming_up.Found.{Found}
@@ -27,28 +30,13 @@ use Rattle.node_core.specs.declared.coming_up.Prepared.{Prepared}
 
 -- ---- the last entry that counts
 
--- two optimes, neither of them before the other
-same_both : (a b : OpTime) → is_before a b ≡ false → is_before b a ≡ false → a ≡ b
-same_both a b one two = elim (not_before_by a b one) [
-  | inl less ↦ elim (not_before_by b a two) [
-    | inl other ↦ absurd (omega (arith, less, other))
-    | inr same ↦ absurd (omega (arith, less, same.0))
-  ]
-  | inr here ↦ elim (not_before_by b a two) [
-    | inl other ↦ absurd (omega (arith, here.0, other))
-    | inr same ↦
-        let ts : a.ts ≡ b.ts = omega (arith, here.1, same.1) in
-        ap (λ t. record { term = t; ts = a.ts }) here.0 ∙ ap (λ t. record { term = b.term; ts = t }) ts
-  ]
-]
-
 -- it stands at the point
 last_read : (items : List Record) (stable : OpTime) (found : Kept) → IsWellKept items stable → IsReadAs found items → found.point ≡ last_of (kept items).entries
 last_read items stable found well read =
     read.point
-    ∙ same_both (kept items).point (last_of (kept items).entries)
-    (last_most (kept items).entries (kept items).point up_to)
+    ∙ at_most_antisym (kept items).point (last_of (kept items).entries)
     (no_further (kept items).entries (kept items).point well.oplog well.there)
+    (last_most (kept items).entries (kept items).point up_to)
   where
     passed : (b : Bool) → not b ≡ true → b ≡ false
     passed false is = refl

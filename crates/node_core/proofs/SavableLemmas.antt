@@ -2,7 +2,7 @@
 use Rattle.std.proofs.Common.{◌≡◌, ◌≤◌, ap, sym, subst, refl, fold, ℕ, zero, Bool, true, false, not, cond, length, List, [], ◌∷◌, Option, None, Some, IfSome, arith}
 use Rattle.std.specs.List.{All}
 use Rattle.std.specs.FinMap.{get, get-empty, empty}
-use Rattle.std.proofs.lemmas.List.Elements.{All-filter}
+use Rattle.std.proofs.lemmas.List.Elements.{All-filter, All-tail}
 use Rattle.bson_doc.specs.Key.{key_of}
 use Rattle.bson_doc.specs.Length.{document_length}
 use Rattle.bson_doc.specs.Place.{Place, place_cmp}
@@ -17,7 +17,6 @@ use Rattle.oplog_entry.specs.declared.entry.Entry.{Entry}
 use Rattle.oplog_entry.specs.declared.entry.Op.{Op}
 use Rattle.oplog_entry.specs.declared.entry.Op.TheVariants.{Insert, Replace, Fields as SetFields, Delete, Noop}
 use Rattle.oplog_entry.proofs.PlaceLemmas.{is_at-only}
-use Rattle.oplog_store.proofs.Keeps.{all_tail}
 use Rattle.entry_bytes.specs.Layout.{collection_of, document_of, members}
 use Rattle.entry_bytes.specs.Sizes.{IsWithinEntry}
 use Rattle.doc_update.proofs.StoredLemmas.{not_large, place-key}
@@ -68,7 +67,7 @@ named_applied documents entry place within named =
 named_folded : (log : List Entry) (documents : Documents) (place : Place) → All IsWithinEntry log → IsNamed place (get documents place) → IsNamed place (get (fold applied documents log) place)
 named_folded [] documents place each named = named
 named_folded (entry ∷ log) documents place each named =
-    named_folded log (applied documents entry) place (all_tail IsWithinEntry entry log each) (named_applied documents entry place (each zero entry (omega arith)) named)
+    named_folded log (applied documents entry) place (All-tail IsWithinEntry entry log each) (named_applied documents entry place (each zero entry (omega arith)) named)
 
 named_docs : (log : List Entry) (place : Place) → All IsWithinEntry log → IsNamed place (get (docs log) place)
 named_docs log place each = named_folded log empty place each (subst (IsNamed place) (sym (get-empty place_cmp place)) tt)

@@ -1,16 +1,16 @@
 -- Records with the same bytes are one record.
-use Rattle.std.proofs.Common.{◌≡◌, ℕ, suc, ◌^◌, ◌<◌, Bool, List, [], ◌∷◌, ◌++◌, length, drop, map, Option, None, Some, refl, sym, ap, ◌∙◌, arith}
+use Rattle.std.proofs.Common.{◌≡◌, ℕ, suc, Bool, List, [], ◌∷◌, ◌++◌, length, drop, map, Option, None, Some, refl, sym, ap, ◌∙◌, arith}
 use Rattle.std.specs.Prelude.{◌≢◌, All, unwrap_or, slice_index}
 use Rattle.std.specs.List.{flat_map}
 use Rattle.std.proofs.lemmas.List.{take_at, drop_at}
 use Rattle.rs_optime.specs.declared.optime.OpTime.{OpTime}
-use Rattle.bson_codec.specs.Numbers.{number_bytes}
 use Rattle.bson_codec.proofs.AgainLemmas.{one_document}
-use Rattle.bson_codec.proofs.PartLemmas.{number_back}
-use Rattle.bson_codec.proofs.SpellingLemmas.{length-number_bytes}
+use Rattle.bson_codec.proofs.NumberLemmas.{number_once}
 use Rattle.oplog_entry.specs.declared.entry.Entry.{Entry}
 use Rattle.entry_bytes.specs.Layout.{document_of}
 use Rattle.entry_bytes.proofs.LayoutLemmas.{entries_apart}
+use Rattle.entry_bytes.proofs.OptimeLemmas.{optime_once, optime_parts}
+use Rattle.entry_bytes.specs.Optimes.{optime_bytes}
 use Rattle.member_config.specs.declared.config.Config.{Config}
 use Rattle.vote_store.specs.declared.vote.Vote.{Vote}
 use Rattle.repl_msg.specs.declared.record.Record.{Record}
@@ -19,21 +19,15 @@ use Rattle.record_file.proofs.ParseLemmas.{one_list}
 use Rattle.record_file.proofs.ItemLemmas.{same_head, same_tail}
 use Rattle.record_file.proofs.ListLemmas.{piece_is, behind_is}
 use Rattle.node_journal.specs.Files.{HasJournal}
-use Rattle.node_journal.specs.Layout.{NOBODY, optime_bytes, vote_bytes, truth_byte, member_bytes, config_bytes, entry_bytes, sized_entry, batch_bytes, record_bytes}
+use Rattle.node_journal.specs.Layout.{NOBODY, vote_bytes, truth_byte, member_bytes, config_bytes, entry_bytes, sized_entry, batch_bytes, record_bytes}
 use Rattle.node_journal.specs.Spelled.{IsOptime, IsVote, IsMember, IsConfig, IsEntry, AreEntries, IsRecord}
-use Rattle.node_journal.proofs.NumberLemmas.{number_read, rest_read, truth_read, truth_rest, truth_back}
-use Rattle.node_journal.proofs.PartLemmas.{optime_parts, member_parts, entry_parts, entry_short, spelled_here}
+use Rattle.node_journal.proofs.NumberLemmas.{truth_read, truth_rest, truth_back}
+use Rattle.node_journal.proofs.PartLemmas.{member_parts, entry_parts, entry_short, spelled_here}
 
 -- bytes begin with one such item at most
 abbrev Tells : {A : Type 0} → (A → Type 0) → (A → List ℕ) → Type 0
 Tells {A = A} IsItem item_bytes =
     (one other : A) (behind after : List ℕ) → IsItem one → IsItem other → item_bytes one ++ behind ≡ item_bytes other ++ after → (one ≡ other) × (behind ≡ after)
-
-number_tells : (n x y : ℕ) (behind after : List ℕ) → x < 256 ^ n → y < 256 ^ n → number_bytes n x ++ behind ≡ number_bytes n y ++ after → (x ≡ y) × (behind ≡ after)
-number_tells n x y behind after small small' same = (
-  number_read n y x after (number_bytes n x ++ behind) small' same (sym (number_back n x behind small)),
-  rest_read n y after (number_bytes n x ++ behind) behind same (sym (drop_at (number_bytes n x) behind n (length-number_bytes n x))),
-)
 
 truth_tells : (x y : Bool) (behind after : List ℕ) → truth_byte x ∷ behind ≡ truth_byte y ∷ after → (x ≡ y) × (behind ≡ after)
 truth_tells x y behind after same =
@@ -42,8 +36,8 @@ truth_tells x y behind after same =
 optime_tells : Tells IsOptime optime_bytes
 optime_tells one other behind after fits fits' same =
     let parts = sym (optime_parts one behind _ refl) ∙ same ∙ optime_parts other after _ refl in
-    let term = number_tells 8 one.term other.term _ _ fits.0 fits'.0 parts in
-    let ts = number_tells 8 one.ts other.ts behind after fits.1 fits'.1 term.1 in
+    let term = number_once 8 one.term other.term _ _ fits.0 fits'.0 parts in
+    let ts = number_once 8 one.ts other.ts behind after fits.1 fits'.1 term.1 in
     (λ i. record { term = term.0 i; ts = ts.0 i }, ts.1)
 
 one_candidate : (one other : Option ℕ) → one ≢ Some NOBODY → other ≢ Some NOBODY → unwrap_or one NOBODY ≡ unwrap_or other NOBODY → one ≡ other
@@ -54,23 +48,23 @@ one_candidate (Some x) (Some y) is is' same = ap (λ (n : ℕ). Some n) same
 
 vote_tells : (one other : Vote) → IsVote one → IsVote other → vote_bytes one ≡ vote_bytes other → one ≡ other
 vote_tells one other fits fits' same =
-    let term = number_tells 8 one.term other.term _ _ fits.0 fits'.0 same in
-    let number = number_tells 4 (unwrap_or one.candidate NOBODY) (unwrap_or other.candidate NOBODY) [] [] fits.1 fits'.1 (ap (λ (l : List ℕ). l ++ []) term.1) in
+    let term = number_once 8 one.term other.term _ _ fits.0 fits'.0 same in
+    let number = number_once 4 (unwrap_or one.candidate NOBODY) (unwrap_or other.candidate NOBODY) [] [] fits.1 fits'.1 (ap (λ (l : List ℕ). l ++ []) term.1) in
     let candidate = one_candidate one.candidate other.candidate fits.2 fits'.2 number.0 in
     λ i. record { term = term.0 i; candidate = candidate i }
 
 member_tells : Tells IsMember member_bytes
 member_tells one other behind after fits fits' same =
     let parts = sym (member_parts one behind _ refl) ∙ same ∙ member_parts other after _ refl in
-    let number = number_tells 4 one.number other.number _ _ fits.0 fits'.0 parts in
+    let number = number_once 4 one.number other.number _ _ fits.0 fits'.0 parts in
     let votes = truth_tells one.votes other.votes _ _ number.1 in
-    let priority = number_tells 4 one.priority other.priority behind after fits.1 fits'.1 votes.1 in
+    let priority = number_once 4 one.priority other.priority behind after fits.1 fits'.1 votes.1 in
     (λ i. record { number = number.0 i; votes = votes.0 i; priority = priority.0 i }, priority.1)
 
 entry_tells : Tells IsEntry sized_entry
 entry_tells one other behind after is is' same =
     let parts = sym (entry_parts one behind _ refl) ∙ same ∙ entry_parts other after _ refl in
-    let size = number_tells 4 (length (entry_bytes one)) (length (entry_bytes other)) _ _ (entry_short one is) (entry_short other is') parts in
+    let size = number_once 4 (length (entry_bytes one)) (length (entry_bytes other)) _ _ (entry_short one is) (entry_short other is') parts in
     let piece = piece_is (entry_bytes other) after _ (entry_bytes one) (length (entry_bytes one)) size.1 size.0 (sym (take_at (entry_bytes one) behind _ refl)) in
     let document = one_document 1048576 103 (entry_bytes one) (document_of one) (document_of other) (omega arith) is.sound is'.sound is.spelling (spelled_here other (entry_bytes one) is' piece) in (
       entries_apart one other is.lawful is'.lawful document,
@@ -89,10 +83,10 @@ items_tell IsItem item_bytes tells (a ∷ one) (b ∷ other) each each' size sam
 
 config_tells : (one other : Config) → IsConfig one → IsConfig other → config_bytes one ≡ config_bytes other → one ≡ other
 config_tells one other fits fits' same =
-    let term = number_tells 8 one.term other.term _ _ fits.0 fits'.0 same in
-    let version = number_tells 4 one.version other.version _ _ fits.1 fits'.1 term.1 in
+    let term = number_once 8 one.term other.term _ _ fits.0 fits'.0 same in
+    let version = number_once 4 one.version other.version _ _ fits.1 fits'.1 term.1 in
     let chaining = truth_tells one.chaining other.chaining _ _ version.1 in
-    let count = number_tells 4 (length one.members) (length other.members) _ _ (omega (arith, fits.2)) (omega (arith, fits'.2)) chaining.1 in
+    let count = number_once 4 (length one.members) (length other.members) _ _ (omega (arith, fits.2)) (omega (arith, fits'.2)) chaining.1 in
     let members = items_tell IsMember member_bytes member_tells one.members other.members fits.3 fits'.3 count.0 count.1 in
     λ i. record { term = term.0 i; version = version.0 i; members = members i; chaining = chaining.0 i }
 
@@ -100,11 +94,8 @@ batch_tells : (one other : List Entry) (point point' : OpTime) → IsOptime poin
     → batch_bytes one point ≡ batch_bytes other point' → (one ≡ other) × (point ≡ point')
 batch_tells one other point point' fits fits' are are' same =
     let first = optime_tells point point' _ _ fits fits' same in
-    let count = number_tells 4 (length one) (length other) _ _ (omega (arith, are.0)) (omega (arith, are'.0)) first.1 in
+    let count = number_once 4 (length one) (length other) _ _ (omega (arith, are.0)) (omega (arith, are'.0)) first.1 in
     (items_tell IsEntry sized_entry entry_tells one other are.1 are'.1 count.0 count.1, first.0)
-
-cut_tells : (one other : OpTime) → IsOptime one → IsOptime other → optime_bytes one ≡ optime_bytes other → one ≡ other
-cut_tells one other fits fits' same = (optime_tells one other [] [] fits fits' (ap (λ (l : List ℕ). l ++ []) same)).0
 
 abbrev kind : List ℕ → ℕ
 kind bytes = slice_index bytes 0
@@ -118,7 +109,7 @@ one_record (records.Vote x) (records.Vote y) is is' same = ap (λ (v : Vote). re
 one_record (records.Config x) (records.Config y) is is' same = ap (λ (c : Config). records.Config c) (config_tells x y is is' (behind_kind (config_bytes x) (config_bytes y) same))
 one_record (records.Entries x p) (records.Entries y q) is is' same =
     let both = batch_tells x y p q is.0 is'.0 is.1 is'.1 (behind_kind (batch_bytes x p) (batch_bytes y q) same) in λ i. records.Entries (both.0 i) (both.1 i)
-one_record (records.Cut x) (records.Cut y) is is' same = ap (λ (o : OpTime). records.Cut o) (cut_tells x y is is' (behind_kind (optime_bytes x) (optime_bytes y) same))
+one_record (records.Cut x) (records.Cut y) is is' same = ap (λ (o : OpTime). records.Cut o) (optime_once x y is is' (behind_kind (optime_bytes x) (optime_bytes y) same))
 one_record (records.Vote x) (records.Config y) is is' same = absurd (omega (arith, ap kind same))
 one_record (records.Vote x) (records.Entries y q) is is' same = absurd (omega (arith, ap kind same))
 one_record (records.Vote x) (records.Cut y) is is' same = absurd (omega (arith, ap kind same))

@@ -4,19 +4,14 @@ use Rattle.std.specs.Prelude.{◌≢◌, Err, unwrap_or}
 use Rattle.bson_codec.specs.Numbers.{number_bytes}
 use Rattle.bson_codec.specs.Spelling.{IsSpelling}
 use Rattle.bson_codec.specs.declared.error.DecodeError.{DecodeError}
-use Rattle.rs_optime.specs.declared.optime.OpTime.{OpTime}
 use Rattle.oplog_entry.specs.declared.entry.Entry.{Entry}
 use Rattle.entry_bytes.specs.Answer.{IsReadAs}
 use Rattle.entry_bytes.specs.Layout.{document_of}
 use Rattle.entry_bytes.specs.declared.error.EntryError.{EntryError}
 use Rattle.entry_bytes.specs.declared.error.EntryError.TheVariants.{Codec, Shape}
 use Rattle.member_config.specs.declared.config.Member.{Member}
-use Rattle.node_journal.specs.Layout.{NOBODY, optime_bytes, member_bytes, truth_byte, entry_bytes, sized_entry}
+use Rattle.node_journal.specs.Layout.{NOBODY, member_bytes, truth_byte, entry_bytes, sized_entry}
 use Rattle.node_journal.specs.Spelled.{IsEntry}
-
-pub optime_parts : (o : OpTime) (behind bytes : List ℕ) → bytes ≡ optime_bytes o ++ behind
-    → bytes ≡ number_bytes 8 o.term ++ (number_bytes 8 o.ts ++ behind)
-optime_parts o behind bytes is = is ∙ append_assoc (number_bytes 8 o.term) (number_bytes 8 o.ts) behind
 
 pub member_parts : (m : Member) (behind bytes : List ℕ) → bytes ≡ member_bytes m ++ behind
     → bytes ≡ number_bytes 4 m.number ++ (truth_byte m.votes ∷ (number_bytes 4 m.priority ++ behind))

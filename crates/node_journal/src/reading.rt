@@ -1,10 +1,11 @@
 // Records as they are read.
 ghost use Rattle.std.specs.Prelude.{◌≡◌, List, IfOk};
+ghost use Rattle.entry_bytes.specs.Optimes.{optime_bytes};
 ghost use Rattle.record_file.specs.Turn.{BeginsWith, Reads, StandInTurn};
 ghost use Rattle.oplog_entry.specs.declared.entry.Entry.{Entry as AnEntry};
 ghost use Rattle.member_config.specs.declared.config.Member.{Member as AMember};
 ghost use Rattle.repl_msg.specs.declared.record.Record.{Record as ARecord};
-ghost use Rattle.node_journal.specs.Layout.{config_bytes, member_bytes, optime_bytes, batch_bytes, sized_entry, vote_bytes};
+ghost use Rattle.node_journal.specs.Layout.{config_bytes, member_bytes, batch_bytes, sized_entry, vote_bytes};
 ghost use Rattle.node_journal.specs.Spelled.{AreEntries, IsConfig, IsEntry, IsMember, IsOptime, IsSpelled, IsVote};
 
 use crate::numbers::{truth_of, u32_of, u64_of};

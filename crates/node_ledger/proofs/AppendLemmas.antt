@@ -1,32 +1,21 @@
 -- Entries behind a log, one after another.
-use Rattle.std.proofs.Common.{◌≡◌, ◌<◌, ◌∙◌, ◌-◌, ℕ, suc, zero, List, [], ◌∷◌, ◌++◌, length, refl, sym, ap, subst, arith, get_or}
+use Rattle.std.proofs.Common.{◌≡◌, ◌<◌, ◌∙◌, ◌-◌, ℕ, List, [], ◌∷◌, ◌++◌, length, refl, sym, ap, subst, arith, get_or}
 use Rattle.std.specs.List.{All, AllPairs}
 use Rattle.std.specs.Prelude.{max}
 use Rattle.std.proofs.lemmas.List.{append_assoc, length-append}
 use Rattle.std.proofs.lemmas.List.Elements.{All-cons, All-head, All-tail}
-use Rattle.oplog_entry.specs.Lawful.{IsLawful}
 use Rattle.oplog_entry.specs.Log.{StandsBefore, IsOplog, with_entry}
 use Rattle.oplog_entry.specs.declared.entry.Entry.{Entry}
 use Rattle.oplog_store.proofs.Keeps.{pairs_head, pairs_tail, with_last}
 use Rattle.set_model.specs.Fetching.{seen_after}
 use Rattle.std.specs.FinSet as sets
+use Rattle.oplog_store.proofs.PlaceLemmas.{oplog_front}
 use Rattle.rs_optime.specs.Order.{optime_cmp}
 use Rattle.optime_slots.specs.Reserved.{Reserved}
-
-all_front : {X : Type 0} (P : X → Type 0) (xs ys : List X) → All P (xs ++ ys) → All P xs
-all_front P [] ys all k d within = absurd (omega arith)
-all_front P (x ∷ xs) ys all zero d within = all zero d (omega arith)
-all_front P (x ∷ xs) ys all (suc k) d within = all_front P xs ys (All-tail P x (xs ++ ys) all) k d (omega arith)
 
 all_back : {X : Type 0} (P : X → Type 0) (xs ys : List X) → All P (xs ++ ys) → All P ys
 all_back P [] ys all = all
 all_back P (x ∷ xs) ys all = all_back P xs ys (All-tail P x (xs ++ ys) all)
-
-pairs_front : {X : Type 0} (R : X → X → Type 0) (xs ys : List X) → AllPairs R (xs ++ ys) → AllPairs R xs
-pairs_front R [] ys pairs i j d less within = absurd (omega arith)
-pairs_front R (x ∷ xs) ys pairs i zero d less within = absurd (omega arith)
-pairs_front R (x ∷ xs) ys pairs zero (suc j) d less within = all_front (R x) xs ys (pairs_head R x (xs ++ ys) pairs) j d (omega arith)
-pairs_front R (x ∷ xs) ys pairs (suc i) (suc j) d less within = pairs_front R xs ys (pairs_tail R x (xs ++ ys) pairs) i j d (omega arith) (omega arith)
 
 -- what stands before one of them
 all_before : {X : Type 0} (R : X → X → Type 0) (xs : List X) (x : X) (ys : List X) → AllPairs R (xs ++ x ∷ ys) → All (λ o. R o x) xs
@@ -34,10 +23,6 @@ all_before R [] x ys pairs = λ k d within. absurd (omega arith)
 all_before R (y ∷ xs) x ys pairs =
     All-cons (λ o. R o x) y xs (All-head (R y) x ys (all_back (R y) xs (x ∷ ys) (pairs_head R y (xs ++ x ∷ ys) pairs)))
     (all_before R xs x ys (pairs_tail R y (xs ++ x ∷ ys) pairs))
-
--- a front of a log is one
-oplog_front : (log more : List Entry) → IsOplog (log ++ more) → IsOplog log
-oplog_front log more oplog = record { order = pairs_front StandsBefore log more oplog.order; lawful = all_front IsLawful log more oplog.lawful }
 
 all_earlier : (log : List Entry) (entry : Entry) → All (λ other. StandsBefore other entry) log → All (λ other. other.optime.ts < entry.optime.ts) log
 all_earlier log entry all k d within = let before : StandsBefore (get_or log k d) entry = all k d within in before.earlier

@@ -9,6 +9,7 @@ use Rattle.std.specs.FinMap.{get}
 use Rattle.bson_doc.specs.Place.{Place}
 use Rattle.bson_doc.specs.Tree.{Fields}
 use Rattle.rs_optime.specs.declared.optime.OpTime.{OpTime}
+use Rattle.rs_optime.proofs.Optimes.{at_most_before_trans, at_most_trans, before_at_most, before_both}
 use Rattle.batch_applier.specs.Applied.{IsBatch, HasApplied, past_after, past_with}
 use Rattle.oplog_entry.specs.Docs.{docs}
 use Rattle.oplog_entry.specs.Lawful.{IsLawful}
@@ -16,14 +17,12 @@ use Rattle.oplog_entry.specs.Log.{StandsBefore}
 use Rattle.oplog_entry.specs.Step.{place_of, document_after}
 use Rattle.oplog_entry.specs.Visible.{is_before, last_of, log_up_to}
 use Rattle.oplog_entry.specs.declared.entry.Entry.{Entry}
-use Rattle.oplog_entry.proofs.Optimes.{before_both}
 use Rattle.oplog_store.proofs.Keeps.{pairs_head, pairs_tail}
 use Rattle.oplog_store.proofs.LogLemmas.{last_is}
 use Rattle.repl_msg.specs.Logs.{log_behind}
 use Rattle.version_store.specs.declared.history.Version.{Version}
 use Rattle.version_store.specs.Past.{Past, latest_of, with_version}
 use Rattle.version_store.specs.Store.{Store, past_at, versions_at}
-use Rattle.version_store.proofs.HistoryLemmas.{at_most_trans, not_behind}
 use Rattle.oplog_entry.specs.Step.{is_at}
 use Rattle.set_model.specs.Node.{Node}
 use Rattle.set_model.specs.Points.{visible_point}
@@ -35,7 +34,6 @@ use Rattle.node_ledger.specs.Versions.{HasVersions, versions_from}
 use Rattle.node_ledger.proofs.FollowLemmas.{other_point}
 use Rattle.node_ledger.proofs.HasLemmas.{has_more, latest-append, latest_has, not_late}
 use Rattle.node_ledger.proofs.LogLemmas.{at_most_last, filter-all, filter-none, filter-passes, last_with, parts}
-use Rattle.node_ledger.proofs.OrderLemmas.{not_then_not}
 use Rattle.node_ledger.proofs.RoleLemmas.{apart_idle}
 use Rattle.node_ledger.proofs.VersionLemmas.{all_versions, none_up_to}
 
@@ -98,8 +96,8 @@ last_late n at log some = last_has (λ o. is_before at o ≡ true) (batch_of n a
 
 front_early : (n : ℕ) (at : OpTime) (log : List Entry) → 0 < length (batch_of n at log) → All (λ (e : Entry). is_before (last_of (batch_of n at log)) e.optime ≡ false) (log_up_to at log)
 front_early n at log some k d within =
-    not_then_not (slice_index_or (log_up_to at log) k d).optime at (last_of (batch_of n at log)) (not_late _ (filter-passes (λ (e : Entry). not (is_before at e.optime)) log k d within))
-    (not_behind at (last_of (batch_of n at log)) (last_late n at log some))
+    at_most_trans (slice_index_or (log_up_to at log) k d).optime at (last_of (batch_of n at log)) (not_late _ (filter-passes (λ (e : Entry). not (is_before at e.optime)) log k d within))
+    (before_at_most at (last_of (batch_of n at log)) (last_late n at log some))
 
 pub batch_up_to : (n : ℕ) (at : OpTime) (log : List Entry) → AllPairs StandsBefore log → 0 < length (batch_of n at log) → log_up_to (last_of (batch_of n at log)) log ≡ log_up_to at log ++ batch_of n at log
 batch_up_to n at log order some =
@@ -164,7 +162,7 @@ early_versions node store kept other place =
     let before : Option Fields = get (docs (log_up_to node.stable (log_up_to node.applied node.log))) place in
     subst (λ vs. All (λ (v : Version). is_before node.applied v.at ≡ false) vs) (sym has.is)
     (All-append (λ (v : Version). is_before node.applied v.at ≡ false) has.base (versions_from place before (log_behind node.stable (log_up_to node.applied node.log)))
-    (λ k d within. not_then_not (slice_index_or has.base k d).at node.stable node.applied (has.early k d within) (stable_applied node kept.sound other))
+    (λ k d within. at_most_trans (slice_index_or has.base k d).at node.stable node.applied (has.early k d within) (stable_applied node kept.sound other))
     (all_versions (λ o. is_before node.applied o ≡ false) place before (log_behind node.stable (log_up_to node.applied node.log))
     (All-filter (λ (e : Entry). is_before node.stable e.optime) (λ (e : Entry). is_at (place_of e.op) place ≡ true → is_before node.applied e.optime ≡ false) (log_up_to node.applied node.log)
     (λ k d within here. not_late _ (filter-passes (λ (e : Entry). not (is_before node.applied e.optime)) node.log k d within)))))
@@ -177,7 +175,7 @@ batch_fits node store n kept other = record {
       pairs_take StandsBefore n (log_behind node.applied node.log) (AllPairs-filter StandsBefore (λ (e : Entry). is_before node.applied e.optime) node.log kept.sound.oplog.order) i j d less within in
       before_both (slice_index_or (batch_of n node.applied node.log) i d).optime (slice_index_or (batch_of n node.applied node.log) j d).optime stands.term stands.earlier;
   later = λ place k v within i d inside.
-      at_most_trans (slice_index_or (versions_at store place) k v).at node.applied (slice_index_or (batch_of n node.applied node.log) i d).optime
+      at_most_before_trans (slice_index_or (versions_at store place) k v).at node.applied (slice_index_or (batch_of n node.applied node.log) i d).optime
       (early_versions node store kept other place k v within) (batch_late n node.applied node.log i d inside);
 }
 
@@ -198,8 +196,8 @@ kept_batch node store later n kept other some applied =
             (All-take (λ (e : Entry). is_before (last_of node.log) e.optime ≡ false) n (log_behind node.applied node.log)
             (All-filter (λ (e : Entry). is_before node.applied e.optime) (λ (e : Entry). is_before (last_of node.log) e.optime ≡ false) node.log (at_most_last node.log kept.sound.oplog.order)));
         stable = ap (λ o. is_before o node.stable) (other_point node.role (visible_point (record node { applied = last_of (batch_of n node.applied node.log) })) (last_of (batch_of n node.applied node.log)) other)
-            ∙ not_then_not node.stable node.applied (last_of (batch_of n node.applied node.log)) (stable_applied node kept.sound other)
-            (not_behind node.applied (last_of (batch_of n node.applied node.log)) (last_late n node.applied node.log some));
+            ∙ at_most_trans node.stable node.applied (last_of (batch_of n node.applied node.log)) (stable_applied node kept.sound other)
+            (before_at_most node.applied (last_of (batch_of n node.applied node.log)) (last_late n node.applied node.log some));
       };
       writers = apart_idle (record node { applied = last_of (batch_of n node.applied node.log) }) idle.writers;
       versions = λ p. subst (λ log. HasVersions p node.stable log (versions_at later p))
@@ -213,7 +211,7 @@ kept_batch node store later n kept other some applied =
     front_order = AllPairs-filter StandsBefore (λ (e : Entry). not (is_before node.applied e.optime)) node.log kept.sound.oplog.order
 
     late : All (λ (e : Entry). is_before node.stable e.optime ≡ true) (batch_of n node.applied node.log)
-    late k d within = at_most_trans node.stable node.applied (slice_index_or (batch_of n node.applied node.log) k d).optime (stable_applied node kept.sound other) (batch_late n node.applied node.log k d within)
+    late k d within = at_most_before_trans node.stable node.applied (slice_index_or (batch_of n node.applied node.log) k d).optime (stable_applied node kept.sound other) (batch_late n node.applied node.log k d within)
 
     versions_now : (p : Place) → versions_at later p ≡ versions_at store p ++ versions_from p (get (docs (log_up_to node.applied node.log)) p) (batch_of n node.applied node.log)
     versions_now p =

@@ -6,13 +6,14 @@ use Rattle.std.proofs.lemmas.List.{take-append-drop, take-take, take_at, drop-ta
 use Rattle.std.proofs.lemmas.List.Elements.{All-filter}
 use Rattle.std.proofs.lemmas.List.Kept.{AllPairs-filter}
 use Rattle.rs_optime.specs.declared.optime.OpTime.{OpTime}
+use Rattle.rs_optime.proofs.Optimes.{at_most_refl, at_most_trans, before_at_most}
 use Rattle.oplog_entry.specs.Log.{StandsBefore}
 use Rattle.oplog_entry.specs.Visible.{ZERO, is_before, last_of, log_up_to}
 use Rattle.oplog_entry.specs.declared.entry.Entry.{Entry}
+use Rattle.oplog_entry.proofs.Optimes.{zero_least}
 use Rattle.repl_msg.specs.Logs.{log_behind, later_of}
 use Rattle.version_store.specs.Past.{Past, back_to, up_to}
 use Rattle.version_store.specs.Store.{Store, versions_at, ChangesEach}
-use Rattle.version_store.proofs.HistoryLemmas.{not_behind, not_before_itself}
 use Rattle.set_model.specs.declared.command.ReadLevel.TheVariants.{Local}
 use Rattle.set_model.specs.Node.{Node}
 use Rattle.set_model.specs.Points.{if_primary, visible_point}
@@ -26,10 +27,8 @@ use Rattle.node_ledger.proofs.BatchLemmas.{batch_behind, batch_of, last_applied,
 use Rattle.node_ledger.proofs.FollowLemmas.{other_point}
 use Rattle.node_ledger.proofs.HasLemmas.{has_up_to, not_late}
 use Rattle.node_ledger.proofs.LogLemmas.{filter-passes, filter-swap, parts, up_to-up_to}
-use Rattle.node_ledger.proofs.OrderLemmas.{not_then_not}
 use Rattle.node_ledger.proofs.RoleLemmas.{apart_idle}
 use Rattle.node_ledger.proofs.ShownLemmas.{shown_order, shown_up_to}
-use Rattle.node_ledger.proofs.VisibleLemmas.{zero_least}
 
 -- ---- one batch after another
 
@@ -123,11 +122,11 @@ pub so_far_begun : (first now : Ledger) (count left : ℕ) → AppliedSoFar firs
 so_far_begun first now count left so = (applied_after first.node.applied (batch_of (count - left) first.node.applied first.node.log), so.is, no_less (batch_of (count - left) first.node.applied first.node.log) refl)
   where
     no_less : (batch : List Entry) → batch_of (count - left) first.node.applied first.node.log ≡ batch → is_before (applied_after first.node.applied (batch_of (count - left) first.node.applied first.node.log)) first.node.applied ≡ false
-    no_less [] is = ap (λ es. is_before (applied_after first.node.applied es) first.node.applied) is ∙ not_before_itself first.node.applied
+    no_less [] is = ap (λ es. is_before (applied_after first.node.applied es) first.node.applied) is ∙ at_most_refl first.node.applied
     no_less (entry ∷ batch) is =
         let some : 0 < length (batch_of (count - left) first.node.applied first.node.log) = subst (λ (es : List Entry). 0 < length es) (sym is) (omega arith) in
         ap (λ o. is_before o first.node.applied) (last_applied first.node.applied (batch_of (count - left) first.node.applied first.node.log) some)
-        ∙ not_behind first.node.applied (last_of (batch_of (count - left) first.node.applied first.node.log)) (last_late (count - left) first.node.applied first.node.log some)
+        ∙ before_at_most first.node.applied (last_of (batch_of (count - left) first.node.applied first.node.log)) (last_late (count - left) first.node.applied first.node.log some)
 
 -- ---- up to an optime
 
@@ -150,7 +149,7 @@ later_second a b is = ap (λ t. cond t b a) is
 
 early_up_to : (at to : OpTime) (log : List Entry) → is_before to at ≡ true → All (λ (e : Entry). is_before at e.optime ≡ false) (log_up_to to log)
 early_up_to at to log earlier k d within =
-    not_then_not (slice_index_or (log_up_to to log) k d).optime to at (not_late _ (filter-passes (λ (e : Entry). not (is_before to e.optime)) log k d within)) (not_behind to at earlier)
+    at_most_trans (slice_index_or (log_up_to to log) k d).optime to at (not_late _ (filter-passes (λ (e : Entry). not (is_before to e.optime)) log k d within)) (before_at_most to at earlier)
 
 -- a front of what is behind an optime is behind it
 front_of : (to : OpTime) (log : List Entry) → AllPairs StandsBefore log → take (length (log_up_to to log)) log ≡ log_up_to to log
@@ -166,7 +165,7 @@ applied_up_to at to log count order is = by_test (is_before to at) refl
 
     by_test : (b : Bool) → is_before to at ≡ b → applied_after at (batch_of count at log) ≡ later_of at (last_of (log_up_to to log))
     by_test true earlier =
-        let within : log_up_to to (log_up_to at log) ≡ log_up_to to log = up_to-up_to to at log (not_behind to at earlier) in
+        let within : log_up_to to (log_up_to at log) ≡ log_up_to to log = up_to-up_to to at log (before_at_most to at earlier) in
         let short : length (log_up_to to log) ≤ length (log_up_to at log) =
         omega (arith, length_parts to (log_up_to at log) (AllPairs-filter StandsBefore (λ (e : Entry). not (is_before at e.optime)) log order), ap length within) in
         by_count count (omega (arith, is, short))
@@ -222,7 +221,7 @@ kept_back node store later point kept other behind within changes =
         terms = kept.sound.terms;
         marked = kept.sound.marked;
         idle = λ not. record { slots = idle.slots; writers = idle.writers };
-        applied = not_then_not point node.applied (last_of node.log) within kept.sound.applied;
+        applied = at_most_trans point node.applied (last_of node.log) within kept.sound.applied;
         stable = ap (λ p. is_before p node.stable) (other_point node.role (visible_point (record node { applied = point })) point other) ∙ behind;
       };
       writers = apart_idle (record node { applied = point }) idle.writers;

@@ -6,19 +6,19 @@ use Rattle.std.proofs.lemmas.List.Elements.{All-filter}
 use Rattle.rs_optime.specs.Later.{same_optime}
 use Rattle.rs_optime.specs.Order.{is_before}
 use Rattle.rs_optime.specs.declared.optime.OpTime.{OpTime}
+use Rattle.rs_optime.proofs.Optimes.{at_most_before_trans, at_most_refl, before_both, before_parts, later_term}
 use Rattle.entry_bytes.specs.Sizes.{IsWithinEntry}
 use Rattle.oplog_entry.specs.Log.{StandsBefore}
 use Rattle.oplog_entry.specs.Visible.{ZERO, last_of, log_up_to}
 use Rattle.oplog_entry.specs.declared.entry.Entry.{Entry}
 use Rattle.oplog_entry.specs.declared.entry.Op.{Op}
-use Rattle.oplog_entry.proofs.Optimes.{before_both, before_by, later_term}
+use Rattle.oplog_entry.proofs.Optimes.{zero_least}
 use Rattle.oplog_store.proofs.LogLemmas.{oplog_filter}
 use Rattle.repl_msg.specs.Logs.{has_entry}
 use Rattle.repl_msg.proofs.HasLemmas.{same_is}
 use Rattle.version_store.specs.declared.history.Version.{Version}
 use Rattle.version_store.specs.Past.{Past, pruned}
 use Rattle.version_store.specs.Store.{Store, versions_at, ChangesEach}
-use Rattle.version_store.proofs.HistoryLemmas.{at_most_trans, not_before_itself}
 use Rattle.set_model.specs.declared.command.ReadLevel.TheVariants.{Local}
 use Rattle.set_model.specs.declared.role.Role.{Role}
 use Rattle.set_model.specs.declared.role.Role.TheVariants.{Secondary, Primary}
@@ -37,7 +37,7 @@ use Rattle.node_ledger.proofs.RoleLemmas.{apart_idle, if_other}
 use Rattle.node_ledger.proofs.ShownLemmas.{shown_order}
 use Rattle.node_ledger.proofs.SoundLemmas.{next_unstable, primary_not, primary_point, writing_primary}
 use Rattle.node_ledger.proofs.VersionLemmas.{up_to-from}
-use Rattle.node_ledger.proofs.VisibleLemmas.{SomeEntry, IsBeforeSlots, filter_some, some_fact, some_more, some_to_last, visible_shown, zero_least}
+use Rattle.node_ledger.proofs.VisibleLemmas.{SomeEntry, IsBeforeSlots, filter_some, some_fact, some_more, some_to_last, visible_shown}
 
 -- ---- pruned
 
@@ -71,9 +71,9 @@ kept_pruned node store later at kept behind within changes = record {
     unstable v by other opens was =
         let primary : node.role ≡ Primary = writing_primary node v kept.sound (by, other, opens) in
         elim (visible_shown node.log node.slots at (ap (λ p. is_before p at) (sym (primary_point node.role (visible_point node) node.applied primary)) ∙ within)) [
-          | inl none ↦ at_most_trans at ZERO by none (before_both ZERO by (omega arith) (omega (arith, was.positive)))
+          | inl none ↦ at_most_before_trans at ZERO by none (before_both ZERO by (omega arith) (omega (arith, was.positive)))
           | inr some ↦ some_fact (is_before at by ≡ true) node.log
-              (some_more (λ e. (is_before e at ≡ false) × IsBeforeSlots node.slots e) (λ e. is_before at by ≡ true) node.log (λ e both. at_most_trans at e by both.0 (both.1 by was.open_slot)) some)
+              (some_more (λ e. (is_before e at ≡ false) × IsBeforeSlots node.slots e) (λ e. is_before at by ≡ true) node.log (λ e both. at_most_before_trans at e by both.0 (both.1 by was.open_slot)) some)
         ]
 
 -- ---- cut
@@ -92,7 +92,7 @@ cut_reaches point log order (inl none) = zero_least point (last_of (log_up_to po
 cut_reaches point log order (inr has) = some_to_last point (log_up_to point log) order
     (filter_some (λ e. is_before e point ≡ false) (λ e. not (is_before point e)) log
     (some_more (λ e. e ≡ point) (λ e. (is_before e point ≡ false) × (not (is_before point e) ≡ true)) log
-    (λ e same. (ap (λ o. is_before o point) same ∙ not_before_itself point, ap (λ o. not (is_before point o)) same ∙ ap not (not_before_itself point))) (some_entry point log has)))
+    (λ e same. (ap (λ o. is_before o point) same ∙ at_most_refl point, ap (λ o. not (is_before point o)) same ∙ ap not (at_most_refl point))) (some_entry point log has)))
 
 pub small_up_to : (at : OpTime) (log : List Entry) → AllPairs StandsBefore log → AreSmall log → AreSmall (log_up_to at log)
 small_up_to at log order small place =
@@ -123,7 +123,7 @@ kept_cut node store kept other is_point =
       writers = apart_idle (record node { log = log_up_to at node.log }) idle.writers;
       versions = λ p. subst (λ log. HasVersions p node.stable log (versions_at store p))
           (other_point node.role node.log (log_up_to at node.log) other
-          ∙ sym (other_point node.role (log_up_to at node.log) (log_up_to at (log_up_to at node.log)) other ∙ up_to-up_to at at node.log (not_before_itself at)))
+          ∙ sym (other_point node.role (log_up_to at node.log) (log_up_to at (log_up_to at node.log)) other ∙ up_to-up_to at at node.log (at_most_refl at)))
           (kept.versions p);
       holders = kept.holders;
     }
@@ -133,7 +133,7 @@ kept_cut node store kept other is_point =
 -- an optime of the next term is behind every entry of a primary
 pub next_term_readable : (node : Node) (at : OpTime) → IsSound node → node.role ≡ Primary → node.term < at.term → IsReadable node at
 next_term_readable node at sound primary later = record {
-  kept = elim (before_by node.stable (next_optime node) (next_unstable node sound primary)) [
+  kept = elim (before_parts node.stable (next_optime node) (next_unstable node sound primary)) [
     | inl less ↦ later_term at node.stable (omega (arith, less, later))
     | inr same ↦ later_term at node.stable (omega (arith, same.0, later))
   ];

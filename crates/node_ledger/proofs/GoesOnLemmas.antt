@@ -1,31 +1,31 @@
 -- A ledger keeps its documents as entries come behind its log, and as its node steps down.
-use Rattle.std.proofs.Common.{◌≡◌, inl, inr, ◌≤◌, ◌∙◌, ℕ, Bool, true, false, cond, List, [], ◌∷◌, ◌++◌, None, Some, refl, sym, ap, subst, arith}
+use Rattle.std.proofs.Common.{◌≡◌, inl, inr, ◌≤◌, ◌∙◌, ℕ, Bool, true, false, List, [], ◌∷◌, ◌++◌, None, refl, sym, ap, subst, arith}
 use Rattle.std.specs.Prelude.{max}
 use Rattle.std.specs.List.{All, AllPairs}
-use Rattle.std.specs.Cmp.{nat_cmp_total}
 use Rattle.std.specs.FinMap as maps
 use Rattle.std.specs.FinSet as sets
-use Rattle.std.specs.Ordering.{nat_cmp, eq_by_cmp}
+use Rattle.std.specs.Ordering.{nat_cmp}
 use Rattle.std.proofs.lemmas.List.Elements.{All-append, All-cons}
 use Rattle.bson_doc.specs.Place.{Place}
 use Rattle.rs_optime.specs.Order.{is_before, optime_cmp}
 use Rattle.rs_optime.specs.declared.optime.OpTime.{OpTime}
+use Rattle.rs_optime.proofs.Optimes.{at_most_before_trans, at_most_refl}
 use Rattle.entry_bytes.specs.Sizes.{IsWithinEntry}
 use Rattle.oplog_entry.specs.Log.{StandsBefore, IsOplog}
 use Rattle.oplog_entry.specs.Visible.{last_of, visible, log_up_to}
 use Rattle.oplog_entry.specs.declared.entry.Entry.{Entry}
-use Rattle.oplog_entry.specs.declared.entry.Op.{Op}
+use Rattle.oplog_entry.proofs.Optimes.{zero_least}
 use Rattle.version_store.specs.Store.{Store, versions_at, holder_at}
-use Rattle.version_store.proofs.HistoryLemmas.{at_most_trans, not_before_itself}
 use Rattle.set_model.specs.declared.role.Role.{Role}
 use Rattle.set_model.specs.declared.role.Role.TheVariants.{Secondary, Candidate, Draining, Primary}
 use Rattle.set_model.specs.declared.writer.Writer.{Writer}
-use Rattle.set_model.specs.declared.writer.Writer.TheVariants.{Open, Done, Lost}
-use Rattle.set_model.specs.Changes.{all_lost, lost_writer, stepped_down}
+use Rattle.set_model.specs.Changes.{all_lost, stepped_down}
 use Rattle.set_model.specs.Fetching.{seen_after, with_fetched}
 use Rattle.set_model.specs.Node.{Node}
 use Rattle.set_model.specs.Points.{if_primary, last_point, visible_point}
 use Rattle.set_model.specs.Roles.{is_primary}
+use Rattle.set_model.proofs.LostLemmas.{none_open}
+use Rattle.set_model.proofs.SeenLemmas.{seen_least}
 use Rattle.node_ledger.specs.Kept.{IsHolder, IsKept, is_held_by}
 use Rattle.node_ledger.specs.Sound.{IsIdle}
 use Rattle.node_ledger.specs.Versions.{AreSmall, HasVersions}
@@ -34,7 +34,7 @@ use Rattle.node_ledger.proofs.FollowLemmas.{other_point}
 use Rattle.node_ledger.proofs.HolderLemmas.{held_open}
 use Rattle.node_ledger.proofs.LogLemmas.{up_to-last, up_to-late}
 use Rattle.node_ledger.proofs.RoleLemmas.{apart_idle}
-use Rattle.node_ledger.proofs.VisibleLemmas.{IsBeforeSlots, SomeEntry, last_to_some, some_more, some_to_last, visible_shown, zero_least}
+use Rattle.node_ledger.proofs.VisibleLemmas.{IsBeforeSlots, SomeEntry, last_to_some, some_more, some_to_last, visible_shown}
 
 -- ---- entries behind the log
 
@@ -49,10 +49,6 @@ last_grows o log more order within = elim (last_to_some o log within) [
   | inr some ↦ some_to_last o (log ++ more) order (some_front (λ e. is_before e o ≡ false) log more some)
 ]
 
-seen_least : (seen : ℕ) (entries : List Entry) → seen ≤ seen_after seen entries
-seen_least seen [] = omega arith
-seen_least seen (entry ∷ entries) = omega (arith, seen_least (max seen entry.optime.ts) entries)
-
 seen_each : (seen : ℕ) (entries : List Entry) → All (λ entry. entry.optime.ts ≤ seen_after seen entries) entries
 seen_each seen [] = λ k d within. absurd (omega arith)
 seen_each seen (entry ∷ entries) =
@@ -65,7 +61,7 @@ pub kept_appended : (node : Node) (store : Store) (entries : List Entry) → IsK
 kept_appended node store entries kept other oplog later terms within small =
     let idle : IsIdle node = kept.sound.idle other in
     let after_applied : All (λ (e : Entry). is_before node.applied e.optime ≡ true) entries =
-    λ k d inside. at_most_trans node.applied (last_point node) _ kept.sound.applied (later k d inside) in
+    λ k d inside. at_most_before_trans node.applied (last_point node) _ kept.sound.applied (later k d inside) in
     record {
       sound = record {
         oplog = oplog;
@@ -89,23 +85,6 @@ kept_appended node store entries kept other oplog later terms within small =
     }
 
 -- ---- stepping down
-
-lost_apart : (writer : Writer) (at : OpTime) (op : Op) → lost_writer writer ≡ Open at op → ⊥
-lost_apart (Open before op) at other is = cc is
-lost_apart (Done before) at other is = cc is
-lost_apart (Lost term) at other is = cc is
-
--- no writer is open any more
-none_open : (entries : List (ℕ × Writer)) (number : ℕ) (at : OpTime) (op : Op) → maps.get (maps.from_entries {R = nat_cmp} (all_lost entries)) number ≡ Some (Open at op) → ⊥
-none_open [] number at op is = cc (is, maps.get-empty {X = Writer} nat_cmp number)
-none_open (entry ∷ entries) number at op is =
-    go (eq_by_cmp nat_cmp number entry.0) (none_open entries number at op)
-    (sym (maps.get-insert nat_cmp_total (maps.from_entries {R = nat_cmp} (all_lost entries)) entry.0 (lost_writer entry.1) number) ∙ is)
-  where
-    go : (b : Bool) → (maps.get (maps.from_entries {R = nat_cmp} (all_lost entries)) number ≡ Some (Open at op) → ⊥)
-        → cond b (Some (lost_writer entry.1)) (maps.get (maps.from_entries {R = nat_cmp} (all_lost entries)) number) ≡ Some (Open at op) → ⊥
-    go true rest same = lost_apart entry.1 at op (let own : lost_writer entry.1 ≡ Open at op = cc same in own)
-    go false rest same = rest same
 
 held_or_not : (b : Bool) → (b ≡ true → ⊥) → b ≡ false
 held_or_not true none = absurd (none refl)
@@ -154,7 +133,7 @@ kept_stepped node store later kept versions free = record {
     terms = kept.sound.terms;
     marked = kept.sound.marked;
     idle = λ not. record { slots = refl; writers = closed };
-    applied = reached_last node.role (last_point node) node.applied (not_before_itself (last_point node)) kept.sound.applied;
+    applied = reached_last node.role (last_point node) node.applied (at_most_refl (last_point node)) kept.sound.applied;
     stable = whole_last node.role (last_point node) (visible_point node) node.applied node.stable kept.sound.applied kept.sound.stable
         (visible_within node.log node.slots node.stable kept.sound.oplog.order);
   };

@@ -2,29 +2,27 @@
 use Rattle.std.proofs.Common.{◌≡◌, ◌≢◌, ◌≤◌, inl, inr, ◌∙◌, ap, sym, refl, subst, arith, Bool, true, false, cond, not, ℕ, zero, List, [], ◌∷◌, ◌++◌, Option, None, Some, append_assoc, option_and_then, is_some}
 use Rattle.std.specs.Prelude.{slice_index_or, nat_lt}
 use Rattle.std.specs.List.{All, AllPairs}
-use Rattle.std.proofs.lemmas.List.Elements.{filter-append, All-filter, All-append}
+use Rattle.std.proofs.lemmas.List.Elements.{filter-append, All-filter, All-append, All-tail}
 use Rattle.std.proofs.lemmas.List.Kept.{AllPairs-filter}
 use Rattle.std.proofs.lemmas.List.Sums.{fold-append}
 use Rattle.std.specs.FinMap.{get, empty}
 use Rattle.bson_doc.specs.Place.{Place}
 use Rattle.bson_doc.specs.Tree.{Fields}
 use Rattle.rs_optime.specs.declared.optime.OpTime.{OpTime}
+use Rattle.rs_optime.proofs.Optimes.{at_most_before_trans, at_most_trans, before_trans, before_both}
 use Rattle.oplog_entry.specs.Docs.{docs, applied}
 use Rattle.oplog_entry.specs.Log.{StandsBefore, with_entry}
 use Rattle.oplog_entry.specs.Step.{place_of, document_after, is_at}
 use Rattle.oplog_entry.specs.Visible.{is_before, log_up_to}
 use Rattle.oplog_entry.specs.declared.entry.Entry.{Entry}
 use Rattle.oplog_entry.proofs.PlaceLemmas.{is_at-here, is_at-only, is_at-other}
-use Rattle.oplog_store.proofs.Keeps.{all_tail, pairs_tail}
-use Rattle.oplog_store.proofs.Optimes.{before_both}
+use Rattle.oplog_store.proofs.Keeps.{pairs_tail}
 use Rattle.repl_msg.specs.Logs.{log_behind}
 use Rattle.version_store.specs.declared.history.Version.{Version}
 use Rattle.version_store.specs.Past.{latest_of, last_version, up_to, behind, shown, standing}
-use Rattle.version_store.proofs.HistoryLemmas.{at_most_trans, before_trans}
 use Rattle.node_ledger.specs.Kept.{IsNewest, FitsBeside}
 use Rattle.node_ledger.specs.Versions.{versions_from, HasVersions}
 use Rattle.node_ledger.proofs.LogLemmas.{every_late, parts, up_to-up_to, up_to-late, behind-late, filter-swap, filter-within, filter-all, filter-none, filter-passes}
-use Rattle.node_ledger.proofs.OrderLemmas.{not_then_not}
 use Rattle.node_ledger.proofs.VersionLemmas.{none_up_to, newest_of, newest_of-latest, newest-from, up_to-from, with_here-from, with_other-from, all_versions, quiet_of_newest}
 
 -- ---- the newest of versions
@@ -71,7 +69,7 @@ latest_has place stable log versions order has =
 
 early_up_to : (stable at : OpTime) (base : List Version) → is_before at stable ≡ false → All (λ (v : Version). is_before stable v.at ≡ false) base → up_to at base ≡ base
 early_up_to stable at base later early =
-    filter-all (λ (v : Version). not (is_before at v.at)) base (λ k d within. ap not (not_then_not (slice_index_or base k d).at stable at (early k d within) later))
+    filter-all (λ (v : Version). not (is_before at v.at)) base (λ k d within. ap not (at_most_trans (slice_index_or base k d).at stable at (early k d within) later))
 
 pub has_up_to : (place : Place) (stable at : OpTime) (log : List Entry) (versions : List Version) → AllPairs StandsBefore log → is_before at stable ≡ false
     → HasVersions place stable log versions → HasVersions place stable (log_up_to at log) (up_to at versions)
@@ -130,7 +128,7 @@ up_to-with stable (first ∷ log) entry late =
 -- and stands among what comes behind
 behind-with : (stable : OpTime) (log : List Entry) (entry : Entry) → is_before stable entry.optime ≡ true → All (FitsBeside entry) log → log_behind stable (with_entry log entry) ≡ with_entry (log_behind stable log) entry
 behind-with stable [] entry late fits = rw late refl
-behind-with stable (first ∷ log) entry late fits = by_test (is_before stable first.optime) refl (nat_lt first.optime.ts entry.optime.ts) refl (behind-with stable log entry late (all_tail (FitsBeside entry) first log fits))
+behind-with stable (first ∷ log) entry late fits = by_test (is_before stable first.optime) refl (nat_lt first.optime.ts entry.optime.ts) refl (behind-with stable log entry late (All-tail (FitsBeside entry) first log fits))
   where
     not_earlier : (a b : ℕ) → nat_lt a b ≡ false → b ≤ a
     not_earlier a b test = grind arith
@@ -197,7 +195,7 @@ all_standing P (version ∷ []) all =
       | true ↦ all
       | false ↦ λ k d within. absurd (omega arith)
     ]
-all_standing P (version ∷ next ∷ versions) all = all_standing P (next ∷ versions) (all_tail P version (next ∷ versions) all)
+all_standing P (version ∷ next ∷ versions) all = all_standing P (next ∷ versions) (All-tail P version (next ∷ versions) all)
 
 -- what the entries behind an optime make
 behind-from : (at : OpTime) (place : Place) (before : Option Fields) (log : List Entry) → AllPairs StandsBefore log
@@ -258,11 +256,11 @@ has_pruned place stable at log versions order later has = record {
         ap (behind at) has.is
         ∙ filter-append (λ (v : Version). is_before at v.at) has.base (versions_from place (get (docs (log_up_to stable log)) place) (log_behind stable log))
         ∙ ap (λ vs. vs ++ behind at (versions_from place (get (docs (log_up_to stable log)) place) (log_behind stable log)))
-        (filter-none (λ (v : Version). is_before at v.at) has.base (λ k d within. not_then_not (slice_index_or has.base k d).at stable at (has.early k d within) later))
+        (filter-none (λ (v : Version). is_before at v.at) has.base (λ k d within. at_most_trans (slice_index_or has.base k d).at stable at (has.early k d within) later))
         ∙ behind-from at place (get (docs (log_up_to stable log)) place) (log_behind stable log) (AllPairs-filter StandsBefore (λ (e : Entry). is_before stable e.optime) log order)
         ∙ ap (λ d. versions_from place d (log_behind at (log_behind stable log))) stands
         ∙ ap (λ l. versions_from place (get (docs (log_up_to at log)) place) l)
-        (filter-within (λ (e : Entry). is_before at e.optime) (λ (e : Entry). is_before stable e.optime) log (λ e here. at_most_trans stable at e.optime later here))
+        (filter-within (λ (e : Entry). is_before at e.optime) (λ (e : Entry). is_before stable e.optime) log (λ e here. at_most_before_trans stable at e.optime later here))
 
 -- ---- before an entry
 
@@ -272,7 +270,7 @@ pub has_before : (place : Place) (stable : OpTime) (log : List Entry) (entry : E
 has_before place stable log entry versions newest late own has =
     subst (λ vs. All (λ (v : Version). is_before v.at entry.optime ≡ true) vs) (sym has.is)
     (All-append (λ (v : Version). is_before v.at entry.optime ≡ true) has.base (versions_from place (get (docs (log_up_to stable log)) place) (log_behind stable log))
-    (λ k d within. at_most_trans (slice_index_or has.base k d).at stable entry.optime (has.early k d within) late)
+    (λ k d within. at_most_before_trans (slice_index_or has.base k d).at stable entry.optime (has.early k d within) late)
     (all_versions (λ o. is_before o entry.optime ≡ true) place (get (docs (log_up_to stable log)) place) (log_behind stable log)
     (All-filter (λ (e : Entry). is_before stable e.optime) (λ (e : Entry). is_at (place_of e.op) place ≡ true → is_before e.optime entry.optime ≡ true) log each)))
   where

@@ -8,7 +8,6 @@ pub mod HolderLemmas
 pub mod LedgerLemmas
 pub mod LogLemmas
 pub mod OpenLemmas
-pub mod OrderLemmas
 pub mod OwnLemmas
 pub mod ReleaseLemmas
 pub mod RestoreLemmas

@@ -2,15 +2,14 @@
 use Rattle.std.proofs.Common.{◌≡◌, ◌∙◌, ap, sym, refl, subst, arith, Bool, true, false, cond, not, zero, suc, List, [], ◌∷◌, ◌++◌, append-nil}
 use Rattle.std.specs.Prelude.{filter, slice_index_or}
 use Rattle.std.specs.List.{All, AllPairs}
-use Rattle.std.proofs.lemmas.List.Elements.{filter-append}
+use Rattle.std.proofs.lemmas.List.Elements.{filter-append, All-tail}
 use Rattle.rs_optime.specs.declared.optime.OpTime.{OpTime}
+use Rattle.rs_optime.proofs.Optimes.{at_most_before_trans, at_most_refl, before_at_most, before_both}
 use Rattle.oplog_entry.specs.Log.{StandsBefore}
 use Rattle.oplog_entry.specs.Visible.{is_before, last_of, log_up_to}
 use Rattle.oplog_entry.specs.declared.entry.Entry.{Entry}
-use Rattle.oplog_entry.proofs.Optimes.{before_both}
-use Rattle.oplog_store.proofs.Keeps.{all_tail, pairs_head, pairs_tail}
+use Rattle.oplog_store.proofs.Keeps.{pairs_head, pairs_tail}
 use Rattle.repl_msg.specs.Logs.{log_behind}
-use Rattle.version_store.proofs.HistoryLemmas.{at_most_trans, not_behind, not_before_itself}
 use Rattle.node_ledger.proofs.VersionLemmas.{all_late, none_up_to}
 
 -- ---- lists
@@ -41,13 +40,13 @@ pub filter-all : {X : Type 0} (p : X → Bool) (xs : List X) → All (λ x. p x 
 filter-all p [] all = refl
 filter-all p (x ∷ xs) all =
     let here : p x ≡ true = all zero x (omega arith) in
-    rw here (ap (λ ys. x ∷ ys) (filter-all p xs (all_tail (λ y. p y ≡ true) x xs all)))
+    rw here (ap (λ ys. x ∷ ys) (filter-all p xs (All-tail (λ y. p y ≡ true) x xs all)))
 
 pub filter-none : {X : Type 0} (p : X → Bool) (xs : List X) → All (λ x. p x ≡ false) xs → filter p xs ≡ []
 filter-none p [] none = refl
 filter-none p (x ∷ xs) none =
     let here : p x ≡ false = none zero x (omega arith) in
-    rw here (filter-none p xs (all_tail (λ y. p y ≡ false) x xs none))
+    rw here (filter-none p xs (All-tail (λ y. p y ≡ false) x xs none))
 
 -- ---- up to an optime, and behind it
 
@@ -73,24 +72,24 @@ up_to-up_to at to log later = filter-within (λ (e : Entry). not (is_before at e
   where
     within : (e : Entry) (b : Bool) → is_before to e.optime ≡ b → not (is_before at e.optime) ≡ true → not (is_before to e.optime) ≡ true
     within e true is here =
-        let more : is_before at e.optime ≡ true = at_most_trans at to e.optime later is in
+        let more : is_before at e.optime ≡ true = at_most_before_trans at to e.optime later is in
         absurd (cc)
     within e false is here = ap not is
 
 -- what holds of each entry's optime holds of the last one's
 pub last_with : (P : OpTime → Type 0) (entry : Entry) (log : List Entry) → All (λ (e : Entry). P e.optime) (entry ∷ log) → P (last_of (entry ∷ log))
 last_with P entry [] all = all zero entry (omega arith)
-last_with P entry (next ∷ log) all = last_with P next log (all_tail (λ (e : Entry). P e.optime) entry (next ∷ log) all)
+last_with P entry (next ∷ log) all = last_with P next log (All-tail (λ (e : Entry). P e.optime) entry (next ∷ log) all)
 
 -- the last entry is no earlier than any
 pub at_most_last : (log : List Entry) → AllPairs StandsBefore log → All (λ entry. is_before (last_of log) entry.optime ≡ false) log
 at_most_last [] order k d within = absurd (omega arith)
-at_most_last (entry ∷ []) order zero d within = not_before_itself entry.optime
+at_most_last (entry ∷ []) order zero d within = at_most_refl entry.optime
 at_most_last (entry ∷ []) order (suc k) d within = absurd (omega arith)
 at_most_last (entry ∷ next ∷ log) order zero d within =
     last_with (λ o. is_before o entry.optime ≡ false) next log (λ k e inside.
     let stands : StandsBefore entry (slice_index_or (next ∷ log) k e) = pairs_head StandsBefore entry (next ∷ log) order k e inside in
-    not_behind entry.optime (slice_index_or (next ∷ log) k e).optime (before_both entry.optime (slice_index_or (next ∷ log) k e).optime stands.term stands.earlier))
+    before_at_most entry.optime (slice_index_or (next ∷ log) k e).optime (before_both entry.optime (slice_index_or (next ∷ log) k e).optime stands.term stands.earlier))
 at_most_last (entry ∷ next ∷ log) order (suc k) d within = at_most_last (next ∷ log) (pairs_tail StandsBefore entry (next ∷ log) order) k d (omega arith)
 
 pub up_to-last : (log : List Entry) → AllPairs StandsBefore log → log_up_to (last_of log) log ≡ log

@@ -2,6 +2,7 @@
 use Rattle.std.proofs.Common.{fold, ◌≡◌, ℕ, Bool, true, false, cond, List, [], ◌∷◌, Option, None, Some, IfSome, All, codes, option_and_then, option_map, refl, sym, ap, subst, ◌∙◌, arith, zero}
 use Rattle.std.specs.Str.{bytes_eq}
 use Rattle.std.specs.FinMap.{get, get-empty, empty}
+use Rattle.std.proofs.lemmas.List.Elements.{All-tail}
 use Rattle.bson_doc.specs.Tree.{Tree, text, Fields, no_fields, field, Trees, no_items, item, found, with_set, without}
 use Rattle.bson_doc.specs.Key.{key_of}
 use Rattle.bson_doc.specs.Place.{Place, place_cmp}
@@ -13,7 +14,6 @@ use Rattle.oplog_entry.specs.Step.{id_key, place_in, place_of, document_after, w
 use Rattle.oplog_entry.specs.declared.entry.Entry.{Entry}
 use Rattle.oplog_entry.specs.declared.entry.Op.{Op}
 use Rattle.oplog_entry.specs.declared.entry.Op.TheVariants.{Insert, Replace, Fields as SetFields, Delete, Noop}
-use Rattle.oplog_store.proofs.Keeps.{all_tail}
 use Rattle.oplog_entry.proofs.FieldLemmas.{same_itself, alike_swapped}
 use Rattle.oplog_entry.proofs.PlaceLemmas.{is_at-only}
 use Rattle.set_model.proofs.HoldLemmas.{get-step}
@@ -99,7 +99,7 @@ own_applied documents entry lawful own place =
 own_folded : (log : List Entry) (documents : Documents) → All IsLawful log → AreOwn documents → AreOwn (fold applied documents log)
 own_folded [] documents lawful own = own
 own_folded (entry ∷ log) documents lawful own =
-    own_folded log (applied documents entry) (all_tail IsLawful entry log lawful) (own_applied documents entry (lawful zero entry (omega arith)).op own)
+    own_folded log (applied documents entry) (All-tail IsLawful entry log lawful) (own_applied documents entry (lawful zero entry (omega arith)).op own)
 
 pub own_docs : (log : List Entry) (place : Place) → All IsLawful log → IfSome (get (docs log) place) (λ d. IsOwn place.1 d)
 own_docs log place lawful = own_folded log empty lawful (λ p. subst (λ o. IfSome o (λ d. IsOwn p.1 d)) (sym (get-empty place_cmp p)) tt) place

@@ -20,11 +20,11 @@ use Rattle.entry_bytes.specs.Sizes.{IsWithinEntry}
 use Rattle.rs_optime.specs.Order.{is_before, optime_cmp}
 use Rattle.rs_optime.specs.Later.{later_of}
 use Rattle.rs_optime.specs.declared.optime.OpTime.{OpTime}
+use Rattle.rs_optime.proofs.Optimes.{at_most_refl, at_most_antisym}
 use Rattle.oplog_entry.specs.Docs.{docs}
 use Rattle.oplog_entry.specs.Log.{StandsBefore}
 use Rattle.oplog_entry.specs.Visible.{last_of, log_up_to}
 use Rattle.oplog_entry.specs.declared.entry.Entry.{Entry}
-use Rattle.oplog_entry.proofs.Optimes.{not_before_by}
 use Rattle.oplog_entry.proofs.PlaceLemmas.{is_at-other, same_place}
 use Rattle.oplog_store.specs.Log.{IsOplog}
 use Rattle.oplog_store.proofs.Keeps.{pairs_head, pairs_tail}
@@ -32,7 +32,6 @@ use Rattle.repl_msg.specs.Logs.{log_behind}
 use Rattle.version_store.specs.declared.history.Version.{Version}
 use Rattle.version_store.specs.Past.{Past, no_past, latest_of, with_version}
 use Rattle.version_store.specs.Store.{Store, past_at, versions_at, holder_at, Changes}
-use Rattle.version_store.proofs.HistoryLemmas.{not_before_itself}
 use Rattle.set_model.specs.declared.role.Role.TheVariants.{Secondary}
 use Rattle.set_model.specs.declared.writer.Writer.TheVariants.{Open}
 use Rattle.set_model.specs.Fetching.{seen_after}
@@ -136,7 +135,7 @@ latest-as_of at (Some document) = refl
 
 early-as_of : (at : OpTime) (found : Option Fields) → All (λ (v : Version). is_before at v.at ≡ false) (version_as_of at found)
 early-as_of at None k d within = absurd (omega (arith, within))
-early-as_of at (Some document) zero d within = not_before_itself at
+early-as_of at (Some document) zero d within = at_most_refl at
 early-as_of at (Some document) (suc k) d within = absurd (omega (arith, within))
 
 -- a log has nothing behind an optime that it goes up to
@@ -146,7 +145,7 @@ none_behind at log = filter-none (λ (e : Entry). is_before at e.optime) (log_up
 has_as_of : (place : Place) (at : OpTime) (log : List Entry) → HasVersions place at (log_up_to at log) (version_as_of at (maps.get (docs (log_up_to at log)) place))
 has_as_of place at log =
     let found : Option Fields = maps.get (docs (log_up_to at log)) place in
-    let front : log_up_to at (log_up_to at log) ≡ log_up_to at log = up_to-up_to at at log (not_before_itself at) in
+    let front : log_up_to at (log_up_to at log) ≡ log_up_to at log = up_to-up_to at at log (at_most_refl at) in
     record {
       base = version_as_of at found;
       is = sym (append-nil (version_as_of at found)) ∙ ap (λ l. version_as_of at found ++ versions_from place (maps.get (docs (log_up_to at (log_up_to at log))) place) l) (sym (none_behind at log));
@@ -176,27 +175,12 @@ pub seen_whole : (log : List Entry) → AllPairs StandsBefore log → seen_after
 seen_whole [] order = refl
 seen_whole (entry ∷ log) order = seen_last 0 entry log order (omega arith)
 
--- two optimes, neither of them before the other
-same_both : (a b : OpTime) → is_before a b ≡ false → is_before b a ≡ false → a ≡ b
-same_both a b one two = elim (not_before_by a b one) [
-  | inl less ↦ elim (not_before_by b a two) [
-    | inl other ↦ absurd (omega (arith, less, other))
-    | inr same ↦ absurd (omega (arith, less, same.0))
-  ]
-  | inr here ↦ elim (not_before_by b a two) [
-    | inl other ↦ absurd (omega (arith, here.0, other))
-    | inr same ↦
-        let ts : a.ts ≡ b.ts = omega (arith, here.1, same.1) in
-        ap (λ t. record { term = t; ts = a.ts }) here.0 ∙ ap (λ t. record { term = b.term; ts = t }) ts
-  ]
-]
-
 pub later_reached : (at last : OpTime) → is_before last at ≡ false → later_of at last ≡ last
 later_reached at last reached = by_test (is_before at last) refl
   where
     by_test : (b : Bool) → is_before at last ≡ b → later_of at last ≡ last
     by_test true is = later_second at last is
-    by_test false is = later_first at last is ∙ same_both at last is reached
+    by_test false is = later_first at last is ∙ at_most_antisym at last reached is
 
 pub applied_whole : (at : OpTime) (log : List Entry) → AllPairs StandsBefore log → is_before (last_of log) at ≡ false → later_of at (last_of (log_up_to (last_of log) log)) ≡ last_of log
 applied_whole at log order reached = ap (λ l. later_of at (last_of l)) (up_to-last log order) ∙ later_reached at (last_of log) reached
@@ -214,7 +198,7 @@ kept_stored store term clock log at fits oplog within terms small reached versio
     marked = λ k d inside. omega (arith, last_greatest log oplog.order k d inside, seen_whole log oplog.order);
     idle = λ not. record { slots = refl; writers = closed };
     applied = reached;
-    stable = not_before_itself at;
+    stable = at_most_refl at;
   };
   writers = apart_idle (ledger_node term Secondary clock log sets.empty maps.empty (seen_after 0 log) at at) closed;
   versions = λ p. subst (λ vs. HasVersions p at (log_up_to at log) vs) (sym (versions p)) (has_as_of p at log);

@@ -8,6 +8,7 @@ use Rattle.std.proofs.lemmas.List.Elements.{All-append}
 use Rattle.bson_doc.specs.Place.{Place}
 use Rattle.rs_optime.specs.Order.{optime_cmp, is_before}
 use Rattle.rs_optime.specs.declared.optime.OpTime.{OpTime}
+use Rattle.rs_optime.proofs.Optimes.{at_most_before_trans, before_both}
 use Rattle.entry_bytes.specs.Sizes.{IsWithinEntry}
 use Rattle.oplog_entry.specs.declared.entry.Entry.{Entry}
 use Rattle.oplog_entry.specs.declared.entry.Op.{Op}
@@ -16,14 +17,13 @@ use Rattle.oplog_entry.specs.Lawful.{IsLawfulOp}
 use Rattle.oplog_entry.specs.Log.{StandsBefore}
 use Rattle.oplog_entry.specs.Step.{place_of, document_after}
 use Rattle.oplog_entry.specs.Visible.{ZERO, last_of, visible}
-use Rattle.oplog_entry.proofs.Optimes.{before_both}
 use Rattle.oplog_entry.proofs.PlaceLemmas.{same_place}
+use Rattle.oplog_entry.proofs.Optimes.{zero_least}
 use Rattle.oplog_store.specs.Log.{IsOplog, with_entry}
 use Rattle.oplog_store.proofs.Keeps.{all_with_entry, with_entry_keeps}
 use Rattle.optime_slots.proofs.SlotLemmas.{open_with, open_without}
 use Rattle.version_store.specs.declared.history.Version.{Version}
 use Rattle.version_store.specs.Past.{latest_of}
-use Rattle.version_store.proofs.HistoryLemmas.{at_most_trans}
 use Rattle.set_model.specs.declared.role.Role.{Role}
 use Rattle.set_model.specs.declared.role.Role.TheVariants.{Secondary, Candidate, Draining, Primary}
 use Rattle.set_model.specs.declared.writer.Writer.TheVariants.{Open}
@@ -32,13 +32,14 @@ use Rattle.set_model.specs.Node.{Node}
 use Rattle.set_model.specs.Points.{if_primary, next_optime, visible_point}
 use Rattle.set_model.specs.Roles.{is_primary}
 use Rattle.set_model.specs.Writers.{settled, aborted}
+use Rattle.set_model.proofs.SeenLemmas.{next_past}
 use Rattle.node_ledger.specs.Kept.{IsNewest, IsPending, AreApart}
 use Rattle.node_ledger.specs.Sound.{IsSound}
 use Rattle.node_ledger.specs.Versions.{versions_of, IsSmall, AreSmall}
 use Rattle.node_ledger.specs.Writers.{HasOpen, IsWriting}
 use Rattle.node_ledger.proofs.OpenLemmas.{newest_with, slot-itself, slot-more, slot-other, opened_cases, done_cases, gone_cases, three_ways}
 use Rattle.node_ledger.proofs.VersionLemmas.{latest_of-versions_of, versions_of-with, versions_of-with-other}
-use Rattle.node_ledger.proofs.VisibleLemmas.{IsShown, IsBeforeSlots, SomeEntry, some_fact, some_with, some_more, some_both, some_to_last, last_to_some, visible_shown, shown_visible, zero_least}
+use Rattle.node_ledger.proofs.VisibleLemmas.{IsShown, IsBeforeSlots, SomeEntry, some_fact, some_with, some_more, some_both, some_to_last, last_to_some, visible_shown, shown_visible}
 
 -- ---- roles
 
@@ -59,9 +60,6 @@ pub primary_point : (role : Role) (a b : OpTime) → role ≡ Primary → if_pri
 primary_point role a b is = ap (λ r. if_primary r a b) is
 
 -- ---- the next optime
-
-pub next_past : (node : Node) → node.seen < (next_optime node).ts
-next_past node = omega arith
 
 -- ---- the newest entry
 
@@ -180,10 +178,10 @@ before_next node sound k d within =
 -- what is stable is before the next optime
 pub next_unstable : (node : Node) → IsSound node → node.role ≡ Primary → is_before node.stable (next_optime node) ≡ true
 next_unstable node sound primary = elim (visible_shown node.log node.slots node.stable (ap (λ p. is_before p node.stable) (sym (primary_point node.role (visible_point node) node.applied primary)) ∙ sound.stable)) [
-  | inl none ↦ at_most_trans node.stable ZERO (next_optime node) none (before_both ZERO (next_optime node) (omega arith) (omega (arith, next_past node)))
+  | inl none ↦ at_most_before_trans node.stable ZERO (next_optime node) none (before_both ZERO (next_optime node) (omega arith) (omega (arith, next_past node)))
   | inr some ↦ some_fact (is_before node.stable (next_optime node) ≡ true) node.log
       (some_more (λ e. ((is_before e node.stable ≡ false) × IsBeforeSlots node.slots e) × (is_before e (next_optime node) ≡ true)) (λ e. is_before node.stable (next_optime node) ≡ true) node.log
-      (λ e both. at_most_trans node.stable e (next_optime node) both.0.0 both.1)
+      (λ e both. at_most_before_trans node.stable e (next_optime node) both.0.0 both.1)
       (some_both (λ e. (is_before e node.stable ≡ false) × IsBeforeSlots node.slots e) (λ e. is_before e (next_optime node) ≡ true) node.log (before_next node sound) some))
 ]
 

@@ -3,17 +3,18 @@ use Rattle.std.proofs.Common.{◌≡◌, ◌≢◌, inl, inr, ◌≤◌, ℕ, su
 use Rattle.std.specs.Prelude.{nat_lt, slice_index_or}
 use Rattle.std.specs.List.{All, AllPairs}
 use Rattle.std.specs.FinMap.{get, get-empty, empty}
+use Rattle.std.proofs.lemmas.List.Elements.{All-tail}
 use Rattle.bson_doc.specs.Tree.{Fields}
 use Rattle.bson_doc.specs.Place.{Place, place_cmp}
 use Rattle.rs_optime.specs.declared.optime.OpTime.{OpTime}
+use Rattle.rs_optime.proofs.Optimes.{before_both, before_parts, earlier_term}
 use Rattle.oplog_entry.specs.Docs.{Documents, docs, applied}
 use Rattle.oplog_entry.specs.Step.{place_of, document_after, is_at}
 use Rattle.oplog_entry.specs.Visible.{is_before, log_up_to}
 use Rattle.oplog_entry.specs.declared.entry.Entry.{Entry}
 use Rattle.oplog_entry.proofs.PlaceLemmas.{is_at-here, is_at-other}
 use Rattle.oplog_store.specs.Log.{StandsBefore, with_entry}
-use Rattle.oplog_store.proofs.Keeps.{all_tail, pairs_head, pairs_tail}
-use Rattle.oplog_store.proofs.Optimes.{before_by, before_both, earlier_term}
+use Rattle.oplog_store.proofs.Keeps.{pairs_head, pairs_tail}
 use Rattle.version_store.specs.declared.history.Version.{Version}
 use Rattle.version_store.specs.Past.{latest_of, up_to}
 use Rattle.set_model.proofs.HoldLemmas.{get-step}
@@ -62,7 +63,7 @@ latest_of-versions_of log place = sym (newest_of-latest (versions_of place log))
 pub all_late : (at : OpTime) (entry : Entry) (log : List Entry) → is_before at entry.optime ≡ true → All (StandsBefore entry) log → All (λ other. is_before at other.optime ≡ true) log
 all_late at entry log late before k d within =
     let stands : StandsBefore entry (slice_index_or log k d) = before k d within in
-    elim (before_by at entry.optime late) [
+    elim (before_parts at entry.optime late) [
       | inl less ↦ earlier_term at (slice_index_or log k d).optime (omega (arith, stands.term))
       | inr same ↦ before_both at (slice_index_or log k d).optime (omega (arith, same.0, stands.term)) (omega (arith, same.1, stands.earlier))
     ]
@@ -71,7 +72,7 @@ pub none_up_to : (at : OpTime) (log : List Entry) → All (λ other. is_before a
 none_up_to at [] late = refl
 none_up_to at (entry ∷ log) late =
     let here : is_before at entry.optime ≡ true = late zero entry (omega arith) in
-    rw here (none_up_to at log (all_tail (λ (other : Entry). is_before at other.optime ≡ true) entry log late))
+    rw here (none_up_to at log (All-tail (λ (other : Entry). is_before at other.optime ≡ true) entry log late))
 
 no_version_up_to : (at : OpTime) (place : Place) (before : Option Fields) (log : List Entry) → All (λ other. is_before at other.optime ≡ true) log → up_to at (versions_from place before log) ≡ []
 no_version_up_to at place before [] late = refl
@@ -80,8 +81,8 @@ no_version_up_to at place before (entry ∷ log) late =
       | true ↦
           let here : is_before at entry.optime ≡ true = late zero entry (omega arith) in
           ap (λ b. cond (not b) (record { at = entry.optime; doc = document_after entry.op before } ∷ up_to at (versions_from place (document_after entry.op before) log)) (up_to at (versions_from place (document_after entry.op before) log))) here
-          ∙ no_version_up_to at place (document_after entry.op before) log (all_tail (λ (other : Entry). is_before at other.optime ≡ true) entry log late)
-      | false ↦ no_version_up_to at place before log (all_tail (λ (other : Entry). is_before at other.optime ≡ true) entry log late)
+          ∙ no_version_up_to at place (document_after entry.op before) log (All-tail (λ (other : Entry). is_before at other.optime ≡ true) entry log late)
+      | false ↦ no_version_up_to at place before log (All-tail (λ (other : Entry). is_before at other.optime ≡ true) entry log late)
     ]
 
 pub up_to-from : (at : OpTime) (place : Place) (before : Option Fields) (log : List Entry) → AllPairs StandsBefore log → up_to at (versions_from place before log) ≡ versions_from place before (log_up_to at log)
@@ -135,7 +136,7 @@ none_from : (place : Place) (before : Option Fields) (log : List Entry) → All 
 none_from place before [] quiet = refl
 none_from place before (entry ∷ log) quiet =
     ap (λ b. cond b (record { at = entry.optime; doc = document_after entry.op before } ∷ versions_from place (document_after entry.op before) log) (versions_from place before log)) (quiet zero entry (omega arith))
-    ∙ none_from place before log (all_tail (λ (other : Entry). is_at (place_of other.op) place ≡ false) entry log quiet)
+    ∙ none_from place before log (All-tail (λ (other : Entry). is_at (place_of other.op) place ≡ false) entry log quiet)
 
 -- no entry that is no earlier than this one touches the place
 abbrev pub IsQuiet : Place → ℕ → List Entry → Type 0
@@ -147,7 +148,7 @@ pub with_here-from : (place : Place) (entry : Entry) (log : List Entry) (before 
 with_here-from place entry [] before here order quiet = ap (λ b. cond b (record { at = entry.optime; doc = document_after entry.op before } ∷ []) []) here
 with_here-from place entry (first ∷ log) before here order quiet =
     by_test (nat_lt first.optime.ts entry.optime.ts) refl
-    (λ next. with_here-from place entry log next here (pairs_tail StandsBefore first log order) (all_tail (λ (other : Entry). entry.optime.ts ≤ other.optime.ts → is_at (place_of other.op) place ≡ false) first log quiet))
+    (λ next. with_here-from place entry log next here (pairs_tail StandsBefore first log order) (All-tail (λ (other : Entry). entry.optime.ts ≤ other.optime.ts → is_at (place_of other.op) place ≡ false) first log quiet))
   where
     by_test : (b : Bool) → nat_lt first.optime.ts entry.optime.ts ≡ b
         → ((next : Option Fields) → versions_from place next (with_entry log entry) ≡ versions_from place next log ++ record { at = entry.optime; doc = document_after entry.op (newest_of next (versions_from place next log)) } ∷ [])
@@ -202,7 +203,7 @@ versions_of-with-other log entry place apart = with_other-from place entry log N
 pub all_versions : (P : OpTime → Type 0) (place : Place) (before : Option Fields) (log : List Entry) → All (λ entry. is_at (place_of entry.op) place ≡ true → P entry.optime) log → All (λ version. P version.at) (versions_from place before log)
 all_versions P place before [] each = λ k d within. absurd (omega arith)
 all_versions P place before (entry ∷ log) each =
-    by_test (is_at (place_of entry.op) place) refl (λ next. all_versions P place next log (all_tail (λ (e : Entry). is_at (place_of e.op) place ≡ true → P e.optime) entry log each))
+    by_test (is_at (place_of entry.op) place) refl (λ next. all_versions P place next log (All-tail (λ (e : Entry). is_at (place_of e.op) place ≡ true → P e.optime) entry log each))
   where
     by_test : (b : Bool) → is_at (place_of entry.op) place ≡ b → ((next : Option Fields) → All (λ version. P version.at) (versions_from place next log))
         → All (λ version. P version.at) (cond b (record { at = entry.optime; doc = document_after entry.op before } ∷ versions_from place (document_after entry.op before) log) (versions_from place before log))

@@ -1,40 +1,19 @@
 -- How far a log is visible, by the entries that no slot holds back.
-use Rattle.std.proofs.Common.{◌≡◌, ◌⊎◌, inl, inr, ◌<◌, ◌∙◌, ap, sym, refl, subst, arith, Bool, true, false, cond, IsTrue, ℕ, zero, suc, List, [], ◌∷◌, Option, None, Some}
+use Rattle.std.proofs.Common.{◌≡◌, ◌⊎◌, inl, inr, ◌∙◌, ap, sym, refl, subst, arith, Bool, true, false, cond, IsTrue, zero, List, [], ◌∷◌, Option, None, Some}
 use Rattle.std.specs.Prelude.{IfSome, filter, nat_lt}
 use Rattle.std.specs.List.{All, AllPairs}
 use Rattle.std.proofs.lemmas.List.Kept.{AllPairs-filter}
 use Rattle.std.specs.FinSet as sets
+use Rattle.std.proofs.lemmas.List.Elements.{All-tail}
 use Rattle.rs_optime.specs.Order.{optime_cmp, is_before}
 use Rattle.rs_optime.specs.declared.optime.OpTime.{OpTime}
+use Rattle.rs_optime.proofs.Optimes.{at_most_trans, before_at_most_trans}
 use Rattle.oplog_entry.specs.Log.{StandsBefore, with_entry}
 use Rattle.oplog_entry.specs.Visible.{ZERO, last_of, least, entries_before, visible}
 use Rattle.oplog_entry.specs.declared.entry.Entry.{Entry}
-use Rattle.oplog_entry.proofs.Optimes.{later_term, later_time, not_before_by}
-use Rattle.oplog_store.proofs.Keeps.{all_tail}
+use Rattle.oplog_entry.proofs.Optimes.{zero_least}
 use Rattle.visibility_point.proofs.Least.{is_listed, least_listed, least_is_first}
 use Rattle.node_ledger.proofs.LogLemmas.{at_most_last}
-use Rattle.node_ledger.proofs.OrderLemmas.{before_then_not, not_then_not}
-
--- nothing is before what is no later than ZERO
-pub zero_least : (o x : OpTime) → is_before ZERO o ≡ false → is_before x o ≡ false
-zero_least o x least = elim (not_before_by ZERO o least) [
-  | inl less ↦ absurd (omega arith)
-  | inr same ↦ by_term (not_zero x.term)
-]
-  where
-    not_zero : (n : ℕ) → (n ≡ 0) ⊎ (0 < n)
-    not_zero zero = inl refl
-    not_zero (suc n) = inr (omega arith)
-
-    by_term : (x.term ≡ 0) ⊎ (0 < x.term) → is_before x o ≡ false
-    by_term (inl none) = elim (not_before_by ZERO o least) [
-      | inl less ↦ absurd (omega arith)
-      | inr same ↦ later_time x o (omega (arith, same.0, none)) (omega (arith, same.1))
-    ]
-    by_term (inr some) = elim (not_before_by ZERO o least) [
-      | inl less ↦ absurd (omega arith)
-      | inr same ↦ later_term x o (omega (arith, same.0, some))
-    ]
 
 -- an entry has such an optime
 abbrev pub SomeEntry : (OpTime → Type 0) → List Entry → Type 0
@@ -62,7 +41,7 @@ some_more P Q (entry ∷ log) more (inr rest) = inr (some_more P Q log more rest
 pub some_both : (P Q : OpTime → Type 0) (log : List Entry) → All (λ (e : Entry). Q e.optime) log → SomeEntry P log → SomeEntry (λ o. P o × Q o) log
 some_both P Q [] all some = some
 some_both P Q (entry ∷ log) all (inl here) = inl (here, all zero entry (omega arith))
-some_both P Q (entry ∷ log) all (inr rest) = inr (some_both P Q log (all_tail (λ (e : Entry). Q e.optime) entry log all) rest)
+some_both P Q (entry ∷ log) all (inr rest) = inr (some_both P Q log (All-tail (λ (e : Entry). Q e.optime) entry log all) rest)
 
 pub some_fact : (R : Type 0) (log : List Entry) → SomeEntry (λ o. R) log → R
 some_fact R [] some = absurd some
@@ -95,7 +74,7 @@ filter_some P t (entry ∷ log) (inr rest) =
 pub some_to_last : (o : OpTime) (log : List Entry) → AllPairs StandsBefore log → SomeEntry (λ e. is_before e o ≡ false) log → is_before (last_of log) o ≡ false
 some_to_last o log order some =
     some_fact (is_before (last_of log) o ≡ false) log
-    (some_more (λ e. (is_before e o ≡ false) × (is_before (last_of log) e ≡ false)) (λ e. is_before (last_of log) o ≡ false) log (λ e both. not_then_not o e (last_of log) both.0 both.1)
+    (some_more (λ e. (is_before e o ≡ false) × (is_before (last_of log) e ≡ false)) (λ e. is_before (last_of log) o ≡ false) log (λ e both. at_most_trans o e (last_of log) both.0 both.1)
     (some_both (λ e. is_before e o ≡ false) (λ e. is_before (last_of log) e ≡ false) log (at_most_last log order) some))
 
 pub last_to_some : (o : OpTime) (log : List Entry) → is_before (last_of log) o ≡ false → (is_before ZERO o ≡ false) ⊎ SomeEntry (λ e. is_before e o ≡ false) log
@@ -137,7 +116,7 @@ visible_shown log slots o within = by_least (least (sets.items slots)) refl
             let first = least_is_first (sets.items slots) slot (listed slot there) in
             let same : Some first.0 ≡ Some s = sym first.1 ∙ is in
             let own : first.0 ≡ s = cc in
-            before_then_not e s slot less (ap (λ x. is_before slot x) (sym own) ∙ first.2)
+            before_at_most_trans e s slot less (ap (λ x. is_before slot x) (sym own) ∙ first.2)
 
 pub shown_visible : (log : List Entry) (slots : sets.FinSet optime_cmp) (o : OpTime) → AllPairs StandsBefore log → IsShown log slots o → is_before (visible log (sets.items slots)) o ≡ false
 shown_visible log slots o order (inl none) = zero_least o (visible log (sets.items slots)) none

@@ -3,6 +3,7 @@ use Rattle.std.proofs.Common.{◌≡◌, ◌∙◌, ℕ, zero, Bool, true, false
 use Rattle.std.specs.Cmp.{eq_by_cmp_equiv}
 use Rattle.std.specs.Ordering.{nat_cmp}
 use Rattle.std.specs.FinMap.{FinMap, get, get-empty, empty}
+use Rattle.std.proofs.lemmas.List.Elements.{All-tail}
 use Rattle.bson_doc.specs.Place.{Place, place_cmp}
 use Rattle.bson_doc.specs.Tree.{Fields}
 use Rattle.bson_doc.proofs.KeyLemmas.{place_cmp-total}
@@ -12,7 +13,6 @@ use Rattle.oplog_entry.specs.Step.{id_key, place_of, document_after, is_at}
 use Rattle.oplog_entry.specs.declared.entry.Entry.{Entry}
 use Rattle.oplog_entry.proofs.DocsLemmas.{get-applied-here, get-applied-other, applied-nothing}
 use Rattle.oplog_entry.proofs.PlaceLemmas.{is_at-only}
-use Rattle.oplog_store.proofs.Keeps.{all_tail}
 use Rattle.doc_update.proofs.StoredLemmas.{IsLogged, IsStored, write-logged}
 use Rattle.doc_update.specs.Check.{checked}
 use Rattle.doc_update.specs.Effect.{prepared}
@@ -103,7 +103,7 @@ small_from (entry ∷ log) documents place before is small all =
     go true here again all =
         again (document_after entry.op before)
         (ap (document_after entry.op) is ∙ sym (get-applied-here documents entry place (is_at-only (place_of entry.op) place here)))
-        (all zero there (omega arith)) (all_tail (λ (v : Version). IsSmall v.doc) there (versions_from place (document_after entry.op before) log) all)
+        (all zero there (omega arith)) (All-tail (λ (v : Version). IsSmall v.doc) there (versions_from place (document_after entry.op before) log) all)
     go false other again all = again before (is ∙ sym (not_here documents entry place (place_of entry.op) refl other)) small all
 
 pub small_docs : (log : List Entry) (place : Place) → AreSmall log → IsSmall (get (docs log) place)

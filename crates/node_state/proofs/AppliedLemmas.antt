@@ -1,41 +1,29 @@
 -- A log that is applied up to its end.
-use Rattle.std.proofs.Common.{◌≡◌, ◌∙◌, ap, refl, arith, inl, inr, Bool, true, false, not, cond, filter, List, [], ◌∷◌}
+use Rattle.std.proofs.Common.{◌≡◌, ◌∙◌, ap, refl, inl, inr, Bool, true, false, not, cond, filter, List, [], ◌∷◌}
 use Rattle.rs_optime.specs.Later.{later_of}
 use Rattle.rs_optime.specs.Order.{is_before}
 use Rattle.rs_optime.specs.declared.optime.OpTime.{OpTime}
+use Rattle.rs_optime.proofs.Optimes.{at_most_antisym}
+use Rattle.rs_optime.specs.Membership.{In}
 use Rattle.oplog_entry.specs.Visible.{last_of, log_up_to}
 use Rattle.oplog_entry.specs.declared.entry.Entry.{Entry}
-use Rattle.oplog_entry.proofs.Optimes.{not_before_by}
 use Rattle.set_model.specs.Node.{Node}
 use Rattle.set_model.specs.Points.{last_point}
 use Rattle.set_model.specs.Safety.{AtMost}
 use Rattle.node_ledger.specs.Sound.{IsSound}
-use Rattle.node_state.proofs.EntryLemmas.{In, below_last}
+use Rattle.node_state.proofs.EntryLemmas.{below_last}
 
 all_pass : {X : Type 0} (p : X → Bool) (xs : List X) → ((x : X) → In x xs → p x ≡ true) → filter p xs ≡ xs
 all_pass p [] each = refl
 all_pass p (x ∷ xs) each =
     ap (λ b. cond b (x ∷ filter p xs) (filter p xs)) (each x (inl refl)) ∙ ap (λ rest. x ∷ rest) (all_pass p xs (λ y there. each y (inr there)))
 
--- of two optimes, neither of which is before the other
-neither_before : (a b : OpTime) → AtMost a b → AtMost b a → a ≡ b
-neither_before a b one other = elim (not_before_by b a one) [
-  | inl less ↦ elim (not_before_by a b other) [ inl more ↦ absurd (omega (arith, less, more)) | inr same ↦ absurd (omega (arith, less, same.0)) ]
-  | inr here ↦ elim (not_before_by a b other) [
-    | inl more ↦ absurd (omega (arith, more, here.0))
-    | inr same ↦
-        let term : a.term ≡ b.term = same.0 in
-        let ts : a.ts ≡ b.ts = omega (arith, here.1, same.1) in
-        λ i. record { term = term i; ts = ts i }
-  ]
-]
-
 later_is : (a b : OpTime) → AtMost a b → later_of a b ≡ b
 later_is a b most = go (is_before a b) refl
   where
     go : (c : Bool) → is_before a b ≡ c → cond c b a ≡ b
     go true is = refl
-    go false is = neither_before a b most is
+    go false is = at_most_antisym a b most is
 
 -- a log that is applied up to its last entry
 pub applied_all : (n : Node) → IsSound n → later_of n.applied (last_of (log_up_to (last_point n) n.log)) ≡ last_point n

@@ -121,7 +121,7 @@ old_is false node term plan old items = old_at (there false term node items) ter
 
 -- ---- what is kept of it
 
-secondary_is : (role : Role) → is_secondary role ≡ true → role ≡ Secondary
+pub secondary_is : (role : Role) → is_secondary role ≡ true → role ≡ Secondary
 secondary_is Secondary is = refl
 secondary_is Candidate is = absurd (cc is)
 secondary_is Draining is = absurd (cc is)

@@ -7,8 +7,12 @@ use Rattle.std.specs.FinMap as maps
 use Rattle.std.specs.FinSet as sets
 use Rattle.rs_optime.specs.Order.{optime_cmp}
 use Rattle.rs_optime.specs.declared.optime.OpTime.{OpTime}
+use Rattle.rs_optime.specs.Membership.{In}
+use Rattle.rs_optime.proofs.Optimes.{at_most_trans}
+use Rattle.rs_optime.proofs.MembershipLemmas.{in_filter, all_in, in_all}
 use Rattle.oplog_entry.specs.declared.entry.Entry.{Entry}
 use Rattle.oplog_entry.specs.Visible.{is_before}
+use Rattle.oplog_entry.proofs.LogLemmas.{filter-without, in_with, with_in}
 use Rattle.oplog_store.specs.Log.{IsOplog, with_entry}
 use Rattle.election_core.specs.Counting.{Tallied}
 use Rattle.repl_msg.specs.Kept.{kept}
@@ -22,8 +26,7 @@ use Rattle.node_tables.specs.Unkept.{with_optime}
 use Rattle.node_tables.proofs.OptimeLemmas.{map-with_entry}
 use Rattle.node_ledger.specs.Kept.{FitsBeside}
 use Rattle.node_state.specs.Coherent.{IsCoherent, IsRecorded, is_kept}
-use Rattle.node_state.proofs.EntryLemmas.{In, all_in, in_all, in_filter, in_with, with_in, has_in, in_has, filter-with, filter-without}
-use Rattle.node_ledger.proofs.OrderLemmas.{not_then_not}
+use Rattle.node_state.proofs.EntryLemmas.{has_in, in_has, filter-with}
 
 -- ---- another clock, and another place up to which the log is applied
 
@@ -69,7 +72,7 @@ coherent-slots node slots writers seen tally optimes grows old = record {
   points = record {
     stable = old.points.stable;
     commit = old.points.commit;
-    durable = not_then_not node.durable (visible_point node) (visible_point (touched node node.log slots writers seen)) old.points.durable grows;
+    durable = at_most_trans node.durable (visible_point node) (visible_point (touched node node.log slots writers seen)) old.points.durable grows;
     there = old.points.there;
   };
   recorded = record { vote = old.recorded.vote; config = old.recorded.config; entries = old.recorded.entries; early = old.recorded.early; point = old.recorded.point };
@@ -116,7 +119,7 @@ coherent-written node entry slots writers seen tally optimes oplog fresh old = r
   points = record {
     stable = old.points.stable;
     commit = old.points.commit;
-    durable = not_then_not node.durable (visible_point node) (visible_point (touched node (with_entry node.log entry) slots writers seen)) old.points.durable fresh.grows;
+    durable = at_most_trans node.durable (visible_point node) (visible_point (touched node (with_entry node.log entry) slots writers seen)) old.points.durable fresh.grows;
     there = elim old.points.there [ inl none ↦ inl none | inr has ↦ inr (has_more node.log entry node.durable has) ];
   };
   recorded = record {

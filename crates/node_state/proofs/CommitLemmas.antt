@@ -3,40 +3,31 @@ use Rattle.std.proofs.Common.{◌≡◌, sym, subst, refl, arith, inl, inr, ℕ,
 use Rattle.rs_optime.specs.Later.{earlier_of, later_of}
 use Rattle.rs_optime.specs.Order.{is_before}
 use Rattle.rs_optime.specs.declared.optime.OpTime.{OpTime}
-use Rattle.oplog_entry.proofs.Optimes.{later_term, later_time, before_by}
+use Rattle.rs_optime.proofs.Optimes.{at_most_trans, before_parts, later_term, later_time, earlier_right}
 use Rattle.election_core.specs.Counting.{Tallied}
 use Rattle.repl_msg.specs.Points.{advanced, commit_counted, counted_point, voted_points}
 use Rattle.set_model.specs.Node.{Node}
 use Rattle.set_model.specs.Safety.{AtMost}
 use Rattle.node_state.specs.Coherent.{IsCoherent}
 use Rattle.node_state.specs.Seen.{Rest, seen_node}
-use Rattle.node_state.proofs.EntryLemmas.{at_most_itself}
-use Rattle.node_ledger.proofs.OrderLemmas.{not_then_not}
 
 -- a point from one optime to another
 abbrev pub IsBetween : OpTime → OpTime → OpTime → Type 0
 IsBetween low high at = AtMost low at × AtMost at high
 
 before_most : (a b : OpTime) → is_before a b ≡ true → AtMost a b
-before_most a b before = elim (before_by a b before) [ inl less ↦ later_term b a less | inr same ↦ later_time b a (sym same.0) (omega (arith, same.1)) ]
-
-earlier_most : (point durable : OpTime) → AtMost (earlier_of point durable) durable
-earlier_most point durable = go (is_before point durable) refl
-  where
-    go : (b : Bool) → is_before point durable ≡ b → AtMost (cond b point durable) durable
-    go true is = before_most point durable is
-    go false is = at_most_itself durable
+before_most a b before = elim (before_parts a b before) [ inl less ↦ later_term b a less | inr same ↦ later_time b a (sym same.0) (omega (arith, same.1)) ]
 
 later_between : (stable durable commit reached : OpTime) → IsBetween stable durable commit → AtMost reached durable → IsBetween stable durable (later_of commit reached)
 later_between stable durable commit reached old within = go (is_before commit reached) refl
   where
     go : (b : Bool) → is_before commit reached ≡ b → IsBetween stable durable (cond b reached commit)
-    go true is = (not_then_not stable commit reached old.0 (before_most commit reached is), within)
+    go true is = (at_most_trans stable commit reached old.0 (before_most commit reached is), within)
     go false is = old
 
 pub counted_between : (stable durable commit : OpTime) (found : Option OpTime) → IsBetween stable durable commit → IsBetween stable durable (commit_counted commit durable found)
 counted_between stable durable commit None old = old
-counted_between stable durable commit (Some point) old = later_between stable durable commit (earlier_of point durable) old (earlier_most point durable)
+counted_between stable durable commit (Some point) old = later_between stable durable commit (earlier_of point durable) old (earlier_right point durable)
 
 pub coherent-commit : (node : Node) (commit : OpTime) (tally : Option Tallied) (optimes : List OpTime) → IsBetween node.stable node.durable commit
     → IsCoherent node tally optimes → IsCoherent (record node { commit = commit }) tally optimes

@@ -7,6 +7,9 @@ use Rattle.bson_doc.specs.Place.{Place}
 use Rattle.bson_doc.specs.Tree.{Fields}
 use Rattle.rs_optime.specs.Order.{optime_cmp}
 use Rattle.rs_optime.specs.declared.optime.OpTime.{OpTime}
+use Rattle.rs_optime.specs.Membership.{In}
+use Rattle.rs_optime.proofs.Optimes.{at_most_trans, earlier_by, earlier_left, earlier_right}
+use Rattle.rs_optime.proofs.MembershipLemmas.{in_filter, filter-same, all_in, in_all}
 use Rattle.oplog_entry.specs.Visible.{ZERO, is_before, last_of, least, entries_before, log_up_to}
 use Rattle.oplog_entry.specs.declared.entry.Entry.{Entry}
 use Rattle.oplog_store.proofs.LogLemmas.{oplog_filter}
@@ -18,6 +21,7 @@ use Rattle.repl_msg.proofs.HasLemmas.{has_filter}
 use Rattle.repl_msg.specs.declared.record.Kept.{Kept}
 use Rattle.repl_msg.specs.declared.record.Record.{Record}
 use Rattle.repl_msg.specs.declared.record.Record.TheVariants as records
+use Rattle.repl_msg.proofs.KeptLemmas.{kept_more}
 use Rattle.set_model.specs.Disk.{unkept}
 use Rattle.set_model.specs.Node.{Node}
 use Rattle.set_model.specs.Roles.{is_primary}
@@ -27,19 +31,12 @@ use Rattle.node_state.specs.Coherent.{IsCoherent, is_kept}
 use Rattle.node_state.specs.Ready.{IsCut}
 use Rattle.node_state.specs.Seen.{Rest, seen_node}
 use Rattle.node_ledger.specs.Sound.{IsSound}
-use Rattle.node_state.proofs.EntryLemmas.{In, all_in, in_all, in_filter}
 use Rattle.node_ledger.proofs.LogLemmas.{filter-swap}
-use Rattle.node_ledger.proofs.OrderLemmas.{not_then_not}
 use Rattle.node_state.proofs.RestartLemmas.{no_further}
 use Rattle.node_state.proofs.StoredLemmas.{sound_seen}
-use Rattle.node_state.proofs.WellKeptLemmas.{kept_more, earlier_by, earlier_first, earlier_second, has_up_to}
+use Rattle.node_state.proofs.WellKeptLemmas.{has_up_to}
 
 -- ---- lists
-
-filter_same : {X : Type 0} (p q : X → Bool) (xs : List X) → ((x : X) → In x xs → p x ≡ q x) → filter p xs ≡ filter q xs
-filter_same p q [] each = refl
-filter_same p q (y ∷ ys) each =
-    ap (λ b. cond b (y ∷ filter p ys) (filter p ys)) (each y (inl refl)) ∙ ap (λ rest. cond (q y) (y ∷ rest) rest) (filter_same p q ys (λ x there. each x (inr there)))
 
 optimes_up_to : (point : OpTime) (log : List Entry) → up_to point (map (λ (e : Entry). e.optime) log) ≡ map (λ (e : Entry). e.optime) (log_up_to point log)
 optimes_up_to point [] = refl
@@ -87,7 +84,7 @@ module _ (node : Node) (point : OpTime) (lost : List (Place × Option Fields)) (
   entries_are =
       ap (log_up_to point) old.recorded.entries
       ∙ filter-swap (λ (e : Entry). not (is_before point e.optime)) (is_kept node) node.log
-      ∙ sym (filter_same (λ (e : Entry). has_entry (log_up_to point (kept node.records).entries) e.optime) (is_kept node) (log_up_to point node.log) same_kept)
+      ∙ sym (filter-same (λ (e : Entry). has_entry (log_up_to point (kept node.records).entries) e.optime) (is_kept node) (log_up_to point node.log) same_kept)
 
   unkept_are : up_to point optimes ≡ map (λ (e : Entry). e.optime) (filter (λ (e : Entry). not (has_entry (log_up_to point (kept node.records).entries) e.optime)) (log_up_to point node.log))
   unkept_are =
@@ -95,7 +92,7 @@ module _ (node : Node) (point : OpTime) (lost : List (Place × Option Fields)) (
       ∙ optimes_up_to point (unkept node)
       ∙ ap (map (λ (e : Entry). e.optime))
       (filter-swap (λ (e : Entry). not (is_before point e.optime)) (λ (e : Entry). not (is_kept node e)) node.log
-      ∙ sym (filter_same (λ (e : Entry). not (has_entry (log_up_to point (kept node.records).entries) e.optime)) (λ (e : Entry). not (is_kept node e)) (log_up_to point node.log)
+      ∙ sym (filter-same (λ (e : Entry). not (has_entry (log_up_to point (kept node.records).entries) e.optime)) (λ (e : Entry). not (is_kept node e)) (log_up_to point node.log)
       (λ entry there. ap not (same_kept entry there))))
 
   kept_early : (entry : Entry) → In entry (log_up_to point node.log) → is_before (earlier_of node.durable point) entry.optime ≡ false
@@ -104,10 +101,10 @@ module _ (node : Node) (point : OpTime) (lost : List (Place × Option Fields)) (
       same_kept entry there
       ∙ all_in (λ (e : Entry). is_before node.durable e.optime ≡ false → is_kept node e ≡ true) node.log entry old.recorded.early
       (in_filter (λ (e : Entry). not (is_before point e.optime)) node.log entry there).0
-      (not_then_not entry.optime (earlier_of node.durable point) node.durable early (earlier_first node.durable point))
+      (at_most_trans entry.optime (earlier_of node.durable point) node.durable early (earlier_left node.durable point))
 
   durable_there : (earlier_of node.durable point ≡ ZERO) ⊎ Has (log_up_to point node.log) (earlier_of node.durable point)
-  durable_there = elim whole [ inl none ↦ inl none | inr has ↦ inr (has_up_to node.log (earlier_of node.durable point) point has (earlier_second node.durable point)) ]
+  durable_there = elim whole [ inl none ↦ inl none | inr has ↦ inr (has_up_to node.log (earlier_of node.durable point) point has (earlier_right node.durable point)) ]
     where
       whole : (earlier_of node.durable point ≡ ZERO) ⊎ Has node.log (earlier_of node.durable point)
       whole = earlier_by (λ o. (o ≡ ZERO) ⊎ Has node.log o) node.durable point old.points.there can.there

@@ -1,44 +1,23 @@
 -- Entries in logs: what is in a part of a log, the last entry, and what is visible.
-use Rattle.std.proofs.Common.{◌≡◌, ◌⊎◌, ◌<◌, ◌≤◌, ◌||◌, inl, inr, refl, sym, ap, subst, ◌∙◌, arith, zero, suc, Bool, true, false, cond, List, [], ◌∷◌, filter}
+use Rattle.std.proofs.Common.{◌≡◌, ◌<◌, ◌≤◌, ◌||◌, inl, inr, refl, sym, ap, subst, ◌∙◌, arith, zero, Bool, true, false, cond, List, [], ◌∷◌, filter}
 use Rattle.std.specs.Prelude.{nat_lt}
 use Rattle.std.specs.List.{All, AllPairs}
 use Rattle.std.proofs.lemmas.Bool.Decides.{nat_tests}
 use Rattle.rs_optime.specs.declared.optime.OpTime.{OpTime}
+use Rattle.rs_optime.proofs.Optimes.{at_most_trans, at_most_refl}
+use Rattle.rs_optime.specs.Membership.{In}
+use Rattle.rs_optime.proofs.MembershipLemmas.{in_filter, all_in, in_all}
 use Rattle.oplog_entry.specs.Visible.{ZERO, is_before, last_of}
 use Rattle.oplog_entry.specs.declared.entry.Entry.{Entry}
-use Rattle.oplog_entry.proofs.Optimes.{later_time, before_by}
+use Rattle.oplog_entry.proofs.Optimes.{zero_at_most}
+use Rattle.oplog_entry.proofs.LogLemmas.{stands_most}
 use Rattle.oplog_store.specs.Log.{StandsBefore, with_entry}
-use Rattle.oplog_store.proofs.Keeps.{all_tail, pairs_tail, pairs_head}
+use Rattle.oplog_store.proofs.Keeps.{pairs_tail, pairs_head}
 use Rattle.repl_msg.specs.Logs.{same_optime, has_entry}
 use Rattle.repl_msg.proofs.HasLemmas.{same_is, same_itself}
 use Rattle.set_model.specs.Safety.{AtMost, Has}
-use Rattle.node_ledger.proofs.OrderLemmas.{not_then_not}
 
 -- ---- membership
-
-abbrev pub In : {X : Type 0} → X → List X → Type 0
-In x [] = ⊥
-In x (y ∷ ys) = (y ≡ x) ⊎ In x ys
-
-pub all_in : {X : Type 0} (P : X → Type 0) (xs : List X) (x : X) → All P xs → In x xs → P x
-all_in P [] x all there = absurd there
-all_in P (y ∷ ys) x all (inl same) = subst P same (all zero y (omega arith))
-all_in P (y ∷ ys) x all (inr there) = all_in P ys x (all_tail P y ys all) there
-
-pub in_all : {X : Type 0} (P : X → Type 0) (xs : List X) → ((x : X) → In x xs → P x) → All P xs
-in_all P [] each zero d less = absurd (omega arith)
-in_all P [] each (suc i) d less = absurd (omega arith)
-in_all P (y ∷ ys) each zero d less = each y (inl refl)
-in_all P (y ∷ ys) each (suc i) d less = in_all P ys (λ x there. each x (inr there)) i d (omega arith)
-
-pub in_filter : {X : Type 0} (p : X → Bool) (xs : List X) (x : X) → In x (filter p xs) → In x xs × (p x ≡ true)
-in_filter p [] x there = absurd there
-in_filter p (y ∷ ys) x there = go (p y) refl (λ more. in_filter p ys x more) there
-  where
-    go : (b : Bool) → p y ≡ b → (In x (filter p ys) → In x ys × (p x ≡ true)) → In x (cond b (y ∷ filter p ys) (filter p ys)) → In x (y ∷ ys) × (p x ≡ true)
-    go true is rest (inl same) = (inl same, ap p (sym same) ∙ is)
-    go true is rest (inr more) = (inr (rest more).0, (rest more).1)
-    go false is rest more = (inr (rest more).0, (rest more).1)
 
 pub filter_in : {X : Type 0} (p : X → Bool) (xs : List X) (x : X) → In x xs → p x ≡ true → In x (filter p xs)
 filter_in p [] x there passes = absurd there
@@ -50,15 +29,6 @@ filter_in p (y ∷ ys) x (inr there) passes = go (p y) (filter_in p ys x there p
     go true rest = inr rest
     go false rest = rest
 
-pub in_with : (log : List Entry) (entry old : Entry) → In old log → In old (with_entry log entry)
-in_with [] entry old there = absurd there
-in_with (other ∷ log) entry old there = go (nat_lt other.optime.ts entry.optime.ts) (λ more. in_with log entry old more) there
-  where
-    go : (b : Bool) → (In old log → In old (with_entry log entry)) → In old (other ∷ log) → In old (cond b (other ∷ with_entry log entry) (entry ∷ other ∷ log))
-    go true rest (inl same) = inl same
-    go true rest (inr before) = inr (rest before)
-    go false rest before = inr before
-
 pub itself_in : (log : List Entry) (entry : Entry) → In entry (with_entry log entry)
 itself_in [] entry = inl refl
 itself_in (other ∷ log) entry = go (nat_lt other.optime.ts entry.optime.ts) (itself_in log entry)
@@ -66,17 +36,6 @@ itself_in (other ∷ log) entry = go (nat_lt other.optime.ts entry.optime.ts) (i
     go : (b : Bool) → In entry (with_entry log entry) → In entry (cond b (other ∷ with_entry log entry) (entry ∷ other ∷ log))
     go true rest = inr rest
     go false rest = inl refl
-
-pub with_in : (log : List Entry) (entry one : Entry) → In one (with_entry log entry) → In one log ⊎ (entry ≡ one)
-with_in [] entry one (inl same) = inr same
-with_in [] entry one (inr none) = absurd none
-with_in (other ∷ log) entry one there = go (nat_lt other.optime.ts entry.optime.ts) (λ more. with_in log entry one more) there
-  where
-    go : (b : Bool) → (In one (with_entry log entry) → In one log ⊎ (entry ≡ one)) → In one (cond b (other ∷ with_entry log entry) (entry ∷ other ∷ log)) → In one (other ∷ log) ⊎ (entry ≡ one)
-    go true rest (inl same) = inl (inl same)
-    go true rest (inr more) = elim (rest more) [ inl before ↦ inl (inr before) | inr new ↦ inr new ]
-    go false rest (inl same) = inr same
-    go false rest (inr more) = inl more
 
 pub has_in : (log : List Entry) (at : OpTime) → Has log at → (entry : Entry) × In entry log × (entry.optime ≡ at)
 has_in [] at has = absurd (cc has)
@@ -100,32 +59,9 @@ in_has (other ∷ log) at entry (inr there) is = go (same_optime other.optime at
 
 -- ---- the last entry
 
-pub zero_first : (at : OpTime) → AtMost ZERO at
-zero_first at = go (is_before at ZERO) refl
-  where
-    go : (b : Bool) → is_before at ZERO ≡ b → is_before at ZERO ≡ false
-    go false is = is
-    go true is = elim (before_by at ZERO is) [ inl less ↦ absurd (omega arith) | inr here ↦ absurd (omega (arith, here.1)) ]
-
-pub at_most_itself : (at : OpTime) → AtMost at at
-at_most_itself at = later_time at at refl (omega arith)
-
-stands_most : (one two : Entry) → StandsBefore one two → AtMost one.optime two.optime
-stands_most one two before = go (is_before two.optime one.optime) refl
-  where
-    earlier_is : one.optime.ts < two.optime.ts
-    earlier_is = before.earlier
-
-    term_is : one.optime.term ≤ two.optime.term
-    term_is = before.term
-
-    go : (b : Bool) → is_before two.optime one.optime ≡ b → is_before two.optime one.optime ≡ false
-    go false is = is
-    go true is = elim (before_by two.optime one.optime is) [ inl less ↦ absurd (omega (arith, less, term_is)) | inr here ↦ absurd (omega (arith, here.1, earlier_is)) ]
-
 -- what is at or past each entry is so for the last
 pub last_most : (log : List Entry) (at : OpTime) → ((entry : Entry) → In entry log → AtMost entry.optime at) → AtMost (last_of log) at
-last_most [] at each = zero_first at
+last_most [] at each = zero_at_most at
 last_most (entry ∷ []) at each = each entry (inl refl)
 last_most (entry ∷ next ∷ log) at each = last_most (next ∷ log) at (λ one there. each one (inr there))
 
@@ -137,12 +73,12 @@ last_before (entry ∷ next ∷ log) at first each = last_before (next ∷ log) 
 -- no entry is behind the last one
 pub below_last : (log : List Entry) → AllPairs StandsBefore log → (entry : Entry) → In entry log → AtMost entry.optime (last_of log)
 below_last [] order entry there = absurd there
-below_last (one ∷ []) order entry (inl same) = subst (λ (e : Entry). AtMost e.optime one.optime) same (at_most_itself one.optime)
+below_last (one ∷ []) order entry (inl same) = subst (λ (e : Entry). AtMost e.optime one.optime) same (at_most_refl one.optime)
 below_last (one ∷ []) order entry (inr none) = absurd none
 below_last (one ∷ next ∷ log) order entry (inl same) =
     let step : StandsBefore one next = all_in (StandsBefore one) (next ∷ log) next (pairs_head StandsBefore one (next ∷ log) order) (inl refl) in
     subst (λ (e : Entry). AtMost e.optime (last_of (next ∷ log))) same
-    (not_then_not one.optime next.optime (last_of (next ∷ log)) (stands_most one next step) (below_last (next ∷ log) (pairs_tail StandsBefore one (next ∷ log) order) next (inl refl)))
+    (at_most_trans one.optime next.optime (last_of (next ∷ log)) (stands_most one next step) (below_last (next ∷ log) (pairs_tail StandsBefore one (next ∷ log) order) next (inl refl)))
 below_last (one ∷ next ∷ log) order entry (inr there) = below_last (next ∷ log) (pairs_tail StandsBefore one (next ∷ log) order) entry there
 
 -- a log that has all of another ends no earlier
@@ -182,12 +118,3 @@ filter-with p (other ∷ log) entry order passes = go (nat_lt other.optime.ts en
     go false is rest =
         ap (λ b. cond b (entry ∷ filter p (other ∷ log)) (filter p (other ∷ log))) passes
         ∙ sym (with_first (filter p (other ∷ log)) entry (in_all (λ (o : Entry). entry.optime.ts ≤ o.optime.ts) (filter p (other ∷ log)) (λ o there. late_behind other log entry order is o (in_filter p (other ∷ log) o there).0)))
-
--- one that fails it doesn't
-pub filter-without : (p : Entry → Bool) (log : List Entry) (entry : Entry) → p entry ≡ false → filter p (with_entry log entry) ≡ filter p log
-filter-without p [] entry fails = ap (λ b. cond b (entry ∷ []) []) fails
-filter-without p (other ∷ log) entry fails = go (nat_lt other.optime.ts entry.optime.ts) (filter-without p log entry fails)
-  where
-    go : (b : Bool) → filter p (with_entry log entry) ≡ filter p log → filter p (cond b (other ∷ with_entry log entry) (entry ∷ other ∷ log)) ≡ filter p (other ∷ log)
-    go true rest = ap (λ l. cond (p other) (other ∷ l) l) rest
-    go false rest = ap (λ b. cond b (entry ∷ filter p (other ∷ log)) (filter p (other ∷ log))) fails

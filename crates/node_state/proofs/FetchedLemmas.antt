@@ -1,16 +1,20 @@
 -- Fetched entries behind a node's log keep it coherent.
 use Rattle.std.proofs.Common.{◌≡◌, ◌∙◌, ◌<◌, ◌≤◌, inl, inr, ap, sym, subst, refl, arith, zero, max, Bool, true, false, List, [], ◌∷◌, ◌++◌, Option, map, fold}
 use Rattle.std.specs.List.{All, AllPairs}
-use Rattle.std.proofs.lemmas.List.Elements.{All-append}
+use Rattle.std.proofs.lemmas.List.Elements.{All-append, All-tail}
 use Rattle.std.proofs.lemmas.List.Kept.{AllPairs-cons}
 use Rattle.std.specs.FinSet as sets
 use Rattle.rs_optime.specs.declared.optime.OpTime.{OpTime}
-use Rattle.oplog_entry.proofs.Optimes.{before_both}
+use Rattle.rs_optime.proofs.Optimes.{at_most_trans, before_both}
+use Rattle.rs_optime.specs.Membership.{In}
+use Rattle.rs_optime.proofs.MembershipLemmas.{all_in, in_all}
 use Rattle.oplog_entry.specs.Lawful.{IsLawful}
 use Rattle.oplog_entry.specs.Visible.{is_before, last_of}
 use Rattle.oplog_entry.specs.declared.entry.Entry.{Entry}
-use Rattle.oplog_store.proofs.Keeps.{all_tail, pairs_head, pairs_tail, with_last}
+use Rattle.oplog_entry.proofs.LogLemmas.{in_with}
+use Rattle.oplog_store.proofs.Keeps.{pairs_head, pairs_tail, with_last}
 use Rattle.oplog_store.specs.Log.{IsOplog, StandsBefore, with_entry}
+use Rattle.oplog_store.proofs.PlaceLemmas.{oplog_front}
 use Rattle.election_core.specs.Counting.{Tallied}
 use Rattle.node_tables.specs.Unkept.{with_optime}
 use Rattle.set_model.specs.Fetched.{Follows}
@@ -19,8 +23,6 @@ use Rattle.set_model.specs.Node.{Node}
 use Rattle.set_model.specs.Safety.{AtMost}
 use Rattle.node_ledger.specs.Kept.{FitsBeside}
 use Rattle.node_state.specs.Coherent.{IsCoherent}
-use Rattle.node_state.proofs.EntryLemmas.{In, all_in, in_all, in_with}
-use Rattle.node_ledger.proofs.OrderLemmas.{not_then_not}
 use Rattle.node_state.proofs.SlotLemmas.{visible_grows}
 use Rattle.node_state.proofs.CoherentLemmas.{coherent-written, touched}
 
@@ -55,12 +57,6 @@ append_none : (log : List Entry) → log ++ [] ≡ log
 append_none [] = refl
 append_none (first ∷ log) = ap (λ l. first ∷ l) (append_none log)
 
-oplog_front : (log more : List Entry) → IsOplog (log ++ more) → IsOplog log
-oplog_front log more oplog = record {
-  order = front_pairs log more oplog.order;
-  lawful = in_all IsLawful log (λ x there. all_in IsLawful (log ++ more) x oplog.lawful (in_front log more x there));
-}
-
 pub coherent-fetched : (entries : List Entry) (node : Node) (tally : Option Tallied) (optimes : List OpTime)
     → IsOplog (node.log ++ entries) → All (λ entry. is_before node.durable entry.optime ≡ true) entries
     → IsCoherent node tally optimes → IsCoherent (with_fetched node entries) tally (fold with_optime optimes (map (λ (e : Entry). e.optime) entries))
@@ -74,7 +70,7 @@ coherent-fetched (entry ∷ rest) node tally optimes oplog behind old =
     subst IsOplog (sym with_is) (oplog_front (node.log ++ entry ∷ []) rest (subst IsOplog (sym (joined node.log entry rest)) oplog)) in
     subst (λ (l : List Entry). IsCoherent (record node { log = l; seen = seen_after node.seen (entry ∷ rest) }) tally (fold with_optime optimes (map (λ (e : Entry). e.optime) (entry ∷ rest)))) log_is
     (coherent-fetched rest (touched node (with_entry node.log entry) node.slots node.writers (max node.seen entry.optime.ts)) tally (with_optime optimes entry.optime)
-    (subst IsOplog (sym log_is) oplog) (all_tail (λ (e : Entry). is_before node.durable e.optime ≡ true) entry rest behind)
+    (subst IsOplog (sym log_is) oplog) (All-tail (λ (e : Entry). is_before node.durable e.optime ≡ true) entry rest behind)
     (coherent-written node entry node.slots node.writers (max node.seen entry.optime.ts) tally optimes (oplog_front node.log (entry ∷ rest) oplog)
     (record {
       behind = behind zero entry (omega arith);
@@ -118,7 +114,7 @@ most_then_before a b c most before = go (is_before a c) refl
   where
     go : (d : Bool) → is_before a c ≡ d → is_before a c ≡ true
     go true is = is
-    go false is = let late : is_before b c ≡ false = not_then_not c a b is most in absurd (cc (late, before))
+    go false is = let late : is_before b c ≡ false = at_most_trans c a b is most in absurd (cc (late, before))
 
 -- they are behind all that is at or before the last optime
 pub follow_behind : (at last : OpTime) (entries : List Entry) → AtMost at last → All (Follows last) entries → All (λ entry. is_before at entry.optime ≡ true) entries

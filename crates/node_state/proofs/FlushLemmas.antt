@@ -2,18 +2,20 @@
 use Rattle.std.proofs.Common.{◌≡◌, ◌∙◌, ◌⊎◌, ◌≤◌, ◌<◌, take, drop, filter, length, map, cond, inl, inr, ap, sym, subst, refl, arith, ltb-true, ltb-false, ℕ, zero, suc, Bool, true, false, not, nat_lt, unwrap_or, Option, List, [], ◌∷◌, ◌++◌}
 use Rattle.std.specs.FinSet as sets
 use Rattle.std.specs.List.{All}
-use Rattle.std.proofs.lemmas.List.Sums.{fold-append}
 use Rattle.rs_optime.specs.declared.optime.OpTime.{OpTime}
+use Rattle.rs_optime.proofs.Optimes.{at_most_refl, at_most_trans, before_at_most, earlier_by, earlier_left, earlier_right}
+use Rattle.rs_optime.specs.Membership.{In}
+use Rattle.rs_optime.proofs.MembershipLemmas.{all_in, in_all, in_take}
 use Rattle.oplog_entry.specs.Visible.{ZERO, is_before, last_of, least, entries_before}
 use Rattle.oplog_entry.specs.declared.entry.Entry.{Entry}
-use Rattle.oplog_entry.proofs.Optimes.{before_both}
-use Rattle.oplog_store.specs.Log.{IsOplog, StandsBefore}
+use Rattle.oplog_entry.proofs.LogLemmas.{stands_before, last_is}
+use Rattle.oplog_store.specs.Log.{IsOplog}
 use Rattle.election_core.specs.Counting.{Tallied}
-use Rattle.repl_msg.specs.Kept.{kept, with_entries, with_record, nothing_kept}
+use Rattle.repl_msg.specs.Kept.{kept, with_entries}
 use Rattle.repl_msg.specs.Logs.{earlier_of, has_entry}
 use Rattle.repl_msg.specs.declared.record.Kept.{Kept}
-use Rattle.repl_msg.specs.declared.record.Record.{Record}
 use Rattle.repl_msg.specs.declared.record.Record.TheVariants as records
+use Rattle.repl_msg.proofs.KeptLemmas.{kept_more}
 use Rattle.set_model.specs.Disk.{unkept, next_entries, next_durable}
 use Rattle.set_model.specs.Node.{Node}
 use Rattle.set_model.specs.Points.{visible_point}
@@ -21,13 +23,9 @@ use Rattle.set_model.specs.Safety.{AtMost, Has}
 use Rattle.set_model.specs.Stores.{stored}
 use Rattle.set_model.specs.declared.store.Store.TheVariants as stores
 use Rattle.node_state.specs.Coherent.{IsCoherent, IsRecorded, ArePoints, is_kept}
-use Rattle.node_state.proofs.EntryLemmas.{In, all_in, in_all, filter_in, has_in, in_has, at_most_itself}
-use Rattle.node_state.proofs.MergeLemmas.{in_take, taken_or_not, taken_before, old_in, entries_in, merged_is, rest_after, Rises, rest_rises, rest_log}
-use Rattle.node_ledger.proofs.OrderLemmas.{not_then_not}
-use Rattle.node_state.proofs.SlotLemmas.{in_visible, not_before_too}
-
-kept_more : (items : List Record) (item : Record) → kept (items ++ item ∷ []) ≡ with_record (kept items) item
-kept_more items item = fold-append with_record nothing_kept items (item ∷ [])
+use Rattle.node_state.proofs.EntryLemmas.{filter_in, has_in, in_has}
+use Rattle.node_state.proofs.MergeLemmas.{taken_or_not, taken_before, old_in, entries_in, merged_is, rest_after, Rises, rest_rises, rest_log}
+use Rattle.node_state.proofs.SlotLemmas.{in_visible}
 
 -- ---- lists
 
@@ -42,12 +40,6 @@ take_all zero (x ∷ xs) short = absurd (omega (arith, short))
 take_all (suc many) [] short = refl
 take_all (suc many) (x ∷ xs) short = ap (λ ys. x ∷ ys) (take_all many xs (omega (arith, short)))
 
--- the last entry, where there is one
-last_is : (log : List Entry) → (last_of log ≡ ZERO) ⊎ ((last : Entry) × In last log × (last.optime ≡ last_of log))
-last_is [] = inl refl
-last_is (entry ∷ []) = inr (entry, inl refl, refl)
-last_is (entry ∷ next ∷ log) = elim (last_is (next ∷ log)) [ inl none ↦ inl none | inr last ↦ inr (last.0, inr last.1, last.2) ]
-
 last_there : (entry : Entry) (log : List Entry) → (last : Entry) × In last (entry ∷ log) × (last.optime ≡ last_of (entry ∷ log))
 last_there entry [] = (entry, inl refl, refl)
 last_there entry (next ∷ log) = let rest : (last : Entry) × In last (next ∷ log) × (last.optime ≡ last_of (next ∷ log)) = last_there next log in (rest.0, inr rest.1, rest.2)
@@ -56,9 +48,6 @@ last_taken : (many : ℕ) (xs : List Entry) → 0 < many → many < length xs �
 last_taken zero xs some more = absurd (omega (arith, some))
 last_taken (suc many) [] some more = absurd (omega (arith, more))
 last_taken (suc many) (x ∷ xs) some more = last_there x (take many xs)
-
-stands_before : (one two : Entry) → StandsBefore one two → is_before one.optime two.optime ≡ true
-stands_before one two before = before_both one.optime two.optime before.term before.earlier
 
 -- ---- how far the log is durable
 
@@ -78,28 +67,6 @@ visible_there node = elim (last_is (entries_before (least slots) node.log)) [
     slots : List OpTime
     slots = sets.items node.slots
 
-pub earlier_left : (a b : OpTime) → AtMost (earlier_of a b) a
-earlier_left a b = go (is_before a b) refl
-  where
-    go : (c : Bool) → is_before a b ≡ c → AtMost (cond c a b) a
-    go true is = at_most_itself a
-    go false is = is
-
-pub earlier_right : (a b : OpTime) → AtMost (earlier_of a b) b
-earlier_right a b = go (is_before a b) refl
-  where
-    go : (c : Bool) → is_before a b ≡ c → AtMost (cond c a b) b
-    go true is = not_before_too a b is
-    go false is = at_most_itself b
-
--- an optime is either one of two that the earlier is
-pub earlier_by : (P : OpTime → Type 0) (a b : OpTime) → P a → P b → P (earlier_of a b)
-earlier_by P a b first second = go (is_before a b)
-  where
-    go : (c : Bool) → P (cond c a b)
-    go true = first
-    go false = second
-
 module _ (node : Node) (oplog : IsOplog node.log) (points : ArePoints node) (recorded : IsRecorded node) where
   abbrev found : List Entry
   found = (kept node.records).entries
@@ -115,7 +82,7 @@ module _ (node : Node) (oplog : IsOplog node.log) (points : ArePoints node) (rec
   unkept_late entry there = go (is_before node.durable entry.optime) refl (unkept_log entry there)
     where
       go : (b : Bool) → is_before node.durable entry.optime ≡ b → In entry node.log × (has_entry found entry.optime ≡ false) → AtMost node.durable entry.optime
-      go true is known = not_before_too node.durable entry.optime is
+      go true is known = before_at_most node.durable entry.optime is
       go false is known =
           let has : is_kept node entry ≡ true = all_in (λ (e : Entry). is_before node.durable e.optime ≡ false → is_kept node e ≡ true) node.log entry recorded.early known.0 is in
           absurd (cc (has, known.1))
@@ -138,12 +105,12 @@ module _ (node : Node) (oplog : IsOplog node.log) (points : ArePoints node) (rec
                   let early : is_before last.0.optime entry.optime ≡ true = stands_before last.0 entry (taken_before many (unkept node) unkept_rises last.0 entry last.1 second) in
                   let late : is_before last.0.optime entry.optime ≡ false =
                   subst (λ o. is_before o entry.optime ≡ false) (sym last.2)
-                  (not_then_not entry.optime (earlier_of (visible_point node) (last_of (take many (unkept node)))) (last_of (take many (unkept node))) before (earlier_right (visible_point node) (last_of (take many (unkept node))))) in
+                  (at_most_trans entry.optime (earlier_of (visible_point node) (last_of (take many (unkept node)))) (last_of (take many (unkept node))) before (earlier_right (visible_point node) (last_of (take many (unkept node))))) in
                   absurd (cc (early, late))
             ];
           }
       go false is = record {
-        within = at_most_itself (visible_point node);
+        within = at_most_refl (visible_point node);
         there = visible_there node;
         grows = points.durable;
         taken = λ entry there before. subst (In entry) (sym (take_all many (unkept node) (ltb-false many (length (unkept node)) is))) there;
@@ -172,7 +139,7 @@ coherent-flushed node tally optimes oplog old = record {
   first = old.first;
   points = record {
     stable = old.points.stable;
-    commit = not_then_not node.commit node.durable (next_durable node) old.points.commit next.grows;
+    commit = at_most_trans node.commit node.durable (next_durable node) old.points.commit next.grows;
     durable = next.within;
     there = next.there;
   };

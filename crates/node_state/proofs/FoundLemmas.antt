@@ -2,26 +2,27 @@
 use Rattle.std.proofs.Common.{◌≡◌, ◌≢◌, ◌∙◌, ◌<◌, ◌+◌, ◌++◌, nat_lt, add-one, ap, sym, subst, refl, arith, inl, inr, ℕ, zero, suc, Bool, true, false, cond, take, map, length, Option, None, Some, List, [], ◌∷◌}
 use Rattle.std.specs.Prelude.{slice_get, slice_index_or, is_some, IfNone, IfSome, ◌==◌}
 use Rattle.std.proofs.Math.Seq.{take-suc}
-use Rattle.std.proofs.lemmas.List.Elements.{filter_map-append}
+use Rattle.std.proofs.lemmas.List.Elements.{filter_map-append, All-tail}
 use Rattle.std.proofs.lemmas.Bool.Decides.{nat_tests}
 use Rattle.std.proofs.lemmas.List.{append-nil, take-map}
 use Rattle.std.specs.List.{All, cons_option}
 use Rattle.std.specs.Option.{option_map}
 use Rattle.rs_optime.specs.declared.optime.OpTime.{OpTime}
+use Rattle.rs_optime.specs.Membership.{In}
+use Rattle.rs_optime.proofs.MembershipLemmas.{in_filter, all_in, in_all, in_take}
 use Rattle.oplog_entry.specs.Lawful.{IsLawful}
 use Rattle.oplog_entry.specs.Visible.{last_of}
 use Rattle.oplog_entry.specs.declared.entry.Entry.{Entry}
 use Rattle.oplog_store.specs.Log.{IsOplog, StandsBefore}
 use Rattle.oplog_store.specs.Places.{IsEntryAt}
-use Rattle.oplog_store.proofs.Keeps.{all_tail, pairs_tail, pairs_head}
+use Rattle.oplog_store.proofs.Keeps.{pairs_tail, pairs_head}
 use Rattle.repl_msg.specs.Logs.{has_entry, same_optime}
 use Rattle.repl_msg.proofs.HasLemmas.{has_found, same_is, same_itself}
 use Rattle.set_model.specs.Disk.{next_entries, next_durable, unkept}
 use Rattle.set_model.specs.Points.{visible_point, earlier_of}
 use Rattle.set_model.specs.Node.{Node}
 use Rattle.node_state.specs.Flushing.{entry_at, entries_at}
-use Rattle.node_state.proofs.EntryLemmas.{In, all_in, in_all, in_filter}
-use Rattle.node_state.proofs.MergeLemmas.{Rises, in_take, not_before_same}
+use Rattle.node_state.proofs.MergeLemmas.{Rises, not_before_same}
 
 -- ---- one entry
 
@@ -38,7 +39,7 @@ entry_at-in (other ∷ log) rises entry (inr there) = go (same_optime other.opti
 
 pub entry_at-none : (log : List Entry) (at : OpTime) → All (λ (e : Entry). e.optime ≢ at) log → entry_at log at ≡ None
 entry_at-none [] at apart = refl
-entry_at-none (entry ∷ log) at apart = go (same_optime entry.optime at) refl (entry_at-none log at (all_tail (λ (e : Entry). e.optime ≢ at) entry log apart))
+entry_at-none (entry ∷ log) at apart = go (same_optime entry.optime at) refl (entry_at-none log at (All-tail (λ (e : Entry). e.optime ≢ at) entry log apart))
   where
     go : (b : Bool) → same_optime entry.optime at ≡ b → entry_at log at ≡ None → cond b (Some entry) (entry_at log at) ≡ None
     go true is rest = absurd (apart zero entry (omega arith) (same_is entry.optime at is))

@@ -1,23 +1,19 @@
 -- The part of a log before its least open slot, and the part up to the last optime there.
-use Rattle.std.proofs.Common.{◌≡◌, ◌⊎◌, ◌∙◌, ◌<◌, ◌≤◌, inl, inr, ap, sym, subst, refl, arith, ℕ, suc, zero, Bool, true, false, cond, not, ◌&&◌, ◌||◌, List, [], ◌∷◌, filter, take, Option, None, Some}
+use Rattle.std.proofs.Common.{◌≡◌, ◌⊎◌, ◌∙◌, inl, inr, ap, sym, subst, refl, Bool, true, false, cond, not, ◌&&◌, ◌||◌, List, [], ◌∷◌, filter, take, Option, None, Some}
 use Rattle.std.specs.List.{AllPairs}
 use Rattle.std.proofs.lemmas.List.Kept.{AllPairs-filter}
 use Rattle.rs_optime.specs.declared.optime.OpTime.{OpTime}
-use Rattle.oplog_entry.proofs.Optimes.{later_term, later_time, not_before_by}
+use Rattle.rs_optime.proofs.Optimes.{before_at_most_trans}
+use Rattle.rs_optime.specs.Membership.{In}
+use Rattle.rs_optime.proofs.MembershipLemmas.{in_filter, filter-same}
 use Rattle.oplog_entry.specs.Visible.{ZERO, is_before, last_of, entries_before, log_up_to}
 use Rattle.oplog_entry.specs.declared.entry.Entry.{Entry}
+use Rattle.oplog_entry.proofs.Optimes.{zero_least, is_zero}
 use Rattle.oplog_store.specs.Log.{StandsBefore}
 use Rattle.repl_msg.proofs.HasLemmas.{has_filter, same_itself}
 use Rattle.repl_msg.specs.Fetching.{holds, reply_of}
 use Rattle.repl_msg.specs.Logs.{has_entry, log_behind, same_optime}
-use Rattle.node_state.proofs.EntryLemmas.{In, below_last, filter_in, in_filter}
-use Rattle.node_ledger.proofs.OrderLemmas.{before_then_not}
-
--- what passes one test passes the other
-filter-same : {X : Type 0} (p q : X → Bool) (xs : List X) → ((x : X) → In x xs → p x ≡ q x) → filter p xs ≡ filter q xs
-filter-same p q [] each = refl
-filter-same p q (x ∷ xs) each =
-    ap (λ b. cond b (x ∷ filter p xs) (filter p xs)) (each x (inl refl)) ∙ ap (λ rest. cond (q x) (x ∷ rest) rest) (filter-same p q xs (λ y there. each y (inr there)))
+use Rattle.node_state.proofs.EntryLemmas.{below_last, filter_in}
 
 filter-all : {X : Type 0} (xs : List X) → filter (λ _. true) xs ≡ xs
 filter-all [] = refl
@@ -59,7 +55,7 @@ front_or_none slot log order = elim (last_in shown) [
         let most : is_before (last_of shown) entry.optime ≡ false = below_last shown (AllPairs-filter StandsBefore early log order) entry (filter_in early log entry there passes) in
         passes ∙ sym (ap not most)
     by_test last within is entry there false fails =
-        let behind : is_before last.optime entry.optime ≡ true = before_then_not last.optime slot entry.optime (in_filter early log last within).1 fails in
+        let behind : is_before last.optime entry.optime ≡ true = before_at_most_trans last.optime slot entry.optime (in_filter early log last within).1 fails in
         fails ∙ sym (ap not (ap (λ o. is_before o entry.optime) (sym is) ∙ behind))
 
 pub front : (slot : Option OpTime) (log : List Entry) → AllPairs StandsBefore log
@@ -70,35 +66,11 @@ front (Some slot) log order = front_or_none slot log order
 
 -- ---- where nothing is shown
 
--- nothing is before what is no later than ZERO
-zero_least : (o x : OpTime) → is_before ZERO o ≡ false → is_before x o ≡ false
-zero_least o x least = elim (not_before_by ZERO o least) [
-  | inl less ↦ absurd (omega arith)
-  | inr same ↦ by_term (not_zero x.term) same.0 same.1
-]
-  where
-    not_zero : (n : ℕ) → (n ≡ 0) ⊎ (0 < n)
-    not_zero zero = inl refl
-    not_zero (suc n) = inr (omega arith)
-
-    by_term : (x.term ≡ 0) ⊎ (0 < x.term) → 0 ≡ o.term → o.ts ≤ 0 → is_before x o ≡ false
-    by_term (inl none) term ts = later_time x o (omega (arith, term, none)) (omega (arith, ts))
-    by_term (inr some) term ts = later_term x o (omega (arith, term, some))
-
 -- nothing stands behind an optime in the log up to ZERO
 pub none_behind : (log : List Entry) (base : OpTime) → log_behind base (log_up_to ZERO log) ≡ []
 none_behind log base =
     none_pass (λ (e : Entry). is_before base e.optime) (log_up_to ZERO log)
     (λ entry there. zero_least entry.optime base (not_is (is_before ZERO entry.optime) (in_filter (λ (e : Entry). not (is_before ZERO e.optime)) log entry there).1))
-
-zero_is : (o : OpTime) → is_before ZERO o ≡ false → same_optime o ZERO ≡ true
-zero_is o least = elim (not_before_by ZERO o least) [
-  | inl less ↦ absurd (omega arith)
-  | inr same ↦ subst (λ (z : OpTime). same_optime z ZERO ≡ true) (made (omega (arith, same.0)) (omega (arith, same.1))) (same_itself ZERO)
-]
-  where
-    made : 0 ≡ o.term → 0 ≡ o.ts → ZERO ≡ o
-    made term ts = λ i. record { term = term i; ts = ts i }
 
 -- ZERO is held by each log, and no other optime by one up to ZERO
 holds_none : (log : List Entry) (base : OpTime) → holds (log_up_to ZERO log) base ≡ holds [] base
@@ -109,7 +81,7 @@ holds_none log base = go (same_optime base ZERO) refl
       where
         by_before : (b : Bool) → is_before ZERO base ≡ b → has_entry (log_up_to ZERO log) base ≡ false
         by_before true is = has_filter (λ o. not (is_before ZERO o)) log base ∙ ap (λ b. not b && has_entry log base) is
-        by_before false is = let same : same_optime base ZERO ≡ true = zero_is base is in absurd (cc (same, other))
+        by_before false is = let same : same_optime base ZERO ≡ true = subst (λ (z : OpTime). same_optime z ZERO ≡ true) (sym (is_zero base is)) (same_itself ZERO) in absurd (cc (same, other))
 
     go : (b : Bool) → same_optime base ZERO ≡ b → (same_optime base ZERO || has_entry (log_up_to ZERO log) base) ≡ (same_optime base ZERO || false)
     go true is = ap (λ b. b || has_entry (log_up_to ZERO log) base) is ∙ sym (ap (λ b. b || false) is)

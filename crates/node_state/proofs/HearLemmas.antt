@@ -4,6 +4,7 @@ use Rattle.std.specs.Prelude.{◌==◌}
 use Rattle.std.specs.Ordering.{nat_cmp}
 use Rattle.std.specs.FinMap as maps
 use Rattle.rs_optime.specs.declared.optime.OpTime.{OpTime}
+use Rattle.rs_optime.proofs.Optimes.{at_most_refl}
 use Rattle.election_core.specs.Counting.{Tallied}
 use Rattle.repl_msg.specs.Points.{commit_after}
 use Rattle.set_model.specs.declared.role.Role.TheVariants.{Secondary}
@@ -14,7 +15,6 @@ use Rattle.node_state.specs.Coherent.{IsCoherent}
 use Rattle.node_state.specs.Hearings.{commit_learnt}
 use Rattle.node_state.specs.Seen.{Rest, seen_node}
 use Rattle.node_state.proofs.CommitLemmas.{IsBetween, coherent-commit, counted_between}
-use Rattle.node_state.proofs.EntryLemmas.{at_most_itself}
 use Rattle.node_state.proofs.TermLemmas.{coherent-turned}
 
 -- other tables of what members reported, and of what was heard of them
@@ -51,4 +51,4 @@ pub coherent-given_way : (n m : Node) (rest : Rest) (tally : Option Tallied) (op
     → IsCoherent (seen_node n rest) tally optimes → IsCoherent (seen_node m (record rest { tally = None })) None optimes
 coherent-given_way n m rest tally optimes is old =
     subst (λ (k : Node). IsCoherent (seen_node k (record rest { tally = None })) None optimes) (sym is)
-    (coherent-turned (seen_node n rest) Secondary n.slots n.writers n.applied rest.progress [] rest.dry_tally tally None optimes (at_most_itself (visible_point n)) (λ role. absurd (cc role)) old)
+    (coherent-turned (seen_node n rest) Secondary n.slots n.writers n.applied rest.progress [] rest.dry_tally tally None optimes (at_most_refl (visible_point n)) (λ role. absurd (cc role)) old)

@@ -5,16 +5,16 @@ use Rattle.std.specs.FinMap as maps
 use Rattle.std.specs.FinSet as sets
 use Rattle.std.specs.Ordering.{nat_cmp, eq_by_cmp}
 use Rattle.std.proofs.lemmas.List.Sums.{fold-append}
-use Rattle.std.proofs.lemmas.List.Elements.{All-cons}
+use Rattle.std.proofs.lemmas.List.Elements.{All-cons, All-tail}
 use Rattle.bson_doc.specs.Place.{Place, place_cmp}
 use Rattle.bson_doc.specs.Tree.{Fields}
 use Rattle.rs_optime.specs.declared.optime.OpTime.{OpTime}
+use Rattle.rs_optime.proofs.Optimes.{at_most_trans}
 use Rattle.doc_update.specs.Effect.{is_too_large}
 use Rattle.oplog_entry.specs.Docs.{Documents, applied, docs}
 use Rattle.oplog_entry.specs.Step.{place_of, document_after, is_at}
 use Rattle.oplog_entry.specs.Visible.{is_before}
 use Rattle.oplog_entry.specs.declared.entry.Entry.{Entry}
-use Rattle.oplog_store.proofs.Keeps.{all_tail}
 use Rattle.oplog_store.specs.Log.{IsOplog}
 use Rattle.election_core.specs.Counting.{Tallied}
 use Rattle.version_store.specs.declared.history.Version.{Version}
@@ -31,7 +31,6 @@ use Rattle.set_model.specs.Node.{Node, Heard}
 use Rattle.set_model.specs.Points.{last_point, visible_point, visible_log}
 use Rattle.set_model.specs.Safety.{AtMost}
 use Rattle.node_ledger.specs.Versions.{AreSmall, IsSmall, versions_from}
-use Rattle.node_ledger.proofs.OrderLemmas.{not_then_not}
 use Rattle.node_state.specs.Coherent.{IsCoherent}
 use Rattle.node_state.specs.Seen.{Rest, seen_node}
 use Rattle.set_model.specs.Taking.{CanTakeEntries}
@@ -46,7 +45,7 @@ use Rattle.node_state.proofs.SlotLemmas.{in_visible}
 found_small : (entries : List (Place × Fields)) (place : Place) → All (λ (e : Place × Fields). is_too_large e.1 ≡ false) entries → IsSmall (maps.find place_cmp place entries)
 found_small [] place within = tt
 found_small (entry ∷ entries) place within =
-    go (eq_by_cmp place_cmp place entry.0) (found_small entries place (all_tail (λ (e : Place × Fields). is_too_large e.1 ≡ false) entry entries within))
+    go (eq_by_cmp place_cmp place entry.0) (found_small entries place (All-tail (λ (e : Place × Fields). is_too_large e.1 ≡ false) entry entries within))
   where
     go : (b : Bool) → IsSmall (maps.find place_cmp place entries) → IsSmall (cond b (Some entry.1) (maps.find place_cmp place entries))
     go true rest = within zero entry (omega arith)
@@ -80,7 +79,7 @@ small_behind place (entry ∷ log) entries documents before is front back =
         → Small (cond b (version ∷ versions_from place (document_after entry.op before) (log ++ entries)) (versions_from place before (log ++ entries)))
     go true same rest small =
         All-cons (λ (v : Version). IsSmall v.doc) version (versions_from place (document_after entry.op before) (log ++ entries)) (small zero version (omega arith))
-        (rest (document_after entry.op before) same (all_tail (λ (v : Version). IsSmall v.doc) version (versions_from place (document_after entry.op before) log) small))
+        (rest (document_after entry.op before) same (All-tail (λ (v : Version). IsSmall v.doc) version (versions_from place (document_after entry.op before) log) small))
     go false same rest small = rest before same small
 
 -- the versions that come behind a log
@@ -140,7 +139,7 @@ fetched_small node term reply entries is can goes small =
 
 durable_last : (node : Node) → IsOplog node.log → AtMost node.durable (visible_point node) → AtMost node.durable (last_point node)
 durable_last node oplog most =
-    not_then_not node.durable (visible_point node) (last_point node) most
+    at_most_trans node.durable (visible_point node) (last_point node) most
     (last_grows (visible_log node) node.log oplog.order (λ entry there. (in_visible (sets.items node.slots) node.log entry there).0))
 
 -- the node with these entries

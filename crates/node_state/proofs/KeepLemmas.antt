@@ -2,6 +2,8 @@
 use Rattle.std.proofs.Common.{◌≡◌, ◌∙◌, ◌≤◌, ap, sym, subst, arith, ℕ, zero, suc, false, take, drop, map, length, Option, List, [], ◌∷◌, cond}
 use Rattle.std.specs.List.{All}
 use Rattle.rs_optime.specs.declared.optime.OpTime.{OpTime}
+use Rattle.rs_optime.proofs.MembershipLemmas.{in_filter, all_in, in_all, in_take}
+use Rattle.rs_optime.proofs.Optimes.{earlier_by, earlier_left, earlier_right}
 use Rattle.oplog_entry.specs.declared.entry.Entry.{Entry}
 use Rattle.oplog_store.specs.Log.{IsOplog}
 use Rattle.entry_bytes.specs.Sizes.{IsWithinEntry}
@@ -25,9 +27,7 @@ use Rattle.node_state.specs.Seen.{Rest, seen_node}
 use Rattle.node_state.specs.Standing.{Standing}
 use Rattle.node_state.specs.declared.turn.Then.TheVariants as thens
 use Rattle.node_state.specs.declared.turn.Turn.TheVariants as turns
-use Rattle.node_state.proofs.EntryLemmas.{all_in, in_all, in_filter}
-use Rattle.node_state.proofs.MergeLemmas.{in_take}
-use Rattle.node_state.proofs.FlushLemmas.{coherent-flushed, earlier_by, earlier_left, earlier_right}
+use Rattle.node_state.proofs.FlushLemmas.{coherent-flushed}
 use Rattle.node_state.proofs.CoherentLemmas.{coherent-stable}
 
 -- ---- a flush

@@ -2,23 +2,21 @@
 use Rattle.std.proofs.Common.{◌≡◌, ◌≢◌, ◌∙◌, ◌⊎◌, ◌<◌, take, drop, filter, inl, inr, ap, ap₂, sym, subst, refl, arith, ℕ, zero, suc, Bool, true, false, not, List, [], ◌∷◌}
 use Rattle.std.proofs.lemmas.List.Kept.{AllPairs-cons}
 use Rattle.std.specs.List.{All, AllPairs}
+use Rattle.std.proofs.lemmas.List.Elements.{All-tail}
 use Rattle.rs_optime.specs.declared.optime.OpTime.{OpTime}
+use Rattle.rs_optime.specs.Membership.{In}
+use Rattle.rs_optime.proofs.MembershipLemmas.{in_filter, in_take, all_in, in_all}
 use Rattle.oplog_entry.specs.Lawful.{IsLawful}
 use Rattle.oplog_entry.specs.declared.entry.Entry.{Entry}
+use Rattle.oplog_entry.proofs.LogLemmas.{in_with, with_in}
 use Rattle.oplog_store.specs.Log.{IsOplog, StandsBefore, with_entry}
-use Rattle.oplog_store.proofs.Keeps.{all_tail, pairs_tail, pairs_head, with_entry_keeps}
+use Rattle.oplog_store.proofs.Keeps.{pairs_tail, pairs_head, with_entry_keeps}
 use Rattle.oplog_store.proofs.LogLemmas.{oplog_filter}
 use Rattle.repl_msg.specs.Kept.{with_entries}
 use Rattle.repl_msg.specs.Logs.{has_entry}
-use Rattle.node_state.proofs.EntryLemmas.{In, all_in, in_all, in_filter, filter_in, in_with, itself_in, with_in, has_in, in_has}
+use Rattle.node_state.proofs.EntryLemmas.{filter_in, itself_in, has_in, in_has}
 
 -- ---- what is in a list
-
-pub in_take : {A : Type 0} (many : ℕ) (x : A) (xs : List A) → In x (take many xs) → In x xs
-in_take zero x xs there = absurd there
-in_take (suc many) x [] there = absurd there
-in_take (suc many) x (y ∷ xs) (inl same) = inl same
-in_take (suc many) x (y ∷ xs) (inr there) = inr (in_take many x xs there)
 
 pub in_drop : {A : Type 0} (many : ℕ) (x : A) (xs : List A) → In x (drop many xs) → In x xs
 in_drop zero x xs there = there
@@ -148,7 +146,7 @@ entries_rise log [] oplog rises lawful order = oplog
 entries_rise log (entry ∷ entries) oplog rises lawful order =
     entries_rise (with_entry log entry) entries
     (with_entry_keeps log entry oplog (lawful zero entry (omega arith)) (in_all (λ other. StandsBefore other entry ⊎ StandsBefore entry other) log (λ other there. order entry other (inl refl) there)))
-    (pairs_tail StandsBefore entry entries rises) (all_tail IsLawful entry entries lawful)
+    (pairs_tail StandsBefore entry entries rises) (All-tail IsLawful entry entries lawful)
     (λ one other there before. elim (with_in log entry other before) [
       | inl old ↦ order one other (inr there) old
       | inr new ↦ inl (subst (λ (e : Entry). StandsBefore e one) new (stands_first entry entries rises one there))

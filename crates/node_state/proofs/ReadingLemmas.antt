@@ -4,6 +4,7 @@ use Rattle.read_concern.specs.Shown.{shown_at}
 use Rattle.read_concern.specs.declared.reads.ReadAt.TheVariants.{Latest, At}
 use Rattle.rs_optime.specs.Later.{earlier_of}
 use Rattle.rs_optime.specs.declared.optime.OpTime.{OpTime}
+use Rattle.rs_optime.proofs.Optimes.{at_most_refl, earlier_by, earlier_right}
 use Rattle.oplog_entry.specs.Visible.{log_up_to, is_before}
 use Rattle.set_model.specs.Node.{Node}
 use Rattle.set_model.specs.Points.{applied_point, visible_point}
@@ -16,8 +17,6 @@ use Rattle.set_model.specs.declared.role.Role.{Role}
 use Rattle.set_model.specs.declared.role.Role.TheVariants.{Secondary, Candidate, Draining, Primary}
 use Rattle.node_ledger.specs.Ledger.{IsReadable}
 use Rattle.node_state.specs.Reading.{level_of}
-use Rattle.node_state.proofs.EntryLemmas.{at_most_itself}
-use Rattle.node_state.proofs.FlushLemmas.{earlier_by, earlier_right}
 
 if_not_primary : {A : Type 0} (role : Role) (a b : A) → is_primary role ≡ false → if_primary role a b ≡ b
 if_not_primary Secondary a b not = refl
@@ -58,7 +57,7 @@ at_shown node Local at commit applied is = go (is_primary node.role) refl is
         subst (IsShownAt node Local) (sym here) (record {
           readable = record {
             kept = subst (λ o. AtMost node.stable o) (if_not_primary node.role (visible_point node) node.applied not) applied;
-            reached = λ _. at_most_itself node.applied;
+            reached = λ _. at_most_refl node.applied;
           };
           shown = sym (if_not_primary node.role node.log (log_up_to node.applied node.log) not);
         })

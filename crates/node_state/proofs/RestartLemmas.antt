@@ -6,8 +6,12 @@ use Rattle.std.specs.FinMap as maps
 use Rattle.std.specs.FinSet as sets
 use Rattle.rs_optime.specs.Order.{optime_cmp}
 use Rattle.rs_optime.specs.declared.optime.OpTime.{OpTime}
+use Rattle.rs_optime.specs.Membership.{In}
+use Rattle.rs_optime.proofs.Optimes.{at_most_refl, at_most_trans}
+use Rattle.rs_optime.proofs.MembershipLemmas.{in_filter, in_all}
 use Rattle.oplog_entry.specs.Visible.{ZERO, is_before, last_of, least, entries_before, log_up_to}
 use Rattle.oplog_entry.specs.declared.entry.Entry.{Entry}
+use Rattle.oplog_entry.proofs.Optimes.{zero_at_most}
 use Rattle.oplog_store.specs.Log.{IsOplog}
 use Rattle.entry_bytes.specs.Sizes.{IsWithinEntry}
 use Rattle.visibility_point.proofs.Least.{none_listed, items_again}
@@ -27,9 +31,8 @@ use Rattle.node_ledger.specs.Ledger.{restored}
 use Rattle.node_state.specs.Seen.{Rest, seen_node}
 use Rattle.node_ledger.specs.Versions.{AreSmall}
 use Rattle.node_state.specs.WellKept.{IsWellKept, IsReadAs, coming, counted}
-use Rattle.node_state.proofs.EntryLemmas.{In, in_all, in_filter, in_has, has_in, below_last, zero_first, at_most_itself}
+use Rattle.node_state.proofs.EntryLemmas.{in_has, has_in, below_last}
 use Rattle.node_ledger.proofs.LogLemmas.{filter-all, filter-none}
-use Rattle.node_ledger.proofs.OrderLemmas.{not_then_not}
 
 -- ---- coming back
 
@@ -38,7 +41,7 @@ no_items = none_listed (sets.items (sets.empty {R = optime_cmp})) (items_again (
 
 -- a point that is an entry's, or ZERO, is no further than the last entry
 pub no_further : (log : List Entry) (at : OpTime) → IsOplog log → (at ≡ ZERO) ⊎ Has log at → AtMost at (last_of log)
-no_further log at oplog (inl none) = subst (λ o. AtMost o (last_of log)) (sym none) (zero_first (last_of log))
+no_further log at oplog (inl none) = subst (λ o. AtMost o (last_of log)) (sym none) (zero_at_most (last_of log))
 no_further log at oplog (inr has) =
     let found : (one : Entry) × In one log × (one.optime ≡ at) = has_in log at has in
     subst (λ o. AtMost o (last_of log)) found.2 (below_last log oplog.order found.0 found.1)
@@ -55,7 +58,7 @@ come_back-coherent first number records stable rollback clock below lawful well 
   config = config_lawful (kept records).config first well.config lawful;
   first = lawful;
   points = record {
-    stable = at_most_itself stable;
+    stable = at_most_refl stable;
     commit = well.stable_is;
     durable = subst (AtMost (kept records).point) (sym all_shown) (no_further (kept records).entries (kept records).point well.oplog well.there);
     there = well.there;
@@ -144,7 +147,7 @@ restorable found records stable entries well read is =
       within = subst (All IsWithinEntry) (all_counted found records read) well.entries;
       terms = well.terms;
       small = subst AreSmall (all_counted found records read) well.documents;
-      reached = not_then_not stable (kept records).point (last_of (kept records).entries) well.stable_is (no_further (kept records).entries (kept records).point well.oplog well.there);
+      reached = at_most_trans stable (kept records).point (last_of (kept records).entries) well.stable_is (no_further (kept records).entries (kept records).point well.oplog well.there);
     }
 
 -- a node that comes back is coherent, and nothing in its log isn't in its records

@@ -5,6 +5,7 @@ use Rattle.std.specs.declared.alloc.AllocError.{AllocError}
 use Rattle.bson_doc.specs.Place.{Place}
 use Rattle.bson_doc.specs.Tree.{Fields}
 use Rattle.rs_optime.specs.declared.optime.OpTime.{OpTime}
+use Rattle.rs_optime.proofs.Optimes.{at_most_refl, at_most_trans}
 use Rattle.oplog_entry.specs.Docs.{docs}
 use Rattle.oplog_entry.specs.Visible.{ZERO, is_before, last_of, log_up_to}
 use Rattle.oplog_entry.specs.declared.entry.Entry.{Entry}
@@ -34,10 +35,9 @@ use Rattle.node_state.specs.Told.{told_plan}
 use Rattle.node_state.specs.declared.turn.Told.TheVariants as tolds
 use Rattle.node_state.proofs.CoherentLemmas.{coherent-applied}
 use Rattle.node_ledger.proofs.LogLemmas.{up_to-last}
-use Rattle.node_ledger.proofs.OrderLemmas.{not_then_not}
 use Rattle.node_state.proofs.RestartLemmas.{no_further}
 use Rattle.node_state.proofs.WellKeptLemmas.{has_up_to}
-use Rattle.node_state.proofs.EntryLemmas.{at_most_itself}
+use Rattle.node_state.proofs.BeatLemmas.{secondary_is}
 
 -- ---- the node as it takes a message
 
@@ -98,12 +98,6 @@ rolled_tells raised term old at after optimes visible point removed lost oplog r
 
 -- ---- and what it needs
 
-secondary_is : (role : Role) → is_secondary role ≡ true → role ≡ Secondary
-secondary_is Secondary is = refl
-secondary_is Candidate is = cc is
-secondary_is Draining is = cc is
-secondary_is Primary is = cc is
-
 must_be : (b : Bool) (rest : Option Ignored) → cond (not b) (Some ignored.NotSecondary) rest ≡ None → b ≡ true
 must_be true rest is = refl
 must_be false rest is = cc is
@@ -112,7 +106,7 @@ later_second : (a b : OpTime) → AtMost b (later_of a b)
 later_second a b = go (is_before a b) refl
   where
     go : (c : Bool) → is_before a b ≡ c → AtMost b (cond c b a)
-    go true is = at_most_itself b
+    go true is = at_most_refl b
     go false is = is
 
 pub common_there : (log : List Entry) (after : OpTime) (optimes : List OpTime) → IsOplog log → (common_point log after optimes ≡ ZERO) ⊎ Has log (common_point log after optimes)
@@ -120,9 +114,9 @@ common_there log after optimes oplog = elim (greatest_last (is_common after opti
 
 point_reached : (log : List Entry) (point applied : OpTime) → IsOplog log → (point ≡ ZERO) ⊎ Has log point → AtMost point (later_of applied (last_of (log_up_to point log)))
 point_reached log point applied oplog there =
-    not_then_not point (last_of (log_up_to point log)) (later_of applied (last_of (log_up_to point log)))
+    at_most_trans point (last_of (log_up_to point log)) (later_of applied (last_of (log_up_to point log)))
     (no_further (log_up_to point log) point (oplog_filter (λ (e : Entry). not (is_before point e.optime)) log oplog)
-    (elim there [ inl none ↦ inl none | inr has ↦ inr (has_up_to log point point has (at_most_itself point)) ]))
+    (elim there [ inl none ↦ inl none | inr has ↦ inr (has_up_to log point point has (at_most_refl point)) ]))
     (later_second applied (last_of (log_up_to point log)))
 
 pub can_cut : (raised : Bool) (term : ℕ) (old : Node) (after : OpTime) (optimes : List OpTime) (visible point : OpTime) → IsOplog old.log

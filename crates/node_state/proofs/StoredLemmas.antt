@@ -1,6 +1,9 @@
 -- Whatever a turn stores, the node can come back with it, and the documents of the other disk stay those of its records.
 use Rattle.std.proofs.Common.{◌≡◌, ◌∙◌, ◌⊎◌, ◌≤◌, ◌<◌, ◌+◌, ◌^◌, inl, inr, ap, sym, subst, refl, arith, ℕ, Bool, true, false, cond, drop, length, Option, None, Some, IfSome, List}
 use Rattle.rs_optime.specs.declared.optime.OpTime.{OpTime}
+use Rattle.rs_optime.specs.Membership.{In}
+use Rattle.rs_optime.proofs.Optimes.{at_most_refl, at_most_trans, earlier_by, earlier_left, earlier_right}
+use Rattle.rs_optime.proofs.MembershipLemmas.{all_in}
 use Rattle.oplog_entry.specs.Visible.{ZERO, is_before, log_up_to}
 use Rattle.oplog_entry.specs.declared.entry.Entry.{Entry}
 use Rattle.member_config.specs.declared.config.Config.{Config}
@@ -13,6 +16,7 @@ use Rattle.repl_msg.specs.declared.message.VoteRefusal.{VoteRefusal}
 use Rattle.repl_msg.specs.declared.record.Kept.{Kept}
 use Rattle.repl_msg.specs.declared.record.Record.{Record}
 use Rattle.repl_msg.specs.declared.record.Record.TheVariants as records
+use Rattle.repl_msg.proofs.KeptLemmas.{kept_more}
 use Rattle.set_model.specs.declared.store.Store.{Store}
 use Rattle.set_model.specs.declared.store.Store.TheVariants as stores
 use Rattle.set_model.specs.Disk.{next_entries, next_durable, next_stable}
@@ -35,11 +39,10 @@ use Rattle.node_state.specs.WellKept.{IsWellKept, StoresWell}
 use Rattle.node_state.specs.declared.turn.Then.{Then}
 use Rattle.node_state.specs.declared.turn.Then.TheVariants.{Campaign, Drain, Flush, Checkpoint, Reconfig, VoteInTerm, VoteGiven, TookTerm, Installed, Cut}
 use Rattle.node_state.specs.declared.turn.Turn.TheVariants.{Storing}
-use Rattle.node_state.proofs.EntryLemmas.{In, all_in, has_in, at_most_itself}
+use Rattle.node_state.proofs.EntryLemmas.{has_in}
 use Rattle.node_state.proofs.FlushLemmas.{flushed_node, coherent-flushed}
 use Rattle.node_ledger.proofs.LogLemmas.{up_to-up_to}
-use Rattle.node_ledger.proofs.OrderLemmas.{not_then_not}
-use Rattle.node_state.proofs.WellKeptLemmas.{kept_more, kept_up_to, earlier_by, earlier_first, earlier_second, well_kept, well_voted, well_configured, well_cut, well_stable}
+use Rattle.node_state.proofs.WellKeptLemmas.{kept_up_to, well_kept, well_voted, well_configured, well_cut, well_stable}
 
 pub sound_seen : (ledger : Node) (rest : Rest) → IsSound ledger → IsSound (seen_node ledger rest)
 sound_seen ledger rest sound = record {
@@ -79,16 +82,16 @@ module _ (node : Node) (tally : Option Tallied) (optimes : List OpTime) (sound :
   well = well_kept node tally optimes sound coherent
 
   stable_behind : AtMost node.stable node.durable
-  stable_behind = not_then_not node.stable node.commit node.durable coherent.points.stable coherent.points.commit
+  stable_behind = at_most_trans node.stable node.commit node.durable coherent.points.stable coherent.points.commit
 
   term_is : (kept node.records).vote.term ≡ node.term
   term_is = ap (λ (v : Vote). v.term) coherent.recorded.vote
 
   stable_readable : IsReadable node node.stable
-  stable_readable = record { kept = at_most_itself node.stable; reached = λ other. subst (AtMost node.stable) (other_point node.role (visible_point node) node.applied other) sound.stable }
+  stable_readable = record { kept = at_most_refl node.stable; reached = λ other. subst (AtMost node.stable) (other_point node.role (visible_point node) node.applied other) sound.stable }
 
   next_behind : AtMost (next_stable node) node.durable
-  next_behind = not_then_not (next_stable node) node.commit node.durable (earlier_first node.commit (applied_point node)) coherent.points.commit
+  next_behind = at_most_trans (next_stable node) node.commit node.durable (earlier_left node.commit (applied_point node)) coherent.points.commit
 
   -- a vote for a member or for none, in no earlier term
   votes_well : (term : ℕ) (candidate : Option ℕ) → node.term ≤ term → term < 2 ^ 63 → IfSome candidate (λ member. member < 50) → StoresWell node (vote_record term candidate)
@@ -116,7 +119,7 @@ module _ (node : Node) (tally : Option Tallied) (optimes : List OpTime) (sound :
       record {
         well = well_kept (flushed_node node) tally (drop (length (next_entries node)) optimes) flushed_sound after;
         same =
-            kept_up_to (flushed_node node) node.stable after.recorded (not_then_not node.stable node.commit (next_durable node) after.points.stable after.points.commit)
+            kept_up_to (flushed_node node) node.stable after.recorded (at_most_trans node.stable node.commit (next_durable node) after.points.stable after.points.commit)
             ∙ sym (kept_up_to node node.stable coherent.recorded stable_behind);
         shown = kept_up_to node node.stable coherent.recorded stable_behind;
         readable = stable_readable;
@@ -130,7 +133,7 @@ module _ (node : Node) (tally : Option Tallied) (optimes : List OpTime) (sound :
     shown = kept_up_to node (next_stable node) coherent.recorded next_behind;
     readable = record {
       kept = earlier_by (AtMost node.stable) node.commit (applied_point node) coherent.points.stable sound.stable;
-      reached = λ other. subst (AtMost (next_stable node)) (other_point node.role (visible_point node) node.applied other) (earlier_second node.commit (applied_point node));
+      reached = λ other. subst (AtMost (next_stable node)) (other_point node.role (visible_point node) node.applied other) (earlier_right node.commit (applied_point node));
     };
   }
 
@@ -150,7 +153,7 @@ module _ (node : Node) (tally : Option Tallied) (optimes : List OpTime) (sound :
 
   cuts_well : (point : OpTime) → IsCut point node → StoresWell node (cut_record point)
   cuts_well point can =
-      let behind : AtMost node.stable point = not_then_not node.stable node.commit point coherent.points.stable can.commit in
+      let behind : AtMost node.stable point = at_most_trans node.stable node.commit point coherent.points.stable can.commit in
       record {
         well = well_cut node.records node.stable point behind
             (subst (λ o. (earlier_of o point ≡ ZERO) ⊎ Has (kept node.records).entries (earlier_of o point)) (sym coherent.recorded.point) (cut_there point can.there)) well;

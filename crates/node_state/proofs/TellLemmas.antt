@@ -1,11 +1,16 @@
 -- What a node tells another of its visible log.
-use Rattle.std.proofs.Common.{◌≡◌, ◌∙◌, ◌⊎◌, ◌<◌, ◌≤◌, arith, inl, inr, ap, sym, refl, ℕ, Bool, true, false, not, nat_lt, cond, filter, length, Option, None, Some, List, [], ◌∷◌}
+use Rattle.std.proofs.Common.{◌≡◌, ◌∙◌, ◌<◌, ◌≤◌, arith, inl, inr, ap, sym, refl, ℕ, Bool, true, false, not, nat_lt, cond, filter, length, Option, None, Some, List}
 use Rattle.std.specs.FinSet as sets
 use Rattle.std.proofs.lemmas.Bool.Decides.{nat_tests}
 use Rattle.rs_optime.specs.Order.{optime_cmp}
 use Rattle.rs_optime.specs.declared.optime.OpTime.{OpTime}
+use Rattle.rs_optime.specs.Membership.{In}
+use Rattle.rs_optime.proofs.Optimes.{before_at_most_trans}
+use Rattle.rs_optime.proofs.MembershipLemmas.{in_filter}
 use Rattle.oplog_entry.specs.Visible.{ZERO, is_before, last_of, least, entries_before, log_up_to}
 use Rattle.oplog_entry.specs.declared.entry.Entry.{Entry}
+use Rattle.oplog_entry.proofs.Optimes.{zero_at_most}
+use Rattle.oplog_entry.proofs.LogLemmas.{last_is}
 use Rattle.oplog_store.specs.Log.{IsOplog}
 use Rattle.oplog_store.proofs.LogLemmas.{oplog_filter}
 use Rattle.visibility_point.proofs.Least.{none_listed, items_again}
@@ -15,16 +20,9 @@ use Rattle.set_model.specs.Node.{Node}
 use Rattle.set_model.specs.Points.{visible_log, visible_point}
 use Rattle.set_model.specs.Rollback.{common_refusal}
 use Rattle.node_state.specs.Ahead.{taking}
-use Rattle.node_state.proofs.EntryLemmas.{In, in_filter, filter_in, below_last, zero_first}
+use Rattle.node_state.proofs.EntryLemmas.{filter_in, below_last}
 use Rattle.node_ledger.proofs.LogLemmas.{up_to-last}
 use Rattle.node_state.proofs.MergeLemmas.{same_log}
-use Rattle.node_ledger.proofs.OrderLemmas.{before_then_not}
-
--- the last entry, where there is one
-last_or_none : (log : List Entry) → (last_of log ≡ ZERO) ⊎ ((last : Entry) × In last log × (last.optime ≡ last_of log))
-last_or_none [] = inl refl
-last_or_none (entry ∷ []) = inr (entry, inl refl, refl)
-last_or_none (entry ∷ next ∷ log) = elim (last_or_none (next ∷ log)) [ inl none ↦ inl none | inr last ↦ inr (last.0, inr last.1, last.2) ]
 
 not_so : (b : Bool) → not b ≡ true → b ≡ false
 not_so true is = cc is
@@ -49,11 +47,11 @@ behind_shown (Some slot) log after oplog =
     point = last_of (filter (λ (e : Entry). is_before e.optime slot) log)
 
     early : (entry : Entry) → is_before after entry.optime ≡ true → is_before (last_of (filter (λ (e : Entry). is_before e.optime slot) log)) entry.optime ≡ false → is_before entry.optime slot ≡ true
-    early entry past late = elim (last_or_none (filter (λ (e : Entry). is_before e.optime slot) log)) [
+    early entry past late = elim (last_is (filter (λ (e : Entry). is_before e.optime slot) log)) [
       | inl none ↦
           let first : is_before ZERO entry.optime ≡ false = ap (λ o. is_before o entry.optime) (sym none) ∙ late in
-          let before : is_before after ZERO ≡ true = before_then_not after entry.optime ZERO past first in
-          let not_before : is_before after ZERO ≡ false = zero_first after in
+          let before : is_before after ZERO ≡ true = before_at_most_trans after entry.optime ZERO past first in
+          let not_before : is_before after ZERO ≡ false = zero_at_most after in
           absurd (cc (before, not_before))
       | inr last ↦
           let passes : is_before last.0.optime slot ≡ true = (in_filter (λ (e : Entry). is_before e.optime slot) log last.0 last.1).1 in
@@ -65,7 +63,7 @@ behind_shown (Some slot) log after oplog =
           where
             go : (d : Bool) → is_before a c ≡ d → is_before a c ≡ true
             go true is = is
-            go false is = let other : is_before b a ≡ true = before_then_not b c a before is in absurd (cc (other, late))
+            go false is = let other : is_before b a ≡ true = before_at_most_trans b c a before is in absurd (cc (other, late))
 
     over : (entry : Entry) → In entry (log_behind after (log_up_to point log)) → In entry (log_behind after shown)
     over entry there =

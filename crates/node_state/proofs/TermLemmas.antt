@@ -5,9 +5,10 @@ use Rattle.std.specs.List.{All}
 use Rattle.std.specs.Ordering.{nat_cmp}
 use Rattle.std.specs.FinMap as maps
 use Rattle.std.specs.FinSet as sets
-use Rattle.std.proofs.lemmas.List.Sums.{fold-append}
 use Rattle.rs_optime.specs.Order.{optime_cmp, is_before}
 use Rattle.rs_optime.specs.declared.optime.OpTime.{OpTime}
+use Rattle.rs_optime.specs.Membership.{In}
+use Rattle.rs_optime.proofs.Optimes.{at_most_refl, at_most_trans}
 use Rattle.oplog_entry.specs.declared.entry.Entry.{Entry}
 use Rattle.oplog_entry.specs.Visible.{least, last_of, entries_before}
 use Rattle.visibility_point.proofs.Least.{none_listed, items_again}
@@ -16,11 +17,12 @@ use Rattle.member_config.specs.Rule.{rule}
 use Rattle.member_config.specs.Voters.{voters}
 use Rattle.member_config.specs.declared.config.Config.{Config}
 use Rattle.election_core.specs.Counting.{Tallied}
-use Rattle.repl_msg.specs.Kept.{kept, with_record, nothing_kept}
+use Rattle.repl_msg.specs.Kept.{kept, with_record}
 use Rattle.repl_msg.specs.Logs.{has_entry}
 use Rattle.repl_msg.specs.declared.record.Kept.{Kept}
 use Rattle.repl_msg.specs.declared.record.Record.{Record}
 use Rattle.repl_msg.specs.declared.record.Record.TheVariants as records
+use Rattle.repl_msg.proofs.KeptLemmas.{kept_more}
 use Rattle.set_model.specs.declared.role.Role.{Role}
 use Rattle.set_model.specs.declared.role.Role.TheVariants.{Secondary, Candidate, Primary}
 use Rattle.set_model.specs.declared.writer.Writer.{Writer}
@@ -31,8 +33,6 @@ use Rattle.set_model.specs.Safety.{AtMost}
 use Rattle.node_state.specs.Coherent.{IsCoherent, IsRecorded, CountsVoters}
 use Rattle.node_state.specs.Seen.{Rest, seen_node}
 use Rattle.node_ledger.specs.Sound.{IsSound}
-use Rattle.node_state.proofs.EntryLemmas.{In, at_most_itself}
-use Rattle.node_ledger.proofs.OrderLemmas.{not_then_not}
 use Rattle.node_state.proofs.SlotLemmas.{visible_grows}
 
 -- ---- another role
@@ -54,7 +54,7 @@ coherent-turned node role slots writers applied progress voted dry tally now opt
   points = record {
     stable = old.points.stable;
     commit = old.points.commit;
-    durable = not_then_not node.durable (visible_point node) (last_of (entries_before (least (sets.items slots)) node.log)) old.points.durable grows;
+    durable = at_most_trans node.durable (visible_point node) (last_of (entries_before (least (sets.items slots)) node.log)) old.points.durable grows;
     there = old.points.there;
   };
   recorded = record { vote = old.recorded.vote; config = old.recorded.config; entries = old.recorded.entries; early = old.recorded.early; point = old.recorded.point };
@@ -91,9 +91,6 @@ coherent-kept node items term vote config tally optimes is within lawful counts 
   unkept = subst (λ (list : List Entry). optimes ≡ map (λ (e : Entry). e.optime) (filter (λ (e : Entry). not (has_entry list e.optime)) node.log)) (sym is.entries_are) old.unkept;
   counts = counts;
 }
-
-pub kept_more : (items : List Record) (item : Record) → kept (items ++ item ∷ []) ≡ with_record (kept items) item
-kept_more items item = fold-append with_record nothing_kept items (item ∷ [])
 
 pub with_vote_kept : (node : Node) (items : List Record) (term : ℕ) (vote : Option ℕ) → IsRecorded node
     → items ≡ node.records ++ records.Vote (record { term = term; candidate = vote }) ∷ [] → IsKeptWith (kept node.records) (kept items) node.first term vote node.config
@@ -163,14 +160,14 @@ pub coherent-standing : (n m : Node) (rest : Rest) (counted : Tallied) (tally : 
     → IsCoherent (seen_node m (record rest { tally = Some counted })) (Some counted) optimes
 coherent-standing n m rest counted tally optimes is voters_are old =
     subst (λ (k : Node). IsCoherent (seen_node k (record rest { tally = Some counted })) (Some counted) optimes) (sym is)
-    (coherent-turned (seen_node n rest) Candidate n.slots n.writers n.applied rest.progress counted.yes rest.dry_tally tally (Some counted) optimes (at_most_itself (visible_point n)) (λ role. (voters_are, λ none. cc none)) old)
+    (coherent-turned (seen_node n rest) Candidate n.slots n.writers n.applied rest.progress counted.yes rest.dry_tally tally (Some counted) optimes (at_most_refl (visible_point n)) (λ role. (voters_are, λ none. cc none)) old)
 
 -- a node in another role, but no candidate
 pub coherent-role : (n m : Node) (rest : Rest) (role : Role) (optimes : List OpTime)
     → m ≡ record n { role = role } → role ≢ Candidate → IsCoherent (seen_node n rest) rest.tally optimes → IsCoherent (seen_node m rest) rest.tally optimes
 coherent-role n m rest role optimes is other old =
     subst (λ (k : Node). IsCoherent (seen_node k rest) rest.tally optimes) (sym is)
-    (coherent-turned (seen_node n rest) role n.slots n.writers n.applied rest.progress (seen_node n rest).tally rest.dry_tally rest.tally rest.tally optimes (at_most_itself (visible_point n))
+    (coherent-turned (seen_node n rest) role n.slots n.writers n.applied rest.progress (seen_node n rest).tally rest.dry_tally rest.tally rest.tally optimes (at_most_refl (visible_point n))
     (λ same. absurd (other same)) old)
 
 -- a primary whose configuration in its term is kept
@@ -180,7 +177,7 @@ pub coherent-leading : (n m : Node) (rest : Rest) (items : List Record) (config 
     → IsCoherent (seen_node m (record rest { records = items; config = config; progress = maps.empty })) tally optimes
 coherent-leading n m rest items config tally optimes is config_is are old =
     let first : IsCoherent (turned (seen_node n rest) Primary n.slots n.writers n.applied maps.empty (seen_node n rest).tally rest.dry_tally) tally optimes =
-    coherent-turned (seen_node n rest) Primary n.slots n.writers n.applied maps.empty (seen_node n rest).tally rest.dry_tally tally tally optimes (at_most_itself (visible_point n)) (λ role. absurd (cc role)) old in
+    coherent-turned (seen_node n rest) Primary n.slots n.writers n.applied maps.empty (seen_node n rest).tally rest.dry_tally tally tally optimes (at_most_refl (visible_point n)) (λ role. absurd (cc role)) old in
     let node = turned (seen_node n rest) Primary n.slots n.writers n.applied maps.empty (seen_node n rest).tally rest.dry_tally in
     subst (λ (k : Node). IsCoherent (seen_node k (record rest { records = items; config = config; progress = maps.empty })) tally optimes) (sym is)
     (coherent-kept node items n.term rest.vote config tally optimes (with_config_kept node items config first.recorded are) old.vote
@@ -192,10 +189,10 @@ coherent-leading n m rest items config tally optimes is config_is are old =
 pub coherent-counted : (n : Node) (rest : Rest) (was now : Tallied) (optimes : List OpTime) → rest.tally ≡ Some was → now.voters ≡ was.voters
     → IsCoherent (seen_node n rest) rest.tally optimes → IsCoherent (seen_node n (record rest { tally = Some now })) (Some now) optimes
 coherent-counted n rest was now optimes is same old =
-    coherent-turned (seen_node n rest) n.role n.slots n.writers n.applied rest.progress now.yes rest.dry_tally rest.tally (Some now) optimes (at_most_itself (visible_point n))
+    coherent-turned (seen_node n rest) n.role n.slots n.writers n.applied rest.progress now.yes rest.dry_tally rest.tally (Some now) optimes (at_most_refl (visible_point n))
     (λ role. (same ∙ subst (λ t. IfSome t (λ (x : Tallied). x.voters ≡ voters rest.config)) is (old.counts role).0, λ none. cc none)) old
 
 pub coherent-dry : (n : Node) (rest : Rest) (dry : Option DryTally) (optimes : List OpTime) → IsCoherent (seen_node n rest) rest.tally optimes
     → IsCoherent (seen_node n (record rest { dry_tally = dry })) rest.tally optimes
 coherent-dry n rest dry optimes old =
-    coherent-turned (seen_node n rest) n.role n.slots n.writers n.applied rest.progress (seen_node n rest).tally dry rest.tally rest.tally optimes (at_most_itself (visible_point n)) old.counts old
+    coherent-turned (seen_node n rest) n.role n.slots n.writers n.applied rest.progress (seen_node n rest).tally dry rest.tally rest.tally optimes (at_most_refl (visible_point n)) old.counts old

@@ -3,15 +3,16 @@ use Rattle.std.proofs.Common.{◌≡◌, ◌≤◌, refl, arith, ℕ, Bool, true
 use Rattle.std.proofs.lemmas.Bool.Decides.{nat_tests}
 use Rattle.std.proofs.lemmas.List.{length-map}
 use Rattle.std.specs.Prelude.{nat_lt}
+use Rattle.rs_optime.proofs.MembershipLemmas.{length-passed}
 use Rattle.member_config.specs.Rule.{rule, has_wrong_count}
 use Rattle.member_config.specs.Voters.{voters}
 use Rattle.member_config.specs.declared.config.Config.{Config}
 use Rattle.member_config.specs.declared.config.Member.{Member}
+use Rattle.member_config.proofs.NumberLemmas.{length-in_order}
 use Rattle.repl_msg.specs.declared.message.Body.TheVariants as bodies
 use Rattle.set_model.specs.Node.{Node}
 use Rattle.set_model.specs.Outcome.{message_to}
 use Rattle.set_model.specs.Votes.{asks, ask_of, other_voters}
-use Rattle.node_state.proofs.NumberLemmas.{length-in_order, length-passed}
 
 few_counted : (count : ℕ) → (count == 0 || nat_lt 50 count) ≡ false → count ≤ 50
 few_counted count right = grind (arith, nat_tests)

@@ -3,8 +3,10 @@ use Rattle.std.proofs.Common.{◌≡◌, ◌∙◌, ◌⊎◌, ◌≤◌, ◌<�
 use Rattle.std.specs.Prelude.{unwrap_or}
 use Rattle.std.specs.List.{All, list_any}
 use Rattle.std.proofs.lemmas.List.Elements.{All-filter}
-use Rattle.std.proofs.lemmas.List.Sums.{fold-append}
 use Rattle.rs_optime.specs.declared.optime.OpTime.{OpTime}
+use Rattle.rs_optime.proofs.Optimes.{at_most_refl, at_most_trans, earlier_by, earlier_left, earlier_right}
+use Rattle.rs_optime.specs.Membership.{In}
+use Rattle.rs_optime.proofs.MembershipLemmas.{in_filter, all_in, in_all}
 use Rattle.oplog_entry.specs.Visible.{ZERO, is_before, log_up_to}
 use Rattle.oplog_entry.specs.declared.entry.Entry.{Entry}
 use Rattle.oplog_store.specs.Log.{IsOplog}
@@ -15,12 +17,12 @@ use Rattle.member_config.specs.Rule.{rule}
 use Rattle.election_core.specs.Counting.{Tallied}
 use Rattle.vote_store.specs.declared.vote.Vote.{Vote}
 use Rattle.version_store.specs.declared.history.Version.{Version}
-use Rattle.version_store.proofs.HistoryLemmas.{not_behind}
-use Rattle.repl_msg.specs.Kept.{kept, nothing_kept, with_record}
+use Rattle.repl_msg.specs.Kept.{kept, with_record}
 use Rattle.repl_msg.specs.Logs.{earlier_of, has_entry}
 use Rattle.repl_msg.specs.declared.record.Kept.{Kept}
 use Rattle.repl_msg.specs.declared.record.Record.{Record}
 use Rattle.repl_msg.specs.declared.record.Record.TheVariants as records
+use Rattle.repl_msg.proofs.KeptLemmas.{kept_more}
 use Rattle.set_model.specs.Disk.{has_more}
 use Rattle.set_model.specs.Node.{Node}
 use Rattle.set_model.specs.Safety.{AtMost, Has}
@@ -28,36 +30,14 @@ use Rattle.node_state.specs.Coherent.{IsCoherent, IsRecorded, is_kept}
 use Rattle.node_ledger.specs.Sound.{IsSound}
 use Rattle.node_ledger.specs.Versions.{AreSmall, IsSmall, versions_of}
 use Rattle.node_state.specs.WellKept.{IsWellKept, IsReadAs, counted}
-use Rattle.node_state.proofs.EntryLemmas.{In, all_in, in_all, in_filter, filter_in, in_has, has_in, at_most_itself}
+use Rattle.node_state.proofs.EntryLemmas.{filter_in, in_has, has_in}
 use Rattle.node_ledger.proofs.LogLemmas.{filter-all, filter-swap, up_to-up_to}
-use Rattle.node_ledger.proofs.OrderLemmas.{not_then_not}
 use Rattle.node_ledger.proofs.VersionLemmas.{up_to-from}
-
-pub kept_more : (items : List Record) (item : Record) → kept (items ++ item ∷ []) ≡ with_record (kept items) item
-kept_more items item = fold-append with_record nothing_kept items (item ∷ [])
 
 -- ---- optimes and logs
 
--- the earlier of two is one of them
-pub earlier_by : (P : OpTime → Type 0) (a b : OpTime) → P a → P b → P (earlier_of a b)
-earlier_by P a b first second = elim (is_before a b) as (λ c. P (cond c a b)) [ true ↦ first | false ↦ second ]
-
 pub earlier_itself : (a : OpTime) → earlier_of a a ≡ a
 earlier_itself a = elim (is_before a a) as (λ c. cond c a a ≡ a) [ true ↦ refl | false ↦ refl ]
-
-pub earlier_first : (a b : OpTime) → AtMost (earlier_of a b) a
-earlier_first a b = go (is_before a b) refl
-  where
-    go : (c : Bool) → is_before a b ≡ c → AtMost (cond c a b) a
-    go true is = at_most_itself a
-    go false is = is
-
-pub earlier_second : (a b : OpTime) → AtMost (earlier_of a b) b
-earlier_second a b = go (is_before a b) refl
-  where
-    go : (c : Bool) → is_before a b ≡ c → AtMost (cond c a b) b
-    go true is = not_behind a b is
-    go false is = at_most_itself b
 
 small_up_to : (at : OpTime) (log : List Entry) → IsOplog log → AreSmall log → AreSmall (log_up_to at log)
 small_up_to at log oplog small place =
@@ -88,7 +68,7 @@ kept_up_to node at recorded before =
     each entry there =
         let both : In entry node.log × (not (is_before at entry.optime) ≡ true) = in_filter (λ (e : Entry). not (is_before at e.optime)) node.log entry there in
         all_in (λ (e : Entry). is_before node.durable e.optime ≡ false → is_kept node e ≡ true) node.log entry recorded.early both.0
-        (not_then_not entry.optime at node.durable (passed (is_before at entry.optime) both.1) before)
+        (at_most_trans entry.optime at node.durable (passed (is_before at entry.optime) both.1) before)
       where
         passed : (b : Bool) → not b ≡ true → b ≡ false
         passed false is = refl
@@ -105,20 +85,20 @@ well_kept node tally optimes sound coherent = record {
   entries = subst (All IsWithinEntry) (sym counted_is) (All-filter (λ (e : Entry). not (is_before node.durable e.optime)) IsWithinEntry node.log sound.entries);
   documents = subst AreSmall (sym counted_is) (small_up_to node.durable node.log sound.oplog sound.documents);
   there = subst (λ o. (o ≡ ZERO) ⊎ Has (kept node.records).entries o) (sym coherent.recorded.point) (elim coherent.points.there [ inl none ↦ inl none | inr has ↦ inr (has_kept has) ]);
-  stable_is = subst (AtMost node.stable) (sym coherent.recorded.point) (not_then_not node.stable node.commit node.durable coherent.points.stable coherent.points.commit);
+  stable_is = subst (AtMost node.stable) (sym coherent.recorded.point) (at_most_trans node.stable node.commit node.durable coherent.points.stable coherent.points.commit);
 }
   where
     term_is : (kept node.records).vote.term ≡ node.term
     term_is = ap (λ (v : Vote). v.term) coherent.recorded.vote
 
     counted_is : counted node.records ≡ log_up_to node.durable node.log
-    counted_is = ap (λ o. log_up_to o (kept node.records).entries) coherent.recorded.point ∙ kept_up_to node node.durable coherent.recorded (at_most_itself node.durable)
+    counted_is = ap (λ o. log_up_to o (kept node.records).entries) coherent.recorded.point ∙ kept_up_to node node.durable coherent.recorded (at_most_refl node.durable)
 
     has_kept : Has node.log node.durable → Has (kept node.records).entries node.durable
     has_kept has =
         let found : (one : Entry) × In one node.log × (one.optime ≡ node.durable) = has_in node.log node.durable has in
         ap (has_entry (kept node.records).entries) (sym found.2)
-        ∙ all_in (λ (e : Entry). is_before node.durable e.optime ≡ false → is_kept node e ≡ true) node.log found.0 coherent.recorded.early found.1 (ap (is_before node.durable) found.2 ∙ at_most_itself node.durable)
+        ∙ all_in (λ (e : Entry). is_before node.durable e.optime ≡ false → is_kept node e ≡ true) node.log found.0 coherent.recorded.early found.1 (ap (is_before node.durable) found.2 ∙ at_most_refl node.durable)
 
 -- none of a list passes a test that not any passes
 no_more : (test : Entry → Bool) (log : List Entry) → list_any test log ≡ false → (entry : Entry) → In entry log → test entry ≡ false
@@ -198,7 +178,7 @@ well_cut items stable at behind there old =
       entries = subst (All IsWithinEntry) (sym counted_is) (All-filter (λ (e : Entry). not (is_before point e.optime)) IsWithinEntry (counted items) old.entries);
       documents = subst AreSmall (sym counted_is)
           (small_up_to point (counted items) (oplog_filter (λ (e : Entry). not (is_before found.point e.optime)) found.entries old.oplog) old.documents);
-      there = elim there [ inl none ↦ inl none | inr has ↦ inr (has_up_to found.entries point at has (earlier_second found.point at)) ];
+      there = elim there [ inl none ↦ inl none | inr has ↦ inr (has_up_to found.entries point at has (earlier_right found.point at)) ];
       stable_is = earlier_by (AtMost stable) found.point at old.stable_is behind;
     })
   where
@@ -210,8 +190,8 @@ well_cut items stable at behind there old =
 
     counted_is : log_up_to point (log_up_to at found.entries) ≡ log_up_to point (counted items)
     counted_is =
-        up_to-up_to point at found.entries (earlier_second found.point at)
-        ∙ sym (up_to-up_to point found.point found.entries (earlier_first found.point at))
+        up_to-up_to point at found.entries (earlier_right found.point at)
+        ∙ sym (up_to-up_to point found.point found.entries (earlier_left found.point at))
 
 -- documents as of another optime
 pub well_stable : (items : List Record) (stable at : OpTime) → AtMost at (kept items).point → IsWellKept items stable → IsWellKept items at

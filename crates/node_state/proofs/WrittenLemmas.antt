@@ -1,13 +1,17 @@
 -- A primary's writes keep the node coherent.
-use Rattle.std.proofs.Common.{◌≡◌, ◌≤◌, ◌<◌, inl, inr, sym, subst, refl, arith, ℕ, Bool, true, false, Option, List}
+use Rattle.std.proofs.Common.{◌≡◌, ◌≤◌, ◌<◌, inl, inr, sym, subst, arith, ℕ, true, Option, List}
 use Rattle.std.specs.List.{All}
 use Rattle.std.specs.FinMap as maps
 use Rattle.std.specs.FinSet as sets
 use Rattle.rs_optime.specs.declared.optime.OpTime.{OpTime}
+use Rattle.rs_optime.proofs.Optimes.{before_both, at_most_before_trans}
+use Rattle.rs_optime.specs.Membership.{In}
+use Rattle.rs_optime.proofs.MembershipLemmas.{contains_in, all_in, in_all, in_more}
 use Rattle.oplog_entry.specs.declared.entry.Entry.{Entry}
 use Rattle.oplog_entry.specs.declared.entry.Op.{Op}
 use Rattle.oplog_entry.specs.Visible.{ZERO, is_before, least, entries_before}
-use Rattle.oplog_entry.proofs.Optimes.{before_both}
+use Rattle.oplog_entry.proofs.Optimes.{zero_at_most}
+use Rattle.oplog_entry.proofs.LogLemmas.{in_with}
 use Rattle.oplog_store.specs.Log.{IsOplog, with_entry}
 use Rattle.election_core.specs.Counting.{Tallied}
 use Rattle.set_model.specs.Changes.{logged, opened}
@@ -16,51 +20,40 @@ use Rattle.set_model.specs.Points.{visible_point, next_optime}
 use Rattle.set_model.specs.Safety.{AtMost}
 use Rattle.set_model.specs.Writers.{settled, aborted}
 use Rattle.set_model.specs.declared.writer.Writer.TheVariants.{Open, Done}
+use Rattle.set_model.proofs.SeenLemmas.{next_past}
 use Rattle.node_tables.specs.Unkept.{with_optime}
 use Rattle.node_state.specs.Coherent.{IsCoherent}
 use Rattle.node_ledger.specs.Kept.{AreApart, IsPending, FitsBeside}
 use Rattle.node_state.specs.Seen.{Rest, seen_node}
 use Rattle.node_ledger.specs.Sound.{IsSound}
 use Rattle.node_ledger.specs.Writers.{HasOpen}
-use Rattle.node_state.proofs.EntryLemmas.{In, all_in, in_all, in_with, last_before, zero_first}
-use Rattle.node_ledger.proofs.OrderLemmas.{not_then_not}
-use Rattle.node_state.proofs.SlotLemmas.{in_more, in_fewer, contains_in, in_visible, visible_grows}
+use Rattle.node_state.proofs.EntryLemmas.{last_before}
+use Rattle.node_state.proofs.SlotLemmas.{in_fewer, in_visible, visible_grows}
 use Rattle.node_state.proofs.CoherentLemmas.{coherent-slots, coherent-written}
 
 -- ---- the next optime
-
-next_later : (node : Node) → node.seen < (next_optime node).ts
-next_later node = omega arith
 
 before_next : (node : Node) → IsSound node → (entry : Entry) → In entry node.log → is_before entry.optime (next_optime node) ≡ true
 before_next node sound entry there =
     let term : entry.optime.term ≤ node.term = all_in (λ (e : Entry). e.optime.term ≤ node.term) node.log entry sound.terms there in
     let seen : entry.optime.ts ≤ node.seen = all_in (λ (e : Entry). e.optime.ts ≤ node.seen) node.log entry sound.marked there in
-    let later : node.seen < (next_optime node).ts = next_later node in
+    let later : node.seen < (next_optime node).ts = next_past node in
     before_both entry.optime (next_optime node) term (omega (arith, seen, later))
 
 fits_next : (node : Node) (op : Op) → IsSound node → All (FitsBeside (record { optime = next_optime node; op = op })) node.log
 fits_next node op sound = in_all (FitsBeside (record { optime = next_optime node; op = op })) node.log (λ entry there.
     let seen : entry.optime.ts ≤ node.seen = all_in (λ (e : Entry). e.optime.ts ≤ node.seen) node.log entry sound.marked there in
-    let later : node.seen < (next_optime node).ts = next_later node in
+    let later : node.seen < (next_optime node).ts = next_past node in
     inl (record { earlier = omega (arith, seen, later); term = all_in (λ (e : Entry). e.optime.term ≤ node.term) node.log entry sound.terms there }))
-
--- at or before what is before a third
-most_then_before : (a b c : OpTime) → AtMost a b → is_before b c ≡ true → is_before a c ≡ true
-most_then_before a b c most before = go (is_before a c) refl
-  where
-    go : (d : Bool) → is_before a c ≡ d → is_before a c ≡ true
-    go true is = is
-    go false is = let late : is_before b c ≡ false = not_then_not c a b is most in absurd (cc (late, before))
 
 -- what is durable is before an optime that is behind each visible entry
 durable_before : (node : Node) (at : OpTime) → AtMost node.durable (visible_point node) → is_before ZERO at ≡ true
     → ((entry : Entry) → In entry (entries_before (least (sets.items node.slots)) node.log) → is_before entry.optime at ≡ true) → is_before node.durable at ≡ true
 durable_before node at durable first each =
-    most_then_before node.durable (visible_point node) at durable (last_before (entries_before (least (sets.items node.slots)) node.log) at first each)
+    at_most_before_trans node.durable (visible_point node) at durable (last_before (entries_before (least (sets.items node.slots)) node.log) at first each)
 
 zero_before : (stable at : OpTime) → is_before stable at ≡ true → is_before ZERO at ≡ true
-zero_before stable at behind = most_then_before ZERO stable at (zero_first stable) behind
+zero_before stable at behind = at_most_before_trans ZERO stable at (zero_at_most stable) behind
 
 -- ---- each write
 
@@ -70,7 +63,7 @@ coherent-logged n m rest op tally optimes is sound after old =
     subst (λ (k : Node). IsCoherent (seen_node k rest) tally (with_optime optimes (next_optime n))) (sym is)
     (coherent-written (seen_node n rest) (record { optime = next_optime n; op = op }) n.slots n.writers (next_optime n).ts tally optimes sound.oplog
     (record {
-      behind = durable_before (seen_node n rest) (next_optime n) old.points.durable (before_both ZERO (next_optime n) (omega arith) (omega (arith, next_later n)))
+      behind = durable_before (seen_node n rest) (next_optime n) old.points.durable (before_both ZERO (next_optime n) (omega arith) (omega (arith, next_past n)))
           (λ entry there. before_next n sound entry (in_visible (sets.items n.slots) n.log entry there).0);
       fits = fits_next n op sound;
       grows = visible_grows (sets.items n.slots) (sets.items n.slots) n.log (with_entry n.log (record { optime = next_optime n; op = op })) (subst (λ (k : Node). IsOplog k.log) is after.oplog)

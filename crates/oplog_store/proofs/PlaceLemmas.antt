@@ -1,7 +1,7 @@
 -- Entries at the places of a log.
 use Rattle.std.proofs.Common.{◌≡◌, ◌≢◌, ◌∙◌, ◌<◌, ◌≤◌, ◌+◌, ◌-◌, inl, inr, ap, sym, subst, refl, arith, rules, true, false, List, [], ◌∷◌, ◌++◌, ℕ, suc, zero, length, take, Some, None, Option, IfNone}
 use Rattle.std.proofs.lemmas.List.{append-nil, append_assoc, get_or_default}
-use Rattle.std.proofs.lemmas.List.Elements.{All-append}
+use Rattle.std.proofs.lemmas.List.Elements.{All-append, All-cons, All-tail}
 use Rattle.std.proofs.lemmas.List.Kept.{AllPairs-cons}
 use Rattle.std.proofs.lemmas.Option.{slice_get-get_or}
 use Rattle.std.specs.Prelude.{nat_lt, slice_get, slice_set, slice_index_or}
@@ -11,14 +11,14 @@ use Rattle.rs_optime.specs.declared.optime.OpTime.{OpTime}
 use Rattle.oplog_entry.specs.declared.entry.Entry.{Entry}
 use Rattle.oplog_entry.specs.Lawful.{IsLawful}
 use Rattle.oplog_entry.specs.Visible.{is_before, last_of, log_up_to}
-use Rattle.oplog_entry.proofs.Optimes.{before_too}
 use Rattle.std.proofs.Math.Nat.{eq-or-lt_of_le}
 use Rattle.std.proofs.Math.Seq.{take-suc}
+use Rattle.rs_optime.proofs.Optimes.{before_too}
 use Rattle.oplog_store.specs.Log.{IsOplog, StandsBefore, with_entry}
 use Rattle.oplog_store.specs.Places.{AllPrecede, IsBehind, IsHeld, Moved, Placed, Precedes, StandsFirst, optime_of, written}
 use Rattle.oplog_store.specs.declared.places.Place.{Place}
 use Rattle.oplog_store.specs.declared.places.Place.TheVariants.{Open, Written, Closed}
-use Rattle.oplog_store.proofs.Keeps.{all_cons, all_tail, pairs_head, pairs_tail, with_last}
+use Rattle.oplog_store.proofs.Keeps.{pairs_head, pairs_tail, with_last}
 use Rattle.oplog_store.proofs.LogLemmas.{earlier_of, found_there, later_of}
 
 pub precedes_on : (a b c : OpTime) → Precedes a b → Precedes b c → Precedes a c
@@ -28,16 +28,16 @@ precedes_on a b c one two = record { earlier = omega (arith, one.earlier, two.ea
 pub all_at : {X : Type 0} (P : X → Type 0) (xs : List X) (i : ℕ) (x : X) → slice_get xs i ≡ Some x → All P xs → P x
 all_at P [] i x is all = absurd (cc is)
 all_at P (y ∷ ys) zero x is all = let same : y ≡ x = cc in subst P same (all zero y (omega arith))
-all_at P (y ∷ ys) (suc i) x is all = all_at P ys i x is (all_tail P y ys all)
+all_at P (y ∷ ys) (suc i) x is all = all_at P ys i x is (All-tail P y ys all)
 
 all_one : {X : Type 0} (P : X → Type 0) (x : X) → P x → All P (x ∷ [])
-all_one P x here = all_cons P x [] here (λ k d within. absurd (omega arith))
+all_one P x here = All-cons P x [] here (λ k d within. absurd (omega arith))
 
 pub all_front : {X : Type 0} (P : X → Type 0) (one two : List X) → All P (one ++ two) → All P one
 all_front P [] two all = λ k d within. absurd (omega arith)
-all_front P (x ∷ one) two all = all_cons P x one (all zero x (omega arith)) (all_front P one two (all_tail P x (one ++ two) all))
+all_front P (x ∷ one) two all = All-cons P x one (all zero x (omega arith)) (all_front P one two (All-tail P x (one ++ two) all))
 
-pairs_front : {X : Type 0} (R : X → X → Type 0) (one two : List X) → AllPairs R (one ++ two) → AllPairs R one
+pub pairs_front : {X : Type 0} (R : X → X → Type 0) (one two : List X) → AllPairs R (one ++ two) → AllPairs R one
 pairs_front R [] two pairs = λ i j d less within. absurd (omega arith)
 pairs_front R (x ∷ one) two pairs =
     AllPairs-cons R x one (all_front (R x) one two (pairs_head R x (one ++ two) pairs)) (pairs_front R one two (pairs_tail R x (one ++ two) pairs))
@@ -49,14 +49,14 @@ pub pairs_last : {X : Type 0} (R : X → X → Type 0) (xs : List X) (x : X) →
 pairs_last R [] x before pairs = λ i j d less within. absurd (omega arith)
 pairs_last R (y ∷ ys) x before pairs =
     AllPairs-cons R y (ys ++ x ∷ []) (All-append (R y) ys (x ∷ []) (pairs_head R y ys pairs) (all_one (R y) x (before zero y (omega arith))))
-    (pairs_last R ys x (all_tail (λ z. R z x) y ys before) (pairs_tail R y ys pairs))
+    (pairs_last R ys x (All-tail (λ z. R z x) y ys before) (pairs_tail R y ys pairs))
 
 -- one element in place of another
 set_all : {X : Type 0} (P : X → Type 0) (xs : List X) (i : ℕ) (x y : X) → slice_get xs i ≡ Some y → (P y → P x) → All P xs → All P (slice_set xs i x)
 set_all P [] i x y is as_well all = absurd (cc is)
 set_all P (z ∷ zs) zero x y is as_well all =
-    let same : z ≡ y = cc in all_cons P x zs (as_well (subst P same (all zero z (omega arith)))) (all_tail P z zs all)
-set_all P (z ∷ zs) (suc i) x y is as_well all = all_cons P z (slice_set zs i x) (all zero z (omega arith)) (set_all P zs i x y is as_well (all_tail P z zs all))
+    let same : z ≡ y = cc in All-cons P x zs (as_well (subst P same (all zero z (omega arith)))) (All-tail P z zs all)
+set_all P (z ∷ zs) (suc i) x y is as_well all = All-cons P z (slice_set zs i x) (all zero z (omega arith)) (set_all P zs i x y is as_well (All-tail P z zs all))
 
 set_rises : (places : List Place) (i : ℕ) (x y : Place) → slice_get places i ≡ Some y → optime_of x ≡ optime_of y → AllPairs StandsFirst places
     → AllPairs StandsFirst (slice_set places i x)
@@ -93,7 +93,7 @@ with_front [] log entry early = refl
 with_front (other ∷ front) log entry early =
     let less : other.optime.ts < entry.optime.ts = early zero other (omega arith) in
     let test : nat_lt other.optime.ts entry.optime.ts ≡ true = grind arith in
-    rw test (ap (λ rest. other ∷ rest) (with_front front log entry (all_tail (λ (x : Entry). x.optime.ts < entry.optime.ts) other front early)))
+    rw test (ap (λ rest. other ∷ rest) (with_front front log entry (All-tail (λ (x : Entry). x.optime.ts < entry.optime.ts) other front early)))
 
 -- and before those that are later
 with_first : (log : List Entry) (entry : Entry) → All (λ other. entry.optime.ts < other.optime.ts) log → with_entry log entry ≡ entry ∷ log
@@ -106,10 +106,10 @@ with_first (other ∷ log) entry late =
 -- what is true of each place is true of each entry that is written
 pub written_all : (P : Entry → Type 0) (Q : Place → Type 0) → ((entry : Entry) → Q (Written entry) → P entry) → (places : List Place) → All Q places → All P (written places)
 written_all P Q so [] all = λ k d within. absurd (omega arith)
-written_all P Q so (Open at ∷ places) all = written_all P Q so places (all_tail Q (Open at) places all)
-written_all P Q so (Closed at ∷ places) all = written_all P Q so places (all_tail Q (Closed at) places all)
+written_all P Q so (Open at ∷ places) all = written_all P Q so places (All-tail Q (Open at) places all)
+written_all P Q so (Closed at ∷ places) all = written_all P Q so places (All-tail Q (Closed at) places all)
 written_all P Q so (Written entry ∷ places) all =
-    all_cons P entry (written places) (so entry (all zero (Written entry) (omega arith))) (written_all P Q so places (all_tail Q (Written entry) places all))
+    All-cons P entry (written places) (so entry (all zero (Written entry) (omega arith))) (written_all P Q so places (All-tail Q (Written entry) places all))
 
 pub written_append : (one two : List Place) → written (one ++ two) ≡ written one ++ written two
 written_append [] two = refl
@@ -234,7 +234,7 @@ stand_before (entry ∷ next ∷ log) at order before =
     let rest : All (λ (e : Entry). Precedes e.optime at) (next ∷ log) = stand_before (next ∷ log) at (pairs_tail StandsBefore entry (next ∷ log) order) before in
     let first : StandsBefore entry next = pairs_head StandsBefore entry (next ∷ log) order zero entry (omega arith) in
     let then_next : Precedes next.optime at = rest zero entry (omega arith) in
-    all_cons (λ (e : Entry). Precedes e.optime at) entry (next ∷ log) (record { earlier = omega (arith, first.earlier, then_next.earlier); term = omega (arith, first.term, then_next.term) }) rest
+    All-cons (λ (e : Entry). Precedes e.optime at) entry (next ∷ log) (record { earlier = omega (arith, first.earlier, then_next.earlier); term = omega (arith, first.term, then_next.term) }) rest
 
 -- the same where no place is kept
 pub all_precede_end : (settled : List Entry) (places : List Place) (last at : OpTime) → places ≡ [] → IsHeld settled places → last ≡ last_of (settled ++ written places)
@@ -288,7 +288,7 @@ moved_entry settled entry rest spare held some =
         rise = pairs_tail StandsFirst (Written entry) rest held.rise;
         behind = λ k d within.
             All-append (λ (other : Entry). Precedes other.optime (optime_of (slice_index_or rest k d))) settled (entry ∷ [])
-            (all_tail (IsBehind settled) (Written entry) rest held.behind k d within)
+            (All-tail (IsBehind settled) (Written entry) rest held.behind k d within)
             (all_one (λ (other : Entry). Precedes other.optime (optime_of (slice_index_or rest k d))) entry (pairs_head StandsFirst (Written entry) rest held.rise k d within));
       };
       entries = append_assoc settled (entry ∷ []) (written rest);
@@ -300,7 +300,7 @@ held_tail : (settled : List Entry) (first : Place) (rest : List Place) → writt
 held_tail settled first rest same held = record {
   oplog = subst (λ log. IsOplog (settled ++ log)) same held.oplog;
   rise = pairs_tail StandsFirst first rest held.rise;
-  behind = all_tail (IsBehind settled) first rest held.behind;
+  behind = All-tail (IsBehind settled) first rest held.behind;
 }
 
 pub moved_empty : (settled : List Entry) (first : Place) (rest : List Place) (spare : ℕ) → written (first ∷ rest) ≡ written rest → IsHeld settled (first ∷ rest)
@@ -351,14 +351,14 @@ none_at (place ∷ places) zero at rise front back here = first place refl
     first : (own : Place) → own ≡ place → All (λ (entry : Entry). entry.optime ≢ at) (written (own ∷ places))
     first (Open other) is = later_apart places at late
     first (Closed other) is = later_apart places at late
-    first (Written entry) is = all_cons (λ (e : Entry). e.optime ≢ at) entry (written places) (here entry (ap (λ (p : Place). Some p) (sym is))) (later_apart places at late)
+    first (Written entry) is = All-cons (λ (e : Entry). e.optime ≢ at) entry (written places) (here entry (ap (λ (p : Place). Some p) (sym is))) (later_apart places at late)
 none_at (Open other ∷ places) (suc i) at rise front back here =
     none_at places i at (pairs_tail StandsFirst (Open other) places rise) (λ k d one two. front (suc k) d (omega arith) (omega arith)) (λ k d one two. back (suc k) d (omega arith) (omega arith)) here
 none_at (Closed other ∷ places) (suc i) at rise front back here =
     none_at places i at (pairs_tail StandsFirst (Closed other) places rise) (λ k d one two. front (suc k) d (omega arith) (omega arith)) (λ k d one two. back (suc k) d (omega arith) (omega arith)) here
 none_at (Written entry ∷ places) (suc i) at rise front back here =
     let less : entry.optime.ts < at.ts = front zero (Written entry) (omega arith) (omega arith) in
-    all_cons (λ (e : Entry). e.optime ≢ at) entry (written places) (λ same. let ts : entry.optime.ts ≡ at.ts = ap (λ (o : OpTime). o.ts) same in absurd (omega arith))
+    All-cons (λ (e : Entry). e.optime ≢ at) entry (written places) (λ same. let ts : entry.optime.ts ≡ at.ts = ap (λ (o : OpTime). o.ts) same in absurd (omega arith))
     (none_at places i at (pairs_tail StandsFirst (Written entry) places rise) (λ k d one two. front (suc k) d (omega arith) (omega arith)) (λ k d one two. back (suc k) d (omega arith) (omega arith)) here)
 
 -- a place without an entry adds none
@@ -419,7 +419,7 @@ still_later at one two next late = let ts : one.ts < two.ts = next.earlier in le
 
 all_late : (at : OpTime) (log : List Entry) → All (λ (entry : Entry). is_before at entry.optime ≡ true) log → log_up_to at log ≡ []
 all_late at [] all = refl
-all_late at (entry ∷ log) all = rw (all zero entry (omega arith)) (all_late at log (all_tail (λ (e : Entry). is_before at e.optime ≡ true) entry log all))
+all_late at (entry ∷ log) all = rw (all zero entry (omega arith)) (all_late at log (All-tail (λ (e : Entry). is_before at e.optime ≡ true) entry log all))
 
 -- where the first place is behind an optime, no entry is up to there
 pub none_up_to : (places : List Place) (first : Place) (at : OpTime) → AllPairs StandsFirst places → slice_get places 0 ≡ Some first → is_before at (optime_of first) ≡ true
@@ -430,7 +430,7 @@ none_up_to (place ∷ rest) first at rise is late =
     let here : is_before at (optime_of place) ≡ true = ap (λ p. is_before at (optime_of p)) same ∙ late in
     all_late at (written (place ∷ rest))
     (written_all (λ entry. is_before at entry.optime ≡ true) (λ p. is_before at (optime_of p) ≡ true) (λ entry h. h) (place ∷ rest)
-    (all_cons (λ p. is_before at (optime_of p) ≡ true) place rest here
+    (All-cons (λ p. is_before at (optime_of p) ≡ true) place rest here
     (λ k d within. still_later at (optime_of place) (optime_of (slice_index_or rest k d)) (pairs_head StandsFirst place rest rise k d within) here)))
 
 -- the entries at one place more

@@ -1,14 +1,14 @@
 -- What is visible of a log is the log up to its visible optime.
 use Rattle.std.proofs.Common.{◌≡◌, ◌∙◌, ap, sym, refl, subst, arith, Bool, true, false, not, cond, filter, List, [], ◌∷◌, Option, None, Some, zero}
 use Rattle.std.specs.List.{All, AllPairs}
-use Rattle.std.proofs.lemmas.List.Elements.{All-filter}
+use Rattle.std.proofs.lemmas.List.Elements.{All-filter, All-tail}
 use Rattle.rs_optime.specs.declared.optime.OpTime.{OpTime}
+use Rattle.rs_optime.proofs.Optimes.{before_too, later_time}
 use Rattle.oplog_entry.specs.declared.entry.Entry.{Entry}
 use Rattle.oplog_entry.specs.Visible.{ZERO, is_before, last_of, entries_before, log_up_to}
+use Rattle.oplog_entry.proofs.LogLemmas.{stands_before, stands_most}
 use Rattle.oplog_store.specs.Log.{IsOplog, StandsBefore}
-use Rattle.oplog_store.proofs.Keeps.{all_tail, pairs_tail, pairs_head}
-use Rattle.oplog_store.proofs.LogLemmas.{not_before}
-use Rattle.oplog_store.proofs.Optimes.{later_time, before_both, before_too}
+use Rattle.oplog_store.proofs.Keeps.{pairs_tail, pairs_head}
 use Rattle.part_laws.specs.Logs.{AreBehindZero}
 
 -- what passes for an entry passes for those before it
@@ -22,12 +22,12 @@ none_up_to : (at : OpTime) (log : List Entry) → All (λ entry. is_before at en
 none_up_to at [] all = refl
 none_up_to at (entry ∷ log) all =
     ap (λ b. cond (not b) (entry ∷ log_up_to at log) (log_up_to at log)) (all zero entry (omega arith))
-    ∙ none_up_to at log (all_tail (λ e. is_before at e.optime ≡ true) entry log all)
+    ∙ none_up_to at log (All-tail (λ e. is_before at e.optime ≡ true) entry log all)
 
 none_pass : (p : Entry → Bool) (log : List Entry) → All (λ entry. p entry ≡ false) log → filter p log ≡ []
 none_pass p [] all = refl
 none_pass p (entry ∷ log) all =
-    ap (λ b. cond b (entry ∷ filter p log) (filter p log)) (all zero entry (omega arith)) ∙ none_pass p log (all_tail (λ e. p e ≡ false) entry log all)
+    ap (λ b. cond b (entry ∷ filter p log) (filter p log)) (all zero entry (omega arith)) ∙ none_pass p log (All-tail (λ e. p e ≡ false) entry log all)
 
 -- ---- two entries
 
@@ -38,17 +38,9 @@ fails_later p earlier one two before fails = go (p two) refl
     go true is = let passes : p one ≡ true = earlier one two before is in absurd (cc)
     go false is = refl
 
-comes_before : (one two : Entry) → StandsBefore one two → is_before one.optime two.optime ≡ true
-comes_before one two before = before_both one.optime two.optime before.term before.earlier
-
-comes_after : (one two : Entry) → StandsBefore one two → is_before two.optime one.optime ≡ false
-comes_after one two before =
-    let ts = before.earlier in
-    not_before two.optime one.optime two.optime (omega arith) before.term (itself two.optime)
-
 last_after : (first entry : Entry) (log : List Entry) → All (StandsBefore first) (entry ∷ log) → is_before (last_of (entry ∷ log)) first.optime ≡ false
-last_after first entry [] all = comes_after first entry (all zero entry (omega arith))
-last_after first entry (next ∷ log) all = last_after first next log (all_tail (StandsBefore first) entry (next ∷ log) all)
+last_after first entry [] all = stands_most first entry (all zero entry (omega arith))
+last_after first entry (next ∷ log) all = last_after first next log (All-tail (StandsBefore first) entry (next ∷ log) all)
 
 -- ---- a log
 
@@ -58,7 +50,7 @@ one_more : (p : Entry → Bool) → PassesEarlier p → (entry : Entry) (rest : 
 one_more p earlier entry rest after zeros true [] is kept_is so_far =
     sym (
     ap (λ b. cond (not b) (entry ∷ log_up_to entry.optime rest) (log_up_to entry.optime rest)) (itself entry.optime)
-    ∙ ap (λ log. entry ∷ log) (none_up_to entry.optime rest (λ k d within. comes_before entry _ (after k d within)))
+    ∙ ap (λ log. entry ∷ log) (none_up_to entry.optime rest (λ k d within. stands_before entry _ (after k d within)))
     )
 one_more p earlier entry rest after zeros true (x ∷ xs) is kept_is so_far =
     let last = last_of (x ∷ xs) in
@@ -74,7 +66,7 @@ up_to_last : (p : Entry → Bool) → PassesEarlier p → (log : List Entry) →
 up_to_last p earlier [] order zeros = refl
 up_to_last p earlier (entry ∷ rest) order zeros =
     one_more p earlier entry rest (pairs_head StandsBefore entry rest order) zeros (p entry) (filter p rest) refl refl
-    (up_to_last p earlier rest (pairs_tail StandsBefore entry rest order) (all_tail (λ e. is_before ZERO e.optime ≡ true) entry rest zeros))
+    (up_to_last p earlier rest (pairs_tail StandsBefore entry rest order) (All-tail (λ e. is_before ZERO e.optime ≡ true) entry rest zeros))
 
 all_pass : (log : List Entry) → filter (λ _. true) log ≡ log
 all_pass [] = refl

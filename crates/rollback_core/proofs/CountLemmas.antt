@@ -2,20 +2,21 @@
 use Rattle.std.proofs.Common.{◌≡◌, ◌∙◌, ◌<◌, ap, sym, subst, refl, arith, Bool, true, false, ◌||◌, List, [], ◌∷◌, ℕ, zero, suc, ◌+◌, length, inl, inr}
 use Rattle.std.proofs.lemmas.Bool.{or_cases}
 use Rattle.std.specs.List.{All}
+use Rattle.std.proofs.lemmas.List.Elements.{All-tail}
 use Rattle.rs_optime.specs.declared.optime.OpTime.{OpTime}
+use Rattle.rs_optime.proofs.Optimes.{before_both, at_most_refl}
 use Rattle.oplog_entry.specs.declared.entry.Entry.{Entry}
 use Rattle.oplog_entry.specs.Lawful.{IsLawful}
 use Rattle.oplog_entry.specs.Visible.{is_before}
 use Rattle.oplog_store.specs.Log.{IsOplog, StandsBefore}
-use Rattle.oplog_store.proofs.Keeps.{all_tail, pairs_head, pairs_tail}
-use Rattle.oplog_store.proofs.Optimes.{before_both}
+use Rattle.oplog_store.proofs.Keeps.{pairs_head, pairs_tail}
 use Rattle.repl_msg.specs.Logs.{same_optime, has_entry}
 use Rattle.repl_msg.proofs.HasLemmas.{same_is}
 use Rattle.rollback_core.specs.Plan.{is_past, stands_at, IsCountUpTo}
-use Rattle.rollback_core.proofs.Greatest.{not_itself, stands_behind}
+use Rattle.rollback_core.proofs.Greatest.{stands_behind}
 
 tail_oplog : (entry : Entry) (log : List Entry) → IsOplog (entry ∷ log) → IsOplog log
-tail_oplog entry log oplog = record { order = pairs_tail StandsBefore entry log oplog.order; lawful = all_tail IsLawful entry log oplog.lawful }
+tail_oplog entry log oplog = record { order = pairs_tail StandsBefore entry log oplog.order; lawful = All-tail IsLawful entry log oplog.lawful }
 
 -- where the first is past an optime, none has it
 none_has : (log : List Entry) (at : OpTime) → IsOplog log → (0 < length log → is_past log 0 at ≡ true) → has_entry log at ≡ false
@@ -27,7 +28,7 @@ none_has (entry ∷ log) at oplog first = go (has_entry (entry ∷ log) at) refl
 
     go : (b : Bool) → has_entry (entry ∷ log) at ≡ b → has_entry (entry ∷ log) at ≡ false
     go true is = elim (or_cases _ _ is) [
-      | inl same ↦ let late : is_before at entry.optime ≡ false = ap (is_before at) (same_is entry.optime at same) ∙ not_itself at in absurd (cc (past, late))
+      | inl same ↦ let late : is_before at entry.optime ≡ false = ap (is_before at) (same_is entry.optime at same) ∙ at_most_refl at in absurd (cc (past, late))
       | inr there ↦ let late : is_before at entry.optime ≡ false = stands_behind entry log at (pairs_head StandsBefore entry log oplog.order) there in absurd (cc (past, late))
     ]
     go false is = is
@@ -37,7 +38,7 @@ past_behind : (entry : Entry) (log : List Entry) (n : ℕ) → All (StandsBefore
 past_behind entry [] n behind within = absurd (omega arith)
 past_behind entry (next ∷ log) zero behind within =
     let before : StandsBefore entry next = behind zero next (omega arith) in before_both entry.optime next.optime before.term before.earlier
-past_behind entry (next ∷ log) (suc n) behind within = past_behind entry log n (all_tail (StandsBefore entry) next log behind) (omega arith)
+past_behind entry (next ∷ log) (suc n) behind within = past_behind entry log n (All-tail (StandsBefore entry) next log behind) (omega arith)
 
 -- where the next is past an optime and the last isn't, the log has it if that is the last one's
 last_has : (log : List Entry) (n : ℕ) (at : OpTime) → IsOplog log → n < length log → is_past log n at ≡ false

@@ -1,15 +1,18 @@
 -- The greatest entry of a log that passes a test.
 use Rattle.std.proofs.Common.{◌≡◌, ◌∙◌, ◌⊎◌, inl, inr, ap, sym, refl, arith, Bool, true, false, cond, not, ◌&&◌, ◌||◌, List, [], ◌∷◌, zero}
+use Rattle.std.proofs.Math.Bool.{or-false}
 use Rattle.std.proofs.lemmas.Bool.{and_parts, and_from, or_cases, or_left, or_right, cases_Bool}
 use Rattle.std.specs.List.{filter, list_any, All}
+use Rattle.std.proofs.lemmas.List.Elements.{All-tail}
 use Rattle.rs_optime.specs.declared.optime.OpTime.{OpTime}
+use Rattle.rs_optime.proofs.Optimes.{before_parts, at_most_refl, at_most_antisym, at_most_trans, before_at_most}
 use Rattle.oplog_entry.specs.declared.entry.Entry.{Entry}
 use Rattle.oplog_entry.specs.Lawful.{IsLawful}
 use Rattle.oplog_entry.specs.Visible.{ZERO, is_before, last_of, log_up_to}
+use Rattle.oplog_entry.proofs.Optimes.{is_zero}
 use Rattle.oplog_store.specs.Log.{IsOplog, StandsBefore}
-use Rattle.oplog_store.proofs.Keeps.{all_tail, pairs_head, pairs_tail}
+use Rattle.oplog_store.proofs.Keeps.{pairs_head, pairs_tail}
 use Rattle.oplog_store.proofs.LogLemmas.{oplog_filter}
-use Rattle.oplog_store.proofs.Optimes.{before_by, not_before_by, later_term, later_time}
 use Rattle.repl_msg.specs.Logs.{same_optime, has_entry}
 use Rattle.repl_msg.proofs.HasLemmas.{same_is, same_itself, has_filter}
 use Rattle.repl_msg.specs.Rollback.{is_common, common_point}
@@ -21,39 +24,6 @@ pub record IsGreatest (test : OpTime → Bool) (log : List Entry) (point : OpTim
   pub first : (other : OpTime) → has_entry log other ≡ true → test other ≡ true → is_before point other ≡ false
 
 -- ---- optimes
-
-pub not_itself : (a : OpTime) → is_before a a ≡ false
-not_itself a = later_time a a refl (omega arith)
-
--- neither is before the other
-one_of_both : (a b : OpTime) → is_before a b ≡ false → is_before b a ≡ false → a ≡ b
-one_of_both a b one two = elim (not_before_by a b one) [
-  | inl less ↦ elim (not_before_by b a two) [ inl more ↦ absurd (omega arith) | inr same ↦ absurd (omega (arith, same.0)) ]
-  | inr same ↦ elim (not_before_by b a two) [
-    | inl more ↦ absurd (omega (arith, same.0))
-    | inr again ↦
-        let ts : a.ts ≡ b.ts = omega (arith, same.1, again.1) in
-        let term : a.term ≡ b.term = same.0 in
-        λ i. record { term = term i; ts = ts i }
-  ]
-]
-
-nothing_before_zero : (a : OpTime) → is_before a ZERO ≡ false
-nothing_before_zero a = go (is_before a ZERO) refl
-  where
-    go : (b : Bool) → is_before a ZERO ≡ b → is_before a ZERO ≡ false
-    go true is = elim (before_by a ZERO is) [ inl less ↦ absurd (omega arith) | inr same ↦ absurd (omega (arith, same.1)) ]
-    go false is = is
-
--- what is past another is past what that is past
-not_before_earlier : (point o x : OpTime) → is_before point o ≡ true → is_before point x ≡ false → is_before o x ≡ false
-not_before_earlier point o x past late = elim (before_by point o past) [
-  | inl less ↦ elim (not_before_by point x late) [ inl more ↦ later_term o x (omega arith) | inr same ↦ later_term o x (omega (arith, same.0)) ]
-  | inr equal ↦ elim (not_before_by point x late) [
-    | inl more ↦ later_term o x (omega (arith, equal.0))
-    | inr same ↦ later_time o x (sym equal.0 ∙ same.0) (omega (arith, equal.1, same.1))
-  ]
-]
 
 -- ---- the last entry that passes
 
@@ -69,20 +39,20 @@ stands_behind entry (next ∷ log) o behind has = elim (or_cases _ _ has) [
       let is : next.optime ≡ o = same_is next.optime o same in
       let before : StandsBefore entry next = behind zero next (omega arith) in
       ap (λ x. is_before x entry.optime) (sym is) ∙ late entry next before
-  | inr there ↦ stands_behind entry log o (all_tail (StandsBefore entry) next log behind) there
+  | inr there ↦ stands_behind entry log o (All-tail (StandsBefore entry) next log behind) there
 ]
   where
     late : (one two : Entry) → StandsBefore one two → is_before two.optime one.optime ≡ false
     late one two before = go (is_before two.optime one.optime) refl
       where
         go : (b : Bool) → is_before two.optime one.optime ≡ b → is_before two.optime one.optime ≡ false
-        go true is = elim (before_by two.optime one.optime is) [ inl less ↦ absurd (omega (arith, before.term)) | inr same ↦ absurd (omega (arith, same.1, before.earlier)) ]
+        go true is = elim (before_parts two.optime one.optime is) [ inl less ↦ absurd (omega (arith, before.term)) | inr same ↦ absurd (omega (arith, same.1, before.earlier)) ]
         go false is = is
 
 last_is_greatest : (log : List Entry) → IsOplog log → (o : OpTime) → has_entry log o ≡ true → is_before (last_of log) o ≡ false
 last_is_greatest [] oplog o has = cc has
 last_is_greatest (entry ∷ []) oplog o has = elim (or_cases _ _ has) [
-  | inl same ↦ ap (is_before entry.optime) (sym (same_is entry.optime o same)) ∙ not_itself entry.optime
+  | inl same ↦ ap (is_before entry.optime) (sym (same_is entry.optime o same)) ∙ at_most_refl entry.optime
   | inr there ↦ cc there
 ]
 last_is_greatest (entry ∷ next ∷ log) oplog o has = elim (or_cases _ _ has) [
@@ -90,7 +60,7 @@ last_is_greatest (entry ∷ next ∷ log) oplog o has = elim (or_cases _ _ has) 
       ap (is_before (last_of (next ∷ log))) (sym (same_is entry.optime o same))
       ∙ stands_behind entry (next ∷ log) (last_of (next ∷ log)) (pairs_head StandsBefore entry (next ∷ log) oplog.order) (last_there next log)
   | inr there ↦ last_is_greatest (next ∷ log)
-      (record { order = pairs_tail StandsBefore entry (next ∷ log) oplog.order; lawful = all_tail IsLawful entry (next ∷ log) oplog.lawful }) o there
+      (record { order = pairs_tail StandsBefore entry (next ∷ log) oplog.order; lawful = All-tail IsLawful entry (next ∷ log) oplog.lawful }) o there
 ]
 
 zero_or_there : (log : List Entry) → (last_of log ≡ ZERO) ⊎ (has_entry log (last_of log) ≡ true)
@@ -111,19 +81,16 @@ greatest_last test log oplog = record {
       (has_filter test log o ∙ and_from _ _ passes has);
 }
 
-zero_is : (o : OpTime) → is_before ZERO o ≡ false → o ≡ ZERO
-zero_is o late = one_of_both o ZERO (nothing_before_zero o) late
-
 -- there is one
 pub same_greatest : (test : OpTime → Bool) (log : List Entry) (one two : OpTime) → IsGreatest test log one → IsGreatest test log two → one ≡ two
 same_greatest test log one two first second = elim first.there [
   | inl none ↦ elim second.there [
     | inl none_too ↦ none ∙ sym none_too
-    | inr there_too ↦ none ∙ sym (zero_is two (ap (λ x. is_before x two) (sym none) ∙ first.first two there_too.0 there_too.1))
+    | inr there_too ↦ none ∙ sym (is_zero two (ap (λ x. is_before x two) (sym none) ∙ first.first two there_too.0 there_too.1))
   ]
   | inr there ↦ elim second.there [
-    | inl none_too ↦ zero_is one (ap (λ x. is_before x one) (sym none_too) ∙ second.first one there.0 there.1) ∙ sym none_too
-    | inr there_too ↦ one_of_both one two (first.first two there_too.0 there_too.1) (second.first one there.0 there.1)
+    | inl none_too ↦ is_zero one (ap (λ x. is_before x one) (sym none_too) ∙ second.first one there.0 there.1) ∙ sym none_too
+    | inr there_too ↦ at_most_antisym one two (second.first one there.0 there.1) (first.first two there_too.0 there_too.1)
   ]
 ]
 
@@ -137,8 +104,8 @@ moved_on : (test : OpTime → Bool) (log : List Entry) (point o : OpTime) → Is
 moved_on test log point o old past has = record {
   there = inr (has, or_right _ _ (same_itself o));
   first = λ x there passes. elim (either_way test o x passes) [
-    | inl before ↦ not_before_earlier point o x past (old.first x there before)
-    | inr same ↦ ap (is_before o) same ∙ not_itself o
+    | inl before ↦ at_most_trans x point o (old.first x there before) (before_at_most point o past)
+    | inr same ↦ ap (is_before o) same ∙ at_most_refl o
   ];
 }
 
@@ -183,14 +150,10 @@ one_more log after optimes point o old =
         rw is (moved_on (is_common after optimes) log point o old parts.0 parts.1)
     go false is = rw is (stayed (is_common after optimes) log point o old is)
 
-or-none : (b : Bool) → b ≡ (b || false)
-or-none true = refl
-or-none false = refl
-
 -- by none of them it is the last entry at or before the optime that was asked for
 pub of_none : (log : List Entry) (after : OpTime) → IsOplog log → IsGreatest (is_common after []) log (last_of (log_up_to after log))
 of_none log after oplog =
-    by_equal (λ x. not (is_before after x)) (is_common after []) log _ (λ x. or-none (not (is_before after x))) (greatest_last (λ x. not (is_before after x)) log oplog)
+    by_equal (λ x. not (is_before after x)) (is_common after []) log _ (λ x. sym (or-false (not (is_before after x)))) (greatest_last (λ x. not (is_before after x)) log oplog)
 
 pub is_common_point : (log : List Entry) (after : OpTime) (optimes : List OpTime) (point : OpTime) → IsOplog log
     → IsGreatest (is_common after optimes) log point → point ≡ common_point log after optimes

@@ -1,2 +1,4 @@
+pub mod MembershipLemmas
+pub mod Optimes
 pub mod OrderLemmas
 pub mod PartLemmas

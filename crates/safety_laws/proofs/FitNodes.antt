@@ -3,6 +3,7 @@
 use Rattle.std.proofs.Common.{◌≡◌, ◌≢◌, ◌∙◌, ◌≤◌, ◌<◌, inl, inr, ap, sym, subst, refl, arith, ℕ, Bool, true, false, Option, None, Some, Result, Ok, Err, List}
 use Rattle.std.specs.FinMap as maps
 use Rattle.std.specs.Ordering.{nat_cmp}
+use Rattle.std.proofs.lemmas.Option.{same_Some}
 use Rattle.bson_doc.specs.Place.{Place}
 use Rattle.bson_doc.specs.Tree.{Fields, found}
 use Rattle.doc_update.proofs.StoredLemmas.{IsLogged, IsStored, write-logged}
@@ -19,7 +20,9 @@ use Rattle.oplog_entry.specs.declared.entry.Entry.{Entry}
 use Rattle.oplog_entry.specs.declared.entry.Op.{Op}
 use Rattle.oplog_store.specs.Log.{with_entry}
 use Rattle.rs_optime.specs.declared.optime.OpTime.{OpTime}
+use Rattle.rs_optime.specs.Membership.{In}
 use Rattle.oplog_entry.proofs.PlaceLemmas.{is_at-only, is_at-other}
+use Rattle.oplog_entry.proofs.LogLemmas.{with_in}
 use Rattle.set_model.proofs.HoldLemmas.{held_by_none}
 use Rattle.set_model.specs.Admitted.{admitted, or_refused, refusal_of, unless_held}
 use Rattle.set_model.specs.Holds.{holder}
@@ -31,15 +34,13 @@ use Rattle.set_model.specs.declared.role.Role.{Role}
 use Rattle.set_model.specs.declared.writer.Writer.{Writer}
 use Rattle.set_model.specs.declared.writer.Writer.TheVariants.{Open}
 use Rattle.commit_machine.specs.Words.{Rises}
-use Rattle.commit_machine.specs.Nodes.{In}
 use Rattle.set_model.proofs.EntrySizes.{IsWithin, short_within}
 use Rattle.set_model.proofs.WriteLemmas.{short_name, sound_update}
-use Rattle.safety_laws.proofs.Logged.{next_later}
-use Rattle.safety_laws.proofs.Places.{same_some}
+use Rattle.set_model.proofs.SeenLemmas.{next_past}
 use Rattle.safety_laws.proofs.Rel.{HasLog}
 use Rattle.safety_laws.proofs.Slots.{open_with}
 use Rattle.safety_laws.proofs.Steps.{in_has}
-use Rattle.safety_laws.proofs.StoredLogs.{AreStored, AreEarlier, doc_at, doc_docs, in_with_is, other_doc, stored_docs, stored_with}
+use Rattle.safety_laws.proofs.StoredLogs.{AreStored, AreEarlier, doc_at, doc_docs, other_doc, stored_docs, stored_with}
 
 -- ---- what is kept
 
@@ -124,7 +125,7 @@ pub written_ready : (term : ℕ) (log : List Entry) (writers : maps.FinMap nat_c
 written_ready term log writers at op rises stored ready new free = (
   stored_with log entry rises stored new.newest,
   record {
-    own = λ other there is. elim (in_with_is log entry other there) [
+    own = λ other there is. elim (with_in log entry other there) [
       | inl before ↦ ready.own other before is
       | inr same ↦ subst (λ (e : Entry). IsFitEntry e) same new.fit
     ];
@@ -140,7 +141,7 @@ written_ready term log writers at op rises stored ready new free = (
         → IsStored place (document_after other (doc_at place (with_entry log (record { optime = at; op = op })))) × AreEarlier place by.ts (with_entry log (record { optime = at; op = op }))
     still number by other is place here = (
       subst (λ d. IsStored place (document_after other d)) (sym (other_doc place entry apart None log)) old.0,
-      λ e there touches. elim (in_with_is log entry e there) [
+      λ e there touches. elim (with_in log entry e there) [
         | inl before ↦ old.1 e before touches
         | inr same ↦ absurd (cc (ap (λ (x : Entry). is_at (place_of x.op) place) same ∙ touches, apart))
       ],
@@ -174,7 +175,7 @@ admitted_ready node op logged after log stored sound name does = by_place (check
               (subst (λ d. IsStored place (document_after logged d)) (sym (doc_docs place node.log)) known.stored),
           λ other there touches.
               let seen : other.optime.ts ≤ node.seen = log.seen other.optime (in_has other node.log there) in
-              let later : node.seen < (next_optime node).ts = next_later node in
+              let later : node.seen < (next_optime node).ts = next_past node in
               omega (arith, seen, later),
         );
       },
@@ -188,7 +189,7 @@ admitted_ready node op logged after log stored sound name does = by_place (check
         known = write-logged op (maps.get (docs node.log) place) place logged after (sound_update op sound) (stored_docs node.log stored place) is (found_is ∙ ap (λ e. Ok e) is_made)
 
         only : (p : Place) → place_of logged ≡ Some p → p ≡ place
-        only p touches = same_some p place (sym touches ∙ known.at)
+        only p touches = same_Some p place (sym touches ∙ known.at)
 
     by_place : (found : Result Place WriteRefusal) → checked op ≡ found → IsAdmitted node logged
     by_place (Err why) is =

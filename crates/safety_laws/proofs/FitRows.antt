@@ -12,6 +12,7 @@ use Rattle.doc_update.specs.declared.write.WriteOp.TheVariants as ops
 use Rattle.doc_update.specs.declared.write.Prepared.{Prepared}
 use Rattle.doc_update.specs.declared.write.Prepared.TheVariants as prepared
 use Rattle.rs_optime.specs.declared.optime.OpTime.{OpTime}
+use Rattle.rs_optime.specs.Membership.{In}
 use Rattle.oplog_entry.specs.declared.entry.Entry.{Entry}
 use Rattle.oplog_entry.specs.declared.entry.Op.{Op}
 use Rattle.member_config.specs.declared.config.Config.{Config}
@@ -43,7 +44,6 @@ use Rattle.set_model.specs.Stores.{Plan, finished, storing, done, stored, unless
 use Rattle.set_model.specs.Votes.{is_elected}
 use Rattle.set_model.specs.Write.{write, written}
 use Rattle.set_model.specs.Writers.{begin, begun, unless_open, with_open, commit, abort}
-use Rattle.commit_machine.specs.Nodes.{In}
 use Rattle.oplog_entry.specs.declared.entry.Op.TheVariants.{Noop}
 use Rattle.oplog_store.specs.Log.{with_entry}
 use Rattle.set_model.specs.Limits.{IsSoundWrite, collection_of, is_collection, is_within, write_of}

@@ -3,6 +3,8 @@ use Rattle.std.proofs.Common.{◌≡◌, ◌∙◌, ◌<◌, inl, inr, ap, sym, 
 use Rattle.std.specs.Prelude.{option_and_then}
 use Rattle.std.specs.List.{list_all}
 use Rattle.std.proofs.lemmas.Bool.{and_parts, cases_Bool, cases_eq}
+use Rattle.std.proofs.lemmas.Option.{same_Some}
+use Rattle.rs_optime.specs.Membership.{In}
 use Rattle.oplog_entry.specs.declared.entry.Entry.{Entry}
 use Rattle.set_model.specs.declared.command.Event.{Event}
 use Rattle.set_model.specs.declared.role.Role.{Role}
@@ -16,7 +18,7 @@ use Rattle.set_model.specs.Run.{Sizes, AreSizes, opening, world_at}
 use Rattle.set_model.specs.Safety as safety
 use Rattle.set_model.specs.Stores.{Plan, done}
 use Rattle.set_model.specs.World.{World, Task, acts, takes, nothing, task, touched_node, plan_of, by_plan, with_outcome, step}
-use Rattle.commit_machine.specs.Nodes.{Snapshot, State, In, Was}
+use Rattle.commit_machine.specs.Nodes.{Snapshot, State, Was}
 use Rattle.commit_machine.specs.Words.{Has}
 use Rattle.commit_machine.proofs.Facts.{Kept}
 use Rattle.safety_laws.proofs.Along.{worlds_before, IsKeptAlong}
@@ -26,7 +28,7 @@ use Rattle.safety_laws.proofs.FitRows.{FitNow, FitOn, FitsOn, IsFresh, fit_done,
 use Rattle.safety_laws.proofs.Frame.{RowsTied, DeliveriesTied}
 use Rattle.safety_laws.proofs.Fronts.{AreFronts, IsFront, fronts_kept}
 use Rattle.safety_laws.proofs.Opening.{get_from}
-use Rattle.safety_laws.proofs.Places.{get_set_same, get_set_other, same_some}
+use Rattle.safety_laws.proofs.Places.{get_set_same, get_set_other}
 use Rattle.safety_laws.proofs.Rel.{Rel, IsUp, role_of, snapshot_of}
 use Rattle.safety_laws.proofs.Replies.{AreFit}
 use Rattle.safety_laws.proofs.Runs.{along_of, had_of, kept_of, state_of, up_of}
@@ -80,19 +82,19 @@ now_fit past world state rel fits number node there up = elim (cases_Bool (is_le
 module _ (past : List World) (world : World) (state : State) (event : Event) (kept : Kept state) (rel : Rel world state) (fits : Fits world event) (led : AreLedFit past world state) where
   plan_fits : (number : ℕ) (node : Node) → slice_get world.nodes number ≡ Some node → (what : Task) (plan : Plan) → plan_of world event what node ≡ Some plan → FitOn plan
   plan_fits number node there (acts n) plan is =
-      subst FitOn (same_some _ plan is)
+      subst FitOn (same_Some _ plan is)
       (row_fits _ _ event.kept node event.command (now_fit past world state rel led number node there)
       (λ up. (up_is world state rel number node there up).1.log)
       (λ up. drain_fresh state number node kept (up_is world state rel number node there up).1 (was_is world state rel number node there up))
       (and_parts (list_all _ (nodes_of event.command)) (is_within event.command) fits.command).1
       fits.documents)
-  plan_fits number node there (takes message) plan is = subst FitOn (same_some _ plan is) (deliver_fits _ node message (now_fit past world state rel led number node there))
+  plan_fits number node there (takes message) plan is = subst FitOn (same_Some _ plan is) (deliver_fits _ node message (now_fit past world state rel led number node there))
   plan_fits number node there nothing plan is = absurd (cc is)
 
   outcome_fits : (number : ℕ) (node : Node) (outcome : Outcome) → slice_get world.nodes number ≡ Some node → FitsOn (standing_of outcome.node)
       → (m : ℕ) (cur : Node) → slice_get (with_outcome world number outcome).world.nodes m ≡ Some cur → FitsOn (standing_of cur)
   outcome_fits number node outcome there fit m cur is = elim (cases_eq number m) [
-    | inl same ↦ subst (λ n. FitsOn (standing_of n)) (same_some outcome.node cur (sym (get_set_same world.nodes number outcome.node node there) ∙ ap (λ k. slice_get (slice_set world.nodes number outcome.node) k) same ∙ is)) fit
+    | inl same ↦ subst (λ n. FitsOn (standing_of n)) (same_Some outcome.node cur (sym (get_set_same world.nodes number outcome.node node there) ∙ ap (λ k. slice_get (slice_set world.nodes number outcome.node) k) same ∙ is)) fit
     | inr other ↦ led.led world (inl refl) m cur (sym (get_set_other world.nodes number m outcome.node other) ∙ is)
   ]
 

@@ -1,12 +1,15 @@
 -- What keeps the numbers and the configurations of a node within limits, and what the changes of a node leave of it.
-use Rattle.std.proofs.Common.{◌≡◌, ◌≤◌, ◌<◌, ◌+◌, arith, inl, inr, ap, subst, refl, ℕ, zero, suc, Bool, true, false, not, nat_lt, ltb-true, ltb-false, cond, filter, length, map, max, take, fold, unwrap_or, Option, None, Some, List, [], ◌∷◌, ◌++◌}
+use Rattle.std.proofs.Common.{◌≡◌, ◌≤◌, ◌<◌, ◌+◌, arith, inl, inr, subst, refl, ℕ, zero, suc, Bool, true, false, not, nat_lt, ltb-true, ltb-false, cond, filter, length, map, max, take, fold, unwrap_or, Option, None, Some, List, [], ◌∷◌, ◌++◌}
 use Rattle.std.proofs.lemmas.Bool.{or_parts}
 use Rattle.std.proofs.lemmas.List.{length-append}
 use Rattle.std.specs.Prelude.{⊤, IfSome}
 use Rattle.std.specs.FinMap as maps
 use Rattle.std.specs.Ordering.{nat_cmp}
+use Rattle.std.proofs.lemmas.Option.{same_Some}
 use Rattle.rs_optime.specs.Order.{is_before}
 use Rattle.rs_optime.specs.declared.optime.OpTime.{OpTime}
+use Rattle.rs_optime.specs.Membership.{In}
+use Rattle.rs_optime.proofs.MembershipLemmas.{in_filter, in_take}
 use Rattle.oplog_entry.specs.Visible.{last_of, least, entries_before}
 use Rattle.oplog_entry.specs.declared.entry.Entry.{Entry}
 use Rattle.oplog_entry.specs.declared.entry.Op.{Op}
@@ -35,14 +38,12 @@ use Rattle.set_model.specs.Node.{Node, down}
 use Rattle.set_model.specs.Outcome.{Outcome, replied, sending, message_to}
 use Rattle.set_model.specs.Points.{visible_log}
 use Rattle.set_model.specs.Stores.{Plan, finished, storing, done, in_doubt, stored}
-use Rattle.commit_machine.specs.Nodes.{In}
+use Rattle.set_model.proofs.LostLemmas.{none_open}
 use Rattle.commit_machine.proofs.Growth.{in_append}
 use Rattle.safety_laws.specs.Bounds.{IsLawfulConfig}
-use Rattle.safety_laws.proofs.Merges.{in_take, in_entry, in_entries}
+use Rattle.safety_laws.proofs.Merges.{in_entry, in_entries}
 use Rattle.safety_laws.proofs.Opening.{no_writer}
-use Rattle.safety_laws.proofs.Places.{in_filter, same_some}
 use Rattle.safety_laws.proofs.Slots.{open_with, open_without}
-use Rattle.safety_laws.proofs.Steps.{none_open}
 use Rattle.safety_laws.proofs.Voters.{unless_some}
 
 -- ---- limits
@@ -131,7 +132,7 @@ last_timely time (entry ∷ []) timely = timely entry (inl refl)
 last_timely time (entry ∷ next ∷ log) timely = last_timely time (next ∷ log) (λ other there. timely other (inr there))
 
 pub filter_timely : (time : ℕ) (test : Entry → Bool) (log : List Entry) → AreTimely time log → AreTimely time (filter test log)
-filter_timely time test log timely entry there = timely entry (in_filter test entry log there).0
+filter_timely time test log timely entry there = timely entry (in_filter test log entry there).0
 
 pub take_timely : (time many : ℕ) (log : List Entry) → AreTimely time log → AreTimely time (take many log)
 take_timely time many log timely entry there = timely entry (in_take many entry log there)
@@ -269,35 +270,12 @@ pub in_ordered : (list : List ℕ) (n : ℕ) → In n (in_order list) → In n l
 in_ordered [] n there = there
 in_ordered (number ∷ list) n there = elim (in_put number (in_order list) n there) [ inl first ↦ inl first | inr later ↦ inr (in_ordered list n later) ]
 
-length_put : (number : ℕ) (list : List ℕ) → length (put number list) ≡ suc (length list)
-length_put number [] = refl
-length_put number (other ∷ list) = go (nat_lt other number) (length_put number list)
-  where
-    go : (b : Bool) → length (put number list) ≡ suc (length list) → length (cond b (other ∷ put number list) (number ∷ other ∷ list)) ≡ suc (suc (length list))
-    go true rest = ap suc rest
-    go false rest = refl
-
-pub length_ordered : (list : List ℕ) → length (in_order list) ≡ length list
-length_ordered [] = refl
-length_ordered (number ∷ list) =
-    let more : length (put number (in_order list)) ≡ suc (length (in_order list)) = length_put number (in_order list) in
-    let rest : length (in_order list) ≡ length list = length_ordered list in
-    omega (arith, more, rest)
-
-pub fewer_passed : {A : Type 0} (test : A → Bool) (xs : List A) → length (filter test xs) ≤ length xs
-fewer_passed test [] = omega arith
-fewer_passed test (x ∷ xs) = go (test x) (fewer_passed test xs)
-  where
-    go : (b : Bool) → length (filter test xs) ≤ length xs → length (cond b (x ∷ filter test xs) (filter test xs)) ≤ suc (length xs)
-    go true rest = omega (arith, rest)
-    go false rest = omega (arith, rest)
-
 pub lowest_in : (list : List ℕ) (number : ℕ) → lowest list ≡ Some number → In number list
 lowest_in list number is = go (in_order list) (in_ordered list number) is
   where
     go : (ordered : List ℕ) → (In number ordered → In number list) → first_of ordered ≡ Some number → In number list
     go [] into none = absurd (cc none)
-    go (first ∷ others) into same = into (inl (same_some first number same))
+    go (first ∷ others) into same = into (inl (same_Some first number same))
 
 -- ---- disks
 

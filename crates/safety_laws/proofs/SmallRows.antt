@@ -14,6 +14,8 @@ use Rattle.doc_update.specs.declared.write.Prepared.{Prepared}
 use Rattle.doc_update.specs.declared.write.Prepared.TheVariants as prepared
 use Rattle.rs_optime.specs.Time.{timestamp_after}
 use Rattle.rs_optime.specs.declared.optime.OpTime.{OpTime}
+use Rattle.rs_optime.specs.Membership.{In}
+use Rattle.rs_optime.proofs.MembershipLemmas.{in_filter, length-passed}
 use Rattle.oplog_entry.specs.Visible.{last_of}
 use Rattle.oplog_entry.specs.declared.entry.Entry.{Entry}
 use Rattle.oplog_entry.specs.declared.entry.Op.{Op}
@@ -23,6 +25,7 @@ use Rattle.member_config.specs.Config.{in_term}
 use Rattle.member_config.specs.Numbers.{lowest}
 use Rattle.member_config.specs.Rule.{rule}
 use Rattle.member_config.specs.Voters.{numbers, voters}
+use Rattle.member_config.proofs.NumberLemmas.{length-in_order}
 use Rattle.repl_msg.specs.Kept.{kept}
 use Rattle.repl_msg.specs.declared.message.Body.TheVariants as bodies
 use Rattle.repl_msg.specs.declared.message.Message.{Message}
@@ -58,11 +61,9 @@ use Rattle.set_model.specs.Stores.{Plan, stored, unless_refused, if_up, vote_rec
 use Rattle.set_model.specs.Votes.{asks, ask_of, other_voters, is_elected}
 use Rattle.set_model.specs.Write.{write, written}
 use Rattle.set_model.specs.Writers.{begin, begun, unless_open, with_open, commit, abort}
-use Rattle.commit_machine.specs.Nodes.{In}
 use Rattle.safety_laws.specs.Bounds.{IsLawfulConfig}
-use Rattle.safety_laws.proofs.Places.{in_filter}
 use Rattle.safety_laws.proofs.Reconfigs.{none_broken}
-use Rattle.safety_laws.proofs.SmallNodes.{Limits, FineStore, FineRecord, NodeFine, FineMessage, FineOutcome, FinePlan, FineKept, quiet, says, last_timely, filter_timely, take_timely, logged_times, opened_times, settled_times, aborted_times, lost_times, closed_times, in_term_fine, member_known, voter_known, few_voters, in_ordered, length_ordered, fewer_passed, lowest_in, stored_fine, down_fine, doubt_fine, kept_fine, config_of_fine}
+use Rattle.safety_laws.proofs.SmallNodes.{Limits, FineStore, FineRecord, NodeFine, FineMessage, FineOutcome, FinePlan, FineKept, quiet, says, last_timely, filter_timely, take_timely, logged_times, opened_times, settled_times, aborted_times, lost_times, closed_times, in_term_fine, member_known, voter_known, few_voters, in_ordered, lowest_in, stored_fine, down_fine, doubt_fine, kept_fine, config_of_fine}
 use Rattle.safety_laws.proofs.Voters.{unless_some}
 
 -- ---- plans by cases
@@ -171,7 +172,7 @@ module _ (l : Limits) (node : Node) (ok : NodeFine l node) where
       go : (source : Option ℕ) → lowest (sources node) ≡ source → FineOutcome l (fetch_from next node source)
       go None is = quiet l _ node ok
       go (Some source) is = says l _ node source (bodies.Fetch _) ok
-          (member_known l.nodes node.config ok.1.config_fine source (in_filter _ source (numbers node.config) (lowest_in (sources node) source is)).0) tt (λ entry there. absurd there)
+          (member_known l.nodes node.config ok.1.config_fine source (in_filter _ (numbers node.config) source (lowest_in (sources node) source is)).0) tt (λ entry there. absurd there)
 
 -- ---- elections
 
@@ -185,14 +186,14 @@ asked_in nodes time node dry (voter ∷ to) own known message (inr more) = asked
 module _ (l : Limits) (node : Node) (ok : NodeFine l node) where
   asks_fine : (dry : Bool) (message : Message) → In message (asks node dry) → FineMessage l.nodes l.time message
   asks_fine dry message there = asked_in l.nodes l.time node dry (other_voters node) (number_known l node ok)
-      (λ voter among. voter_known l.nodes node.config ok.1.config_fine voter (in_filter _ voter (voters node.config) (in_ordered (filter (λ v. not (v == node.number)) (voters node.config)) voter among)).0)
+      (λ voter among. voter_known l.nodes node.config ok.1.config_fine voter (in_filter _ (voters node.config) voter (in_ordered (filter (λ v. not (v == node.number)) (voters node.config)) voter among)).0)
       message there
 
   asks_few : (dry : Bool) → length (asks node dry) ≤ 7
   asks_few dry =
       let mapped : length (asks node dry) ≡ length (other_voters node) = length-map (other_voters node) _ in
-      let ordered : length (other_voters node) ≡ length (filter (λ v. not (v == node.number)) (voters node.config)) = length_ordered (filter (λ v. not (v == node.number)) (voters node.config)) in
-      let passed : length (filter (λ v. not (v == node.number)) (voters node.config)) ≤ length (voters node.config) = fewer_passed (λ v. not (v == node.number)) (voters node.config) in
+      let ordered : length (other_voters node) ≡ length (filter (λ v. not (v == node.number)) (voters node.config)) = length-in_order (filter (λ v. not (v == node.number)) (voters node.config)) in
+      let passed : length (filter (λ v. not (v == node.number)) (voters node.config)) ≤ length (voters node.config) = length-passed (λ v. not (v == node.number)) (voters node.config) in
       let few : length (voters node.config) ≤ 7 = few_voters l.nodes node.config ok.1.config_fine in
       omega (arith, mapped, ordered, passed, few)
 

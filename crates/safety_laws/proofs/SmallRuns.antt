@@ -3,7 +3,10 @@ use Rattle.std.proofs.Common.{slice_get, slice_set, ◌≤◌, ◌<◌, ◌+◌,
 use Rattle.std.proofs.lemmas.Bool.{cases_eq, lt-ltb}
 use Rattle.std.proofs.lemmas.List.{length-append, length-set}
 use Rattle.std.specs.Prelude.{IfSome, Contains, option_and_then}
+use Rattle.std.proofs.lemmas.Option.{same_Some}
 use Rattle.rs_optime.specs.Time.{timestamp_after}
+use Rattle.rs_optime.specs.Membership.{In}
+use Rattle.rs_optime.proofs.MembershipLemmas.{in_all}
 use Rattle.oplog_entry.specs.declared.entry.Entry.{Entry}
 use Rattle.member_config.specs.declared.config.Config.{Config}
 use Rattle.member_config.specs.Config.{first_config, members_from}
@@ -24,13 +27,12 @@ use Rattle.set_model.specs.Run.{Run, Sizes, AreSizes, after, opening, world_at}
 use Rattle.set_model.specs.Rows.{row}
 use Rattle.set_model.specs.Stores.{Plan, done}
 use Rattle.set_model.specs.World.{World, Task, acts, takes, nothing, task, touched_node, plan_of, by_plan, with_outcome, nodes_from, step}
-use Rattle.commit_machine.specs.Nodes.{In}
 use Rattle.commit_machine.proofs.Growth.{in_append}
 use Rattle.safety_laws.specs.Bounds.{AreTimed, last_timestamp, IsSmallNode, IsSmallMessage, NumbersStaySmall, IsLawfulConfig, ConfigsAreLawful}
 use Rattle.safety_laws.proofs.Frame.{task_sent, world_after}
 use Rattle.safety_laws.proofs.Opening.{first_rule, get_from}
-use Rattle.safety_laws.proofs.Places.{same_some, get_set_same, get_set_other}
-use Rattle.safety_laws.proofs.Replies.{all_of, contained}
+use Rattle.safety_laws.proofs.Places.{get_set_same, get_set_other}
+use Rattle.safety_laws.proofs.Replies.{contained}
 use Rattle.safety_laws.proofs.SmallNodes.{Limits, AreTimely, FineRecord, FineStore, NodeFine, FineMessage, FineOutcome, FinePlan, fine_done, closed_times}
 use Rattle.safety_laws.proofs.SmallRows.{RoomFor, row_fine}
 use Rattle.safety_laws.proofs.SmallDelivers.{deliver_fine}
@@ -107,12 +109,12 @@ plan_fine : (nodes events : ℕ) (world : World) (event : Event) → Fits world 
     → (m : ℕ) (node : Node) → slice_get world.nodes m ≡ Some node → (plan : Plan) → plan_of world event what node ≡ Some plan → FinePlan (limits nodes (suc events) m) plan
 plan_fine nodes events world event fits fine (acts n) sent m node there plan is =
     subst (λ p. FinePlan (limits nodes (suc events) m) p)
-    (ap (λ count. row count (length world.messages) event.kept node event.command) (sym fine.count) ∙ same_some _ plan is)
+    (ap (λ count. row count (length world.messages) event.kept node event.command) (sym fine.count) ∙ same_Some _ plan is)
     (row_fine (limits nodes (suc events) m) (length world.messages) event.kept node event.command (node_more nodes events m node (fine.each m node there)) (room_of nodes events m node (fine.each m node there))
     (subst (λ count. is_for count event.command ≡ true) fine.count fits.command))
 plan_fine nodes events world event fits fine (takes message) sent m node there plan is =
     let room : RoomFor (limits nodes (suc events) m) node = room_of nodes events m node (fine.each m node there) in
-    subst (λ p. FinePlan (limits nodes (suc events) m) p) (same_some _ plan is)
+    subst (λ p. FinePlan (limits nodes (suc events) m) p) (same_Some _ plan is)
     (deliver_fine (limits nodes (suc events) m) (length world.messages) node message (node_more nodes events m node (fine.each m node there))
     (message_more nodes events message (fine.messages message (sent message refl))) room.records room.rollbacks)
 plan_fine nodes events world event fits fine nothing sent m node there plan is = absurd (cc is)
@@ -123,7 +125,7 @@ outcome_fine nodes events world number node outcome there fine has = record {
   count = length-set world.nodes number outcome.node ∙ fine.count;
   each = λ m cur is. elim (cases_eq number m) [
     | inl same ↦
-        let new : outcome.node ≡ cur = same_some outcome.node cur (sym (get_set_same world.nodes number outcome.node node there) ∙ ap (λ k. slice_get (slice_set world.nodes number outcome.node) k) same ∙ is) in
+        let new : outcome.node ≡ cur = same_Some outcome.node cur (sym (get_set_same world.nodes number outcome.node node there) ∙ ap (λ k. slice_get (slice_set world.nodes number outcome.node) k) same ∙ is) in
         subst (λ k. NodeFine (limits nodes (suc events) k) cur) same (subst (λ n. NodeFine (limits nodes (suc events) number) n) new has.node)
     | inr other ↦ (world_more nodes events world fine).each m cur (sym (get_set_other world.nodes number m outcome.node other) ∙ is)
   ];
@@ -260,7 +262,7 @@ fine_at sizes events are is place = subst (λ bound. IsFineWorld sizes.nodes bou
 -- ---- the two laws
 
 timed_of : (events : ℕ) (entries : List Entry) → AreTimely (last_timestamp events) entries → AreTimed events entries
-timed_of events entries timely = all_of (λ entry. entry.optime.ts ≤ last_timestamp events) entries timely
+timed_of events entries timely = in_all (λ entry. entry.optime.ts ≤ last_timestamp events) entries timely
 
 kept_timed : (nodes events : ℕ) (item : Record) → FineRecord nodes (last_timestamp events) item → AreTimed events (entries_kept item)
 kept_timed nodes events (records.Vote vote) fine = timed_of events [] (λ entry there. absurd there)
@@ -300,7 +302,7 @@ module _ (sizes : Sizes) (events : List Event) (are : AreSizes sizes) (is : IsRu
     seen = fine.0.seen_most;
     log = timed_of place node.log fine.0.timely;
     records = fine.3.records_most;
-    kept = all_of (λ item. AreTimed place (entries_kept item)) node.records (λ item among. kept_timed sizes.nodes place item (fine.2.each item among));
+    kept = in_all (λ item. AreTimed place (entries_kept item)) node.records (λ item among. kept_timed sizes.nodes place item (fine.2.each item among));
   }
     where
       fine : NodeFine (limits sizes.nodes place number) node
@@ -340,7 +342,7 @@ module _ (sizes : Sizes) (events : List Event) (are : AreSizes sizes) (is : IsRu
         record {
           first = fine.1.first_fine;
           config = fine.1.config_fine;
-          kept = all_of (λ item. IfSome (config_kept item) (IsLawfulConfig sizes.nodes)) node.records (λ item among. kept_lawful sizes.nodes (last_timestamp place) item (fine.2.each item among));
+          kept = in_all (λ item. IfSome (config_kept item) (IsLawfulConfig sizes.nodes)) node.records (λ item among. kept_lawful sizes.nodes (last_timestamp place) item (fine.2.each item among));
         };
     messages = λ place message has. ((fine_world place).messages message (contained (world_at sizes events place).messages message has)).config;
   }

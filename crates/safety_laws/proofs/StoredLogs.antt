@@ -1,5 +1,5 @@
 -- The documents that a log leaves, place by place: each of its fronts leaves there what may be stored.
-use Rattle.std.proofs.Common.{◌≡◌, ◌∙◌, ◌⊎◌, ◌≤◌, ◌<◌, inl, inr, ap, sym, subst, refl, arith, ltb-false, ℕ, T, Bool, true, false, ◌&&◌, cond, nat_lt, fold, Option, None, Some, List, [], ◌∷◌, ◌++◌}
+use Rattle.std.proofs.Common.{◌≡◌, ◌∙◌, ◌≤◌, ◌<◌, inl, inr, ap, sym, subst, refl, arith, ltb-false, ℕ, T, Bool, true, false, ◌&&◌, cond, nat_lt, fold, Option, None, Some, List, [], ◌∷◌, ◌++◌}
 use Rattle.std.specs.Cmp.{tied_itself, Equal-is}
 use Rattle.std.specs.FinMap as maps
 use Rattle.std.specs.FinMap.Entries.{below_all}
@@ -8,6 +8,7 @@ use Rattle.std.specs.Ordering.{eq_by_cmp, is_eq, is_lt}
 use Rattle.std.specs.Prelude.{slice_index_or}
 use Rattle.std.specs.declared.cmp.Ordering.{Ordering}
 use Rattle.std.specs.declared.cmp.Ordering.TheVariants.{Less, Equal, Greater}
+use Rattle.rs_optime.specs.Membership.{In}
 use Rattle.bson_doc.proofs.KeyLemmas.{place_cmp-total, place_cmp-antisymmetric}
 use Rattle.bson_doc.specs.Place.{Place, place_cmp}
 use Rattle.bson_doc.specs.Tree.{Fields}
@@ -19,7 +20,6 @@ use Rattle.oplog_entry.specs.declared.entry.Entry.{Entry}
 use Rattle.oplog_store.specs.Log.{with_entry}
 use Rattle.set_model.proofs.HoldLemmas.{get-step}
 use Rattle.commit_machine.specs.Words.{Begins, Follows, Rises}
-use Rattle.commit_machine.specs.Nodes.{In}
 use Rattle.safety_laws.proofs.Places.{in_at}
 use Rattle.safety_laws.proofs.Steps.{in_has}
 
@@ -197,14 +197,3 @@ stored_with log entry rises stored here place = by_test (is_at (place_of entry.o
     by_test : (b : Bool) → is_at (place_of entry.op) place ≡ b → AreStoredFrom place None (with_entry log entry)
     by_test true is = here_stored place entry is None log rises (here place is).1 (stored place) (here place is).0
     by_test false is = other_stored place entry is None log (stored place)
-
-pub in_with_is : (log : List Entry) (entry other : Entry) → In other (with_entry log entry) → In other log ⊎ (entry ≡ other)
-in_with_is [] entry other (inl same) = inr same
-in_with_is [] entry other (inr none) = absurd none
-in_with_is (first ∷ log) entry other there = by_test (nat_lt first.optime.ts entry.optime.ts) (in_with_is log entry other) there
-  where
-    by_test : (b : Bool) → (In other (with_entry log entry) → In other log ⊎ (entry ≡ other)) → In other (cond b (first ∷ with_entry log entry) (entry ∷ first ∷ log)) → In other (first ∷ log) ⊎ (entry ≡ other)
-    by_test true again (inl same) = inl (inl same)
-    by_test true again (inr behind) = elim (again behind) [ inl before ↦ inl (inr before) | inr new ↦ inr new ]
-    by_test false again (inl same) = inr same
-    by_test false again (inr before) = inl before

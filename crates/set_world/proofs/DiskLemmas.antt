@@ -2,6 +2,7 @@
 use Rattle.std.proofs.Common.{◌≡◌, ◌∙◌, ◌<◌, ◌+◌, ◌*◌, inl, inr, ap, sym, subst, refl, arith, ℕ, zero, suc, false, Some, Result, Ok, Err, length, List, [], ◌∷◌, ◌++◌, slice_get, slice_set, slice_index_or}
 use Rattle.std.specs.Prelude.{IfOk, OnErr, IsSome}
 use Rattle.std.specs.declared.alloc.AllocError.{AllocError}
+use Rattle.std.proofs.lemmas.Option.{slice_get-get_or, same_Some}
 use Rattle.rs_disk.specs.State.{State}
 use Rattle.rs_disk.specs.Orders.{Orders}
 use Rattle.set_model.specs.declared.command.Command.{Command}
@@ -19,9 +20,6 @@ use Rattle.set_world.specs.Acting.{OneOf, DisksSo, ActedSo, TookSo, UnchangedSo,
 use Rattle.set_world.specs.Disks.{OneChanged, AtMostOne, IsStep, IsUndone, StandsThere, AllStand}
 use Rattle.set_world.specs.World.{Set, disks_in, nodes_in, event_of}
 
-some_is : {A : Type 0} (x y : A) → Some x ≡ Some y → x ≡ y
-some_is x y same = cc same
-
 two_more : (k : ℕ) → 2 * suc k ≡ suc (suc (2 * k))
 two_more k = omega arith
 
@@ -30,12 +28,12 @@ one_more k = omega arith
 
 pub journal_of : {D : Type 0} (nodes : List (Node × D × D)) (idle : List D) (k : ℕ) (node : Node × D × D) → slice_get nodes k ≡ Some node → slice_get (disks_in nodes ++ idle) (2 * k) ≡ Some node.1
 journal_of [] idle k node there = absurd (cc there)
-journal_of (first ∷ nodes) idle zero node there = ap (λ (n : _). Some n.1) (some_is first node there)
+journal_of (first ∷ nodes) idle zero node there = ap (λ (n : _). Some n.1) (same_Some first node there)
 journal_of (first ∷ nodes) idle (suc k) node there = ap (λ n. slice_get (disks_in (first ∷ nodes) ++ idle) n) (two_more k) ∙ journal_of nodes idle k node there
 
 pub checkpoints_of : {D : Type 0} (nodes : List (Node × D × D)) (idle : List D) (k : ℕ) (node : Node × D × D) → slice_get nodes k ≡ Some node → slice_get (disks_in nodes ++ idle) (2 * k + 1) ≡ Some node.2
 checkpoints_of [] idle k node there = absurd (cc there)
-checkpoints_of (first ∷ nodes) idle zero node there = ap (λ (n : _). Some n.2) (some_is first node there)
+checkpoints_of (first ∷ nodes) idle zero node there = ap (λ (n : _). Some n.2) (same_Some first node there)
 checkpoints_of (first ∷ nodes) idle (suc k) node there = ap (λ n. slice_get (disks_in (first ∷ nodes) ++ idle) n) (one_more k) ∙ checkpoints_of nodes idle k node there
 
 set_disks : {D : Type 0} (nodes : List (Node × D × D)) (idle : List D) (k : ℕ) (before after : Node × D × D) → slice_get nodes k ≡ Some before
@@ -62,16 +60,11 @@ one_changed state Changed number old new idle one = record {
 
 -- ---- one of a list
 
-pub get_at : {A : Type 0} (xs : List A) (k : ℕ) (d : A) → k < length xs → slice_get xs k ≡ Some (slice_index_or xs k d)
-get_at [] k d within = absurd (omega (arith, within))
-get_at (x ∷ xs) zero d within = refl
-get_at (x ∷ xs) (suc k) d within = get_at xs k d (omega (arith, within))
-
 pub one_of : {A : Type 0} (So : A → A → Type 0) (list : List A) (k : ℕ) (d after : A) → k < length list → So (slice_index_or list k d) after → OneOf k So list (slice_set list k after)
 one_of So list k d after within so = record {
   before = slice_index_or list k d;
   after = after;
-  there = get_at list k d within;
+  there = slice_get-get_or list k d within;
   list = refl;
   so = so;
 }
@@ -93,7 +86,7 @@ changed_so So Other number old new then one = record { before = one.before; afte
 
 set_each : {A : Type 0} (P : A → Type 0) (xs : List A) (k : ℕ) (x : A) → ((n : ℕ) (y : A) → slice_get xs n ≡ Some y → P y) → P x → (n : ℕ) (y : A) → slice_get (slice_set xs k x) n ≡ Some y → P y
 set_each P [] k x each is n y there = absurd (cc there)
-set_each P (first ∷ xs) zero x each is zero y there = subst P (some_is x y there) is
+set_each P (first ∷ xs) zero x each is zero y there = subst P (same_Some x y there) is
 set_each P (first ∷ xs) zero x each is (suc n) y there = each (suc n) y there
 set_each P (first ∷ xs) (suc k) x each is zero y there = each zero y there
 set_each P (first ∷ xs) (suc k) x each is (suc n) y there = set_each P xs k x (λ m z at. each (suc m) z at) is n y there
@@ -116,7 +109,7 @@ stand_took state number next message old new (Err why) ok err = still_stand stat
 -- the node of a number, among those with their disks
 found : {D : Type 0} (nodes : List (Node × D × D)) (k : ℕ) (node : Node) → slice_get (nodes_in nodes) k ≡ Some node → (item : Node × D × D) × (slice_get nodes k ≡ Some item) × (item.0 ≡ node)
 found [] k node there = absurd (cc there)
-found (first ∷ nodes) zero node there = (first, refl, some_is first.0 node there)
+found (first ∷ nodes) zero node there = (first, refl, same_Some first.0 node there)
 found (first ∷ nodes) (suc k) node there = found nodes k node there
 
 pub all_stand : {D : Type 0} (state : D → State) (sizes : Sizes) (history : List Event) (items : List (Node × D × D)) (idle : List D) (messages : List Message)

@@ -2,15 +2,13 @@
 use Rattle.std.proofs.Common.{◌≡◌, ◌∙◌, ◌<◌, ◌≤◌, ◌+◌, ◌*◌, ◌-◌, inl, inr, ap, sym, subst, refl, arith, length-append, ℕ, zero, suc, Some, length, drop, List, [], ◌∷◌, ◌++◌, slice_get}
 use Rattle.std.proofs.lemmas.List.{drop-drop}
 use Rattle.std.proofs.Math.Seq.{drop-append_seam, drop-append-add}
+use Rattle.std.proofs.lemmas.Option.{same_Some}
 use Rattle.rs_disk.specs.State.{State}
 use Rattle.set_model.specs.Node.{Node}
 use Rattle.node_core.specs.Acting.{Runs}
 use Rattle.set_world.specs.Acting.{NodesStand, StandsOn}
 use Rattle.set_world.specs.Disks.{IsServed, Opens, TwoBack, TwoRun}
 use Rattle.set_world.specs.World.{disks_in}
-
-same_some : {A : Type 0} (x y : A) → Some x ≡ Some y → x ≡ y
-same_some x y same = cc same
 
 -- ---- disks that were left alone
 
@@ -21,7 +19,7 @@ pub opens_none : {D : Type 0} (state : D → State) (nodes : ℕ) (Fault : Type 
 opens_none state nodes Fault disks none = record {
   count = refl;
   idle = refl;
-  each = λ place before after at at_too. served_same state before after (same_some before after (sym at ∙ at_too));
+  each = λ place before after at at_too. served_same state before after (same_Some before after (sym at ∙ at_too));
   cause = λ fault. absurd (none fault);
   only_armed = λ fault. absurd (none fault);
 }
@@ -71,10 +69,10 @@ served_checkpoints Fault j j' c c' runs = record { faults = runs.fails.checkpoin
 -- behind the same disks
 served_behind : {D : Type 0} (state : D → State) (front : List D) (j c j' c' : D) (rest : List D) (place : ℕ) (x y : D) → IsServed (state j) (state j') → IsServed (state c) (state c')
     → slice_get (front ++ j ∷ c ∷ rest) place ≡ Some x → slice_get (front ++ j' ∷ c' ∷ rest) place ≡ Some y → IsServed (state x) (state y)
-served_behind state [] j c j' c' rest zero x y one two at at_too = subst (λ a. IsServed (state a) (state y)) (same_some j x at) (subst (λ b. IsServed (state j) (state b)) (same_some j' y at_too) one)
-served_behind state [] j c j' c' rest (suc zero) x y one two at at_too = subst (λ a. IsServed (state a) (state y)) (same_some c x at) (subst (λ b. IsServed (state c) (state b)) (same_some c' y at_too) two)
-served_behind state [] j c j' c' rest (suc (suc place)) x y one two at at_too = served_same state x y (same_some x y (sym at ∙ at_too))
-served_behind state (first ∷ front) j c j' c' rest zero x y one two at at_too = served_same state x y (same_some x y (sym at ∙ at_too))
+served_behind state [] j c j' c' rest zero x y one two at at_too = subst (λ a. IsServed (state a) (state y)) (same_Some j x at) (subst (λ b. IsServed (state j) (state b)) (same_Some j' y at_too) one)
+served_behind state [] j c j' c' rest (suc zero) x y one two at at_too = subst (λ a. IsServed (state a) (state y)) (same_Some c x at) (subst (λ b. IsServed (state c) (state b)) (same_Some c' y at_too) two)
+served_behind state [] j c j' c' rest (suc (suc place)) x y one two at at_too = served_same state x y (same_Some x y (sym at ∙ at_too))
+served_behind state (first ∷ front) j c j' c' rest zero x y one two at at_too = served_same state x y (same_Some x y (sym at ∙ at_too))
 served_behind state (first ∷ front) j c j' c' rest (suc place) x y one two at at_too = served_behind state front j c j' c' rest place x y one two at at_too
 
 module _ {D : Type 0} (state : D → State) (number : ℕ) (Fault : Type 0) (old : List D) (nodes : List (Node × D × D)) (disks : List D) (journal' checkpoints' : D) (rest : List D)
@@ -170,7 +168,7 @@ opens_refused {D} state number nodes Fault old so_many disks back given so_far m
 -- ---- what stands on them
 
 each_more : {A : Type 0} (P : A → Type 0) (xs : List A) (x : A) → ((n : ℕ) (y : A) → slice_get xs n ≡ Some y → P y) → P x → (n : ℕ) (y : A) → slice_get (xs ++ x ∷ []) n ≡ Some y → P y
-each_more P [] x each is zero y there = subst P (same_some x y there) is
+each_more P [] x each is zero y there = subst P (same_Some x y there) is
 each_more P [] x each is (suc n) y there = absurd (cc there)
 each_more P (first ∷ xs) x each is zero y there = each zero y there
 each_more P (first ∷ xs) x each is (suc n) y there = each_more P xs x (λ m z at. each (suc m) z at) is n y there

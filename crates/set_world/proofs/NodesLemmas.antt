@@ -2,12 +2,10 @@
 use Rattle.std.proofs.Common.{◌≡◌, ◌∙◌, ◌<◌, ◌≤◌, ◌++◌, append-nil, append_assoc, take, drop, ap, sym, refl, arith, ℕ, zero, suc, Bool, true, ◌&&◌, nat_lt, ltb-true, Some, length, List, [], ◌∷◌, slice_get, slice_set, slice_index_or}
 use Rattle.std.proofs.lemmas.Bool.{and_parts}
 use Rattle.std.specs.Prelude.{Contains}
+use Rattle.std.proofs.lemmas.Option.{same_Some}
 use Rattle.repl_msg.specs.declared.message.Message.{Message}
 use Rattle.set_model.specs.Node.{Node}
 use Rattle.set_world.specs.World.{nodes_in, disks_in}
-
-same_some : {A : Type 0} (x y : A) → Some x ≡ Some y → x ≡ y
-same_some x y same = cc same
 
 abbrev Nodes : Type 0 → Type 0
 Nodes D = List (Node × D × D)
@@ -29,13 +27,13 @@ module _ {D : Type 0} where
 
   pub get_in : (nodes : Nodes D) (k : ℕ) (node : Node × D × D) → slice_get nodes k ≡ Some node → slice_get (nodes_in nodes) k ≡ Some node.0
   get_in [] k node there = absurd (cc there)
-  get_in (first ∷ nodes) zero node there = ap (λ (n : Node × D × D). Some n.0) (same_some first node there)
+  get_in (first ∷ nodes) zero node there = ap (λ (n : Node × D × D). Some n.0) (same_Some first node there)
   get_in (first ∷ nodes) (suc k) node there = get_in nodes k node there
 
   -- a node that is as it was leaves all as they were
   pub same_nodes : (nodes : Nodes D) (k : ℕ) (before after : Node × D × D) → slice_get nodes k ≡ Some before → after.0 ≡ before.0 → nodes_in (slice_set nodes k after) ≡ nodes_in nodes
   same_nodes [] k before after there same = refl
-  same_nodes (first ∷ nodes) zero before after there same = ap (λ n. n ∷ nodes_in nodes) (same ∙ ap (λ (n : Node × D × D). n.0) (sym (same_some first before there)))
+  same_nodes (first ∷ nodes) zero before after there same = ap (λ n. n ∷ nodes_in nodes) (same ∙ ap (λ (n : Node × D × D). n.0) (sym (same_Some first before there)))
   same_nodes (first ∷ nodes) (suc k) before after there same = ap (λ l. first.0 ∷ l) (same_nodes nodes k before after there same)
 
 -- a command that names a node names one of the set

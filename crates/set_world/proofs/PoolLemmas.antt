@@ -5,6 +5,7 @@ use Rattle.std.proofs.lemmas.List.{length-set, get_or-set_same, get_or-set_other
 use Rattle.repl_msg.specs.declared.message.Message.{Message}
 use Rattle.set_model.specs.World.{is_between, last_message, latest_between}
 use Rattle.std.specs.Prelude.{All}
+use Rattle.std.proofs.lemmas.List.Elements.{All-tail}
 use Rattle.set_world.specs.Pool.{Pool, IsNewest, IsIndexed, IsBetweenNodes, AddsSoFar, slot_of}
 
 filter-append : {A : Type 0} (test : A → Bool) (xs ys : List A) → filter test (xs ++ ys) ≡ filter test xs ++ filter test ys
@@ -106,9 +107,6 @@ indexed_more nodes messages newest message is sender receiver = record {
 
 -- ---- several messages
 
-all_tail : {A : Type 0} (P : A → Type 0) (x : A) (xs : List A) → All P (x ∷ xs) → All P xs
-all_tail P x xs each k d within = each (suc k) d (omega (arith, within))
-
 -- one of those that are left is added
 pub adds_more : (old : Pool) (sent : List Message) (now next : Pool) (message : Message) (left rest : List Message) → AddsSoFar old sent now left → left ≡ message ∷ rest
     → next.nodes ≡ now.nodes → next.messages ≡ now.messages ++ message ∷ [] → now.spare ≤ next.spare + 1 → AddsSoFar old sent next rest
@@ -119,5 +117,5 @@ adds_more old sent now next message left rest so_far is nodes messages spare = r
       let long : length left ≡ length rest + 1 = ap length is ∙ (omega arith) in
       let room : length left ≤ now.spare = so_far.room in
       omega (arith, long, room, spare);
-  between = all_tail (IsBetweenNodes old.nodes) message rest (subst (λ l. All (IsBetweenNodes old.nodes) l) is so_far.between);
+  between = All-tail (IsBetweenNodes old.nodes) message rest (subst (λ l. All (IsBetweenNodes old.nodes) l) is so_far.between);
 }

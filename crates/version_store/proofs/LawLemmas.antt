@@ -5,9 +5,9 @@ use Rattle.std.proofs.lemmas.Bool.{not-true}
 use Rattle.bson_doc.specs.Tree.{Fields}
 use Rattle.rs_optime.specs.declared.optime.OpTime.{OpTime}
 use Rattle.rs_optime.specs.Later.{earlier_of}
+use Rattle.rs_optime.proofs.Optimes.{at_most_before_trans, before_trans}
 use Rattle.version_store.specs.declared.history.Version.{Version}
 use Rattle.version_store.specs.Past.{Past, is_before, IsRising, last_version, latest_of, up_to, behind, shown, back_to, standing, pruned}
-use Rattle.version_store.proofs.HistoryLemmas.{before_trans, at_most_trans}
 
 -- ---- one version more, at or before an optime, or behind it
 
@@ -30,7 +30,7 @@ late_reads : (at read other : OpTime) → is_before read at ≡ false → is_bef
 late_reads at read other late early = go (is_before read other) refl
   where
     go : (b : Bool) → is_before read other ≡ b → is_before read other ≡ false
-    go true is = let both : is_before at other ≡ true = at_most_trans at read other late is in absurd (cc)
+    go true is = let both : is_before at other ≡ true = at_most_before_trans at read other late is in absurd (cc)
     go false is = is
 
 -- where the first is behind an optime, all are

@@ -7,11 +7,11 @@ use Rattle.std.specs.declared.cmp.Ordering.TheVariants.{Less, Equal, Greater}
 use Rattle.std.specs.Cmp.{Equal-is, tied_itself}
 use Rattle.std.specs.FinSet.{FinSet, empty, contains, from_list, items, contains-empty, contains-from_list, contains-items, same_set}
 use Rattle.rs_optime.specs.declared.optime.OpTime.{OpTime}
+use Rattle.rs_optime.proofs.Optimes.{later_time, before_at_most, at_most_trans}
 use Rattle.oplog_entry.specs.Visible.{is_before, least, earlier, last_of, entries_before, visible}
 use Rattle.oplog_entry.specs.declared.entry.Entry.{Entry}
 use Rattle.optime_slots.specs.Reserved.{Reserved, optime_cmp, IsLeast}
 use Rattle.optime_slots.proofs.SlotLemmas.{optime_total, optime_exact}
-use Rattle.oplog_store.proofs.Optimes.{before_by, not_before_by, later_term, later_time}
 
 -- an optime is in a list
 abbrev pub is_listed : OpTime → List OpTime → Bool
@@ -96,18 +96,6 @@ least_of_listed reserved at xs is same =
     let listed : (q : OpTime) → contains reserved.slots q ≡ is_listed q xs = λ q. ap (λ s. contains s q) (sym same) ∙ contains-from_list optime_total xs q in
     least_one xs at (sym (listed at) ∙ is.here) (λ q h. is.first q (listed q ∙ h))
 
-not_before_chain : (a b c : OpTime) → is_before a b ≡ false → is_before b c ≡ false → is_before a c ≡ false
-not_before_chain a b c one two = elim (not_before_by a b one) [
-  | inl more ↦ elim (not_before_by b c two) [ inl again ↦ later_term a c (omega arith) | inr same ↦ later_term a c (omega (arith, same.0)) ]
-  | inr same ↦ elim (not_before_by b c two) [
-    | inl more ↦ later_term a c (omega (arith, same.0))
-    | inr again ↦ later_time a c (same.0 ∙ again.0) (omega (arith, same.1, again.1))
-  ]
-]
-
-not_both : (a b : OpTime) → is_before a b ≡ true → is_before b a ≡ false
-not_both a b before = elim (before_by a b before) [ inl less ↦ later_term b a less | inr same ↦ later_time b a (sym same.0) (omega (arith, same.1)) ]
-
 -- where an optime is in a list, there is a least one, and it is not before that
 pub least_is_first : (xs : List OpTime) (at : OpTime) → IsTrue (is_listed at xs) → (s : OpTime) × (least xs ≡ Some s) × (is_before at s ≡ false)
 least_is_first [] at here = absurd (cc here)
@@ -121,7 +109,7 @@ least_is_first (x ∷ xs) at here = elim (either (eq_by_cmp optime_cmp at x) (is
     first same (Some o) = choose (is_before o x) refl
       where
         choose : (b : Bool) → is_before o x ≡ b → (s : OpTime) × (◌≡◌ {A = Option OpTime} (Some (cond (is_before o x) o x)) (Some s)) × (is_before at s ≡ false)
-        choose true is = (o, ap (λ b. Some (cond b o x)) is, ap (λ (y : OpTime). is_before y o) same ∙ not_both o x is)
+        choose true is = (o, ap (λ b. Some (cond b o x)) is, ap (λ (y : OpTime). is_before y o) same ∙ before_at_most o x is)
         choose false is = (x, ap (λ b. Some (cond b o x)) is, ap (λ (y : OpTime). is_before y x) same ∙ itself x)
 
     behind : ((s : OpTime) × (least xs ≡ Some s) × (is_before at s ≡ false)) → (s : OpTime) × (least (x ∷ xs) ≡ Some s) × (is_before at s ≡ false)
@@ -129,7 +117,7 @@ least_is_first (x ∷ xs) at here = elim (either (eq_by_cmp optime_cmp at x) (is
       where
         choose : (b : Bool) → is_before found.0 x ≡ b → (s : OpTime) × (least (x ∷ xs) ≡ Some s) × (is_before at s ≡ false)
         choose true is = (found.0, ap (λ r. Some (earlier x r)) found.1 ∙ ap (λ b. Some (cond b found.0 x)) is, found.2)
-        choose false is = (x, ap (λ r. Some (earlier x r)) found.1 ∙ ap (λ b. Some (cond b found.0 x)) is, not_before_chain at found.0 x found.2 is)
+        choose false is = (x, ap (λ r. Some (earlier x r)) found.1 ∙ ap (λ b. Some (cond b found.0 x)) is, at_most_trans x found.0 at is found.2)
 
 -- what is visible where no slot is open
 pub visible_whole : (log : List Entry) (reserved : FinSet optime_cmp) (xs : List OpTime) → reserved ≡ empty → from_list xs ≡ reserved → last_of log ≡ visible log xs

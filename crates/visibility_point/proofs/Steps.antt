@@ -3,15 +3,17 @@ use Rattle.std.proofs.Common.{◌≡◌, ◌∙◌, ◌<◌, ◌≤◌, ◌⊎�
 use Rattle.std.specs.Prelude.{nat_lt, slice_index_or}
 use Rattle.std.specs.List.{filter, AllPairs}
 use Rattle.std.specs.FinSet.{items, contains-items, contains-empty}
+use Rattle.std.proofs.lemmas.List.Elements.{All-tail}
 use Rattle.rs_optime.specs.Time.{timestamp_after}
 use Rattle.rs_optime.specs.declared.optime.OpTime.{OpTime}
+use Rattle.rs_optime.proofs.Optimes.{before_both, before_at_most_trans}
 use Rattle.oplog_entry.specs.declared.entry.Entry.{Entry}
 use Rattle.oplog_entry.specs.Visible.{ZERO, is_before, least, last_of, entries_before, log_up_to}
+use Rattle.oplog_entry.proofs.LogLemmas.{filter-without}
 use Rattle.optime_slots.specs.Reserved.{IsOpen, optime_cmp, next_slot}
 use Rattle.optime_slots.proofs.SlotLemmas.{seen_none, seen_raised, seen_with, seen_without, open_with, open_without}
 use Rattle.oplog_store.specs.Log.{IsOplog, StandsBefore, with_entry}
-use Rattle.oplog_store.proofs.Keeps.{FitsBeside, all_with_entry, all_tail, pairs_tail, pairs_head}
-use Rattle.oplog_store.proofs.Optimes.{before_by, not_before_by, before_both, earlier_term, earlier_time}
+use Rattle.oplog_store.proofs.Keeps.{FitsBeside, all_with_entry, pairs_tail, pairs_head}
 use Rattle.visibility_point.specs.Holes.{State, Action, Reserve, Settle, Abort, AbortAll, WriteAtSlot, WritePast, after, IsAllowed, run, AreAllowed, IsSound, answer}
 use Rattle.visibility_point.proofs.Least.{least_is_first}
 
@@ -29,9 +31,9 @@ all_of_with_entry P (other ∷ log) entry all = go (λ rest. all_of_with_entry P
     go : (All P (with_entry log entry) → P entry × All P log) → (b : Bool)
         → All P (cond b (other ∷ with_entry log entry) (entry ∷ other ∷ log)) → P entry × All P (other ∷ log)
     go again true all =
-        let rest : P entry × All P log = again (all_tail P other (with_entry log entry) all) in
+        let rest : P entry × All P log = again (All-tail P other (with_entry log entry) all) in
         (rest.0, cons (all zero other (omega arith)) rest.1)
-    go again false all = (all zero entry (omega arith), all_tail P entry (other ∷ log) all)
+    go again false all = (all zero entry (omega arith), All-tail P entry (other ∷ log) all)
 
 -- where the log with an entry is one, the entry fits beside each other
 fits_beside : (log : List Entry) (entry : Entry) → AllPairs StandsBefore (with_entry log entry) → All (FitsBeside entry) log
@@ -48,15 +50,6 @@ fits_beside (other ∷ log) entry pairs = go (λ rest. fits_beside log entry res
         cons (inl (all_of_with_entry (StandsBefore other) log entry (pairs_head StandsBefore other (with_entry log entry) pairs)).0)
         (again (pairs_tail StandsBefore other (with_entry log entry) pairs))
     go again false pairs = λ k d within. inr (pairs_head StandsBefore entry (other ∷ log) pairs k d within)
-
--- an entry that fails a test is not among those that pass it
-filtered_out : (p : Entry → Bool) (log : List Entry) (entry : Entry) → p entry ≡ false → filter p (with_entry log entry) ≡ filter p log
-filtered_out p [] entry fails = ap (λ b. cond b (entry ∷ []) []) fails
-filtered_out p (other ∷ log) entry fails = go (filtered_out p log entry fails) (nat_lt other.optime.ts entry.optime.ts)
-  where
-    go : filter p (with_entry log entry) ≡ filter p log → (b : Bool) → filter p (cond b (other ∷ with_entry log entry) (entry ∷ other ∷ log)) ≡ filter p (other ∷ log)
-    go again true = ap (λ rest. cond (p other) (other ∷ rest) rest) again
-    go again false = ap (λ b. cond b (entry ∷ filter p (other ∷ log)) (filter p (other ∷ log))) fails
 
 -- ---- an optime that is in a log
 
@@ -102,12 +95,12 @@ has_within : (at : OpTime) (mark : ℕ) (log : List Entry) → Has at log → Al
 has_within at mark [] has marked = absurd has
 has_within at mark (entry ∷ log) (inl same) marked =
     let times : entry.optime.ts ≡ at.ts = ap (λ (o : OpTime). o.ts) same in let here : entry.optime.ts ≤ mark = marked zero entry (omega arith) in omega arith
-has_within at mark (entry ∷ log) (inr there) marked = has_within at mark log there (all_tail (λ (e : Entry). e.optime.ts ≤ mark) entry log marked)
+has_within at mark (entry ∷ log) (inr there) marked = has_within at mark log there (All-tail (λ (e : Entry). e.optime.ts ≤ mark) entry log marked)
 
 -- an entry with a later timestamp than one of the log is behind it
 behind : (at : OpTime) (log : List Entry) (entry : Entry) → Has at log → All (FitsBeside entry) log → at.ts < entry.optime.ts → is_before at entry.optime ≡ true
 behind at [] entry has fits later = absurd has
-behind at (other ∷ log) entry (inr there) fits later = behind at log entry there (all_tail (FitsBeside entry) other log fits) later
+behind at (other ∷ log) entry (inr there) fits later = behind at log entry there (All-tail (FitsBeside entry) other log fits) later
 behind at (other ∷ log) entry (inl same) fits later = go (fits zero other (omega arith))
   where
     times : other.optime.ts ≡ at.ts
@@ -211,22 +204,12 @@ adds_nothing at state (Settle other) sound hides allowed = refl
 adds_nothing at state (Abort other) sound hides allowed = refl
 adds_nothing at state AbortAll sound hides allowed = refl
 adds_nothing at state (WriteAtSlot entry) sound hides allowed =
-    filtered_out (λ e. not (is_before at e.optime)) state.log entry (ap not (slots_behind at state entry hides allowed.1 allowed.0))
+    filter-without (λ e. not (is_before at e.optime)) state.log entry (ap not (slots_behind at state entry hides allowed.1 allowed.0))
 adds_nothing at state (WritePast entry) sound hides allowed =
     let seen : at.ts ≤ state.reserved.mark = answered_seen at state sound hides in
-    filtered_out (λ e. not (is_before at e.optime)) state.log entry (ap not (written_behind at state entry hides allowed.1 (omega (arith, allowed.0))))
+    filter-without (λ e. not (is_before at e.optime)) state.log entry (ap not (written_behind at state entry hides allowed.1 (omega (arith, allowed.0))))
 
 -- ---- the answer, and all actions
-
--- an optime before the least slot is before each
-before_each : (v s o : OpTime) → is_before v s ≡ true → is_before o s ≡ false → is_before v o ≡ true
-before_each v s o before late = elim (before_by v s before) [
-  | inl less ↦ elim (not_before_by o s late) [ inl more ↦ earlier_term v o (omega arith) | inr same ↦ earlier_term v o (omega (arith, same.0)) ]
-  | inr equal ↦ elim (not_before_by o s late) [
-    | inl more ↦ earlier_term v o (omega (arith, equal.0))
-    | inr same ↦ earlier_time v o (equal.0 ∙ sym same.0) (omega (arith, equal.1, same.1))
-  ]
-]
 
 answer_there : (log : List Entry) (found : Option OpTime) → (last_of (entries_before found log) ≡ ZERO) ⊎ Has (last_of (entries_before found log)) log
 answer_there log None = last_is_there log
@@ -239,7 +222,7 @@ answer_before : (log : List Entry) (slot other : OpTime) → 0 < other.ts → is
     → (is_before (last_of (entries_before (Some slot) log)) other ≡ true) ⊎ ((last_of (entries_before (Some slot) log)).ts < other.ts)
 answer_before log slot other positive late = elim (last_is_there (filter (λ entry. is_before entry.optime slot) log)) [
   | inl zero_is ↦ let none : (last_of (entries_before (Some slot) log)).ts ≡ 0 = ap (λ (o : OpTime). o.ts) zero_is in inr (omega arith)
-  | inr has ↦ inl (before_each _ slot other (has_passes _ (λ o. is_before o slot) log has) late)
+  | inr has ↦ inl (before_at_most_trans _ slot other (has_passes _ (λ o. is_before o slot) log has) late)
 ]
 
 answer_hides : (state : State) → IsSound state → Hides (answer state) state

@@ -1,10 +1,11 @@
 use Rattle.std.proofs.Common.{◌≡◌, ◌∙◌, ◌++◌, ◌<◌, ap, sym, subst, refl, arith, length, take, drop, List}
 use Rattle.std.proofs.lemmas.Bool.Decides.{nat_tests}
 use Rattle.std.proofs.lemmas.List.{take_at}
+use Rattle.bson_doc.proofs.BindLemmas.{on_ok_both}
 use Rattle.version_store.specs.Shards.{Shard}
 use Rattle.version_store.specs.Store.{Store, AreShards}
 use Rattle.batch_applier.specs.Parts.{IsBegun, IsEachReady, EachOf}
-use Rattle.batch_applier.proofs.PastLemmas.{after_err, on_ok_both}
+use Rattle.batch_applier.proofs.PastLemmas.{after_err}
 use Rattle.batch_applier.proofs.BatchLemmas.{all_there, batch_ready, shards_kept, batch_applied, batch_undone, head_is}
 use Rattle.batch_applier.proofs.batch.apply_batch.Goals as goal
 

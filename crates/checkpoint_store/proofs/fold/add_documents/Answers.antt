@@ -1,6 +1,6 @@
 use Rattle.std.proofs.Common.{sym, arith}
-use Rattle.checkpoint_store.proofs.LoopLemmas.{on_ok}
-use Rattle.checkpoint_store.proofs.NumberLemmas.{long, number_read, rest_read}
+use Rattle.bson_codec.proofs.NumberLemmas.{long, number_read, rest_read}
+use Rattle.bson_doc.proofs.BindLemmas.{on_ok}
 use Rattle.checkpoint_store.proofs.fold.add_documents.Goals as goal
 
 pub u32_of-count-requires : goal.u32_of-count-requires

@@ -1,5 +1,5 @@
 use Rattle.std.proofs.Common.{◌∙◌, sym, append-nil}
-use Rattle.checkpoint_store.proofs.NumberLemmas.{long, number_read, rest_read}
+use Rattle.bson_codec.proofs.NumberLemmas.{long, number_read, rest_read}
 use Rattle.checkpoint_store.proofs.reading.optime_of.Goals as goal
 
 pub u64_of-term-requires : goal.u64_of-term-requires

@@ -1,6 +1,6 @@
 use Rattle.std.proofs.Common.{ap, arith, length, length-append}
+use Rattle.bson_codec.proofs.NumberLemmas.{long, number_read, rest_read}
 use Rattle.record_file.proofs.ListLemmas.{piece_is, behind_is}
-use Rattle.checkpoint_store.proofs.NumberLemmas.{long, number_read, rest_read}
 use Rattle.checkpoint_store.proofs.PartLemmas.{sized_parts}
 use Rattle.checkpoint_store.proofs.reading.sized_of.Goals as goal
 

@@ -1,10 +1,11 @@
 use Rattle.std.proofs.Common.{◌≡◌, ℕ, List, ◌∷◌, ◌++◌, ◌∙◌, length, ap, rules}
 use Rattle.std.specs.List.{flat_map}
 use Rattle.bson_doc.specs.Place.{Place}
+use Rattle.bson_doc.proofs.BindLemmas.{on_ok_both}
 use Rattle.checkpoint_store.specs.Layout.{saved_bytes}
 use Rattle.bson_codec.specs.Numbers.{number_bytes}
 use Rattle.checkpoint_store.specs.Shown.{saved_at}
-use Rattle.checkpoint_store.proofs.LoopLemmas.{on_ok_both, spelled_documents}
+use Rattle.checkpoint_store.proofs.LoopLemmas.{spelled_documents}
 use Rattle.checkpoint_store.proofs.writing.lay_documents.Goals as goal
 
 pub returns : goal.returns

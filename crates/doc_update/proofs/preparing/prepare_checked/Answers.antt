@@ -4,8 +4,9 @@ use Rattle.doc_update.specs.Check.{checked}
 use Rattle.doc_update.specs.Effect.{replace_prepared, update_prepared}
 use Rattle.doc_update.specs.Lent.{shown}
 use Rattle.doc_update.specs.Sound.{IsNamed, IsSound}
-use Rattle.doc_update.proofs.SoundLemmas.{IsDocument-under, sound-answer, replace-sound, update-sound}
+use Rattle.doc_update.proofs.SoundLemmas.{sound-answer, replace-sound, update-sound}
 use Rattle.doc_update.proofs.preparing.prepare_checked.Goals as goal
+use Rattle.doc_update.proofs.ApartLemmas.{IsDocument-under}
 
 pub returns-in-Replace-Some-clause-sound : goal.returns-in-Replace-Some-clause-sound
 returns-in-Replace-Some-clause-sound c =

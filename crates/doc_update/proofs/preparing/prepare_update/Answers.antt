@@ -1,7 +1,8 @@
 use Rattle.std.proofs.Common.{sym, subst, codes}
 use Rattle.bson_doc.specs.Tree.{IsDocument}
-use Rattle.doc_update.proofs.SoundLemmas.{IsDocument-sets, IsDocument-under}
+use Rattle.doc_update.proofs.SoundLemmas.{IsDocument-sets}
 use Rattle.doc_update.proofs.preparing.prepare_update.Goals as goal
+use Rattle.doc_update.proofs.ApartLemmas.{IsDocument-under}
 
 pub document-requires : goal.document-requires
 document-requires c =

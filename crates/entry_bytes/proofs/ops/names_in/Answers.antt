@@ -1,8 +1,8 @@
 use Rattle.std.proofs.Common.{◌+◌, List, ℕ, refl, ap, sym, ◌∙◌, arith}
 use Rattle.bson_doc.specs.Tree.{text, with_item, fields_from}
 use Rattle.bson_doc.proofs.DocLemmas.{fields_from-zero, fields_from-end}
+use Rattle.bson_doc.proofs.ItemLemmas.{both_items, both_items-nothing, both_items-with_item}
 use Rattle.entry_bytes.specs.Parts.{names_in}
-use Rattle.entry_bytes.proofs.MarkLemmas.{both_items, both_items-nothing, both_items-with_item}
 use Rattle.entry_bytes.proofs.ops.names_in.Goals as goal
 
 pub loop-place-init : goal.loop-place-init

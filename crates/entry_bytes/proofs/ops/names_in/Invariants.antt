@@ -1,7 +1,7 @@
 use Rattle.std.proofs.Common.{◌≡◌}
 use Rattle.bson_doc.specs.Tree.{fields_from}
+use Rattle.bson_doc.proofs.ItemLemmas.{both_items}
 use Rattle.entry_bytes.specs.Parts.{names_in}
-use Rattle.entry_bytes.proofs.MarkLemmas.{both_items}
 use Rattle.entry_bytes.proofs.ops.names_in.Given as goal
 
 abbrev pub invariant-loop-place : goal.invariant-loop-place

@@ -1,7 +1,7 @@
 use Rattle.record_file.proofs.ListLemmas.{piece_is, behind_is}
-use Rattle.node_journal.proofs.NumberLemmas.{number_read, rest_read}
 use Rattle.node_journal.proofs.PartLemmas.{entry_parts, entry_short, no_fault, no_other_shape, spelled_here}
 use Rattle.std.proofs.Common.{ap, arith, length, length-append}
+use Rattle.bson_codec.proofs.NumberLemmas.{number_read, rest_read}
 use Rattle.node_journal.specs.Layout.{entry_bytes}
 use Rattle.node_journal.proofs.reading.entry_of.Goals as goal
 

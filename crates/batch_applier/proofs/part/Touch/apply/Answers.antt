@@ -1,6 +1,6 @@
 use Rattle.std.proofs.Common.{◌∙◌, ap}
+use Rattle.bson_doc.proofs.BindLemmas.{on_ok}
 use Rattle.oplog_entry.specs.Step.{document_after}
-use Rattle.batch_applier.proofs.PastLemmas.{on_ok}
 use Rattle.batch_applier.proofs.PartLemmas.{applied_one}
 use Rattle.batch_applier.proofs.part.Touch.apply.Goals as goal
 

@@ -1,6 +1,6 @@
 use Rattle.std.proofs.Common.{sym, subst}
+use Rattle.bson_doc.proofs.BindLemmas.{on_ok}
 use Rattle.checkpoint_store.proofs.DiskLemmas.{adds_left, before_all, open_left, kept, kept_open, saved, saved_open, saved_records, saves}
-use Rattle.checkpoint_store.proofs.LoopLemmas.{on_ok}
 use Rattle.checkpoint_store.proofs.ShownLemmas.{AreShownIn, each_shown, listed, some_map}
 use Rattle.checkpoint_store.proofs.checkpoints.Checkpoints.save.Goals as goal
 

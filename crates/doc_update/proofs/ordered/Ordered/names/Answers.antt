@@ -2,9 +2,10 @@ use Rattle.std.proofs.Common.{List, ℕ, ap, sym, ◌∙◌}
 use Rattle.std.specs.Map.Iter.{deref}
 use Rattle.std.proofs.lemmas.Map.Iter.{rest_more, rest_all}
 use Rattle.bson_doc.specs.Tree.{text, with_item}
+use Rattle.bson_doc.proofs.ItemLemmas.{both_items, both_items-nothing, both_items-with_item}
 use Rattle.doc_update.specs.Check.{names_of}
 use Rattle.doc_update.specs.Ordered.{as_strings}
-use Rattle.doc_update.proofs.OrderLemmas.{both_items, both_items-nothing, both_items-with_item, names_of-fields_in}
+use Rattle.doc_update.proofs.OrderLemmas.{names_of-fields_in}
 use Rattle.doc_update.proofs.ordered.Ordered.names.Goals as goal
 
 pub loop-name-init : goal.loop-name-init

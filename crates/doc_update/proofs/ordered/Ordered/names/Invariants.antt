@@ -1,7 +1,7 @@
 use Rattle.std.proofs.Common.{◌≡◌}
+use Rattle.bson_doc.proofs.ItemLemmas.{both_items}
 use Rattle.doc_update.specs.Check.{names_of}
 use Rattle.doc_update.specs.Ordered.{as_strings}
-use Rattle.doc_update.proofs.OrderLemmas.{both_items}
 use Rattle.doc_update.proofs.ordered.Ordered.names.Given as goal
 
 abbrev pub invariant-loop-name : goal.invariant-loop-name

@@ -1,5 +1,5 @@
 use Rattle.std.proofs.Common.{◌≡◌, ◌∙◌, ap, false, subst, sym, take}
-use Rattle.batch_applier.proofs.PastLemmas.{on_ok}
+use Rattle.bson_doc.proofs.BindLemmas.{on_ok}
 use Rattle.oplog_entry.specs.Visible.{is_before}
 use Rattle.repl_msg.specs.Logs.{log_behind}
 use Rattle.node_ledger.specs.Ledger.{Ledger as Seen, applied_at, applied_with}

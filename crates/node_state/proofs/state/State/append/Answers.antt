@@ -1,4 +1,5 @@
 use Rattle.std.proofs.Common.{◌∙◌, ap, sym, subst, fold, map, List}
+use Rattle.rs_optime.proofs.Optimes.{at_most_refl}
 use Rattle.oplog_entry.specs.declared.entry.Entry.{Entry}
 use Rattle.repl_msg.specs.Fetching.{continues}
 use Rattle.set_model.specs.Points.{last_point}
@@ -6,7 +7,6 @@ use Rattle.node_tables.specs.Unkept.{Optimes, with_optime}
 use Rattle.node_state.specs.Standing.{Standing}
 use Rattle.node_state.specs.Seen.{seen_node}
 use Rattle.set_model.specs.Taking.{CanTakeEntries}
-use Rattle.node_state.proofs.EntryLemmas.{at_most_itself}
 use Rattle.node_state.proofs.Inside.{rest_in}
 use Rattle.node_state.proofs.JoinedLemmas.{coherent-appended, fetched_later, fetched_oplog, fetched_small}
 use Rattle.node_state.proofs.state.State.append.Goals as goal
@@ -23,7 +23,7 @@ append-requires-clause-later c =
     fetched_later (seen_node c.self.inside.ledger.node (rest_in c.self.inside)) c.self.inside.ledger.node.term c.args.reply c.into_entries.result.items (last_point c.self.inside.ledger.node) c.into_entries.ensures.entries
     (subst (λ (s : Standing). CanTakeEntries s.node s.node.term c.args.reply) (sym c.self.view_is) c.requires.fetched)
     (ap (λ (s : Standing). continues (last_point s.node) c.args.reply) c.self.view_is ∙ c.requires.base)
-    (at_most_itself (last_point c.self.inside.ledger.node))
+    (at_most_refl (last_point c.self.inside.ledger.node))
 
 pub append-requires-clause-small : goal.append-requires-clause-small
 append-requires-clause-small c =

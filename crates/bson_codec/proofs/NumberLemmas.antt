@@ -1,5 +1,5 @@
 -- A number in front of some bytes, and what stands behind it.
-use Rattle.std.proofs.Common.{◌≡◌, ℕ, ◌^◌, ◌<◌, ◌≤◌, List, ◌++◌, length, drop, ap, ◌∙◌, arith, length-append}
+use Rattle.std.proofs.Common.{◌≡◌, ℕ, ◌^◌, ◌<◌, ◌≤◌, List, ◌++◌, length, drop, ap, sym, ◌∙◌, arith, length-append}
 use Rattle.std.proofs.lemmas.List.{drop_at}
 use Rattle.bson_codec.specs.Numbers.{number_bytes, number_in}
 use Rattle.bson_codec.proofs.PartLemmas.{number_back}
@@ -14,3 +14,9 @@ number_read n y x more bytes small is read = read ∙ ap (λ (l : List ℕ). num
 pub rest_read : (n y : ℕ) (more bytes rest : List ℕ) → bytes ≡ number_bytes n y ++ more → rest ≡ drop n bytes → rest ≡ more
 rest_read n y more bytes rest is read =
     read ∙ ap (λ (l : List ℕ). drop n l) is ∙ drop_at (number_bytes n y) more n (length-number_bytes n y)
+
+pub number_once : (n x y : ℕ) (more others : List ℕ) → x < 256 ^ n → y < 256 ^ n → number_bytes n x ++ more ≡ number_bytes n y ++ others → (x ≡ y) × (more ≡ others)
+number_once n x y more others small short is = (
+  sym (number_back n x more small) ∙ ap (λ (l : List ℕ). number_in n l) is ∙ number_back n y others short,
+  sym (drop_at (number_bytes n x) more n (length-number_bytes n x)) ∙ ap (λ (l : List ℕ). drop n l) is ∙ drop_at (number_bytes n y) others n (length-number_bytes n y),
+)
