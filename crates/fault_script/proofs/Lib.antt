@@ -1,7 +1,7 @@
 mod CommandsConfig
 mod CommandsFit
-mod Gets
-mod LinesCut
+pub mod Gets
+pub mod LinesCut
 mod ListsLast
 mod ValuesEnd
 mod WholeCounts

@@ -12,11 +12,11 @@ use Rattle.fault_script.specs.declared.rule.ScriptRule.TheVariants.{NotUtf8}
 use Rattle.fault_script.specs.Lines.{text_of}
 use Rattle.std.proofs.lemmas.Str.{is_utf8-from_IsUtf8, IsUtf8-from_is_utf8}
 
-abbrev line_feed : ℕ → Bool
+abbrev pub line_feed : ℕ → Bool
 line_feed byte = byte == 10
 
 -- a cut gives one part at least
-abbrev HasPart : List (List ℕ) → Type 0
+abbrev pub HasPart : List (List ℕ) → Type 0
 HasPart ps = (part : List ℕ) × (others : List (List ℕ)) × (ps ≡ part ∷ others)
 
 longer_part : (c : ℕ) (ps : List (List ℕ)) → HasPart ps → HasPart (onto_first c ps)
@@ -27,7 +27,7 @@ new_part : (b : Bool) (c : ℕ) (ps : List (List ℕ)) → HasPart ps → HasPar
 new_part true c ps has = ([], ps, refl)
 new_part false c ps has = longer_part c ps has
 
-some_part : (text : List ℕ) → HasPart (slice_split line_feed text)
+pub some_part : (text : List ℕ) → HasPart (slice_split line_feed text)
 some_part [] = ([], [], refl)
 some_part (c ∷ text) = new_part (line_feed c) c (slice_split line_feed text) (some_part text)
 
@@ -35,7 +35,7 @@ fails : (b : Bool) → ¬ (b ≡ true) → b ≡ false
 fails true other = absurd (other refl)
 fails false other = refl
 
-line_of : (line : List ℕ) (ps : List (List ℕ)) → HasPart ps → lines_of_parts (line ∷ ps) ≡ strip_carriage_return line ∷ lines_of_parts ps
+pub line_of : (line : List ℕ) (ps : List (List ℕ)) → HasPart ps → lines_of_parts (line ∷ ps) ≡ strip_carriage_return line ∷ lines_of_parts ps
 line_of line [] (part, others, is) = absurd cc
 line_of line (part ∷ others) has = refl
 

@@ -17,6 +17,7 @@ mod whole;
 mod words;
 mod writes;
 
+pub use chance_script::generate;
 pub use lists::{Lines, Threads};
 pub use rule::{ScriptError, ScriptFault, ScriptRule, TextRule};
 pub use script::{Part, Parts, Rest, Script};

@@ -111,7 +111,7 @@ impl Model for Rest {
 impl Rest {
     /// Takes out the next part.
     pub fn next(&mut self) -> Option<Part>
-        ensures { MatchOption result (self.old ≡ []) (λ part. self.old ≡ part ∷ self.new) }
+        ensures { MatchOption result ((self.old ≡ []) × (self.new ≡ [])) (λ part. self.old ≡ part ∷ self.new) }
     {
         let part = self.parts.pop()?;
         if self.parts.len() % MOST_SPARE == 0 {

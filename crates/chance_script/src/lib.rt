@@ -1,0 +1,7 @@
+//! Scripts by chance, each from a seed.
+#![tactic(auto)]
+
+mod generated;
+mod happening;
+
+pub use generated::generate;

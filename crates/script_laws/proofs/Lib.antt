@@ -1,0 +1,7 @@
+mod ChanceAsks
+mod ChanceDocuments
+mod ChanceDrawn
+mod ChanceLines
+mod ChanceWords
+mod ChanceWrites
+pub mod ChanceIsScript

@@ -1,0 +1,6 @@
+//! What holds of generated scripts.
+#![tactic(auto)]
+
+mod laws;
+
+pub use laws::generated_is_script;
