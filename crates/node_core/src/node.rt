@@ -1,4 +1,4 @@
-ghost use Rattle.std.specs.Prelude.{◌≡◌, ◌<◌, ℕ, [], None, true, false, IfOk, OnErr, IsSome};
+ghost use Rattle.std.specs.Prelude.{◌≡◌, ◌<◌, ℕ, [], None, true, false, IfOk, OnErr, IsSome, MatchOption};
 ghost use Rattle.std.specs.FinMap as maps;
 ghost use Rattle.bson_doc.specs.Place.{Place};
 ghost use Rattle.oplog_entry.specs.Docs.{docs};
@@ -12,6 +12,7 @@ ghost use Rattle.set_model.specs.declared.command.Command.TheVariants as command
 ghost use Rattle.set_model.specs.Deliver.{deliver};
 ghost use Rattle.set_model.specs.Limits.{is_within};
 ghost use Rattle.set_model.specs.Node.{down, opening_node};
+ghost use Rattle.set_model.specs.Points.{last_point};
 ghost use Rattle.set_model.specs.Reads.{local_documents};
 ghost use Rattle.set_model.specs.Rows.{row};
 ghost use Rattle.node_ledger.specs.Ledger.{IsReadable};
@@ -318,6 +319,18 @@ impl<D: Disk> Node<D> {
     {
         self.state.is_sound();
         self.up
+    }
+
+    /// The optimes of its last entry, or ZERO, and of its commit point; none of a node that is down.
+    pub fn points(&self) -> Option<(OpTime, OpTime)>
+        ensures { MatchOption result (self.now.0.up ≡ false)
+            (λ points. (self.now.0.up ≡ true) × (points ≡ (last_point self.now.0, self.now.0.commit))) }
+    {
+        if self.is_up() {
+            Some(self.state.points())
+        } else {
+            None
+        }
     }
 
     /// Hands the disks back as they are, the journal's first.

@@ -10,6 +10,7 @@ ghost use Rattle.member_config.specs.Rule.{rule};
 ghost use Rattle.set_model.specs.Deliver.{deliver};
 ghost use Rattle.set_model.specs.Limits.{is_within};
 ghost use Rattle.set_model.specs.Node.{opening_node};
+ghost use Rattle.set_model.specs.Points.{last_point};
 ghost use Rattle.set_model.specs.Reads.{local_documents};
 ghost use Rattle.set_model.specs.Rows.{row};
 ghost use Rattle.set_model.specs.Stores.{stored};
@@ -272,6 +273,13 @@ impl State {
         ensures { result ≡ self.now.node.stable }
     {
         self.ledger.stable()
+    }
+
+    /// The optimes of its last entry, or ZERO, and of its commit point.
+    pub fn points(&self) -> (OpTime, OpTime)
+        ensures { result ≡ (last_point self.now.node, self.now.node.commit) }
+    {
+        (self.ledger.last(), self.commit)
     }
 
     pub fn rollback(&self) -> u64

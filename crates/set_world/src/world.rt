@@ -4,6 +4,7 @@ ghost use Rattle.set_model.specs.Limits.{IsRun, is_for};
 ghost use Rattle.set_model.specs.Run.{AreSizes, run};
 ghost use Rattle.set_world.specs.declared.error.StepError.{StepError as AStepError};
 ghost use Rattle.set_world.specs.Disks.{AllStand, IsStep, IsUndone, Opens};
+ghost use Rattle.set_world.specs.World.{nodes_in};
 ghost use Rattle.record_file.specs.declared.error.FileError.TheVariants.{Disk};
 
 use crate::StepError;
@@ -215,6 +216,13 @@ impl<D: Disk> World<D> {
     {
         numbers_stay_small();
         &self.nodes[node as usize]
+    }
+
+    /// Lends all nodes, in order of number, as they are in the last world of the history.
+    pub fn nodes(&self) -> &[Node<D>]
+        ensures { nodes_in result.now ≡ (run self.now.sizes self.now.history).world.nodes }
+    {
+        &self.nodes
     }
 
     /// On the nodes' disks stands what they are in the last world: a fact for callers' proofs, which costs nothing.
