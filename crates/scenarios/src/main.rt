@@ -2,6 +2,7 @@
 #![tactic(auto)]
 
 mod batches;
+mod generated;
 
 use anyhow::{Context, Result};
 use rs_io::{MemSink, MemSource};
@@ -34,6 +35,10 @@ fn main(rt: HostRuntime) -> Result<ExitCode> {
         as_written = false;
         println!(rt; "more than a batch comes otherwise")?;
     }
+    if !sums_up(&rt, rt.alloc())? {
+        as_written = false;
+        println!(rt; "a generated script comes to something else")?;
+    }
     Ok(if as_written {
         ExitCode::SUCCESS
     } else {
@@ -65,11 +70,24 @@ fn read(rt: &HostRuntime, name: &str, ending: &str) -> Result<Vec<u8>> {
 
 /// What the script prints.
 fn transcript<R: Threads + Sync>(rt: &R, alloc: Global, script: Vec<u8>) -> Result<Vec<u8>> {
-    let words = vec![in alloc; String::from_str(alloc, "run")?]?;
-    let mut source = MemSource::new(script, Vec::new(alloc));
+    printed(rt, alloc, &["run"], script)
+}
+
+/// What the words print, over an input of these bytes.
+fn printed<R: Threads + Sync>(
+    rt: &R,
+    alloc: Global,
+    words: &[&str],
+    input: Vec<u8>,
+) -> Result<Vec<u8>> {
+    let mut owned = Vec::new(alloc);
+    for word in words {
+        owned.push(String::from_str(alloc, word)?)?;
+    }
+    let mut source = MemSource::new(input, Vec::new(alloc));
     let mut sink = MemSink::new(alloc, Vec::new(alloc));
     let disks = set_program::empty_disks(alloc)?;
-    let _ = set_program::run_set(rt, alloc, &words, &mut source, &mut sink, disks);
+    let _ = set_program::run_set(rt, alloc, &owned, &mut source, &mut sink, disks);
     Ok(sink.bytes().to_vec(alloc)?)
 }
 
@@ -103,6 +121,23 @@ fn comes_in_batches<R: Threads + Sync>(
     let one = transcript(rt, alloc, batches::script(alloc, opening, 1)?)?;
     let many = transcript(rt, alloc, batches::script(alloc, opening, 16)?)?;
     Ok(one.ends_with(ending.as_bytes()) && many.ends_with(ending.as_bytes()))
+}
+
+/// Whether a generated script comes to its summary, each time that it is asked for, and its transcript tells of as many writes.
+fn sums_up<R: Threads + Sync>(rt: &R, alloc: Global) -> Result<bool> {
+    let first = printed(rt, alloc, &generated::WORDS, Vec::new(alloc))?;
+    let again = printed(rt, alloc, &generated::WORDS, Vec::new(alloc))?;
+    let script = fault_script::generate(alloc, 7, 5000, 5)?;
+    let lines = transcript(rt, alloc, script)?;
+    let written: Result<Vec<&[u8]>, _> = lines
+        .split(|byte| *byte == b'\n')
+        .filter(|line| memchr::memmem::find(line, b": written ").is_some())
+        .collect(alloc);
+    Ok(
+        first.as_slice() == generated::SUMMARY.as_bytes()
+            && again == first
+            && written?.len() == generated::WRITTEN,
+    )
 }
 
 /// The number of the first line in which the texts differ.

@@ -1,5 +1,5 @@
 -- How a call ends.
-use Rattle.std.proofs.Common.{ℕ, ◌≡◌, ◌<◌, List, [], ◌∷◌, length, Option, None, Some, Result, Ok, Err, String, refl, sym, subst, arith, inl, inr, ⊎_elim, ◌∙◌}
+use Rattle.std.proofs.Common.{ℕ, ◌≡◌, ◌<◌, Bool, true, false, List, [], ◌∷◌, length, Option, None, Some, Result, Ok, Err, String, refl, sym, subst, arith, inl, inr, ⊎_elim, ◌∙◌}
 use Rattle.std.specs.Prelude.{◌≢◌, IfSome}
 use Rattle.std.specs.declared.alloc.Global.{Global}
 use Rattle.rs_io.specs.Fault.{Rose}
@@ -18,25 +18,46 @@ use Rattle.set_program.specs.declared.outcome.Left.{Left}
 use Rattle.set_program.specs.declared.outcome.Left.TheVariants.{World, Parts}
 use Rattle.set_program.specs.declared.stop.Stop.{Stop}
 use Rattle.set_program.specs.declared.stop.Stop.TheVariants.{Memory, Usage, Script as NoScript, ReadFault, WriteFault, TooLong, DiskFault}
-use Rattle.set_program.specs.Asking.{RunsScript}
-use Rattle.set_program.specs.Causes.{of_read}
-use Rattle.set_program.specs.Headline.{AsksRun, Ends, EndsRun, EndsUnrun, HasNoFault, IsFaulty, IsOneOf, IsRead, IsReadable, limit, status_of}
+use Rattle.set_program.specs.Asking.{ReadsSource, RunsScript}
+use Rattle.rs_io.specs.Put.{Puts}
+use Rattle.rs_io.specs.declared.sink.SinkError.{SinkError}
+use Rattle.rs_io.specs.declared.sink.SinkError.TheVariants.{Failed, Memory as NoRoom}
+use Rattle.set_program.specs.Causes.{of_read, of_sink}
+use Rattle.set_program.specs.Headline.{Asks, AsksNothing, AsksRun, Ends, EndsRun, EndsTask, EndsUnrun, HasNoFault, IsFaulty, IsOneOf, IsReadable, IsScriptOf, limit, status_of, usage}
+use Rattle.set_program.specs.declared.words.Task.{Task}
+use Rattle.set_program.specs.declared.words.Task.TheVariants.{Run, Chaos}
 use Rattle.set_program.specs.Left.{IfSet}
 use Rattle.set_program.specs.Plays.{Plays}
 use Rattle.set_program.proofs.PlayLemmas.{Keeps-same, follows_so}
 
 -- ---- the script is read
 
-pub read_stops : (words : List (String Global)) (left rest held : Option (List ℕ)) (error : ReadAllError) → AsksRun words → ReadsAll limit left rest (Err error)
-    → EndsUnrun words left rest held held (Err (of_read error))
-read_stops words left rest held SourceFailed asks reads = (asks, Keeps-same held)
-read_stops words left rest held NoMemory asks reads = Keeps-same held
-read_stops words left rest held OverLimit asks reads = (asks, Keeps-same held, over left rest reads)
+pub read_stops : (left rest held : Option (List ℕ)) (error : ReadAllError) → ReadsAll limit left rest (Err error) → ReadsSource left rest held held (Err (of_read error))
+read_stops left rest held SourceFailed reads = Keeps-same held
+read_stops left rest held NoMemory reads = Keeps-same held
+read_stops left rest held OverLimit reads = (Keeps-same held, over left rest reads)
   where
     over : (l r : Option (List ℕ)) → ReadsAll limit l r (Err OverLimit) → IfSome l (λ bytes. limit < length bytes)
     over None r reads = tt
     over (Some before) None reads = absurd reads
     over (Some before) (Some after) reads = omega (arith, reads)
+
+-- nothing is run, since the source has no script
+pub source_stops : (words : List (String Global)) (left rest old new : Option (List ℕ)) (stop : Stop) → AsksRun words → ReadsSource left rest old new (Err stop)
+    → EndsUnrun words left rest old new (Err stop)
+source_stops words left rest old new Usage asks reads = absurd reads
+source_stops words left rest old new NoScript asks reads = (asks, reads)
+source_stops words left rest old new ReadFault asks reads = (asks, reads)
+source_stops words left rest old new TooLong asks (kept, over) = (asks, kept, over)
+source_stops words left rest old new DiskFault asks reads = absurd reads
+source_stops words left rest old new Memory asks reads = reads
+source_stops words left rest old new WriteFault asks reads = inr (asks, reads)
+
+-- the words ask for nothing
+pub usage_stops : (words : List (String Global)) (left rest old new : Option (List ℕ)) (error : SinkError) → AsksNothing words → Puts old new (Err error) usage
+    → EndsUnrun words left rest old new (Err (of_sink error))
+usage_stops words left rest old new Failed none (count, put) = inl (none, (count, tt, put))
+usage_stops words left rest old new NoRoom none kept = kept
 
 -- ---- it is run
 
@@ -58,16 +79,16 @@ plays_end sizes parts held now set result same played =
     plays_at parts held now set result (subst (λ (s : Sizes). Plays s parts held now set.history result) (sym same) played)
 
 -- what was asked for was run
-pub run_ends : {D : Type 0} (words : List (String Global)) (left rest old new : Option (List ℕ)) (read : Script) (ended : Result (Unit {0}) Stop) (outcome : Left D)
-    → AsksRun words → IsRead left rest read → RunsScript read old new ended outcome → Ends words left rest old new ended outcome
-run_ends words left rest old new read ended (World set) asks is runs = (asks, (read, is, runs.0, runs.1))
-run_ends words left rest old new read ended (Parts events disks) asks is (none, kept, one) = (none, ⊎_elim no_memory failed one)
+pub run_ends : {D : Type 0} (words : List (String Global)) (left rest old new : Option (List ℕ)) (task : Task) (read : Script) (ended : Result (Unit {0}) Stop) (outcome : Left D)
+    → Asks words task → IsScriptOf task left rest read → RunsScript task read old new ended outcome → Ends words left rest old new ended outcome
+run_ends words left rest old new task read ended (World set) asks is runs = (task, asks, (read, is, runs.0, runs.1))
+run_ends words left rest old new task read ended (Parts events disks) asks is (none, kept, one) = (none, ⊎_elim no_memory failed one)
   where
     no_memory : ended ≡ Err Memory → EndsUnrun words left rest old new ended
     no_memory same = rw same kept
 
     failed : ended ≡ Err DiskFault → EndsUnrun words left rest old new ended
-    failed same = rw same (asks, kept, (read, is))
+    failed same = rw same (kept, (read, (task, asks, is)))
 
 -- ---- what holds of what is left
 
@@ -99,11 +120,45 @@ whatever : (left : Option (List ℕ)) (P : Type 0) → P → IfSome left (λ byt
 whatever None P holds = tt
 whatever (Some bytes) P holds = λ readable. holds
 
--- what was run doesn't end so, and what wasn't ends so
-only_unrun : {D : Type 0} (P : Type 0) (words : List (String Global)) (left rest old new : Option (List ℕ)) (ended : Result (Unit {0}) Stop) (outcome : Left D)
-    → ((parts : List Part) (set : Set D) → EndsRun parts old new ended set → P) → (EndsUnrun words left rest old new ended → P) → Ends words left rest old new ended outcome → P
-only_unrun P words left rest old new ended (World set) ran unrun (asks, (read, is, sizes, ends)) = ran read.parts set ends
-only_unrun P words left rest old new ended (Parts events disks) ran unrun (none, ends) = unrun ends
+-- the words ask for one task at most
+asks_one : (P : Type 0) (words : List (String Global)) (one other : Task) → (Some one ≡ Some other → ⊥) → Asks words one → Asks words other → P
+asks_one P words one other apart first second = absurd (apart (sym first ∙ second))
+
+asks_something : (P : Type 0) (words : List (String Global)) (task : Task) → Asks words task → AsksNothing words → P
+asks_something P words task asks none = absurd (cc (asks, none))
+
+-- a set that is run ends with its lines, or for want of memory, or with a fault of the sink
+ends_before : Stop → Bool
+ends_before Memory = false
+ends_before WriteFault = false
+ends_before Usage = true
+ends_before NoScript = true
+ends_before ReadFault = true
+ends_before TooLong = true
+ends_before DiskFault = true
+
+never : {D : Type 0} (P : Type 0) (task : Task) (parts : List Part) (old new : Option (List ℕ)) (stop : Stop) (set : Set D) → ends_before stop ≡ true → EndsTask task parts old new (Err stop) set → P
+unfolding ends_before
+never P Run parts old new Memory set before ends = absurd (cc before)
+never P Run parts old new WriteFault set before ends = absurd (cc before)
+never P Run parts old new Usage set before ends = absurd ends
+never P Run parts old new NoScript set before ends = absurd ends
+never P Run parts old new ReadFault set before ends = absurd ends
+never P Run parts old new TooLong set before ends = absurd ends
+never P Run parts old new DiskFault set before ends = absurd ends
+never P (Chaos seed events nodes) parts old new Memory set before ends = absurd (cc before)
+never P (Chaos seed events nodes) parts old new WriteFault set before ends = absurd (cc before)
+never P (Chaos seed events nodes) parts old new Usage set before ends = absurd ends
+never P (Chaos seed events nodes) parts old new NoScript set before ends = absurd ends
+never P (Chaos seed events nodes) parts old new ReadFault set before ends = absurd ends
+never P (Chaos seed events nodes) parts old new TooLong set before ends = absurd ends
+never P (Chaos seed events nodes) parts old new DiskFault set before ends = absurd ends
+
+-- so nothing was run where a call ends otherwise
+only_unrun : {D : Type 0} (P : Type 0) (words : List (String Global)) (left rest old new : Option (List ℕ)) (stop : Stop) (outcome : Left D)
+    → ends_before stop ≡ true → (EndsUnrun words left rest old new (Err stop) → P) → Ends words left rest old new (Err stop) outcome → P
+only_unrun P words left rest old new stop (World set) before unrun (task, asks, (read, is, sizes, ends)) = never P task read.parts old new stop set before ends
+only_unrun P words left rest old new stop (Parts events disks) before unrun (none, ends) = unrun ends
 
 pub completes : {D : Type 0} (words : List (String Global)) (left rest old new : Option (List ℕ)) (ended : Result (Unit {0}) Stop) (outcome : Left D)
     (SteadySource SteadySink : Type 0) (reads reads' writes writes' : ℕ)
@@ -111,6 +166,7 @@ pub completes : {D : Type 0} (words : List (String Global)) (left rest old new :
     → (SteadySource → status_of ended ≢ 4) → (SteadySink → status_of ended ≢ 5)
     → AsksRun words → HasNoFault SteadySource reads reads' → HasNoFault SteadySink writes writes'
     → IfSome left (λ bytes. IsReadable bytes → IsOneOf (0 ∷ 1 ∷ 7 ∷ []) (status_of ended))
+unfolding ends_before
 completes words left rest old new (Ok done) outcome SteadySource SteadySink reads reads' writes writes' ends read_fault write_fault steady_source steady_sink asks source sink = whatever left _ refl
 completes words left rest old new (Err Memory) outcome SteadySource SteadySink reads reads' writes writes' ends read_fault write_fault steady_source steady_sink asks source sink = whatever left _ refl
 completes words left rest old new (Err DiskFault) outcome SteadySource SteadySink reads reads' writes writes' ends read_fault write_fault steady_source steady_sink asks source sink = whatever left _ refl
@@ -119,8 +175,28 @@ completes words left rest old new (Err ReadFault) outcome SteadySource SteadySin
 completes words left rest old new (Err WriteFault) outcome SteadySource SteadySink reads reads' writes writes' ends read_fault write_fault steady_source steady_sink asks source sink =
     absurd (no_fault SteadySink writes writes' sink (λ steady. steady_sink steady refl) (write_fault refl))
 completes words left rest old new (Err Usage) outcome SteadySource SteadySink reads reads' writes writes' ends read_fault write_fault steady_source steady_sink asks source sink =
-    only_unrun _ words left rest old new (Err Usage) outcome (λ parts set never. absurd never) (λ unrun. absurd (unrun.0 asks)) ends
+    only_unrun _ words left rest old new Usage outcome refl (λ unrun. asks_something _ words Run asks unrun.0) ends
 completes words left rest old new (Err NoScript) outcome SteadySource SteadySink reads reads' writes writes' ends read_fault write_fault steady_source steady_sink asks source sink =
-    only_unrun _ words left rest old new (Err NoScript) outcome (λ parts set never. absurd never) (λ unrun. faulty left rest unrun.1.0 _ unrun.1.1) ends
+    only_unrun _ words left rest old new NoScript outcome refl (λ unrun. faulty left rest unrun.1.0 _ unrun.1.1) ends
 completes words left rest old new (Err TooLong) outcome SteadySource SteadySink reads reads' writes writes' ends read_fault write_fault steady_source steady_sink asks source sink =
-    only_unrun _ words left rest old new (Err TooLong) outcome (λ parts set never. absurd never) (λ unrun. over_limit left _ unrun.2) ends
+    only_unrun _ words left rest old new TooLong outcome refl (λ unrun. over_limit left _ unrun.2) ends
+
+-- ---- a generated script is run
+
+pub completes_chaos : {D : Type 0} (words : List (String Global)) (left rest old new : Option (List ℕ)) (ended : Result (Unit {0}) Stop) (outcome : Left D) (SteadySink : Type 0) (writes writes' : ℕ)
+    → Ends words left rest old new ended outcome → (status_of ended ≡ 5 → Rose writes writes') → (SteadySink → status_of ended ≢ 5)
+    → (seed events nodes : ℕ) → Asks words (Chaos seed events nodes) → HasNoFault SteadySink writes writes' → IsOneOf (0 ∷ 1 ∷ 7 ∷ []) (status_of ended)
+unfolding ends_before
+completes_chaos words left rest old new (Ok done) outcome SteadySink writes writes' ends write_fault steady_sink seed events nodes asks sink = refl
+completes_chaos words left rest old new (Err Memory) outcome SteadySink writes writes' ends write_fault steady_sink seed events nodes asks sink = refl
+completes_chaos words left rest old new (Err DiskFault) outcome SteadySink writes writes' ends write_fault steady_sink seed events nodes asks sink = refl
+completes_chaos words left rest old new (Err WriteFault) outcome SteadySink writes writes' ends write_fault steady_sink seed events nodes asks sink =
+    absurd (no_fault SteadySink writes writes' sink (λ steady. steady_sink steady refl) (write_fault refl))
+completes_chaos words left rest old new (Err Usage) outcome SteadySink writes writes' ends write_fault steady_sink seed events nodes asks sink =
+    only_unrun _ words left rest old new Usage outcome refl (λ unrun. asks_something _ words (Chaos seed events nodes) asks unrun.0) ends
+completes_chaos words left rest old new (Err ReadFault) outcome SteadySink writes writes' ends write_fault steady_sink seed events nodes asks sink =
+    only_unrun _ words left rest old new ReadFault outcome refl (λ unrun. asks_one _ words Run (Chaos seed events nodes) (λ same. cc same) unrun.0 asks) ends
+completes_chaos words left rest old new (Err NoScript) outcome SteadySink writes writes' ends write_fault steady_sink seed events nodes asks sink =
+    only_unrun _ words left rest old new NoScript outcome refl (λ unrun. asks_one _ words Run (Chaos seed events nodes) (λ same. cc same) unrun.0 asks) ends
+completes_chaos words left rest old new (Err TooLong) outcome SteadySink writes writes' ends write_fault steady_sink seed events nodes asks sink =
+    only_unrun _ words left rest old new TooLong outcome refl (λ unrun. asks_one _ words Run (Chaos seed events nodes) (λ same. cc same) unrun.0 asks) ends

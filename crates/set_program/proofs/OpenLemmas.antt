@@ -18,10 +18,12 @@ use Rattle.set_program.specs.declared.outcome.Left.{Left}
 use Rattle.set_program.specs.declared.outcome.Left.TheVariants.{World, Parts}
 use Rattle.set_program.specs.declared.stop.Stop.{Stop}
 use Rattle.set_program.specs.declared.stop.Stop.TheVariants.{Memory, Usage, Script as NoScript, ReadFault, WriteFault, TooLong, DiskFault}
+use Rattle.set_program.specs.declared.words.Task.{Task}
+use Rattle.set_program.specs.declared.words.Task.TheVariants.{Run, Chaos}
 use Rattle.set_program.specs.Asking.{OpensScript, RunsScript}
 use Rattle.set_program.specs.Causes.{of_file}
 use Rattle.set_program.specs.Disks.{DisksPlay, DisksPlayed, DisksRan, GoOn}
-use Rattle.set_program.specs.Headline.{Ends, EndsRun, IsRead, IsUnarmed, LeavesDisks, status_of, status_of_stop}
+use Rattle.set_program.specs.Headline.{Asks, Ends, EndsTask, IsAsked, IsScriptOf, IsUnarmed, LeavesDisks, status_of, status_of_stop}
 use Rattle.set_program.specs.Left.{disks_of}
 use Rattle.set_program.proofs.DisksLemmas.{played_ran}
 use Rattle.set_program.proofs.PlayLemmas.{Keeps-same}
@@ -73,45 +75,46 @@ stops : (error : FileError) (ended : Result (Unit {0}) Stop) → ended ≡ Err (
 stops Disk ended is = inr is
 stops NoBytes ended is = inl is
 
-pub refused_runs : {D : Type 0} (read : Script) (held : Option (List ℕ)) (error : FileError) (stop : Stop) (events : Vec Event Global) (disks : Vec D Global)
-    → stop ≡ of_file error → events.items ≡ [] → RunsScript read held held (Err stop) (Parts events disks)
-refused_runs read held error stop events disks is none = (none, Keeps-same held, stops error (Err stop) (ap Err is))
+pub refused_runs : {D : Type 0} (task : Task) (read : Script) (held : Option (List ℕ)) (error : FileError) (stop : Stop) (events : Vec Event Global) (disks : Vec D Global)
+    → stop ≡ of_file error → events.items ≡ [] → RunsScript task read held held (Err stop) (Parts events disks)
+refused_runs task read held error stop events disks is none = (none, Keeps-same held, stops error (Err stop) (ap Err is))
 
 -- ---- what the whole call leaves
 
-pub asked_leaves : {D : Type 0} (state : D → State) (left rest : Option (List ℕ)) (read : Script) (handed : List D) (status : ℕ) (outcome : Left D)
-    → IsRead left rest read → OpensScript state read handed status outcome → LeavesDisks state left rest handed status outcome
-asked_leaves state left rest read handed status (World set) is opens = opens
-asked_leaves state left rest read handed status (Parts events disks) is (one, opens) = inr (one, (read, is, opens))
+pub asked_leaves : {D : Type 0} (state : D → State) (words : List (String Global)) (left rest : Option (List ℕ)) (task : Task) (read : Script) (handed : List D) (status : ℕ) (outcome : Left D)
+    → Asks words task → IsScriptOf task left rest read → OpensScript state read handed status outcome → LeavesDisks state words left rest handed status outcome
+asked_leaves state words left rest task read handed status (World set) asks is opens = opens
+asked_leaves state words left rest task read handed status (Parts events disks) asks is (one, opens) = inr (one, (read, (task, asks, is), opens))
 
 -- a set that was opened doesn't end with a fault of a disk
-not_opening : {D : Type 0} (parts : List Part) (old new : Option (List ℕ)) (ended : Result (Unit {0}) Stop) (set : Set D) → EndsRun parts old new ended set → status_of ended ≢ 7
-not_opening parts old new (Ok done) set ends seven = cc seven
-not_opening parts old new (Err Memory) set ends seven = cc seven
-not_opening parts old new (Err WriteFault) set ends seven = cc seven
-not_opening parts old new (Err Usage) set ends seven = ends
-not_opening parts old new (Err NoScript) set ends seven = ends
-not_opening parts old new (Err ReadFault) set ends seven = ends
-not_opening parts old new (Err TooLong) set ends seven = ends
-not_opening parts old new (Err DiskFault) set ends seven = ends
+not_opening : {D : Type 0} (task : Task) (parts : List Part) (old new : Option (List ℕ)) (ended : Result (Unit {0}) Stop) (set : Set D) → EndsTask task parts old new ended set → status_of ended ≢ 7
+not_opening task parts old new (Ok done) set ends seven = cc seven
+not_opening task parts old new (Err Memory) set ends seven = cc seven
+not_opening task parts old new (Err WriteFault) set ends seven = cc seven
+not_opening task parts old new (Err Usage) set ends seven = cc seven
+not_opening task parts old new (Err NoScript) set ends seven = cc seven
+not_opening task parts old new (Err ReadFault) set ends seven = cc seven
+not_opening task parts old new (Err TooLong) set ends seven = cc seven
+not_opening Run parts old new (Err DiskFault) set ends seven = ends
+not_opening (Chaos seed events nodes) parts old new (Err DiskFault) set ends seven = ends
 
 -- what holds of the opening of a script's set holds where a disk failed
 when_failed : {D : Type 0} (state : D → State) (words : List (String Global)) (left rest old new : Option (List ℕ)) (handed : List D) (ended : Result (Unit {0}) Stop) (outcome : Left D)
-    → Ends words left rest old new ended outcome → LeavesDisks state left rest handed (status_of ended) outcome → status_of ended ≡ 7
-    → (read : Script) × IsRead left rest read × Opens state read.nodes (status_of ended ≡ 7) handed (disks_of outcome)
-when_failed state words left rest old new handed ended (World set) (asks, (read, is, sizes, runs)) leaves seven = absurd (not_opening read.parts old new ended set runs seven)
+    → Ends words left rest old new ended outcome → LeavesDisks state words left rest handed (status_of ended) outcome → status_of ended ≡ 7
+    → (read : Script) × IsAsked words left rest read × Opens state read.nodes (status_of ended ≡ 7) handed (disks_of outcome)
+when_failed state words left rest old new handed ended (World set) (task, asks, (read, is, sizes, runs)) leaves seven = absurd (not_opening task read.parts old new ended set runs seven)
 when_failed state words left rest old new handed ended (Parts events disks) ends (inl (other, same)) seven = absurd (other seven)
 when_failed state words left rest old new handed ended (Parts events disks) ends (inr (one, opens)) seven = opens
 
 pub disk_failed : {D : Type 0} (state : D → State) (words : List (String Global)) (left rest old new : Option (List ℕ)) (handed : List D) (ended : Result (Unit {0}) Stop) (outcome : Left D)
-    → Ends words left rest old new ended outcome → LeavesDisks state left rest handed (status_of ended) outcome → status_of ended ≡ 7
-    → (read : Script) × IsRead left rest read × OneRose state (2 * read.nodes) handed (disks_of outcome)
+    → Ends words left rest old new ended outcome → LeavesDisks state words left rest handed (status_of ended) outcome → status_of ended ≡ 7
+    → (read : Script) × IsAsked words left rest read × OneRose state (2 * read.nodes) handed (disks_of outcome)
 disk_failed state words left rest old new handed ended outcome ends leaves seven =
     let failed = when_failed state words left rest old new handed ended outcome ends leaves seven in
     (failed.0, failed.1, failed.2.cause seven)
 
 pub none_failed : {D : Type 0} (state : D → State) (words : List (String Global)) (left rest old new : Option (List ℕ)) (handed : List D) (ended : Result (Unit {0}) Stop) (outcome : Left D)
-    → Ends words left rest old new ended outcome → LeavesDisks state left rest handed (status_of ended) outcome → All (λ (disk : D). IsUnarmed (state disk)) handed → status_of ended ≢ 7
+    → Ends words left rest old new ended outcome → LeavesDisks state words left rest handed (status_of ended) outcome → All (λ (disk : D). IsUnarmed (state disk)) handed → status_of ended ≢ 7
 none_failed {D} state words left rest old new handed ended outcome ends leaves unarmed seven =
     let failed = when_failed state words left rest old new handed ended outcome ends leaves seven in
     let armed = failed.2.only_armed seven (λ place disk at. (is_unarmed place disk at).0) in

@@ -32,6 +32,18 @@ replies-more sizes events (event ∷ more) =
           ∙ append_assoc (run sizes events).replies ((event.line, reply_to sizes events event) ∷ []) later.0,
     )
 
+-- each event has one reply
+pub replies-count : (sizes : Sizes) (events more : List Event) → length (run sizes (events ++ more)).replies ≡ length (run sizes events).replies + length more
+replies-count sizes events [] =
+    let same = ap (λ (es : List Event). length (run sizes es).replies) (append-nil events) in
+    omega (arith, same)
+replies-count sizes events (event ∷ more) =
+    let later = replies-count sizes (events ++ event ∷ []) more in
+    let same = ap (λ (es : List Event). length (run sizes es).replies) (sym (append_assoc events (event ∷ []) more)) in
+    let one = ap (λ (rs : List (ℕ × Reply)). length rs) (replies-append sizes events event) in
+    let two = length-append (run sizes events).replies ((event.line, reply_to sizes events event) ∷ []) in
+    omega (arith, later, same, one, two)
+
 -- ---- lines
 
 pub adds_more : (xs ys : List (ℕ × Command)) (old mid new : List Event) → Adds xs old mid → Adds ys mid new → Adds (xs ++ ys) old new

@@ -1,36 +1,40 @@
-// What is asked for: the script, once the words ask to run one.
-ghost use Rattle.std.specs.Prelude.{◌≡◌, ◌≢◌, ◌≤◌, ◌↔◌, length, true, IfOk, IsErrOf, IsTrue, OnOk, Err};
+// The script that the words ask for.
+ghost use Rattle.std.specs.Prelude.{◌≡◌, ◌≢◌, ◌≤◌, length, true, IfOk, IsErrOf, OnOk, Err, Ok};
 ghost use Rattle.std.specs.List.{list_all};
 ghost use Rattle.rs_io.specs.Fault.{HasCause, Rose};
 ghost use Rattle.set_model.specs.Run.{AreSizes};
-ghost use Rattle.fault_script.specs.Script.{is_part_for, lines_in, sizes_of};
+ghost use Rattle.fault_script.specs.Script.{is_part_for, lines_in, script, sizes_of};
 ghost use Rattle.transcript.specs.Faults.{fault_text};
-ghost use Rattle.set_program.specs.Asking.{Reads};
+ghost use Rattle.chance_script.specs.Generated.{generated};
+ghost use Rattle.set_program.specs.Asking.{Reads, ReadsSource};
 ghost use Rattle.set_program.specs.Headline.{AsksRun, status_of};
 ghost use Rattle.set_program.specs.Plays.{PutsText};
 
 use crate::stop::Stop;
-use fault_script::{Script, ScriptError, ScriptFault, parse};
+use crate::words::{Task, read_task};
+use bson_doc::Mem;
+use fault_script::{Script, ScriptError, ScriptFault, generate, parse};
 use rs_io::{Sink, Source, read_all};
-use std::alloc::Global;
+use script_laws::generated_is_script;
+use std::alloc::{AllocError, Global};
 use transcript::write_fault;
 
 /// How many bytes a script may have.
 const MAX_SCRIPT: usize = 8_388_608;
 
-const USAGE: &str = "usage: replset run\n";
+const USAGE: &str = "usage: replset run | replset chaos SEED EVENTS NODES\n";
 
-/// The script that is to be run. Where there is none, it is said why. Its bytes are let go before it is run.
+/// The task that the words ask for, and the script that is to be run. Where there is none, it is said why.
 pub fn read_script<S: Source, K: Sink>(
     alloc: Global,
     words: &[String],
     source: &mut S,
     sink: &mut K,
-) -> Result<Script, Stop>
+) -> Result<(Task, Script), Stop>
     ensures reads { Reads words.now (S.left source.old) (S.left source.new) (K.held sink.old) (K.held sink.new) result }
-    ensures sizes { IfOk result (λ read. AreSizes (sizes_of read)) }
-    ensures fits { IfOk result (λ read. list_all (is_part_for read.nodes) read.parts ≡ true) }
-    ensures few { IfOk result (λ read. length (lines_in read.parts) ≤ 200000) }
+    ensures sizes { IfOk result (λ asked. AreSizes (sizes_of asked.1)) }
+    ensures fits { IfOk result (λ asked. list_all (is_part_for asked.1.nodes) asked.1.parts ≡ true) }
+    ensures few { IfOk result (λ asked. length (lines_in asked.1.parts) ≤ 200000) }
     ensures unread { ¬ AsksRun words.now → source.new ≡ source.old }
     ensures unput { OnOk result (sink.new ≡ sink.old) }
     ensures read_fault { status_of result ≡ 4 → Rose (S.faults source.old) (S.faults source.new) }
@@ -39,10 +43,49 @@ pub fn read_script<S: Source, K: Sink>(
     ensures steady_sink { K.steady sink.old → status_of result ≢ 5 }
     ensures no_disk { status_of result ≢ 7 }
 {
-    if !asks_run(words) {
-        sink.put(USAGE.as_bytes())?;
-        return Err(Stop::Usage);
+    match read_task(words) {
+        Some(Task::Run) => Ok((Task::Run, source_script(alloc, source, sink)?)),
+        Some(
+            Task::Chaos {
+                seed,
+                events,
+                nodes,
+            },
+        ) => {
+            let script = generated_script(alloc, seed, events, nodes)?;
+            Ok((
+                Task::Chaos {
+                    seed,
+                    events,
+                    nodes,
+                },
+                script,
+            ))
+        }
+        None => {
+            sink.put(USAGE.as_bytes())?;
+            Err(Stop::Usage)
+        }
     }
+}
+
+/// The script of the source. Its bytes are let go before it is run.
+fn source_script<S: Source, K: Sink>(
+    alloc: Global,
+    source: &mut S,
+    sink: &mut K,
+) -> Result<Script, Stop>
+    ensures reads { ReadsSource (S.left source.old) (S.left source.new) (K.held sink.old) (K.held sink.new) result }
+    ensures sizes { IfOk result (λ read. AreSizes (sizes_of read)) }
+    ensures fits { IfOk result (λ read. list_all (is_part_for read.nodes) read.parts ≡ true) }
+    ensures few { IfOk result (λ read. length (lines_in read.parts) ≤ 200000) }
+    ensures unput { OnOk result (sink.new ≡ sink.old) }
+    ensures read_fault { status_of result ≡ 4 → Rose (S.faults source.old) (S.faults source.new) }
+    ensures write_fault { status_of result ≡ 5 → Rose (K.faults sink.old) (K.faults sink.new) }
+    ensures steady_source { S.steady source.old → status_of result ≢ 4 }
+    ensures steady_sink { K.steady sink.old → status_of result ≢ 5 }
+    ensures no_disk { status_of result ≢ 7 }
+{
     let bytes = read_all(alloc, source, MAX_SCRIPT)?;
     let read = parse(alloc, &bytes);
     drop(bytes);
@@ -56,13 +99,21 @@ pub fn read_script<S: Source, K: Sink>(
     }
 }
 
-/// Whether the words are `run` alone.
-fn asks_run(words: &[String]) -> bool
-    ensures { IsTrue result ↔ AsksRun words.now }
+/// The script of a seed.
+fn generated_script(alloc: Global, seed: u64, events: u32, nodes: u32) -> Mem<Script>
+    requires few { events ≤ 5000 }
+    requires sizes { 1 ≤ nodes × nodes ≤ 7 }
+    ensures reads { IfOk result (λ read. script (generated seed events nodes) ≡ Ok read) }
+    ensures sizes { IfOk result (λ read. AreSizes (sizes_of read)) }
+    ensures fits { IfOk result (λ read. list_all (is_part_for read.nodes) read.parts ≡ true) }
+    ensures few { IfOk result (λ read. length (lines_in read.parts) ≤ 200000) }
 {
-    match words {
-        [word] => word.as_str() == "run",
-        _ => false,
+    let bytes = generate(alloc, seed, events, nodes)?;
+    generated_is_script(seed, events, nodes);
+    match parse(alloc, &bytes) {
+        Ok(script) => Ok(script),
+        Err(ScriptError::Memory) => Err(AllocError),
+        Err(ScriptError::Fault(_)) => unreachable!(),
     }
 }
 

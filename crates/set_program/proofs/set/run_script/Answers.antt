@@ -3,30 +3,25 @@ use Rattle.std.specs.List.{AllPass}
 use Rattle.std.proofs.lemmas.List.Sums.{AllPass-from_list_all}
 use Rattle.fault_script.specs.Script.{is_part_for}
 use Rattle.set_model.specs.Run.{Sizes}
-use Rattle.set_program.proofs.EndLemmas.{plays_end}
 use Rattle.set_program.proofs.OpenLemmas.{refused_leaves, refused_runs, set_leaves}
 use Rattle.set_program.proofs.set.run_script.Goals as goal
 
-pub play-ended-requires-clause-fits : goal.play-ended-requires-clause-fits
-play-ended-requires-clause-fits g c κs within =
+pub play_task-ended-requires-clause-fits : goal.play_task-ended-requires-clause-fits
+play_task-ended-requires-clause-fits g c κs within =
     subst (λ (s : Sizes). AllPass (is_part_for s.nodes) c.args.script.parts) (sym c.in-Ok.ensures.sizes)
     (AllPass-from_list_all (is_part_for c.args.script.nodes) c.args.script.parts c.requires.fits)
 
 pub returns-in-Ok-clause-runs : goal.returns-in-Ok-clause-runs
-returns-in-Ok-clause-runs g c = (
-  c.play-ended.ensures.sizes ∙ c.in-Ok.ensures.sizes,
-  plays_end c.in-Ok.world.sizes c.args.script.parts (g.K.Sink.held c.args.sink.now) (g.K.Sink.held c.play-ended.new.sink) c.play-ended.new.world c.play-ended.result
-      c.play-ended.ensures.sizes c.play-ended.ensures.plays,
-)
+returns-in-Ok-clause-runs g c = (c.play_task-ended.ensures.sizes ∙ c.in-Ok.ensures.sizes, c.play_task-ended.ensures.ends)
 
 pub returns-in-Ok-clause-disks : goal.returns-in-Ok-clause-disks
 returns-in-Ok-clause-disks g c =
-    set_leaves g.D.Disk.state c.args.script c.args.disks.items 0 c.in-Ok.world c.play-ended.new.world c.play-ended.result
-    c.in-Ok.ensures.history c.in-Ok.ensures.sizes c.play-ended.ensures.sizes c.in-Ok.ensures.opened c.play-ended.ensures.disks
+    set_leaves g.D.Disk.state c.args.script c.args.disks.items 0 c.in-Ok.world c.play_task-ended.new.world c.play_task-ended.result
+    c.in-Ok.ensures.history c.in-Ok.ensures.sizes c.play_task-ended.ensures.sizes c.in-Ok.ensures.opened c.play_task-ended.ensures.disks
 
 pub returns-in-Err-clause-runs : goal.returns-in-Err-clause-runs
 returns-in-Err-clause-runs g c =
-    refused_runs c.args.script (g.K.Sink.held c.args.sink.now) c.in-Err.error c.from.result c.new.result c.in-Err.disks c.from.ensures c.new.ensures.items
+    refused_runs c.args.task c.args.script (g.K.Sink.held c.args.sink.now) c.in-Err.error c.from.result c.new.result c.in-Err.disks c.from.ensures c.new.ensures.items
 
 pub returns-in-Err-clause-disks : goal.returns-in-Err-clause-disks
 returns-in-Err-clause-disks g c =

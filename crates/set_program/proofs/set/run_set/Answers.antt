@@ -1,4 +1,4 @@
-use Rattle.set_program.proofs.EndLemmas.{completes}
+use Rattle.set_program.proofs.EndLemmas.{completes, completes_chaos}
 use Rattle.set_program.proofs.OpenLemmas.{disk_failed, none_failed}
 use Rattle.set_program.proofs.set.run_set.Goals as goal
 
@@ -21,3 +21,10 @@ returns-clause-complete g c =
     c.run-ended.result.0 c.run-ended.result.1 (g.S.Source.steady c.args.source.now) (g.K.Sink.steady c.args.sink.now)
     (g.S.Source.faults c.args.source.now) (g.S.Source.faults c.run-ended.new.source) (g.K.Sink.faults c.args.sink.now) (g.K.Sink.faults c.run-ended.new.sink)
     c.run-ended.ensures.ends c.run-ended.ensures.read_fault c.run-ended.ensures.write_fault c.run-ended.ensures.steady_source c.run-ended.ensures.steady_sink)
+
+pub returns-clause-complete_chaos : goal.returns-clause-complete_chaos
+returns-clause-complete_chaos g c =
+    rw c.status.ensures
+    (completes_chaos c.args.words.now (g.S.Source.left c.args.source.now) (g.S.Source.left c.run-ended.new.source) (g.K.Sink.held c.args.sink.now) (g.K.Sink.held c.run-ended.new.sink)
+    c.run-ended.result.0 c.run-ended.result.1 (g.K.Sink.steady c.args.sink.now) (g.K.Sink.faults c.args.sink.now) (g.K.Sink.faults c.run-ended.new.sink)
+    c.run-ended.ensures.ends c.run-ended.ensures.write_fault c.run-ended.ensures.steady_sink)

@@ -1,0 +1,44 @@
+-- What the words behind the program's name ask for.
+--
+--     run                        the script of the source is run
+--     chaos SEED EVENTS NODES    a generated script is run, and its summary put
+--
+-- SEED, EVENTS and NODES are one to twenty decimal digits: a number of 64 bits, one up to 5,000, and one from 1 to 7.
+use Rattle.std.specs.Prelude.{ℕ, ⊤, ◌≤◌, ◌&&◌, nat_le, nat_lt, List, [], ◌∷◌, length, Option, None, Some, codes, if◌then◌else◌}
+use Rattle.std.specs.Char.{is_ascii_digit}
+use Rattle.std.specs.List.{list_all}
+use Rattle.std.specs.Str.{bytes_eq}
+use Rattle.std.specs.Str.Parse.{digits_value}
+use Rattle.set_program.specs.declared.words.Task.{Task}
+use Rattle.set_program.specs.declared.words.Task.TheVariants.{Run, Chaos}
+
+abbrev pub if_within : (least most : ℕ) → ℕ → Option ℕ
+if_within least most number = if nat_le least number && nat_le number most then Some number else None
+
+abbrev pub number_word : (least most : ℕ) → List ℕ → Option ℕ
+number_word least most word =
+    if nat_lt 0 (length word) && nat_le (length word) 20 && list_all is_ascii_digit word
+    then if_within least most (digits_value 10 word)
+    else None
+
+abbrev pub with_numbers : Option ℕ → Option ℕ → Option ℕ → Option Task
+with_numbers (Some seed) (Some events) (Some nodes) = Some (Chaos seed events nodes)
+with_numbers (Some seed) (Some events) None = None
+with_numbers (Some seed) None nodes = None
+with_numbers None events nodes = None
+
+abbrev pub chaos_of : (seed events nodes : List ℕ) → Option Task
+chaos_of seed events nodes = with_numbers (number_word 0 18446744073709551615 seed) (number_word 0 5000 events) (number_word 1 7 nodes)
+
+abbrev pub task_of : List (List ℕ) → Option Task
+task_of [] = None
+task_of (name ∷ []) = if bytes_eq name (codes "run") then Some Run else None
+task_of (name ∷ seed ∷ []) = None
+task_of (name ∷ seed ∷ events ∷ []) = None
+task_of (name ∷ seed ∷ events ∷ nodes ∷ []) = if bytes_eq name (codes "chaos") then chaos_of seed events nodes else None
+task_of (name ∷ seed ∷ events ∷ nodes ∷ more ∷ others) = None
+
+-- what is generated has at most 5,000 events, in a set of 1 to 7 nodes
+abbrev pub IsBounded : Task → Type 0
+IsBounded Run = ⊤
+IsBounded (Chaos seed events nodes) = (events ≤ 5000) × (1 ≤ nodes) × (nodes ≤ 7)

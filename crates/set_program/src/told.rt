@@ -1,0 +1,99 @@
+// A script, played for its replies or for its summary.
+ghost use Rattle.std.specs.Prelude.{◌≡◌, ◌≢◌, ◌≤◌, [], length, Err, IsErrOf};
+ghost use Rattle.std.specs.List.{AllPass};
+ghost use Rattle.rs_io.specs.Fault.{HasCause};
+ghost use Rattle.fault_script.specs.Script.{is_part_for, lines_in};
+ghost use Rattle.set_model.specs.Run.{run};
+ghost use Rattle.transcript.specs.Summaries.{summary_text};
+ghost use Rattle.set_program.specs.Disks.{GoOn};
+ghost use Rattle.set_program.specs.Headline.{EndsTask, EndsTold, summary_put};
+ghost use Rattle.set_program.specs.Plays.{PutsText};
+
+use crate::play::play;
+use crate::steps::step_parts;
+use crate::stop::Stop;
+use crate::summary::summary;
+use crate::words::Task;
+use fault_script::Parts;
+use rs_disk::Disk;
+use rs_io::Sink;
+use set_model::Reply;
+use set_world::World;
+use std::alloc::Global;
+use std::thread::Threads;
+use transcript::{Summary, write_summary};
+
+/// Plays parts as a task asks.
+pub fn play_task<K: Sink, D: Disk, R: Threads + Sync>(
+    rt: &R,
+    alloc: Global,
+    task: Task,
+    parts: Parts,
+    sink: &mut K,
+    world: &mut World<D>,
+) -> Result<(), Stop>
+    requires start { world.old.history ≡ [] }
+    requires few { length (lines_in parts) ≤ 200000 }
+    requires fits { AllPass (is_part_for world.old.sizes.nodes) parts }
+    ensures ends { EndsTask task parts (K.held sink.old) (K.held sink.new) result world.new }
+    ensures sizes { world.new.sizes ≡ world.old.sizes }
+    ensures disks { GoOn D.state world.old world.new result }
+    ensures cause { HasCause (K.faults sink.old) (K.faults sink.new) (IsErrOf result Stop.WriteFault) }
+    ensures steady { K.steady sink.old → K.steady sink.new × (result ≢ Err Stop.WriteFault) }
+{
+    match task {
+        Task::Run => play(rt, alloc, parts, sink, world),
+        Task::Chaos { .. } => play_told(rt, alloc, parts, sink, world),
+    }
+}
+
+/// Plays parts one after another, and puts the summary of their run.
+fn play_told<K: Sink, D: Disk, R: Threads + Sync>(
+    rt: &R,
+    alloc: Global,
+    parts: Parts,
+    sink: &mut K,
+    world: &mut World<D>,
+) -> Result<(), Stop>
+    requires start { world.old.history ≡ [] }
+    requires few { length (lines_in parts) ≤ 200000 }
+    requires fits { AllPass (is_part_for world.old.sizes.nodes) parts }
+    ensures ends { EndsTold parts (K.held sink.old) (K.held sink.new) result world.new }
+    ensures sizes { world.new.sizes ≡ world.old.sizes }
+    ensures disks { GoOn D.state world.old world.new result }
+    ensures cause { HasCause (K.faults sink.old) (K.faults sink.new) (IsErrOf result Stop.WriteFault) }
+    ensures steady { K.steady sink.old → K.steady sink.new × (result ≢ Err Stop.WriteFault) }
+{
+    let mut replies = Vec::new(alloc);
+    step_parts(rt, parts, world, &mut replies)?;
+    put_summary(alloc, &replies, world, sink)
+}
+
+/// Puts the summary of a set's run, of which these are the replies.
+fn put_summary<K: Sink, D: Disk>(
+    alloc: Global,
+    replies: &[(u32, Reply)],
+    world: &World<D>,
+    sink: &mut K,
+) -> Result<(), Stop>
+    requires few { length replies.now ≤ 200000 }
+    requires told { replies.now ≡ (run world.now.sizes world.now.history).replies }
+    ensures puts { PutsText (K.held sink.old) (K.held sink.new) (summary_put world.now) result }
+    ensures cause { HasCause (K.faults sink.old) (K.faults sink.new) (IsErrOf result Stop.WriteFault) }
+    ensures steady { K.steady sink.old → K.steady sink.new × (result ≢ Err Stop.WriteFault) }
+{
+    let summary = summary(alloc, replies, world)?;
+    put_text(alloc, &summary, sink)
+}
+
+/// Puts the text of a summary.
+fn put_text<K: Sink>(alloc: Global, summary: &Summary, sink: &mut K) -> Result<(), Stop>
+    ensures puts { PutsText (K.held sink.old) (K.held sink.new) (summary_text summary.now) result }
+    ensures cause { HasCause (K.faults sink.old) (K.faults sink.new) (IsErrOf result Stop.WriteFault) }
+    ensures steady { K.steady sink.old → K.steady sink.new × (result ≢ Err Stop.WriteFault) }
+{
+    let mut text = String::new(alloc);
+    write_summary(summary, &mut text)?;
+    sink.put(text.as_bytes())?;
+    Ok(())
+}
