@@ -1,0 +1,81 @@
+"""A script that grows line by line, and what the program replies to it. Each question plays the whole script anew."""
+from __future__ import annotations
+
+from typing import Dict, List, Optional
+
+from .observe import observe
+from .program import play
+from .script import SetSize, acting_node, is_silent, set_size, words_of
+from .state import State, read_state
+from .transcript import Reply, Transcript
+
+
+class Player:
+    """The lines so far. Lines that nobody asks about are played with the next question only."""
+
+    def __init__(self, lines: Optional[List[str]] = None):
+        self.lines: List[str] = list(lines or [])
+        self._played: Optional[Transcript] = None
+
+    def add(self, line: str) -> None:
+        """Adds a line, and doesn't ask for its reply."""
+        self.lines.append(line)
+        self._played = None
+
+    def ask(self, line: str) -> Reply:
+        """Adds a line and gives its reply."""
+        transcript = play([*self.lines, line])
+        self.lines.append(line)
+        self._played = transcript
+        return transcript.by_line.get(len(self.lines), Reply(len(self.lines), ""))
+
+    def attempt(self, line: str) -> Reply:
+        """The reply to a line, which is added only where it isn't refused."""
+        reply = self.look(line)
+        if not reply.refused:
+            self.add(line)
+        return reply
+
+    def look(self, line: str) -> Reply:
+        """The reply that a line would have here. It isn't added."""
+        number = len(self.lines) + 1
+        return play([*self.lines, line]).by_line[number]
+
+    def transcript(self) -> Transcript:
+        """All replies so far."""
+        if self._played is None:
+            self._played = play(self.lines)
+        return self._played
+
+    def size(self) -> SetSize:
+        """How many nodes and members the set has."""
+        return set_size(self.lines)
+
+    def states(self) -> Dict[int, State]:
+        """What each node is now."""
+        nodes = range(self.size().nodes)
+        asked = [f"state n{node}" for node in nodes]
+        transcript = play([*self.lines, *asked])
+        return {node: read_state(transcript.text(len(self.lines) + 1 + node)) for node in nodes}
+
+    def asked_voters(self) -> List[int]:
+        """To whom the last line, a candidate's, sent its requests."""
+        return [message.receiver for message in observe(self.lines, len(self.lines)).steps[-1].sent]
+
+    def newest_write(self, node: int) -> Optional[str]:
+        """The optime of the newest write that the node was answered with."""
+        for reply in reversed(self.transcript().replies):
+            words = reply.text.split(" ")
+            if words[0] in ("written", "committed") and acting_node(self.lines[reply.line - 1]) == node:
+                return words[1]
+        return None
+
+    def open_block(self) -> Optional[int]:
+        """The place in the list of the `par` that isn't ended yet."""
+        for place in range(len(self.lines) - 1, -1, -1):
+            word = "" if is_silent(self.lines[place]) else words_of(self.lines[place])[0]
+            if word == "end":
+                return None
+            if word == "par":
+                return place
+        return None
