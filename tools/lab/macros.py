@@ -38,7 +38,7 @@ class Macros:
 
     def __init__(self, player: Player):
         self.player = player
-        self._groups: Optional[List[List[int]]] = None
+        self.groups: Optional[List[List[int]]] = None
         self._by_word: Dict[str, Callable[[List[str]], None]] = {
             "elect": self._elect,
             "pull": self._pull,
@@ -61,7 +61,7 @@ class Macros:
 
     def linked(self, one: int, other: int) -> bool:
         """Whether messages pass between two nodes."""
-        return self._groups is None or any(one in group and other in group for group in self._groups)
+        return self.groups is None or any(one in group and other in group for group in self.groups)
 
     def optime_of(self, word: str, node: int) -> str:
         """An optime, where `last` stands for that of the node's newest write, or of its last entry where it wrote none."""
@@ -146,12 +146,12 @@ class Macros:
         if len(named) != len(set(named)):
             raise CannotGoOn("a node stands on both sides of the partition")
         alone = [node for node in range(self.player.size().nodes) if node not in named]
-        self._groups = groups + ([alone] if alone else [])
+        self.groups = groups + ([alone] if alone else [])
 
     def _heal(self, words: List[str]) -> None:
         if words:
             raise CannotGoOn("'heal' has no other words: it ends the partition")
-        self._groups = None
+        self.groups = None
 
     # What they are made of.
 

@@ -22,6 +22,10 @@ class Player:
         self.lines.append(line)
         self._played = None
 
+    def forget(self) -> None:
+        """Must be called where lines were taken away."""
+        self._played = None
+
     def ask(self, line: str) -> Reply:
         """Adds a line and gives its reply."""
         transcript = play([*self.lines, line])
