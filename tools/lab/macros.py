@@ -9,11 +9,13 @@ from typing import Callable, Dict, List, Optional
 
 from .errors import MACRO, LabError
 from .player import Player
-from .script import acting_node, node_number
-from .state import optime
+from .script import node_number
 
 #: How often a candidate tries, where a voter was in a later term.
 CAMPAIGNS = 3
+
+#: A line is repeated at most so often.
+MOST_REPEATS = 100_000
 
 #: The words of each macro, as help shows them.
 FORMS = {
@@ -23,6 +25,7 @@ FORMS = {
     "partition": "partition A .. | B ..",
     "heal": "heal",
     "await": "await A OPTIME [CONCERN]",
+    "repeat": "repeat COUNT LINE",
 }
 
 
@@ -46,6 +49,7 @@ class Macros:
             "partition": self._partition,
             "heal": self._heal,
             "await": self._await,
+            "repeat": self._repeated,
         }
 
     def play(self, line: str) -> None:
@@ -148,6 +152,13 @@ class Macros:
         alone = [node for node in range(self.player.size().nodes) if node not in named]
         self.groups = groups + ([alone] if alone else [])
 
+    def _repeated(self, words: List[str]) -> None:
+        if len(words) < 2 or not words[0].isdecimal() or not 1 <= int(words[0]) <= MOST_REPEATS:
+            raise CannotGoOn(f"the macro reads '{FORMS['repeat']}', with a COUNT up to {MOST_REPEATS}")
+        line = " ".join(words[1:])
+        for number in range(1, int(words[0]) + 1):
+            self.player.add(line.replace("#", str(number)))
+
     def _heal(self, words: List[str]) -> None:
         if words:
             raise CannotGoOn("'heal' has no other words: it ends the partition")
@@ -166,8 +177,10 @@ class Macros:
         return numbers
 
     def _reachable(self, node: int) -> List[int]:
+        """The members that are up and hear the node."""
         states = self.player.states()
-        return [other for other in states if other != node and self.linked(node, other) and not states[other].down]
+        others = [other for other in self.player.members(states[node].config) if other != node]
+        return [other for other in others if self.linked(node, other) and not states[other].down]
 
     def _primary(self, node: int) -> int:
         """The primary of the highest term that the node can hear."""

@@ -44,6 +44,10 @@ class Mail:
         if not state.down:
             self._config[node] = state.config
 
+    def members_of(self, config: str) -> List[int]:
+        """The members of a configuration, named by term and version, as far as the run has told."""
+        return self._voters.get(config, [])
+
     def receive(self, line: str) -> Optional[Message]:
         """The message that a `deliver` line hands over, if there is one."""
         words = words_of(line)

@@ -23,10 +23,11 @@ A short script is a script with macros in it; every word that takes a FILE takes
   elect A [B ..]           A campaigns, asks the voters (or those named) until it has won, and drains
   pull A [B]               A hears from B (or the primary), takes what it misses, rolls back where it must, flushes,
                            applies and reports; then it hears how far the commit point is
-  spread A                 A flushes, and every node that hears it pulls from it
+  spread A                 A flushes, and every member that hears it pulls from it
   partition A .. | B ..    no message passes between the sides; nodes that aren't named are a side of their own
   heal                     the partition ends
-  await A OPTIME [CONCERN] nodes pull from A until it acknowledges OPTIME (at majority, or at CONCERN)
+  await A OPTIME [CONCERN] members pull from A until it acknowledges OPTIME (at majority, or at CONCERN)
+  repeat COUNT LINE        LINE so often; # in it is 1, 2 and so on
   last                     as an OPTIME of ack and await: that of A's newest write
 
 The program that plays the scripts is the one that the environment variable REPLSET names; else the proved one of this

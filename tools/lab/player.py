@@ -4,7 +4,7 @@ from __future__ import annotations
 from typing import Dict, List, Optional
 
 from .observe import observe
-from .program import play
+from .program import last_replies, play
 from .script import SetSize, acting_node, is_silent, set_size, words_of
 from .state import State, read_state
 from .transcript import Reply, Transcript
@@ -28,10 +28,9 @@ class Player:
 
     def ask(self, line: str) -> Reply:
         """Adds a line and gives its reply."""
-        transcript = play([*self.lines, line])
-        self.lines.append(line)
-        self._played = transcript
-        return transcript.by_line.get(len(self.lines), Reply(len(self.lines), ""))
+        reply = self.look(line)
+        self.add(line)
+        return reply
 
     def attempt(self, line: str) -> Reply:
         """The reply to a line, which is added only where it isn't refused."""
@@ -43,7 +42,7 @@ class Player:
     def look(self, line: str) -> Reply:
         """The reply that a line would have here. It isn't added."""
         number = len(self.lines) + 1
-        return play([*self.lines, line]).by_line[number]
+        return last_replies([*self.lines, line], number).by_line[number]
 
     def transcript(self) -> Transcript:
         """All replies so far."""
@@ -59,8 +58,13 @@ class Player:
         """What each node is now."""
         nodes = range(self.size().nodes)
         asked = [f"state n{node}" for node in nodes]
-        transcript = play([*self.lines, *asked])
-        return {node: read_state(transcript.text(len(self.lines) + 1 + node)) for node in nodes}
+        first = len(self.lines) + 1
+        transcript = last_replies([*self.lines, *asked], first)
+        return {node: read_state(transcript.text(first + node)) for node in nodes}
+
+    def members(self, config: str) -> List[int]:
+        """The members of a configuration, named by term and version."""
+        return observe(self.lines, len(self.lines) + 1).mail.members_of(config)
 
     def asked_voters(self) -> List[int]:
         """To whom the last line, a candidate's, sent its requests."""

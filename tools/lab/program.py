@@ -89,3 +89,11 @@ def _line(lines: Sequence[str], number: int) -> str:
 def play(lines: List[str]) -> Transcript:
     """The replies to a script."""
     return read_transcript(transcript_bytes(lines).decode("utf-8", "surrogateescape"))
+
+
+def last_replies(lines: List[str], first: int) -> Transcript:
+    """The replies from that of line `first` on, which isn't in a block. Those before it aren't read, which saves time."""
+    raw = transcript_bytes(lines)
+    head = b"%d: " % first
+    begins = 0 if raw.startswith(head) else raw.rfind(b"\n" + head) + 1
+    return read_transcript(raw[begins:].decode("utf-8", "surrogateescape"))

@@ -6,7 +6,7 @@ import difflib
 from pathlib import Path
 from typing import List
 
-from ..errors import DIFFERENT, ScriptFault
+from ..errors import DIFFERENT, FILE, LabError
 from ..expand import expand
 from ..expect import expectations
 from ..program import play, run_program, script_bytes
@@ -69,7 +69,9 @@ def main(arguments: argparse.Namespace) -> int:
             lines = expand(read_lines(name)).lines
             count += _count(lines)
             told += _comments_differ(lines)
-        except ScriptFault as fault:
+        except LabError as fault:
+            if fault.status == FILE:
+                raise
             # A script that is none may be just what the kept transcript says.
             told += [] if count else [f"  {fault.sentence}"]
         wrong += bool(told)
