@@ -159,7 +159,7 @@ def _put_rows(picture: Picture, run: Run, first: int, last: int) -> None:
     while number <= min(last, len(run.lines)):
         text = run.lines[number - 1]
         word = "" if is_silent(text) else words_of(text)[0]
-        if text.startswith("#") and not re.match(r"#\s*expect:", text):
+        if text.startswith("#") and not re.match(r"#\s*(?:expect|picture):", text):
             picture.rows.append(Row(number, printable(text).lstrip("# ")))
         elif word == "par":
             number = _put_block(picture, run, number, steps, order)
