@@ -37,7 +37,7 @@ def page(picture: Picture, title: str, documents: Optional[Dict[int, Documents]]
         "BODY": _svg("body", f'<g id="drawing" class="run">{drawing.body()}</g>{_rests(drawing)}', drawing.width, 0, drawing.height),
         "LEGEND": _legend(),
         "SHEETS": _sheets(drawing, title),
-        "DATA": json.dumps(_data(drawing, documents), separators=(",", ":"), ensure_ascii=True).replace("</", "<\\/"),
+        "DATA": json.dumps(_data(drawing, documents), separators=(",", ":"), ensure_ascii=True).replace("<", "\\u003c"),
         "SCRIPT": (HERE / "page.js").read_text(encoding="utf-8"),
     }
     for name, text in parts.items():

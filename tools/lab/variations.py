@@ -3,23 +3,51 @@ from __future__ import annotations
 
 import re
 from dataclasses import dataclass
-from typing import Dict, Iterator, List, Sequence, Tuple
+from typing import Collection, Dict, Iterator, List, NamedTuple, Sequence, Tuple
 
 from .program import play
 from .script import SetSize, is_silent, words_of
 from .show import printable
-from .transcript import Reply, Transcript
+from .transcript import Reply
 
 KINDS = ("drop", "repeat", "swap", "crash", "bounce")
 
 
-@dataclass(frozen=True)
-class Variation:
-    """One change to a script: what it is, its lines, and of each line the one that it was (0 for one put in)."""
+class Variation(NamedTuple):
+    """One change to a script, behind or at the line at `place`: `swap` has another place, and a crash its node."""
 
-    told: str
-    lines: Tuple[str, ...]
-    source: Tuple[int, ...]
+    kind: str
+    place: int
+    other: int = 0
+
+    def told(self, lines: Sequence[str]) -> str:
+        """What it is, for people."""
+        name = f"line {self.place + 1}, {_short(lines[self.place])}"
+        return {
+            "drop": f"{name}: lost",
+            "repeat": f"{name}: twice",
+            "swap": f"{name}: behind line {self.other + 1}, {_short(lines[self.other])}",
+            "crash": f"{name}: n{self.other} crashes behind it",
+            "bounce": f"{name}: n{self.other} crashes behind it and comes back",
+        }[self.kind]
+
+    def played(self, lines: Sequence[str]) -> Tuple[List[str], List[int]]:
+        """The changed lines, and of each the number of the line that it was, or 0 for one that was put in."""
+        place, other = self.place, self.other
+        order: List[int] = list(range(len(lines)))
+        if self.kind == "drop":
+            del order[place]
+        elif self.kind == "repeat":
+            order.insert(place, place)
+        elif self.kind == "swap":
+            del order[place]
+            order.insert(order.index(other) + 1, place)
+        changed, source = [lines[at] for at in order], [at + 1 for at in order]
+        if self.kind in ("crash", "bounce"):
+            added = [f"crash n{other}"] + ([f"restart n{other}"] if self.kind == "bounce" else [])
+            changed[place + 1 : place + 1] = added
+            source[place + 1 : place + 1] = [0] * len(added)
+        return changed, source
 
 
 @dataclass(frozen=True)
@@ -35,20 +63,14 @@ def variations(lines: Sequence[str], size: SetSize, kinds: Sequence[str]) -> Ite
     places = _places(lines)
     deliveries = [place for place in places if words_of(lines[place])[0] == "deliver"]
     following = dict(zip(deliveries, deliveries[1:]))
+    known = set(deliveries)
     for place in places:
-        name = f"line {place + 1}, {printable(lines[place])}"
-        if place in following or place in deliveries:
-            if "drop" in kinds:
-                yield _changed(lines, f"{name}: lost", place, [])
-            if "repeat" in kinds:
-                yield _changed(lines, f"{name}: twice", place, [place, place])
-            if "swap" in kinds and place in following:
-                yield _swapped(lines, name, place, following[place])
+        if place in known:
+            yield from (Variation(kind, place) for kind in ("drop", "repeat") if kind in kinds)
+            if place in following and "swap" in kinds:
+                yield Variation("swap", place, following[place])
         for node in range(size.nodes):
-            if "crash" in kinds:
-                yield _added(lines, f"{name}: n{node} crashes behind it", place, [f"crash n{node}"])
-            if "bounce" in kinds:
-                yield _added(lines, f"{name}: n{node} crashes behind it and comes back", place, [f"crash n{node}", f"restart n{node}"])
+            yield from (Variation(kind, place, node) for kind in ("crash", "bounce") if kind in kinds)
 
 
 def _places(lines: Sequence[str]) -> List[int]:
@@ -62,26 +84,10 @@ def _places(lines: Sequence[str]) -> List[int]:
     return places
 
 
-def _changed(lines: Sequence[str], told: str, place: int, instead: List[int]) -> Variation:
-    order = [*range(place), *instead, *range(place + 1, len(lines))]
-    return Variation(told, tuple(lines[at] for at in order), tuple(at + 1 for at in order))
-
-
-def _swapped(lines: Sequence[str], name: str, one: int, other: int) -> Variation:
-    """The delivery comes right behind the next one."""
-    order = [at for at in range(len(lines)) if at != one]
-    order.insert(order.index(other) + 1, one)
-    told = f"{name}: behind line {other + 1}, {printable(lines[other])}"
-    return Variation(told, tuple(lines[at] for at in order), tuple(at + 1 for at in order))
-
-
-def _added(lines: Sequence[str], told: str, place: int, added: List[str]) -> Variation:
-    source = [*range(1, place + 2), *[0] * len(added), *range(place + 2, len(lines) + 1)]
-    return Variation(told, (*lines[: place + 1], *added, *lines[place + 1 :]), tuple(source))
-
-
-def outcome(lines: Sequence[str], source: Sequence[int], nodes: int, watch: re.Pattern) -> Outcome:
-    """What is watched of a run of these lines."""
+def outcome(
+    lines: Sequence[str], source: Sequence[int], nodes: int, watch: re.Pattern, also: Collection[int] = ()
+) -> Outcome:
+    """What is watched of a run of these lines: what the pattern matches, and the lines with the numbers in `also`."""
     dumps = [f"dump n{node} local" for node in range(nodes)]
     transcript = play([*lines, *dumps])
     endings = {}
@@ -89,17 +95,12 @@ def outcome(lines: Sequence[str], source: Sequence[int], nodes: int, watch: re.P
         reply = transcript.by_line[len(lines) + 1 + node]
         if not reply.refused:
             endings[node] = reply.more
-    return Outcome(_watched(lines, source, transcript, watch), endings)
-
-
-def _watched(lines: Sequence[str], source: Sequence[int], transcript: Transcript, watch: re.Pattern) -> Dict[int, str]:
-    """The replies, by the lines that they had in the script as it was, that the pattern matches or whose command it does."""
     found: Dict[int, str] = {}
     for number, line in enumerate(lines, 1):
-        reply = transcript.by_line.get(number)
-        if reply is not None and source[number - 1] and (watch.search(line) or watch.search(_whole(reply))):
-            found[source[number - 1]] = _whole(reply)
-    return found
+        reply, was = transcript.by_line.get(number), source[number - 1]
+        if reply is not None and was and (was in also or watch.search(line) or watch.search(_whole(reply))):
+            found[was] = _whole(reply)
+    return Outcome(found, endings)
 
 
 def _whole(reply: Reply) -> str:

@@ -7,8 +7,9 @@ import sys
 from pathlib import Path
 from typing import Callable, Dict, List, Optional
 
+from ..diagnose import cause_of
 from ..drawing import svg_file
-from ..errors import FILE, WORDS, LabError
+from ..errors import FILE, WORDS, LabError, ScriptFault
 from ..expand import Expander
 from ..layout import picture_of, window
 from ..macros import FORMS
@@ -58,6 +59,13 @@ class Shell:
             "picture": self._picture, "explain": self._explain, "help": self._help,
         }
 
+    def open(self, lines: List[str]) -> None:
+        """Begins with these lines, whose replies aren't shown."""
+        for line in lines:
+            self._typed.append((len(self.player.lines), self._expander.macros.groups))
+            self._expander.take(line)
+        self.player.transcript()
+
     def take(self, line: str) -> bool:
         """Answers a line. Gives whether the shell goes on."""
         word, _, rest = line.strip().partition(" ")
@@ -100,7 +108,10 @@ class Shell:
     def _undo(self, count: str) -> None:
         if count and not count.isdecimal():
             raise LabError(WORDS, "it reads 'undo' or 'undo N'")
-        for _ in range(min(int(count or 1), len(self._typed))):
+        for _ in range(int(count or 1)):
+            # The line that makes the set stays.
+            if all(is_silent(line) for line in self.player.lines[: self._typed[-1][0]]):
+                break
             length, groups = self._typed.pop()
             del self.player.lines[length:]
             self.player.forget()
@@ -178,8 +189,7 @@ def main(arguments: argparse.Namespace) -> int:
     if not 1 <= arguments.nodes <= 7:
         raise LabError(WORDS, "--nodes is from 1 to 7")
     shell = Shell(print)
-    for line in read_lines(arguments.file) if arguments.file else [f"set {arguments.nodes}"]:
-        shell.take(line)
+    shell.open(read_lines(arguments.file) if arguments.file else [f"set {arguments.nodes}"])
     asked = sys.stdin.isatty()
     keep = _with_history(shell) if asked else None
     if asked:
@@ -190,6 +200,14 @@ def main(arguments: argparse.Namespace) -> int:
         if keep:
             keep()
     return 0
+
+
+def fault_in_short(player: Player, fault: ScriptFault, typed: str) -> str:
+    """The likely cause of a fault: of what was just typed, or of a line in the block that it ended."""
+    number = fault.line - 1
+    line = player.lines[number] if number < len(player.lines) else typed
+    cause = cause_of(line, fault.rule, player.size().nodes).told or "this is no command of a script"
+    return cause if number >= len(player.lines) else f"line {fault.line}, {printable(line)}: {cause} ('undo' takes lines back)"
 
 
 def _loop(shell: Shell, prompt: str) -> None:
@@ -204,5 +222,7 @@ def _loop(shell: Shell, prompt: str) -> None:
         try:
             if not shell.take(line):
                 return
+        except ScriptFault as fault:
+            print(f"  {fault.rule}: {fault_in_short(shell.player, fault, line)}")
         except LabError as fault:
             print(f"  {fault.sentence}")

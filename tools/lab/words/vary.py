@@ -3,14 +3,16 @@ from __future__ import annotations
 
 import argparse
 import os
-from concurrent.futures import ThreadPoolExecutor
-from typing import Dict, Iterable, List, Tuple
+from collections import deque
+from concurrent.futures import Future, ThreadPoolExecutor
+from itertools import chain, compress, repeat
+from typing import Callable, Deque, Dict, Iterable, Iterator, List, Tuple
 
 from ..errors import DIFFERENT, INTERRUPT, WORDS, LabError
 from ..expand import read_script
 from ..script import set_size
 from ..show import Progress
-from ..variations import KINDS, Outcome, Variation, differences, outcome, variations
+from ..variations import KINDS, Variation, differences, outcome, variations
 from .shrink import pattern
 
 SUMMARY = "plays all that may happen round a script, and tells what makes a difference"
@@ -27,7 +29,7 @@ All processors are used. An interrupt shows what was found till then. The status
 MOST_OUTCOMES, MOST_NAMED = 12, 4
 
 #: Variations by what they change.
-Found = Dict[Tuple[str, ...], List[str]]
+Found = Dict[Tuple[str, ...], List[Variation]]
 
 
 def add_arguments(parser: argparse.ArgumentParser) -> None:
@@ -49,11 +51,14 @@ def _kinds(text: str) -> List[str]:
     return kinds
 
 
-def _thinned(all_of: List[Variation], limit: int) -> List[Variation]:
-    return [all_of[place * len(all_of) // limit] for place in range(limit)] if 0 < limit < len(all_of) else all_of
+def _thinned(count: int, limit: int) -> Iterable[bool]:
+    """Of so many variations, which are played: no more than the limit, spread evenly."""
+    if not 0 < limit < count:
+        return repeat(True, count)
+    return (place * limit // count != (place - 1) * limit // count for place in range(count))
 
 
-def _report(found: Found, played: int, everything: bool) -> Iterable[str]:
+def _report(lines: List[str], found: Found, played: int, everything: bool) -> Iterable[str]:
     same = len(found.get((), []))
     yield f"{played} variations, of which {same} change nothing that is watched"
     changing = sorted((item for item in found.items() if item[0]), key=lambda item: -len(item[1]))
@@ -62,7 +67,7 @@ def _report(found: Found, played: int, everything: bool) -> Iterable[str]:
         yield ""
         yield f"{len(names)} of them: {told[0]}"
         yield from (f"    and {one}" for one in told[1:])
-        yield from (f"  - {name}" for name in (names if everything else names[:MOST_NAMED]))
+        yield from (f"  - {one.told(lines)}" for one in (names if everything else names[:MOST_NAMED]))
         if len(names) > MOST_NAMED and not everything:
             yield f"  - and {len(names) - MOST_NAMED} more"
     if len(shown) < len(changing):
@@ -76,29 +81,37 @@ def main(arguments: argparse.Namespace) -> int:
     size = set_size(lines)
     usual = outcome(lines, range(1, len(lines) + 1), size.nodes, watch)
     kinds = _kinds(arguments.only) if arguments.only else list(KINDS)
-    wanted = _thinned(list(variations(lines, size, kinds)), arguments.limit or 0)
+    count = sum(1 for _ in variations(lines, size, kinds))
+    wanted = compress(variations(lines, size, kinds), _thinned(count, arguments.limit or 0))
+    count = min(count, arguments.limit or count)
+
+    def differs(variation: Variation) -> Tuple[str, ...]:
+        return differences(lines, usual, outcome(*variation.played(lines), size.nodes, watch, usual.replies))
+
     found: Found = {}
-    interrupted = _play(lines, wanted, usual, size.nodes, watch, max(1, arguments.jobs), found)
+    interrupted = _play(wanted, count, differs, max(1, arguments.jobs), found)
     played = sum(len(names) for names in found.values())
-    print("\n".join(_report(found, played, arguments.all)))
+    print("\n".join(_report(lines, found, played, arguments.all)))
     if interrupted:
-        print(f"lab: interrupted, with {len(wanted) - played} variations not played")
+        print(f"lab: interrupted, with {count - played} variations not played")
         return INTERRUPT
     return DIFFERENT if any(found) else 0
 
 
-def _play(lines: List[str], wanted: List[Variation], usual: Outcome, nodes: int, watch, jobs: int, found: Found) -> bool:
+def _play(wanted: Iterator[Variation], count: int, differs: Callable, jobs: int, found: Found) -> bool:
     """Puts each variation below what it changes. Gives whether the user interrupted it."""
-    progress = Progress(len(wanted), "playing")
-
-    def one(variation: Variation) -> Tuple[str, ...]:
-        return differences(lines, usual, outcome(variation.lines, variation.source, nodes, watch))
-
+    progress = Progress(count, "playing")
     workers = ThreadPoolExecutor(max_workers=jobs)
+    waiting: Deque[Tuple[Variation, Future]] = deque()
     try:
-        for variation, told in zip(wanted, workers.map(one, wanted)):
-            found.setdefault(told, []).append(variation.told)
-            progress.step()
+        for variation in chain(wanted, repeat(None, 4 * jobs)):
+            # Only a few are handed out at a time, since a script may have millions of variations.
+            if variation is not None:
+                waiting.append((variation, workers.submit(differs, variation)))
+            if waiting and (variation is None or len(waiting) == 4 * jobs):
+                done, future = waiting.popleft()
+                found.setdefault(future.result(), []).append(done)
+                progress.step()
         return False
     except KeyboardInterrupt:
         workers.shutdown(wait=False, cancel_futures=True)
