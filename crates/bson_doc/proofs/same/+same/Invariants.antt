@@ -1,8 +1,8 @@
 use Rattle.std.proofs.Common.{◌≡◌, ◌≤◌, ◌+◌, ◌*◌}
 use Rattle.bson_doc.specs.Tree.{fields_from, trees_from, tree_size, fields_size, trees_size}
 use Rattle.bson_doc.specs.View.{tree_of}
-use Rattle.doc_update.specs.Same.{same_fields, same_items}
-use Rattle.doc_update.proofs.same.+same.Given as goal
+use Rattle.bson_doc.specs.Same.{same_fields, same_items}
+use Rattle.bson_doc.proofs.same.+same.Given as goal
 
 abbrev pub decreases-same_value : goal.decreases-same_value
 decreases-same_value l = 2 * tree_size (tree_of l.one.now) + 1

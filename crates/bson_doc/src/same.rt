@@ -1,9 +1,9 @@
-// Whether two values are the same, kind by kind and field by field.
+// Whether two values are the same, kind by kind and field by field, so that int32 5 and int64 5 differ.
 ghost use Rattle.std.specs.Prelude.{◌≡◌};
 ghost use Rattle.bson_doc.specs.View.{tree_of};
-ghost use Rattle.doc_update.specs.Same.{same_tree, same_fields, same_items};
+ghost use Rattle.bson_doc.specs.Same.{same_tree, same_fields, same_items};
 
-use bson_doc::{Doc, Items, Value};
+use crate::{Doc, Items, Value};
 
 #[cycle(same)]
 #[tactic(auto, using(crate::proofs::SameLemmas::sameness))]
@@ -45,10 +45,9 @@ fn same_array(one: &Items, two: &Items) -> bool
     true
 }
 
-/// Whether two documents have the same fields in the same order, and so the same bytes.
 #[cycle(same)]
 #[tactic(auto, using(crate::proofs::SameLemmas::sameness))]
-pub(crate) fn same_document(one: &Doc, two: &Doc) -> bool
+fn same_document(one: &Doc, two: &Doc) -> bool
     ensures { result ≡ same_fields one.now two.now }
 {
     if one.len() != two.len() {
@@ -62,4 +61,66 @@ pub(crate) fn same_document(one: &Doc, two: &Doc) -> bool
         }
     }
     true
+}
+
+/// Two values are equal where they have one kind and the same content, so where they have the same bytes.
+impl PartialEq for Value {
+    ghost use Rattle.std.specs.Ordering.{on};
+    ghost use Rattle.bson_doc.specs.View.{tree_of};
+    ghost use Rattle.bson_doc.specs.Same.{same_tree};
+    ghost use Rattle.bson_doc.specs.SameLaws.{same_value-laws};
+
+    ghost eq = { on tree_of same_tree };
+
+    ghost laws = { same_value-laws.1 };
+
+    fn eq(&self, other: &Value) -> bool {
+        same_value(self, other)
+    }
+}
+
+impl Eq for Value {
+    ghost use Rattle.bson_doc.specs.SameLaws.{same_value-laws};
+
+    ghost laws = { same_value-laws.0 };
+}
+
+/// Two documents are equal where they have the same fields in the same order, so where they have the same bytes.
+impl PartialEq for Doc {
+    ghost use Rattle.bson_doc.specs.Same.{same_fields};
+    ghost use Rattle.bson_doc.specs.SameLaws.{same_fields-laws};
+
+    ghost eq = { same_fields };
+
+    ghost laws = { same_fields-laws.1 };
+
+    fn eq(&self, other: &Doc) -> bool {
+        same_document(self, other)
+    }
+}
+
+impl Eq for Doc {
+    ghost use Rattle.bson_doc.specs.SameLaws.{same_fields-laws};
+
+    ghost laws = { same_fields-laws.0 };
+}
+
+/// Two arrays are equal where they have equal values in the same order.
+impl PartialEq for Items {
+    ghost use Rattle.bson_doc.specs.Same.{same_items};
+    ghost use Rattle.bson_doc.specs.SameLaws.{same_items-laws};
+
+    ghost eq = { same_items };
+
+    ghost laws = { same_items-laws.1 };
+
+    fn eq(&self, other: &Items) -> bool {
+        same_array(self, other)
+    }
+}
+
+impl Eq for Items {
+    ghost use Rattle.bson_doc.specs.SameLaws.{same_items-laws};
+
+    ghost laws = { same_items-laws.0 };
 }

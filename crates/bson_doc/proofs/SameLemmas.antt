@@ -2,7 +2,7 @@
 use Rattle.std.proofs.Common.{◌≡◌, ◌≢◌, ◌+◌, false, refl, arith, ap}
 use Rattle.bson_doc.specs.Tree.{Fields, no_fields, field, Trees, no_items, item, count, items_count}
 use Rattle.bson_doc.proofs.DocLemmas.{fields_from-zero, fields_from-end, trees_from-zero, trees_from-end}
-use Rattle.doc_update.specs.Same.{same_fields, same_items}
+use Rattle.bson_doc.specs.Same.{same_fields, same_items}
 
 -- documents of other lengths aren't the same
 pub same_fields-count : (a b : Fields) → count a ≢ count b → same_fields a b ≡ false
