@@ -1,4 +1,4 @@
-"""Random scripts for `bench/random`, by an author who knows the answers to what stands already.
+"""Random scripts for `tools/fuzz/random_scripts`, by an author who knows the answers to what stands already.
 
 A script has some parts of random steps, each a sequence that may well succeed (an election, a pull, a write that a
 majority gets), with lines left out, said twice or put between. After each part the program is run, so that the next
@@ -6,8 +6,8 @@ one knows who is primary and how many messages there are. The last part settles 
 """
 import re
 
-from random_members import Members
-from random_player import Fault, Player
+from script_members import Members
+from script_player import Fault, Player
 
 COLLECTIONS = ["t", "t", "t", "u"]
 IDS = ["1", "2", "3", "4", "5", "3L", "-6", '"a"', "true"]
