@@ -21,7 +21,7 @@ PAGE = TOP / "docs" / "COOKBOOK.md"
 SCRIPTS = TOP / "docs" / "cookbook"
 PICTURES = TOP / "docs" / "pictures"
 
-_BLOCK = re.compile(r"(<!-- script: (\w+) -->\n)```replset\n.*?```\n", re.DOTALL)
+_BLOCK = re.compile(r"(<!-- script: (\w+) -->\n)```lab\n.*?```\n", re.DOTALL)
 _LINES = re.compile(r"# picture: (\d+)-(\d+)$")
 
 
@@ -45,7 +45,7 @@ def page_text(page: str) -> str:
 
     def block(found: "re.Match[str]") -> str:
         lines = [line for line in read_lines(str(SCRIPTS / f"{found[2]}.lab")) if not _LINES.match(line)]
-        return found[1] + "```replset\n" + "\n".join(lines) + "\n```\n"
+        return found[1] + "```lab\n" + "\n".join(lines) + "\n```\n"
 
     return _BLOCK.sub(block, page)
 

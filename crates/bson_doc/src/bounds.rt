@@ -6,13 +6,13 @@ pub struct Bounds {
     pub levels: u32,
 }
 
-/// The bounds of a stored document.
+/// The bounds of a stored document: 262,144 bytes and 100 levels.
 pub const DOCUMENT: Bounds = Bounds {
     bytes: 262_144,
     levels: 100,
 };
 
-/// The bounds of an oplog entry, which holds documents.
+/// The bounds of an oplog entry, which holds documents: 1,048,576 bytes and 103 levels.
 pub const ENTRY: Bounds = Bounds {
     bytes: 1_048_576,
     levels: 103,

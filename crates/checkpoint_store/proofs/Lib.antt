@@ -3,6 +3,7 @@ mod LoopLemmas
 mod SizeLemmas
 mod FileLemmas
 mod CheckpointLemmas
+mod CopyLemmas
 pub mod OnceLemmas
 mod ShownLemmas
 mod SavingLemmas

@@ -1,5 +1,5 @@
 // The documents as of an optime.
-ghost use Rattle.std.specs.Prelude.{◌≡◌, OnOk};
+ghost use Rattle.std.specs.Prelude.{◌≡◌, IfOk, OnOk};
 ghost use Rattle.std.specs.Option.{option_copied};
 ghost use Rattle.std.specs.FinMap as maps;
 ghost use Rattle.doc_fold.specs.Map.{documents_of};
@@ -13,6 +13,7 @@ use std::marker::Model;
 /// Documents by collection and key, which contracts see as a finite map.
 #[derive(Drop)]
 pub struct DocumentMap {
+    alloc: Global,
     documents: BTreeMap<(Text, IdKey), Doc>,
 }
 
@@ -33,6 +34,7 @@ impl DocumentMap {
         ensures { result ≡ maps.empty }
     {
         DocumentMap {
+            alloc,
             documents: BTreeMap::new(alloc),
         }
     }
@@ -47,7 +49,7 @@ impl DocumentMap {
     pub fn into_map(self) -> BTreeMap<(Text, IdKey), Doc>
         ensures { documents_of result.entries ≡ self }
     {
-        let DocumentMap { documents } = self;
+        let DocumentMap { documents, .. } = self;
         documents
     }
 
@@ -58,6 +60,17 @@ impl DocumentMap {
         self.documents.insert(place, document)?;
         Ok(())
     }
+
+    /// The same documents once more.
+    pub fn copy(&self) -> Mem<DocumentMap>
+        ensures { IfOk result (λ m. m ≡ self.now) }
+    {
+        let mut copies = DocumentMap::new(self.alloc);
+        for ((ns, id), document) in &self.documents {
+            copies.insert((ns.copy()?, id.copy()?), document.copy()?)?;
+        }
+        Ok(copies)
+    }
 }
 
 /// The documents as of an optime. Without any checkpoint, none as of `OpTime::ZERO`.
@@ -65,4 +78,16 @@ impl DocumentMap {
 pub struct Stable {
     pub at: OpTime,
     pub documents: DocumentMap,
+}
+
+impl Stable {
+    /// The same once more.
+    pub fn copy(&self) -> Mem<Stable>
+        ensures { IfOk result (λ s. s ≡ self.now) }
+    {
+        Ok(Stable {
+            at: self.at,
+            documents: self.documents.copy()?,
+        })
+    }
 }

@@ -24,3 +24,5 @@ mod stores;
 mod streams;
 #[cfg(test)]
 mod turns;
+#[cfg(test)]
+mod values;

@@ -5,6 +5,5 @@ pub mod LengthLemmas
 pub mod LoggedLemmas
 pub mod NameRules
 pub mod OrderLemmas
-pub mod SameLemmas
 pub mod SoundLemmas
 pub mod StoredLemmas

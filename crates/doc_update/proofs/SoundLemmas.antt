@@ -20,7 +20,7 @@ use Rattle.doc_update.specs.Effect.{under, fields_under, present, id_first, stor
 use Rattle.doc_update.specs.Increment.{sums, has_wrong_side, has_overflow}
 use Rattle.doc_update.specs.Ordered.{in_byte_order, as_strings}
 use Rattle.doc_update.specs.Refusal.{Answers}
-use Rattle.doc_update.specs.Same.{same_fields}
+use Rattle.bson_doc.specs.Same.{same_fields}
 use Rattle.doc_update.specs.Sound.{IsNamed, IsSound}
 use Rattle.doc_update.specs.declared.write.Prepared.{Prepared}
 use Rattle.doc_update.specs.declared.write.Prepared.TheVariants.{Entry, Unchanged}

@@ -18,7 +18,7 @@ use Rattle.oplog_entry.specs.declared.entry.Op.TheVariants as ops
 use Rattle.doc_update.specs.Check.{checked, insert_checked, replace_checked, update_checked, with_key, by_rule, broken_rule, all_known, all_documents, all_good, all_names, is_empty, has_twice, names_id}
 use Rattle.doc_update.specs.Effect.{id_first, is_too_large, stored, written, under, sets_of, unsets_of, updated, replace_prepared, update_prepared, prepared}
 use Rattle.doc_update.specs.Increment.{has_wrong_side, has_overflow}
-use Rattle.doc_update.specs.Same.{same_fields}
+use Rattle.bson_doc.specs.Same.{same_fields}
 use Rattle.doc_update.specs.Sound.{IsSound}
 use Rattle.doc_update.specs.declared.write.WriteOp.{WriteOp}
 use Rattle.doc_update.specs.declared.write.WriteOp.TheVariants.{Insert, Replace, Update, Delete}

@@ -10,7 +10,7 @@ use Rattle.oplog_entry.specs.declared.entry.Op.TheVariants as ops
 use Rattle.doc_update.specs.Check.{checked, given, names_of}
 use Rattle.doc_update.specs.Increment.{has_wrong_side, has_overflow, sums}
 use Rattle.doc_update.specs.Ordered.{in_byte_order, as_strings}
-use Rattle.doc_update.specs.Same.{same_fields}
+use Rattle.bson_doc.specs.Same.{same_fields}
 use Rattle.doc_update.specs.declared.write.WriteOp.{WriteOp}
 use Rattle.doc_update.specs.declared.write.WriteOp.TheVariants.{Insert, Replace, Update, Delete}
 use Rattle.doc_update.specs.declared.write.Prepared.{Prepared}

@@ -5,6 +5,5 @@ pub mod Increment
 pub mod Lent
 pub mod Ordered
 pub mod Refusal
-pub mod Same
 pub mod Sound
 pub mod Write

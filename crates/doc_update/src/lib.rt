@@ -7,7 +7,6 @@ mod increment;
 mod lent;
 mod ordered;
 mod preparing;
-mod same;
 mod write;
 
 pub use checks::{check, check_lent};

@@ -14,7 +14,6 @@ ghost use Rattle.doc_update.specs.Sound.{IsNamed, IsSound, IsStored, SetsAre};
 
 use crate::increment::add_sums;
 use crate::ordered::Ordered;
-use crate::same::same_document;
 use crate::{LentWrite, Prepared, WriteOp, WriteRefusal};
 use bson_doc::{DOCUMENT, Doc, Mem, Text, Value};
 use oplog_entry::{FieldIndex, Op, with_changes};
@@ -98,7 +97,7 @@ fn stored(op: Op, after: Doc) -> Result<Prepared, WriteRefusal>
 fn written(op: Op, before: &Doc, after: Doc) -> Result<Prepared, WriteRefusal>
     ensures { Answers result (written op before.now after) }
 {
-    if same_document(&after, before) {
+    if after == *before {
         return Ok(Prepared::Unchanged);
     }
     stored(op, after)

@@ -66,6 +66,32 @@ pub enum Prepared {
     Unchanged,
 }
 
+impl Prepared {
+    /// The same effect once more.
+    pub fn copy(&self) -> Mem<Prepared>
+        ensures { IfOk result (λ p. p ≡ self.now) }
+    {
+        Ok(match self {
+            Prepared::Entry { op, after } => Prepared::Entry {
+                op: op.copy()?,
+                after: copied(after)?,
+            },
+            Prepared::NoMatch => Prepared::NoMatch,
+            Prepared::Unchanged => Prepared::Unchanged,
+        })
+    }
+}
+
+/// The same document once more, if there is one.
+fn copied(document: &Option<Doc>) -> Mem<Option<Doc>>
+    ensures { IfOk result (λ copy. copy ≡ document.now) }
+{
+    match document {
+        Some(document) => Ok(Some(document.copy()?)),
+        None => Ok(None),
+    }
+}
+
 /// Why a write is refused.
 #[derive(Clone, Copy, Debug, PartialEq, Eq, Error)]
 pub enum WriteRefusal {

@@ -1,12 +1,6 @@
-mod CommandsConfig
-mod CommandsFit
-pub mod Gets
 pub mod LinesCut
 mod ListsLast
-mod ValuesEnd
+pub mod MergeLemmas
 mod WholeCounts
 mod WholeFits
 mod WholeRead
-mod WordsNumbers
-mod WordsTexts
-pub mod MergeLemmas

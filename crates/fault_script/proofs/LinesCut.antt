@@ -8,7 +8,7 @@ use Rattle.std.proofs.lemmas.List.Splits.{slice_split_first, slice_split_none}
 use Rattle.std.proofs.lemmas.List.Sums.{fails_before_first, position_or_len_is}
 use Rattle.std.specs.Prelude.{nat_lt}
 use Rattle.memchr.specs.Find.{IsFirstByte, is_byte}
-use Rattle.fault_script.specs.declared.rule.ScriptRule.TheVariants.{NotUtf8}
+use Rattle.script_words.specs.declared.rule.ScriptRule.TheVariants.{NotUtf8}
 use Rattle.fault_script.specs.Lines.{text_of}
 use Rattle.std.proofs.lemmas.Str.{is_utf8-from_IsUtf8, IsUtf8-from_is_utf8}
 

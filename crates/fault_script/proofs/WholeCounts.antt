@@ -6,22 +6,22 @@ use Rattle.std.proofs.lemmas.List.{append-nil}
 use Rattle.std.proofs.lemmas.List.Concat.{flat_map-append}
 use Rattle.set_model.specs.declared.command.Command.{Command}
 use Rattle.fault_script.specs.declared.reading.Reading.{Reading}
-use Rattle.fault_script.specs.declared.rule.ScriptFault.{ScriptFault}
-use Rattle.fault_script.specs.declared.rule.ScriptRule.{ScriptRule}
-use Rattle.fault_script.specs.declared.rule.ScriptRule.TheVariants.{TooManyThreads}
+use Rattle.fault_script.specs.declared.fault.ScriptFault.{ScriptFault}
+use Rattle.script_words.specs.declared.rule.ScriptRule.{ScriptRule}
+use Rattle.script_words.specs.declared.rule.ScriptRule.TheVariants.{TooManyThreads}
 use Rattle.fault_script.specs.declared.script.Part.{Part}
 use Rattle.fault_script.specs.declared.script.Part.TheVariants as parts
 use Rattle.fault_script.specs.declared.script.Script.{Script}
-use Rattle.fault_script.specs.declared.set.SetLine.{SetLine}
-use Rattle.fault_script.specs.declared.verb.Keyword.{Keyword}
-use Rattle.fault_script.specs.declared.verb.Keyword.TheVariants as keywords
-use Rattle.fault_script.specs.Words.{Left}
-use Rattle.fault_script.specs.Set.{set_line}
+use Rattle.script_words.specs.declared.set.SetLine.{SetLine}
+use Rattle.script_words.specs.declared.verb.Keyword.{Keyword}
+use Rattle.script_words.specs.declared.verb.Keyword.TheVariants as keywords
+use Rattle.script_words.specs.Words.{Left}
+use Rattle.script_words.specs.Set.{set_line}
 use Rattle.fault_script.specs.Lines.{text_of, is_passed_over}
-use Rattle.fault_script.specs.Commands.{keyword_at, words_at}
+use Rattle.script_words.specs.Commands.{keyword_at, words_at}
 use Rattle.fault_script.specs.Script.{Thread, in_last, start, begin_block, begin_thread, end_block, add_command, with_keyword, with_command, with_text, with_line, whole, and_then, script_from, script, lines_of, lines_in}
 use Rattle.bson_doc.proofs.BindLemmas.{Gets, cond_gets}
-use Rattle.fault_script.proofs.Gets.{bind_any, tested}
+use Rattle.script_words.proofs.Gets.{bind_any, tested}
 use Rattle.fault_script.proofs.WholeRead.{counted}
 
 -- ---- how many commands there are

@@ -9,24 +9,24 @@ use Rattle.set_model.specs.declared.command.Command.{Command}
 use Rattle.set_model.specs.Limits.{is_for}
 use Rattle.set_model.specs.Run.{Sizes, AreSizes}
 use Rattle.fault_script.specs.declared.reading.Reading.{Reading}
-use Rattle.fault_script.specs.declared.rule.ScriptFault.{ScriptFault}
-use Rattle.fault_script.specs.declared.rule.ScriptRule.{ScriptRule}
-use Rattle.fault_script.specs.declared.rule.ScriptRule.TheVariants.{TooManyThreads, NoSetLine, WordCount}
+use Rattle.fault_script.specs.declared.fault.ScriptFault.{ScriptFault}
+use Rattle.script_words.specs.declared.rule.ScriptRule.{ScriptRule}
+use Rattle.script_words.specs.declared.rule.ScriptRule.TheVariants.{TooManyThreads, NoSetLine, WordCount}
 use Rattle.fault_script.specs.declared.script.Part.{Part}
 use Rattle.fault_script.specs.declared.script.Part.TheVariants as parts
 use Rattle.fault_script.specs.declared.script.Script.{Script}
-use Rattle.fault_script.specs.declared.set.SetLine.{SetLine}
-use Rattle.fault_script.specs.declared.shape.Shape.TheVariants.{Words}
-use Rattle.fault_script.specs.declared.verb.Keyword.{Keyword}
-use Rattle.fault_script.specs.declared.verb.Keyword.TheVariants as keywords
-use Rattle.fault_script.specs.Words.{Left, has_shape, word_at, number_at, optional_at}
-use Rattle.fault_script.specs.Set.{set_line, sizes_at}
+use Rattle.script_words.specs.declared.set.SetLine.{SetLine}
+use Rattle.script_words.specs.declared.shape.Shape.TheVariants.{Words}
+use Rattle.script_words.specs.declared.verb.Keyword.{Keyword}
+use Rattle.script_words.specs.declared.verb.Keyword.TheVariants as keywords
+use Rattle.script_words.specs.Words.{Left, has_shape, word_at, number_at, optional_at}
+use Rattle.script_words.specs.Set.{set_line, sizes_at}
 use Rattle.fault_script.specs.Lines.{text_of, is_passed_over}
-use Rattle.fault_script.specs.Commands.{keyword_at, words_at}
+use Rattle.script_words.specs.Commands.{keyword_at, words_at}
 use Rattle.fault_script.specs.Script.{Thread, in_last, start, with_part, with_block, begin_block, begin_thread, end_block, add_command, with_keyword, with_command, with_set, with_text, with_line, whole, and_then, script_from, script, is_part_for, sizes_of}
 use Rattle.bson_doc.proofs.BindLemmas.{Gets, bind_gets, cond_gets}
-use Rattle.fault_script.proofs.Gets.{bind_any, tested, ended_gets, both}
-use Rattle.fault_script.proofs.CommandsFit.{IsIn, number_within, optional_within, words_within}
+use Rattle.script_words.proofs.Gets.{bind_any, tested, ended_gets, both}
+use Rattle.script_words.proofs.CommandsFit.{IsIn, number_within, optional_within, words_within}
 
 abbrev is_thread_for : ℕ → Thread → Bool
 is_thread_for nodes = list_all (λ line. is_for nodes line.1)

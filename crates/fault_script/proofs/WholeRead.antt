@@ -3,11 +3,11 @@ use Rattle.std.proofs.Common.{◌≡◌, ℕ, ◌+◌, ◌≤◌, Bool, true, fa
 use Rattle.std.specs.Prelude.{nat_lt}
 use Rattle.std.specs.Str.Lines.{lines}
 use Rattle.fault_script.specs.declared.reading.Reading.{Reading}
-use Rattle.fault_script.specs.declared.rule.ScriptError.{ScriptError}
-use Rattle.fault_script.specs.declared.rule.ScriptError.TheVariants.{Fault, Memory}
-use Rattle.fault_script.specs.declared.rule.ScriptFault.{ScriptFault}
-use Rattle.fault_script.specs.declared.rule.ScriptRule.{ScriptRule}
-use Rattle.fault_script.specs.declared.rule.ScriptRule.TheVariants.{TooManyLines}
+use Rattle.fault_script.specs.declared.fault.ScriptError.{ScriptError}
+use Rattle.fault_script.specs.declared.fault.ScriptError.TheVariants.{Fault, Memory}
+use Rattle.fault_script.specs.declared.fault.ScriptFault.{ScriptFault}
+use Rattle.script_words.specs.declared.rule.ScriptRule.{ScriptRule}
+use Rattle.script_words.specs.declared.rule.ScriptRule.TheVariants.{TooManyLines}
 use Rattle.fault_script.specs.Lines.{text_of}
 use Rattle.fault_script.specs.Script.{start, with_line, whole, and_then, script_from, script, Stops, StopsLine}
 

@@ -1,9 +1,3 @@
-pub mod Commands
-pub mod Configs
-pub mod Gives
 pub mod Lines
 pub mod Merge
 pub mod Script
-pub mod Set
-pub mod Values
-pub mod Words

@@ -41,20 +41,20 @@ use Rattle.set_model.specs.declared.command.Command.{Command}
 use Rattle.set_model.specs.Limits.{is_for}
 use Rattle.set_model.specs.Run.{Sizes}
 use Rattle.fault_script.specs.declared.reading.Reading.{Reading}
-use Rattle.fault_script.specs.declared.rule.ScriptError.{ScriptError}
-use Rattle.fault_script.specs.declared.rule.ScriptError.TheVariants.{Fault, Memory}
-use Rattle.fault_script.specs.declared.rule.ScriptFault.{ScriptFault}
-use Rattle.fault_script.specs.declared.rule.ScriptRule.{ScriptRule}
-use Rattle.fault_script.specs.declared.rule.ScriptRule.TheVariants.{NoSetLine, NestedPar, StrayLine, TooManyThreads, OpenPar}
+use Rattle.fault_script.specs.declared.fault.ScriptError.{ScriptError}
+use Rattle.fault_script.specs.declared.fault.ScriptError.TheVariants.{Fault, Memory}
+use Rattle.fault_script.specs.declared.fault.ScriptFault.{ScriptFault}
+use Rattle.script_words.specs.declared.rule.ScriptRule.{ScriptRule}
+use Rattle.script_words.specs.declared.rule.ScriptRule.TheVariants.{NoSetLine, NestedPar, StrayLine, TooManyThreads, OpenPar}
 use Rattle.fault_script.specs.declared.script.Part.{Part}
 use Rattle.fault_script.specs.declared.script.Part.TheVariants as parts
 use Rattle.fault_script.specs.declared.script.Script.{Script}
-use Rattle.fault_script.specs.declared.set.SetLine.{SetLine}
-use Rattle.fault_script.specs.declared.verb.Keyword.{Keyword}
-use Rattle.fault_script.specs.declared.verb.Keyword.TheVariants as keywords
-use Rattle.fault_script.specs.Words.{Left}
-use Rattle.fault_script.specs.Set.{set_line}
-use Rattle.fault_script.specs.Commands.{keyword_at, words_at}
+use Rattle.script_words.specs.declared.set.SetLine.{SetLine}
+use Rattle.script_words.specs.declared.verb.Keyword.{Keyword}
+use Rattle.script_words.specs.declared.verb.Keyword.TheVariants as keywords
+use Rattle.script_words.specs.Words.{Left}
+use Rattle.script_words.specs.Set.{set_line}
+use Rattle.script_words.specs.Commands.{keyword_at, words_at}
 use Rattle.fault_script.specs.Lines.{text_of, is_passed_over}
 
 -- the commands of a thread, each with the number of its line

@@ -2,12 +2,12 @@
 ghost use Rattle.std.specs.Prelude.{◌≡◌, ◌<◌, ◌∷◌, ◌==◌, length, position, MatchOption};
 ghost use Rattle.std.specs.Str.{IsUtf8};
 ghost use Rattle.std.specs.Str.Lines.{lines, strip_carriage_return};
-ghost use Rattle.fault_script.specs.Gives.{Reads};
+ghost use Rattle.script_words.specs.Gives.{Reads};
 ghost use Rattle.fault_script.specs.Lines.{text_of, is_passed_over};
 
-use crate::rule::ScriptRule;
 use bson_doc::ascii_text;
 use memchr::memchr;
+use script_words::ScriptRule;
 use std::str;
 
 /// How many lines a script may have.

@@ -1,5 +1,5 @@
 // Lists of commands, each with the number of its line, which contracts see as lists.
-ghost use Rattle.std.specs.Prelude.{◌≡◌, [], ◌∷◌, ◌++◌, OnOk};
+ghost use Rattle.std.specs.Prelude.{◌≡◌, [], ◌∷◌, ◌++◌, IfOk, OnOk};
 ghost use Rattle.fault_script.specs.Script.{in_last};
 
 use bson_doc::Mem;
@@ -55,6 +55,17 @@ impl Lines {
         Ok(())
     }
 
+    /// The same lines once more.
+    pub fn copy(&self) -> Mem<Lines>
+        ensures { IfOk result (λ l. l ≡ self.now) }
+    {
+        let mut copies = Lines::new(*self.lines.allocator());
+        for (number, command) in self.as_slice() {
+            copies.push((*number, command.copy()?))?;
+        }
+        Ok(copies)
+    }
+
     /// The same in no more memory than it needs.
     fn shrunk(mut self) -> Self
         ensures { result ≡ self }
@@ -103,6 +114,17 @@ impl Threads {
         ensures { result.items ≡ self }
     {
         self.threads
+    }
+
+    /// The same threads once more.
+    pub fn copy(&self) -> Mem<Threads>
+        ensures { IfOk result (λ t. t ≡ self.now) }
+    {
+        let mut copies = Vec::with_capacity(*self.threads.allocator(), self.threads.len())?;
+        for lines in self.as_slice() {
+            copies.push(lines.copy()?)?;
+        }
+        Ok(Threads { threads: copies })
     }
 
     /// Begins one thread more. The one before it is in no more memory than it needs.

@@ -1,18 +1,17 @@
 // What is known of a script behind some of its lines.
 ghost use Rattle.std.specs.Prelude.{◌≡◌};
 ghost use Rattle.std.specs.Option.{option_copied};
-ghost use Rattle.fault_script.specs.Gives.{Reads, Gives};
-ghost use Rattle.fault_script.specs.Commands.{words_at};
+ghost use Rattle.script_words.specs.Gives.{Reads, Gives};
+ghost use Rattle.script_words.specs.Commands.{words_at};
 ghost use Rattle.fault_script.specs.Script.{start, add_command, begin_block, begin_thread, end_block, with_command, with_set, with_text, with_line, whole};
 
-use crate::commands::{keyword, words};
+use crate::fault::ScriptFault;
 use crate::lines::{is_passed_over, text_of};
 use crate::lists::Threads;
-use crate::rule::{LineError, ScriptFault, ScriptRule};
 use crate::script::{Part, Parts, Script};
-use crate::set::{SetLine, set_line};
-use crate::verb::{Keyword, Verb};
-use crate::words::Left;
+use script_words::{
+    Keyword, Left, LineError, ScriptRule, SetLine, Verb, command, keyword, set_line,
+};
 use std::alloc::Global;
 
 /// How many threads a block may have.
@@ -135,14 +134,14 @@ impl Reading {
         ensures { Gives (λ _. self.new) result (add_command number self.old self.old.block (words_at nodes verb (option_copied left.entry))) }
     {
         let Some(threads) = &mut self.block else {
-            let command = words(alloc, nodes, verb, left)?;
+            let command = command(alloc, nodes, verb, left)?;
             self.parts.push(Part::Line(number, command))?;
             return Ok(());
         };
         if threads.as_slice().is_empty() {
             return Err(LineError::Rule(ScriptRule::StrayLine));
         }
-        let command = words(alloc, nodes, verb, left)?;
+        let command = command(alloc, nodes, verb, left)?;
         threads.push((number, command))?;
         Ok(())
     }

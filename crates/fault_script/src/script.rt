@@ -1,5 +1,5 @@
 // What a script is.
-ghost use Rattle.std.specs.Prelude.{◌≡◌, [], ◌∷◌, ◌++◌, OnOk, MatchOption};
+ghost use Rattle.std.specs.Prelude.{◌≡◌, [], ◌∷◌, ◌++◌, IfOk, OnOk, MatchOption};
 
 use crate::lists::Threads;
 use bson_doc::Mem;
@@ -22,6 +22,20 @@ pub struct Script {
     pub parts: Parts,
 }
 
+impl Script {
+    /// The same script once more.
+    pub fn copy(&self) -> Mem<Script>
+        ensures { IfOk result (λ s. s ≡ self.now) }
+    {
+        Ok(Script {
+            nodes: self.nodes,
+            voters: self.voters,
+            members: self.members,
+            parts: self.parts.copy()?,
+        })
+    }
+}
+
 /// A part of a script.
 #[derive(Drop)]
 pub enum Part {
@@ -29,6 +43,18 @@ pub enum Part {
     Line(u32, Command),
     /// The threads of a block, which run side by side.
     Par(Threads),
+}
+
+impl Part {
+    /// The same part once more.
+    pub fn copy(&self) -> Mem<Part>
+        ensures { IfOk result (λ p. p ≡ self.now) }
+    {
+        Ok(match self {
+            Part::Line(number, command) => Part::Line(*number, command.copy()?),
+            Part::Par(threads) => Part::Par(threads.copy()?),
+        })
+    }
 }
 
 /// The parts of a script, in order.
@@ -78,6 +104,17 @@ impl Parts {
     {
         self.parts.push(part)?;
         Ok(())
+    }
+
+    /// The same parts once more.
+    pub fn copy(&self) -> Mem<Parts>
+        ensures { IfOk result (λ p. p ≡ self.now) }
+    {
+        let mut copies = Parts::new(*self.parts.allocator());
+        for part in self.as_slice() {
+            copies.push(part.copy()?)?;
+        }
+        Ok(copies)
     }
 
     /// The same in no more memory than they need.

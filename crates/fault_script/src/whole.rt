@@ -4,10 +4,11 @@ ghost use Rattle.std.specs.List.{list_all};
 ghost use Rattle.fault_script.specs.Script.{is_part_for, lines_in, script, sizes_of, with_line, IsCause, StopsLine};
 ghost use Rattle.set_model.specs.Run.{AreSizes};
 
+use crate::fault::{ScriptError, ScriptFault};
 use crate::lines::next_line;
 use crate::reading::Reading;
-use crate::rule::{LineError, ScriptError, ScriptFault};
 use crate::script::Script;
+use script_words::LineError;
 use std::alloc::Global;
 
 /// The script that some bytes are, or the first faulty line with its first fault from left to right.

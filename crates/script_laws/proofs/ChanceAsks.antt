@@ -7,16 +7,16 @@ use Rattle.std.proofs.lemmas.List.{length-append}
 use Rattle.std.proofs.lemmas.List.Folds.{list_all-append}
 use Rattle.set_model.specs.declared.command.Command.{Command}
 use Rattle.set_model.specs.declared.command.Command.TheVariants as commands
-use Rattle.fault_script.specs.declared.verb.Keyword.TheVariants as keywords
-use Rattle.fault_script.specs.declared.verb.Verb.{Verb}
-use Rattle.fault_script.specs.declared.verb.Verb.TheVariants as verbs
-use Rattle.fault_script.specs.declared.verb.NodeVerb.{NodeVerb}
-use Rattle.fault_script.specs.declared.verb.NodeVerb.TheVariants as asks
+use Rattle.script_words.specs.declared.verb.Keyword.TheVariants as keywords
+use Rattle.script_words.specs.declared.verb.Verb.{Verb}
+use Rattle.script_words.specs.declared.verb.Verb.TheVariants as verbs
+use Rattle.script_words.specs.declared.verb.NodeVerb.{NodeVerb}
+use Rattle.script_words.specs.declared.verb.NodeVerb.TheVariants as asks
 use Rattle.chance_script.specs.Generated.{ask, ask_with}
 use Rattle.fault_script.specs.Lines.{is_passed_over}
-use Rattle.fault_script.specs.Words.{Left, has_shape, word_at, word_count, number_at, pick_at}
-use Rattle.fault_script.specs.Commands.{keyword_of, keyword_at, shape_of, words_at, of_node, heartbeat_at, report_at, common_at, apply_at, crash_at, clock_at, deliver_latest}
-use Rattle.fault_script.proofs.Gets.{both}
+use Rattle.script_words.specs.Words.{Left, has_shape, word_at, word_count, number_at, pick_at}
+use Rattle.script_words.specs.Commands.{keyword_of, keyword_at, shape_of, words_at, of_node, heartbeat_at, report_at, common_at, apply_at, crash_at, clock_at, deliver_latest}
+use Rattle.script_words.proofs.Gets.{both}
 use Rattle.script_laws.proofs.ChanceLines.{is_text, is_inside, IsCommand, AreCommands, one_command}
 use Rattle.script_laws.proofs.ChanceWords.{word_is_text, word_is, behind_is, one_more_word, only_word, is_written, name_of, name_inside, node_is, last_node, other_last_node, last_number}
 

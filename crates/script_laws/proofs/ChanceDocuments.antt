@@ -11,7 +11,7 @@ use Rattle.doc_text.specs.Spelling.{IsLawful, GoesNoFurther}
 use Rattle.doc_text.specs.Values.{answer_at}
 use Rattle.doc_text.proofs.NamesAreClean.{no_zero}
 use Rattle.doc_text.proofs.PrintedIsSpelled.{read_again}
-use Rattle.fault_script.specs.Values.{value_at, last_value, last_document}
+use Rattle.script_words.specs.Values.{value_at, last_value, last_document}
 
 -- a value that is printed, with what stands behind it
 pub value_is : (tree : Tree) (rest : List ℕ) → IsLawful tree → value_levels tree ≤ 100 → GoesNoFurther tree rest → value_at (printed tree ++ rest) ≡ Ok (tree, rest)

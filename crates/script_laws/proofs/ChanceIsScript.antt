@@ -7,13 +7,13 @@ use Rattle.std.specs.Str.Lines.{lines}
 use Rattle.chance_script.specs.declared.happening.Happening.{Happening}
 use Rattle.chance_script.specs.declared.happening.Happening.TheVariants.{Insert, Update, Delete, Flush, Pull, Election, Common, Checkpoint, Restart, StepDown, Clock}
 use Rattle.fault_script.specs.declared.reading.Reading.{Reading}
-use Rattle.fault_script.specs.declared.set.SetLine.{SetLine}
-use Rattle.fault_script.specs.declared.shape.Shape.TheVariants.{Words}
+use Rattle.script_words.specs.declared.set.SetLine.{SetLine}
+use Rattle.script_words.specs.declared.shape.Shape.TheVariants.{Words}
 use Rattle.chance_script.specs.Generated.{happening, happenings, ask_with, vote_of, votes_of, taken_text, told_text, text_of, generated}
 use Rattle.script_laws.specs.Laws.{IsScriptFor}
-use Rattle.fault_script.specs.Set.{set_line, sizes_at}
+use Rattle.script_words.specs.Set.{set_line, sizes_at}
 use Rattle.fault_script.specs.Script.{start, with_sizes, with_line, and_then, script_from, script}
-use Rattle.fault_script.specs.Words.{has_shape}
+use Rattle.script_words.specs.Words.{has_shape}
 use Rattle.script_laws.proofs.ChanceAsks.{texts, flushes, fetches, campaigns, drains, checkpoints, crashes, restarts, steps_down, applies, clocks, hears, reports, compares, delivers}
 use Rattle.script_laws.proofs.ChanceDrawn.{AreApart, IsWithin, happens_within}
 use Rattle.chance_script.proofs.HappeningLemmas.{text_more}

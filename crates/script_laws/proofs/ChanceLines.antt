@@ -11,12 +11,12 @@ use Rattle.set_model.specs.declared.command.Command.{Command}
 use Rattle.fault_script.specs.declared.reading.Reading.{Reading}
 use Rattle.fault_script.specs.declared.script.Part.TheVariants as parts
 use Rattle.fault_script.specs.declared.script.Script.{Script}
-use Rattle.fault_script.specs.declared.set.SetLine.{SetLine}
-use Rattle.fault_script.specs.declared.verb.Keyword.TheVariants as keywords
-use Rattle.fault_script.specs.declared.verb.Verb.{Verb}
+use Rattle.script_words.specs.declared.set.SetLine.{SetLine}
+use Rattle.script_words.specs.declared.verb.Keyword.TheVariants as keywords
+use Rattle.script_words.specs.declared.verb.Verb.{Verb}
 use Rattle.fault_script.specs.Lines.{text_of, is_passed_over}
-use Rattle.fault_script.specs.Words.{Left}
-use Rattle.fault_script.specs.Commands.{keyword_at, words_at}
+use Rattle.script_words.specs.Words.{Left}
+use Rattle.script_words.specs.Commands.{keyword_at, words_at}
 use Rattle.fault_script.specs.Script.{with_part, with_command, with_line, script_from}
 use Rattle.fault_script.proofs.LinesCut.{line_feed, some_part, line_of, text_line}
 

@@ -9,10 +9,10 @@ use Rattle.std.proofs.Math.Seq.{take-length, take-append_seam}
 use Rattle.std.proofs.lemmas.List.Sums.{sum_by-cons}
 use Rattle.std.proofs.lemmas.Fmt.{decimal_is_IsNumeral, length-decimal-le}
 use Rattle.std.proofs.lemmas.Str.Parse.{digit_from_value}
-use Rattle.fault_script.specs.declared.rule.ScriptRule.{ScriptRule}
-use Rattle.fault_script.specs.declared.rule.ScriptRule.TheVariants.{BadNode}
-use Rattle.fault_script.specs.Words.{is_space, Left, left_behind, word_count, word_at, number_of, number_at, node_at, other_node_at}
-use Rattle.fault_script.proofs.Gets.{both}
+use Rattle.script_words.specs.declared.rule.ScriptRule.{ScriptRule}
+use Rattle.script_words.specs.declared.rule.ScriptRule.TheVariants.{BadNode}
+use Rattle.script_words.specs.Words.{is_space, Left, left_behind, word_count, word_at, number_of, number_at, node_at, other_node_at}
+use Rattle.script_words.proofs.Gets.{both}
 use Rattle.script_laws.proofs.ChanceLines.{is_text, is_inside, each_true}
 
 -- ---- words

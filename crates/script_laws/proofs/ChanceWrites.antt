@@ -7,15 +7,15 @@ use Rattle.std.proofs.lemmas.List.{length-append}
 use Rattle.bson_doc.specs.Tree.{int32}
 use Rattle.doc_update.specs.declared.write.WriteOp.{WriteOp}
 use Rattle.doc_update.specs.declared.write.WriteOp.TheVariants as ops
-use Rattle.fault_script.specs.declared.verb.Verb.TheVariants as verbs
-use Rattle.fault_script.specs.declared.verb.NodeVerb.TheVariants as asks
-use Rattle.fault_script.specs.declared.verb.WriteKind.{WriteKind}
-use Rattle.fault_script.specs.declared.verb.WriteKind.TheVariants.{Insert, Update, Delete}
-use Rattle.fault_script.specs.declared.shape.Shape.TheVariants.{Value}
+use Rattle.script_words.specs.declared.verb.Verb.TheVariants as verbs
+use Rattle.script_words.specs.declared.verb.NodeVerb.TheVariants as asks
+use Rattle.script_words.specs.declared.verb.WriteKind.{WriteKind}
+use Rattle.script_words.specs.declared.verb.WriteKind.TheVariants.{Insert, Update, Delete}
+use Rattle.script_words.specs.declared.shape.Shape.TheVariants.{Value}
 use Rattle.chance_script.specs.Generated.{ask}
-use Rattle.fault_script.specs.Words.{has_text, has_shape, left_behind, collection_at}
-use Rattle.fault_script.specs.Values.{value_of, text_at, value_at}
-use Rattle.fault_script.specs.Commands.{insert_at, update_at, delete_at, write_at, write_command, words_at}
+use Rattle.script_words.specs.Words.{has_text, has_shape, left_behind, collection_at}
+use Rattle.script_words.specs.Values.{value_of, text_at, value_at}
+use Rattle.script_words.specs.Commands.{insert_at, update_at, delete_at, write_at, write_command, words_at}
 use Rattle.script_laws.proofs.ChanceLines.{is_text, AreCommands, one_command}
 use Rattle.script_laws.proofs.ChanceWords.{word_is_text, word_is, behind_is, is_written, name_of, node_is}
 use Rattle.script_laws.proofs.ChanceAsks.{IsFirstWord, texts, a_command, ask_is, is_name}

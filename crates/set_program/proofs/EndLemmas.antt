@@ -10,7 +10,7 @@ use Rattle.set_model.specs.Limits.{IsRun}
 use Rattle.set_model.specs.Run.{Sizes, AreSizes}
 use Rattle.set_model.specs.Safety.{Safe}
 use Rattle.safety_laws.specs.Laws.{InEveryRun}
-use Rattle.fault_script.specs.declared.rule.ScriptFault.{ScriptFault}
+use Rattle.fault_script.specs.declared.fault.ScriptFault.{ScriptFault}
 use Rattle.fault_script.specs.declared.script.Part.{Part}
 use Rattle.fault_script.specs.declared.script.Script.{Script}
 use Rattle.set_world.specs.World.{Set}

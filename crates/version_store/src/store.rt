@@ -76,6 +76,7 @@ impl VersionStore {
     pub fn new(alloc: Global, shards: u32) -> Mem<Self>
         requires { 0 < shards }
         ensures count { IfOk result (λ store. store.count ≡ shards) }
+        ensures whole { IfOk result (λ store. AreShards shards store.shards) }
         ensures empty { IfOk result (λ store. (place : Place) → past_at store place ≡ no_past) }
     {
         let mut list = Vec::with_capacity(alloc, shards as usize)?;

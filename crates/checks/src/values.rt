@@ -1,0 +1,42 @@
+// Documents compared, walked and shown in debugging.
+use bson_doc::{Doc, Items, Mem, Text, Value};
+use std::alloc::Global;
+use std::test::Fail;
+
+// `{n: NUMBER, t: ["x"]}`
+fn document(alloc: Global, number: Value) -> Result<Doc, Fail> {
+    let mut items = Items::new(alloc);
+    items.push(Value::Text(Text::from_str(alloc, "x")?))?;
+    let mut document = Doc::new(alloc);
+    document.push(Text::from_str(alloc, "n")?, number)?;
+    document.push(Text::from_str(alloc, "t")?, Value::Array(items))?;
+    Ok(document)
+}
+
+// The names of its fields, joined.
+fn names(alloc: Global, document: &Doc) -> Mem<String> {
+    let mut names = String::new(alloc);
+    for (name, _) in document.iter() {
+        names.push_str(name)?;
+    }
+    Ok(names)
+}
+
+#[test]
+fn documents_are_compared_by_kind(rt: HostRuntime) -> Result<(), Fail> {
+    let alloc = rt.alloc();
+    let five = document(alloc, Value::Int32(5))?;
+    assert!(rt; five == document(alloc, Value::Int32(5))?);
+    assert!(rt; five != document(alloc, Value::Int64(5))?);
+    Ok(())
+}
+
+#[test]
+fn a_document_is_walked_and_shown(rt: HostRuntime) -> Result<(), Fail> {
+    let alloc = rt.alloc();
+    let document = document(alloc, Value::Int32(5))?;
+    assert!(rt; names(alloc, &document)?.as_str() == "nt");
+    let shown = format!(in alloc; "{document:?}")?;
+    assert!(rt; shown.as_str() == "{\"n\": Int32(5), \"t\": [Text(\"x\")]}");
+    Ok(())
+}

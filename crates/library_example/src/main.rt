@@ -1,0 +1,42 @@
+//! A set of one node as a library: it is elected, and becomes primary.
+#![tactic(auto)]
+
+ghost use Rattle.std.specs.Prelude.{◌≡◌, true};
+ghost use Rattle.set_model.specs.Limits.{is_for};
+
+use anyhow::{Result, bail};
+use rs_disk::MemDisk;
+use set_model::Command;
+use set_program::empty_disks;
+use set_world::World;
+use std::alloc::Global;
+use std::thread::Threads;
+use transcript::write_reply;
+
+fn main(rt: HostRuntime) -> Result<()> {
+    let alloc = rt.alloc();
+    let Ok(mut world) = World::open(alloc, 1, 1, empty_disks(alloc)?) else {
+        bail!("the set can't be opened");
+    };
+    let campaign = Command::Campaign { node: 0 };
+    print!(rt; "{}", tell(&rt, alloc, &mut world, 1, campaign)?)?;
+    let drain = Command::Drain { node: 0 };
+    print!(rt; "{}", tell(&rt, alloc, &mut world, 2, drain)?)?;
+    Ok(())
+}
+
+/// Does one event more in the set, and gives the text of its reply.
+fn tell<R: Threads + Sync>(
+    rt: &R,
+    alloc: Global,
+    world: &mut World<MemDisk>,
+    line: u32,
+    command: Command,
+) -> Result<String>
+    requires { is_for world.old.sizes.nodes command ≡ true }
+    ensures { world.new.sizes ≡ world.old.sizes }
+{
+    let mut text = String::new(alloc);
+    write_reply(line, &world.take(rt, line, command)?, &mut text)?;
+    Ok(text)
+}

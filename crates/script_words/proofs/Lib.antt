@@ -1,0 +1,6 @@
+mod CommandsConfig
+pub mod CommandsFit
+pub mod Gets
+mod ValuesEnd
+mod WordsNumbers
+mod WordsTexts

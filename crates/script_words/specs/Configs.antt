@@ -1,0 +1,13 @@
+-- The configuration that the rest of a line is, as JSON.
+use Rattle.std.specs.Prelude.{ℕ, List, Option, None, Some, Result, Ok, Err}
+use Rattle.member_config.specs.declared.config.Config.{Config}
+use Rattle.member_config.specs.Json.{config_in}
+use Rattle.script_words.specs.declared.rule.ScriptRule.{ScriptRule}
+use Rattle.script_words.specs.declared.rule.ScriptRule.TheVariants.{BadConfigText}
+
+abbrev pub or_bad_config : Option Config → Result Config ScriptRule
+or_bad_config None = Err BadConfigText
+or_bad_config (Some config) = Ok config
+
+abbrev pub config_of : List ℕ → Result Config ScriptRule
+config_of text = or_bad_config (config_in text)

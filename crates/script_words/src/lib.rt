@@ -1,0 +1,20 @@
+//! One line of a script, word by word: the sizes of the set, or a command, or the first rule that the line breaks.
+#![tactic(auto)]
+
+mod choices;
+mod commands;
+mod configs;
+mod rule;
+mod set;
+mod shape;
+mod values;
+mod verb;
+mod words;
+mod writes;
+
+pub use commands::{command, keyword};
+pub use rule::{LineError, ScriptRule, TextRule};
+pub use set::{SetLine, set_line};
+pub use shape::Shape;
+pub use verb::{Keyword, NodeVerb, Verb, WriteKind};
+pub use words::Left;

@@ -1,0 +1,19 @@
+# Completes the words of `replset` in bash.
+
+_replset() {
+    local word=${COMP_WORDS[COMP_CWORD]} at=1 options="--prove --unproved --install --help --version"
+    if ((COMP_CWORD > 1)) && [[ ${COMP_WORDS[1]} == --prove || ${COMP_WORDS[1]} == --unproved ]]; then
+        at=2 options=
+    fi
+    if ((COMP_CWORD == at)); then
+        mapfile -t COMPREPLY < <(compgen -W "run chaos $options" -- "$word")
+    elif [[ ${COMP_WORDS[at]} == --install ]] && ((COMP_CWORD == 2)); then
+        mapfile -t COMPREPLY < <(compgen -d -- "$word")
+    elif [[ ${COMP_WORDS[at]} == chaos ]] && ((COMP_CWORD == at + 3)); then
+        # The number of nodes.
+        mapfile -t COMPREPLY < <(compgen -W "1 2 3 4 5 6 7" -- "$word")
+    fi
+}
+
+complete -F _replset replset
+complete -F _replset ./replset
