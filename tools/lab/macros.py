@@ -85,7 +85,7 @@ class Macros:
             reply = self.player.ask(f"campaign n{node}")
             if reply.refused:
                 raise CannotGoOn(f"n{node} isn't elected: its campaign is {reply.text}")
-            asked = self.player.asked_voters() if reply.text.startswith("candidate") else []
+            asked = self.player.other_members(node) if reply.text.startswith("candidate") else []
             lost = self._gather(node, [voter for voter in (voters or asked) if voter in asked])
             if lost is None or reply.text.startswith("won"):
                 self.player.ask(f"drain n{node}")
@@ -122,7 +122,7 @@ class Macros:
 
     def _spread(self, words: List[str]) -> None:
         node = self._nodes("spread", words)[0]
-        self._repeat(f"flush n{node}")
+        self.player.repeat(f"flush n{node}")
         others = self._reachable(node)
         for other in others:
             self._catch_up(other, node)
@@ -135,7 +135,7 @@ class Macros:
             raise CannotGoOn(f"the macro reads '{FORMS['await']}'")
         concern = words[2] if len(words) == 3 else "majority"
         ack = f"ack n{node} {self.optime_of(words[1], node)} {concern}"
-        self._repeat(f"flush n{node}")
+        self.player.repeat(f"flush n{node}")
         for other in self._reachable(node):
             if not self.player.look(ack).text.startswith("refused 15"):
                 break
@@ -179,8 +179,9 @@ class Macros:
     def _reachable(self, node: int) -> List[int]:
         """The members that are up and hear the node."""
         states = self.player.states()
-        others = [other for other in self.player.members(states[node].config) if other != node]
-        return [other for other in others if self.linked(node, other) and not states[other].down]
+        if states[node].down:
+            raise CannotGoOn(f"n{node} is down")
+        return [other for other in self.player.other_members(node) if self.linked(node, other) and not states[other].down]
 
     def _primary(self, node: int) -> int:
         """The primary of the highest term that the node can hear."""
@@ -214,17 +215,13 @@ class Macros:
         if heard.refused:
             raise CannotGoOn(f"n{other} doesn't hear n{node}: {heard.text}")
 
-    def _repeat(self, line: str) -> None:
-        while not self.player.attempt(line).refused:
-            pass
-
     def _catch_up(self, node: int, source: int) -> None:
         """The node takes all that it knows to be missing, keeps it on disk, applies it and reports."""
         self._tell(source, node)
         while self._fetch(node):
             pass
-        self._repeat(f"flush n{node}")
-        self._repeat(f"apply n{node}")
+        self.player.repeat(f"flush n{node}")
+        self.player.repeat(f"apply n{node}")
         self.player.add(f"report n{node} n{source}")
         self.player.add(f"deliver n{node} n{source}")
 

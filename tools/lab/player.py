@@ -9,6 +9,9 @@ from .script import SetSize, acting_node, is_silent, set_size, words_of
 from .state import State, read_state
 from .transcript import Reply, Transcript
 
+#: A line that is repeated is looked at so often at a time.
+AT_A_TIME = 6
+
 
 class Player:
     """The lines so far. Lines that nobody asks about are played with the next question only."""
@@ -39,6 +42,15 @@ class Player:
             self.add(line)
         return reply
 
+    def repeat(self, line: str) -> None:
+        """Adds a line as often as it isn't refused. Several at a time are looked at."""
+        taken = AT_A_TIME
+        while taken == AT_A_TIME:
+            replies = last_replies([*self.lines, *[line] * AT_A_TIME], len(self.lines) + 1).replies
+            taken = next((place for place, reply in enumerate(replies) if reply.refused), AT_A_TIME)
+            for _ in range(taken):
+                self.add(line)
+
     def look(self, line: str) -> Reply:
         """The reply that a line would have here. It isn't added."""
         number = len(self.lines) + 1
@@ -64,11 +76,14 @@ class Player:
 
     def members(self, config: str) -> List[int]:
         """The members of a configuration, named by term and version."""
+        if config.endswith("/1"):
+            return list(range(self.size().members))
         return observe(self.lines, len(self.lines) + 1).mail.members_of(config)
 
-    def asked_voters(self) -> List[int]:
-        """To whom the last line, a candidate's, sent its requests."""
-        return [message.receiver for message in observe(self.lines, len(self.lines)).steps[-1].sent]
+    def other_members(self, node: int) -> List[int]:
+        """The members of a node's configuration but itself: these it asks for votes."""
+        state = read_state(self.look(f"state n{node}").text)
+        return [other for other in self.members(state.config) if other != node]
 
     def newest_write(self, node: int) -> Optional[str]:
         """The optime of the newest write that the node was answered with."""
