@@ -65,7 +65,7 @@ def run_program(words: Sequence[str], script: bytes = b"", name: str = "replset"
 
 def script_bytes(lines: Sequence[str]) -> bytes:
     """The lines as a script's bytes. What wasn't UTF-8 when it was read comes out as it was."""
-    return ("\n".join(lines) + "\n").encode("utf-8", "surrogateescape")
+    return "".join(line + "\n" for line in lines).encode("utf-8", "surrogateescape")
 
 
 def transcript_bytes(lines: Sequence[str]) -> bytes:
