@@ -7,7 +7,7 @@ from typing import List
 from .errors import LabError, ScriptFault
 from .macros import FORMS, Macros
 from .player import Player
-from .script import acting_node, is_silent, node_number, read_lines, words_of
+from .script import is_silent, node_number, read_lines, words_of
 
 
 @dataclass

@@ -34,7 +34,7 @@ The program that plays the scripts is the one that the environment variable REPL
 repository; else one that is built without proofs, in a minute.
 
 statuses: 0 done; 1 a test isn't met, or a variation changes what is watched; 2 wrong words; 3 no script; 4 a file can't
-be read or written; 5 no program; 6 the program failed; 7 a macro can't go on; 8 nothing found; 130 interrupted
+be read or written; 5 no program, or too old a Python; 6 the program failed; 7 a macro can't go on; 8 nothing found; 130 interrupted
 
 'lab WORD --help' says more about a word. docs/COOKBOOK.md has questions with their scripts and pictures.
 """
@@ -47,14 +47,18 @@ class _Parser(argparse.ArgumentParser):
         raise LabError(WORDS, f"{message} ('{self.prog} --help' shows the words)")
 
 
+def _plain(prog: str) -> argparse.HelpFormatter:
+    """Help as wide as its own texts, which stay as they are."""
+    return argparse.RawDescriptionHelpFormatter(prog, max_help_position=20, width=118)
+
+
 def _parser() -> argparse.ArgumentParser:
-    plain = argparse.RawDescriptionHelpFormatter
-    parser = _Parser(prog="lab", description=ABOUT, epilog=ENDING, formatter_class=plain)
+    parser = _Parser(prog="lab", description=ABOUT, epilog=ENDING, formatter_class=_plain)
     words = parser.add_subparsers(dest="word", metavar="WORD", required=True, title="words")
     for name in WORD_NAMES:
         module = importlib.import_module(f".words.{name}", __package__)
         word = words.add_parser(
-            name, help=module.SUMMARY, description=f"{module.SUMMARY}\n\n{module.DETAILS}", formatter_class=plain
+            name, help=module.SUMMARY, description=f"{module.SUMMARY}\n\n{module.DETAILS}", formatter_class=_plain
         )
         module.add_arguments(word)
         word.set_defaults(main=module.main)

@@ -72,7 +72,7 @@ def explain_fault(lines: List[str], fault: ScriptFault) -> List[str]:
         begins = max(0, min(len(shown) - 100, (place or 0) - 60))
         shown, place = shown[begins : begins + 100], None if place is None else place - begins
     front = f"  {fault.line}  "
-    told = [f"line {fault.line}: {fault.rule}", "", front + shown]
+    told = [f"line {fault.line}: {fault.rule}"] + (["", front + shown] if shown else [])
     if place is not None:
         told.append(" " * (len(front) + place) + "^")
     if cause.told:
