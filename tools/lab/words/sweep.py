@@ -4,13 +4,14 @@ from __future__ import annotations
 import argparse
 import os
 import re
-from concurrent.futures import ThreadPoolExecutor
+from functools import partial
 from typing import Dict, Iterable, List, Tuple
 
 from ..errors import FAILED, WORDS, LabError
 from ..program import run_program
 from ..show import Progress, table
 from ..state import optime
+from ..workers import in_order
 
 SUMMARY = "plays scripts made by chance over many seeds, and tells what they came to"
 DETAILS = """\
@@ -61,7 +62,7 @@ def _seed_range(text: str) -> Tuple[int, int]:
     return first, last
 
 
-def _play(seed: int, events: int, nodes: int) -> Summary:
+def _play(events: int, nodes: int, seed: int) -> Summary:
     done = run_program(["chaos", str(seed), str(events), str(nodes)])
     if done.returncode != 0:
         raise LabError(FAILED, f"seed {seed} ended with status {done.returncode}")
@@ -98,13 +99,11 @@ def main(arguments: argparse.Namespace) -> int:
         raise LabError(WORDS, "--events is at most 5000, and --nodes from 1 to 7")
     progress = Progress(last - first + 1, "seeds")
     summaries: List[Summary] = []
-    workers = ThreadPoolExecutor(max_workers=max(1, arguments.jobs))
     try:
-        for summary in workers.map(lambda seed: _play(seed, arguments.events, arguments.nodes), range(first, last + 1)):
+        for _, summary in in_order(partial(_play, arguments.events, arguments.nodes), range(first, last + 1), arguments.jobs):
             summaries.append(summary)
             progress.step()
     finally:
-        workers.shutdown(wait=True, cancel_futures=True)
         progress.close()
     print("\n".join(_report(summaries, arguments.events, arguments.nodes)))
     return 0

@@ -3,16 +3,15 @@ from __future__ import annotations
 
 import argparse
 import os
-from collections import deque
-from concurrent.futures import Future, ThreadPoolExecutor
-from itertools import chain, compress, repeat
-from typing import Callable, Deque, Dict, Iterable, Iterator, List, Tuple
+from itertools import compress, repeat
+from typing import Callable, Dict, Iterable, Iterator, List, Tuple
 
 from ..errors import DIFFERENT, INTERRUPT, WORDS, LabError
 from ..expand import read_script
 from ..script import set_size
 from ..show import Progress
 from ..variations import KINDS, Variation, differences, outcome, variations
+from ..workers import in_order
 from .shrink import pattern
 
 SUMMARY = "plays all that may happen round a script, and tells what makes a difference"
@@ -89,7 +88,7 @@ def main(arguments: argparse.Namespace) -> int:
         return differences(lines, usual, outcome(*variation.played(lines), size.nodes, watch, usual.replies))
 
     found: Found = {}
-    interrupted = _play(wanted, count, differs, max(1, arguments.jobs), found)
+    interrupted = _play(wanted, count, differs, arguments.jobs, found)
     played = sum(len(names) for names in found.values())
     print("\n".join(_report(lines, found, played, arguments.all)))
     if interrupted:
@@ -101,21 +100,12 @@ def main(arguments: argparse.Namespace) -> int:
 def _play(wanted: Iterator[Variation], count: int, differs: Callable, jobs: int, found: Found) -> bool:
     """Puts each variation below what it changes. Gives whether the user interrupted it."""
     progress = Progress(count, "playing")
-    workers = ThreadPoolExecutor(max_workers=jobs)
-    waiting: Deque[Tuple[Variation, Future]] = deque()
     try:
-        for variation in chain(wanted, repeat(None, 4 * jobs)):
-            # Only a few are handed out at a time, since a script may have millions of variations.
-            if variation is not None:
-                waiting.append((variation, workers.submit(differs, variation)))
-            if waiting and (variation is None or len(waiting) == 4 * jobs):
-                done, future = waiting.popleft()
-                found.setdefault(future.result(), []).append(done)
-                progress.step()
+        for variation, told in in_order(differs, wanted, jobs):
+            found.setdefault(told, []).append(variation)
+            progress.step()
         return False
     except KeyboardInterrupt:
-        workers.shutdown(wait=False, cancel_futures=True)
         return True
     finally:
         progress.close()
-        workers.shutdown(wait=True)
