@@ -5,7 +5,7 @@ import argparse
 import importlib
 import os
 import sys
-from typing import List, NoReturn, Optional
+from typing import List, NoReturn, Optional, Sequence
 
 from .errors import INTERRUPT, WORDS, LabError
 
@@ -52,10 +52,11 @@ def _plain(prog: str) -> argparse.HelpFormatter:
     return argparse.RawDescriptionHelpFormatter(prog, max_help_position=20, width=118)
 
 
-def _parser() -> argparse.ArgumentParser:
+def _parser(asked: Sequence[str]) -> argparse.ArgumentParser:
+    """Reads these words. Where the first is a word of the lab, the others aren't loaded."""
     parser = _Parser(prog="lab", description=ABOUT, epilog=ENDING, formatter_class=_plain)
     words = parser.add_subparsers(dest="word", metavar="WORD", required=True, title="words")
-    for name in WORD_NAMES:
+    for name in asked[:1] if asked[:1] and asked[0] in WORD_NAMES else WORD_NAMES:
         module = importlib.import_module(f".words.{name}", __package__)
         word = words.add_parser(
             name, help=module.SUMMARY, description=f"{module.SUMMARY}\n\n{module.DETAILS}", formatter_class=_plain
@@ -68,7 +69,8 @@ def _parser() -> argparse.ArgumentParser:
 def main(words: Optional[List[str]] = None) -> int:
     """The status that the lab ends with on these words."""
     try:
-        arguments = _parser().parse_args(words)
+        asked = sys.argv[1:] if words is None else words
+        arguments = _parser(asked).parse_args(asked)
         status = arguments.main(arguments)
         sys.stdout.flush()
         return status
