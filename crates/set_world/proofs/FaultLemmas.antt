@@ -4,7 +4,7 @@ use Rattle.std.specs.Prelude.{IfSome, IsSome, is_some, option_and_then}
 use Rattle.std.specs.FinMap as maps
 use Rattle.bson_doc.specs.Key.{key_of}
 use Rattle.bson_doc.specs.Place.{Place}
-use Rattle.bson_doc.specs.Tree.{Tree, Fields}
+use Rattle.bson_doc.specs.Tree.{Fields}
 use Rattle.bson_doc.specs.View.{tree_of}
 use Rattle.bson_doc.specs.declared.key.IdKey.{IdKey}
 use Rattle.doc_update.specs.Check.{checked}
@@ -22,15 +22,13 @@ use Rattle.member_config.specs.declared.config.Config.{Config}
 use Rattle.member_config.specs.Config.{is_newer}
 use Rattle.member_config.specs.Numbers.{lowest}
 use Rattle.member_config.specs.Rule.{rule}
-use Rattle.member_config.specs.Voters.{is_electable_in, is_member, is_one_voter_apart, is_voter, majority, numbers, unknown_member, voters}
+use Rattle.member_config.specs.Voters.{is_electable_in, is_member, is_one_voter_apart, is_voter, majority, numbers, unknown_member}
 use Rattle.repl_msg.specs.Fetching.{continues}
 use Rattle.repl_msg.specs.Kept.{kept}
 use Rattle.repl_msg.specs.declared.message.Beat.{Beat}
 use Rattle.repl_msg.specs.declared.message.Body.{Body}
 use Rattle.repl_msg.specs.declared.message.Body.TheVariants.{Fetch, FetchReply as Fetched, Report as Reported, VoteAsk as Asks, VoteReply, Heartbeat, HeartbeatReply, CommonAsk, CommonReply}
-use Rattle.repl_msg.specs.declared.message.FetchReply.{FetchReply}
 use Rattle.repl_msg.specs.declared.message.Message.{Message}
-use Rattle.repl_msg.specs.declared.message.VoteAsk.{VoteAsk}
 use Rattle.repl_msg.specs.declared.message.VoteRefusal.{VoteRefusal}
 use Rattle.set_model.specs.declared.command.AckConcern.{AckConcern}
 use Rattle.set_model.specs.declared.command.AckConcern.TheVariants as concerns
@@ -49,27 +47,26 @@ use Rattle.set_model.specs.declared.role.Role.TheVariants as roles
 use Rattle.set_model.specs.declared.writer.Writer.{Writer}
 use Rattle.set_model.specs.declared.writer.Writer.TheVariants as writers
 use Rattle.set_model.specs.Admitted.{admitted, or_refused, refusal_of, unless_held}
-use Rattle.set_model.specs.Beats.{heard, given_way, beat_told, beat_answered, beat_of}
-use Rattle.set_model.specs.Concerns.{ack, ack_at, acked, ack_refusal, held, target_point, unmet, written_by}
+use Rattle.set_model.specs.Beats.{heard, given_way, beat_of}
+use Rattle.set_model.specs.Concerns.{ack_at, acked, ack_refusal, held, target_point, unmet, written_by}
 use Rattle.set_model.specs.Deliver.{body_refusal, brings_term, vote_reply_told, told, deliver}
-use Rattle.set_model.specs.Disk.{apply, batch_applied, next_batch, flush, is_flushed, checkpoint, next_stable, restart, recovered, settled_doubt, has_more}
-use Rattle.set_model.specs.Elections.{campaign, candidate, candidate_refusal, dry_run, drain, step_down}
-use Rattle.set_model.specs.Fetching.{fetch, fetch_from, sources, entries_told}
+use Rattle.set_model.specs.Disk.{batch_applied, next_batch, is_flushed, next_stable, settled_doubt, has_more}
+use Rattle.set_model.specs.Elections.{candidate, candidate_refusal}
+use Rattle.set_model.specs.Fetching.{fetch_from, sources}
 use Rattle.set_model.specs.Holds.{holder}
 use Rattle.set_model.specs.Node.{Node, DryTally}
 use Rattle.set_model.specs.Outcome.{Outcome, replied, sending}
 use Rattle.set_model.specs.Points.{has_entry, if_primary, last_point, log_behind, same_optime}
-use Rattle.set_model.specs.Reads.{read, read_key, shown_documents, document_reply}
-use Rattle.set_model.specs.Reconfig.{change_refusal, commit_held, committed_refusal, config_held, reconfig, reconfig_refusal, unless_broken, unless_unknown}
-use Rattle.set_model.specs.Reports.{report_told}
+use Rattle.set_model.specs.Reads.{read_key, shown_documents, document_reply}
+use Rattle.set_model.specs.Reconfig.{change_refusal, commit_held, committed_refusal, config_held, reconfig_refusal, unless_broken, unless_unknown}
 use Rattle.set_model.specs.Roles.{is_secondary, is_candidate, is_draining, is_primary, is_leading}
 use Rattle.set_model.specs.Rollback.{common_point, roll_back, rollback_reason, shown_in}
 use Rattle.set_model.specs.Rows.{row}
 use Rattle.set_model.specs.Stores.{Plan, finished, storing, done, stored, unless_refused, if_up, vote_record}
-use Rattle.set_model.specs.Votes.{vote_asked, vote_decided, vote_refusal, vote_for, with_vote, vote_told, vote_counted, is_elected, dry_told, dry_counted}
+use Rattle.set_model.specs.Votes.{vote_refusal, vote_for, with_vote, vote_counted, is_elected, dry_told, dry_counted}
 use Rattle.set_model.specs.World.{World, Task, acts, takes, nothing, task, plan_of, event_plan, by_plan, step, touched_node}
 use Rattle.set_model.specs.Write.{write, written}
-use Rattle.set_model.specs.Writers.{begin, begun, unless_open, with_open, commit, abort}
+use Rattle.set_model.specs.Writers.{begin, begun, unless_open, with_open}
 
 -- ---- the refusal of a store that failed
 
