@@ -1,0 +1,266 @@
+"""Draws a picture as SVG.
+
+Nothing rests on colour alone: a primary's lane is wide and full, a draining node's hatched, a candidate's dotted, a
+secondary's thin, and where a node is down there is none; a message that wasn't taken is dashed and ends in a cross.
+"""
+from __future__ import annotations
+
+from typing import List, Tuple
+from xml.sax.saxutils import escape
+
+from .layout import Arrow, Band, Frame, Label, Mark, Picture, Row, Segment, Stub
+
+ROW = 18
+HEAD = 34
+FOOT = 64
+#: The width of a character of the script's text.
+LETTER = 6.65
+MOST_COMMAND, MOST_REPLY = 46, 38
+
+STYLE = """\
+svg.run { font: 11px ui-monospace, "DejaVu Sans Mono", Menlo, Consolas, monospace; background: #fff; }
+.run .number { fill: #6b7280; }
+.run .command { fill: #111827; }
+.run .reply { fill: #374151; }
+.run .bad { fill: #a4001d; }
+.run .caption { font: italic 12px system-ui, "DejaVu Sans", sans-serif; fill: #1f2937; paint-order: stroke; stroke: #eef1f5; stroke-width: 3px; }
+.run .shade { fill: #eef1f5; }
+.run .head { font-weight: bold; font-size: 13px; fill: #111827; }
+.run .label, .run .kind, .run .legend { font: 9.5px system-ui, "DejaVu Sans", sans-serif; fill: #111827; }
+.run .label { font-weight: bold; }
+.run .label, .run .kind { paint-order: stroke; stroke: #fff; stroke-width: 3px; stroke-linejoin: round; }
+.run .kind { fill: #374151; }
+.run .secondary { stroke: #8a919c; stroke-width: 2; }
+.run .candidate { stroke: #9a4a00; stroke-width: 5; stroke-dasharray: 0.1 7; stroke-linecap: round; }
+.run .draining { fill: url(#hatch); stroke: #0b5cad; stroke-width: 1.5; }
+.run .primary { fill: #0b5cad; }
+.run .band { fill: #8fd3b6; }
+.run .band.odd { fill: #2f8f6a; }
+.run .message { stroke: #33527a; stroke-width: 1.3; fill: none; }
+.run .tip { fill: #33527a; }
+.run .message.lost { stroke: #c1121f; stroke-dasharray: 5 3; }
+.run .cross { stroke: #c1121f; stroke-width: 2; fill: none; }
+.run .cross.under { stroke: #fff; stroke-width: 5; }
+.run .stub { stroke: #6b7280; stroke-width: 1.3; fill: none; }
+.run .dot { fill: #4b5563; stroke: #fff; stroke-width: 1; }
+.run .square { fill: #111827; stroke: #fff; stroke-width: 1; }
+.run .check { stroke: #0a6b46; stroke-width: 2.4; fill: none; }
+.run .check.under { stroke: #fff; stroke-width: 5.5; }
+.run .ring { stroke: #111827; stroke-width: 1.6; fill: #fff; }
+.run .cut { stroke: #c1121f; stroke-width: 2.4; fill: none; }
+.run .cut.under { stroke: #fff; stroke-width: 7; }
+.run .frame { fill: none; stroke: #4b5563; stroke-width: 1.2; stroke-dasharray: 3 3; }
+"""
+
+HATCH = (
+    '<pattern id="hatch" width="5" height="5" patternUnits="userSpaceOnUse" patternTransform="rotate(45)">'
+    '<rect width="5" height="5" fill="#fff"/><rect width="2.4" height="5" fill="#0b5cad"/></pattern>'
+)
+
+#: The signs of the legend: how each is drawn, its width and what it means.
+SIGNS = (
+    ('<rect class="primary" x="0" y="-9" width="10" height="10"/>', 16, "primary"),
+    ('<rect class="draining" x="0" y="-9" width="10" height="10"/>', 16, "draining (won)"),
+    ('<path class="candidate" d="M2 -4H22"/>', 28, "candidate"),
+    ('<path class="secondary" d="M0 -4H20"/>', 26, "secondary"),
+    ('<path class="cross" d="M0 -8l8 8m0 -8l-8 8"/>', 14, "down, then a gap"),
+    ('<rect class="band" x="0" y="-9" width="6" height="10"/>', 12, "commit point"),
+    ('<path class="message" d="M0 -4H20"/><path class="tip" d="M26 -4l-8 -3.5v7z"/>', 32, "message"),
+    ('<path class="message lost" d="M0 -4H20"/><path class="cross" d="M18 -8l8 8m0 -8l-8 8"/>', 32, "ignored or refused"),
+    ('<path class="stub" d="M0 -4H20M20 -9v10"/>', 26, "never delivered"),
+    ('<rect class="square" x="0" y="-8" width="8" height="8"/>', 14, "write"),
+    ('<path class="check" d="M0 -4l3 4l7 -9"/>', 16, "acknowledged"),
+    ('<path class="cut" d="M0 -3l4 -5l5 8l5 -8l5 8l4 -5"/>', 30, "rollback"),
+)
+
+
+class Drawing:
+    """A picture with its measures in pixels."""
+
+    def __init__(self, picture: Picture):
+        self.picture = picture
+        shown = [row for row in picture.rows if not row.caption]
+        command = min(MOST_COMMAND, max((len(row.text) for row in shown), default=8))
+        reply = min(MOST_REPLY, max((len(row.reply) for row in shown), default=8))
+        digits = len(str(picture.lines[1])) + 1
+        self.command_at = 8 + digits * LETTER
+        self.reply_at = self.command_at + (command + 2) * LETTER
+        #: Where the lanes begin: left of it is text.
+        self.gutter = round(self.reply_at + (reply + 1) * LETTER)
+        self.spread = 126 if picture.nodes < 5 else 108
+        self.width = self.gutter + 48 + self.spread * (picture.nodes - 1) + 124
+        self.height = len(picture.rows) * ROW
+
+    def lane(self, node: int) -> int:
+        """Where a node's lane is, from the left."""
+        return self.gutter + 40 + self.spread * node
+
+    def heading(self) -> str:
+        """The nodes' names above their lanes."""
+        names = "".join(
+            f'<text class="head n{node}" x="{self.lane(node)}" y="22" text-anchor="middle">n{node}</text>'
+            for node in range(self.picture.nodes)
+        )
+        first, last, count = self.picture.lines
+        part = f'<text class="number" x="8" y="22">lines {first} to {last} of {count}</text>' if last - first + 1 < count else ""
+        return part + names
+
+    def body(self) -> str:
+        """Everything below the names and above the legend."""
+        picture = self.picture
+        parts: List[str] = []
+        parts += [self._shade(place) for place, row in enumerate(picture.rows) if row.caption]
+        parts += [self._frame(frame) for frame in picture.frames]
+        parts += [self._band(band) for band in picture.bands]
+        parts += [self._segment(segment) for segment in picture.segments]
+        parts += [self._stub(stub) for stub in picture.stubs]
+        parts += [self._arrow(arrow) for arrow in picture.arrows]
+        parts += [self._mark(mark) for mark in picture.marks]
+        parts += [self._label(label) for label in picture.labels]
+        parts += [self._caption(place, row) if row.caption else self._text(place, row) for place, row in enumerate(picture.rows)]
+        return "\n".join(part for part in parts if part)
+
+    def legend(self) -> str:
+        """What the signs mean, in as many lines as the width needs."""
+        parts, x, y = [], 8.0, 24
+        for sign, room, name in SIGNS:
+            size = room + len(name) * 5.4 + 16
+            if x + size > self.width:
+                x, y = 8.0, y + 20
+            text = f'<text class="legend" x="{room}" y="0">{name}</text>'
+            parts.append(f'<g transform="translate({x:.0f} {y})">{sign}{text}</g>')
+            x += size
+        return "".join(parts)
+
+    # The parts.
+
+    def _shade(self, place: int) -> str:
+        return f'<rect class="shade" x="0" y="{place * ROW + 1}" width="{self.width}" height="{ROW - 2}"/>'
+
+    def _caption(self, place: int, row: Row) -> str:
+        text = escape(cut(row.text, int(self.width / 6.6)))
+        return f'<text class="caption" x="8" y="{place * ROW + 13}">{text}</text>'
+
+    def _text(self, place: int, row: Row) -> str:
+        y = place * ROW + 13
+        bad = " bad" if row.bad else ""
+        node = f" n{row.step.node}" if row.step is not None and row.step.node is not None else ""
+        return (
+            f'<g class="line k-{row.kind}{node}"><text class="number" x="{self.command_at - LETTER:.1f}" y="{y}" '
+            f'text-anchor="end">{row.line}</text>'
+            f'<text class="command" x="{self.command_at:.1f}" y="{y}">{escape(cut(row.text, MOST_COMMAND))}</text>'
+            f'<text class="reply{bad}" x="{self.reply_at:.1f}" y="{y}">{escape(cut(row.reply, MOST_REPLY))}</text></g>'
+        )
+
+    def _segment(self, segment: Segment) -> str:
+        x, top, bottom = self.lane(segment.node), segment.top * ROW, segment.bottom * ROW
+        role = segment.role.lower()
+        if role == "down" or bottom <= top:
+            return ""
+        if role in ("primary", "draining"):
+            return f'<rect class="{role} n{segment.node}" x="{x - 5}" y="{top:.0f}" width="10" height="{bottom - top:.0f}"/>'
+        return f'<path class="{role} n{segment.node}" d="M{x} {top:.0f}V{bottom:.0f}"/>'
+
+    def _band(self, band: Band) -> str:
+        x, odd = self.lane(band.node) + 8, " odd" if band.odd else ""
+        height = (band.bottom - band.top) * ROW
+        return (
+            f'<rect class="band{odd} n{band.node}" x="{x}" y="{band.top * ROW:.0f}" width="5" height="{height:.0f}">'
+            f"<title>n{band.node}: commit point {band.commit}</title></rect>"
+        )
+
+    def _arrow(self, arrow: Arrow) -> str:
+        (x, y), (to_x, to_y) = self._ends(arrow)
+        lost = " lost" if arrow.bad else ""
+        parts = [f'<path class="message{lost}" d="M{x} {y:.0f}L{to_x} {to_y:.0f}"/>']
+        if arrow.head and arrow.bad:
+            parts.append(f'<path class="cross" d="M{to_x - 4} {to_y - 4:.0f}l8 8m0 -8l-8 8"/>')
+        elif arrow.head:
+            parts.append(self._tip(x, y, to_x, to_y))
+        # Near the head, where lines from one place have parted.
+        at_x, at_y = x + (to_x - x) * 0.68, y + (to_y - y) * 0.68
+        parts.append(f'<text class="kind" x="{at_x:.0f}" y="{at_y - 2:.0f}" text-anchor="middle">{arrow.label}</text>')
+        return self._group(arrow.kind, arrow.sender, arrow.receiver, parts)
+
+    def _ends(self, arrow: Arrow) -> Tuple[Tuple[int, float], Tuple[int, float]]:
+        side = 1 if arrow.receiver > arrow.sender else -1
+        start = self.lane(arrow.sender) + 5 * side
+        return (start, arrow.top * ROW), (self.lane(arrow.receiver) - 6 * side, arrow.bottom * ROW)
+
+    @staticmethod
+    def _tip(x: float, y: float, to_x: float, to_y: float) -> str:
+        length = max(1.0, ((to_x - x) ** 2 + (to_y - y) ** 2) ** 0.5)
+        along_x, along_y = (to_x - x) / length, (to_y - y) / length
+        back_x, back_y = to_x - 8 * along_x, to_y - 8 * along_y
+        one = f"{back_x - 3.5 * along_y:.1f} {back_y + 3.5 * along_x:.1f}"
+        other = f"{back_x + 3.5 * along_y:.1f} {back_y - 3.5 * along_x:.1f}"
+        return f'<path class="tip" d="M{to_x} {to_y:.0f}L{one}L{other}z"/>'
+
+    def _stub(self, stub: Stub) -> str:
+        side = stub.side
+        x, y = self.lane(stub.sender) + 5 * side, stub.top * ROW
+        parts = [f'<path class="stub" d="M{x} {y:.0f}l{20 * side} 9m0 -5v10"/>']
+        if stub.label != "heard":
+            anchor = "start" if side > 0 else "end"
+            text = " ".join(f"n{receiver}" for receiver in stub.receivers)
+            parts.append(f'<text class="kind" x="{x + 23 * side}" y="{y + 13:.0f}" text-anchor="{anchor}">{text}</text>')
+        return self._group(stub.kind, stub.sender, stub.sender, parts)
+
+    @staticmethod
+    def _group(kind: str, sender: int, receiver: int, parts: List[str]) -> str:
+        return f'<g class="k-{kind} n{sender} n{receiver}">' + "".join(parts) + "</g>"
+
+    def _mark(self, mark: Mark) -> str:
+        x, y = self.lane(mark.node), mark.top * ROW
+        zigzag = f"M{x - 20} {y:.0f}l6 -5l8 10l8 -10l8 10l8 -10l4 5"
+        check = f"M{x - 5} {y:.0f}l4 5l8 -11"
+        cross, small = f"M{x - 6} {y - 6:.0f}l12 12m0 -12l-12 12", f"M{x - 4} {y - 4:.0f}l8 8m0 -8l-8 8"
+        shapes = {
+            "write": f'<rect class="square" x="{x - 4}" y="{y - 4:.0f}" width="8" height="8"/>',
+            "acked": f'<path class="check under" d="{check}"/><path class="check" d="{check}"/>',
+            "crash": f'<path class="cross under" d="{cross}"/><path class="cross" d="{cross}"/>',
+            "restart": f'<circle class="ring" cx="{x}" cy="{y:.0f}" r="4.5"/>',
+            "refused": f'<path class="cross under" d="{small}"/><path class="cross" d="{small}"/>',
+            "cut": f'<path class="cut under" d="{zigzag}"/><path class="cut" d="{zigzag}"/>',
+            "plain": f'<circle class="dot" cx="{x}" cy="{y:.0f}" r="2.8"/>',
+        }
+        return f'<g class="k-{mark.kind} n{mark.node}">{shapes[mark.shape]}</g>'
+
+    def _label(self, label: Label) -> str:
+        x, y = self.lane(label.node) + 17, label.top * ROW + 3.5
+        return f'<text class="label n{label.node}" x="{x}" y="{y:.1f}">{escape(label.text)}</text>'
+
+    def _frame(self, frame: Frame) -> str:
+        y, height = frame.top * ROW, (frame.bottom - frame.top) * ROW
+        return f'<rect class="frame" x="2" y="{y:.0f}" width="{self.width - 4}" height="{height:.0f}" rx="4"/>'
+
+
+def cut(text: str, most: int) -> str:
+    """The text, shortened to so many characters."""
+    return text if len(text) <= most else text[: most - 1] + "…"
+
+
+def svg_file(picture: Picture, title: str) -> str:
+    """A whole SVG, with what each row says where a pointer rests on it."""
+    drawing = Drawing(picture)
+    height = HEAD + drawing.height + FOOT
+    rests = "".join(
+        f'<rect x="0" y="{place * ROW}" width="{drawing.width}" height="{ROW}" fill="transparent">'
+        f"<title>{escape(_resting(row))}</title></rect>"
+        for place, row in enumerate(picture.rows)
+        if row.step is not None
+    )
+    return (
+        f'<svg class="run" xmlns="http://www.w3.org/2000/svg" viewBox="0 0 {drawing.width} {height}" '
+        f'width="{drawing.width}" height="{height}" role="img">\n<title>{escape(title)}</title>\n'
+        f'<style>\n{STYLE}</style>\n<defs>{HATCH}</defs>\n<rect width="100%" height="100%" fill="#fff"/>\n'
+        f"{drawing.heading()}\n"
+        f'<g transform="translate(0 {HEAD})">\n{drawing.body()}\n{rests}\n</g>\n'
+        f'<g transform="translate(0 {HEAD + drawing.height})">{drawing.legend()}</g>\n</svg>\n'
+    )
+
+
+def _resting(row: Row) -> str:
+    step = row.step
+    change = step.told_change() if step is not None else ""
+    return f"{row.line}: {row.text} → {row.reply}" + (f"\n{change}" if change else "")

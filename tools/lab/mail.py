@@ -1,0 +1,113 @@
+"""The messages of a run: who sent each to whom, about what, and in which line, found from the replies."""
+from __future__ import annotations
+
+import json
+import re
+from dataclasses import dataclass, field
+from typing import Dict, List, Optional, Tuple
+
+from .script import acting_node, words_of
+from .state import read_state
+
+_ASKED = re.compile(r"(?:candidate|dryrun) \d+ sent m(\d+) (\d+)$")
+_SENT = re.compile(r"sent m(\d+)(?: to n(\d+))?$")
+_REPLIED = re.compile(r"replied m(\d+)$")
+_CONFIG = re.compile(r"config (\d+)/(\d+)$")
+_DRAINED = re.compile(r"primary (\d+) noop ")
+
+
+@dataclass
+class Message:
+    """One message: its number, ends, kind and the line that sent it."""
+
+    number: int
+    sender: int
+    receiver: int
+    kind: str
+    line: int
+    answers: Optional[int] = None
+    deliveries: List[int] = field(default_factory=list)
+
+
+class Mail:
+    """The messages so far, with what is needed to know to whom a candidate's go: who the voters of each configuration are."""
+
+    def __init__(self, members: int):
+        self.messages: List[Message] = []
+        self._newest: Dict[Tuple[int, int], Message] = {}
+        self._voters: Dict[str, List[int]] = {"0/1": list(range(members))}
+        self._config: Dict[int, str] = {}
+
+    def notice_state(self, node: int, reply: str) -> None:
+        """Learns a node's configuration from its `state` line."""
+        state = read_state(reply)
+        if not state.down:
+            self._config[node] = state.config
+
+    def members_of(self, config: str) -> List[int]:
+        """The members of a configuration, named by term and version, as far as the run has told."""
+        return self._voters.get(config, [])
+
+    def receive(self, line: str) -> Optional[Message]:
+        """The message that a `deliver` line hands over, if there is one."""
+        words = words_of(line)
+        if len(words) == 2:
+            number = int(words[1][1:])
+            return self.messages[number] if number < len(self.messages) else None
+        return self._newest.get((int(words[1][1:]), int(words[2][1:])))
+
+    def deliver(self, line: str, number: int, reply: str) -> Optional[Message]:
+        """Notes a delivery, and the answer that it sent."""
+        message = self.receive(line)
+        if message is None:
+            return None
+        if not reply.startswith("refused"):
+            message.deliveries.append(number)
+        answered = _REPLIED.match(reply)
+        if answered:
+            self._send(message.receiver, message.sender, message.kind, number, message.number)
+        return message
+
+    def act(self, line: str, number: int, reply: str) -> List[Message]:
+        """Notes what a command other than `deliver` sent, and the configurations that it made."""
+        node = acting_node(line)
+        if node is None:
+            return []
+        before = len(self.messages)
+        words = words_of(line)
+        asked, sent = _ASKED.match(reply), _SENT.match(reply)
+        if asked and int(asked[2]):
+            for voter in self._others(node):
+                self._send(node, voter, "vote", number)
+        elif sent:
+            receiver = int(sent[2]) if sent[2] else int(words[2][1:])
+            self._send(node, receiver, words[0], number)
+        self._learn_config(node, line, reply)
+        return self.messages[before:]
+
+    def _learn_config(self, node: int, line: str, reply: str) -> None:
+        made, drained = _CONFIG.match(reply), _DRAINED.match(reply)
+        if made:
+            config = f"{made[1]}/{made[2]}"
+            self._voters[config] = _voters_of(line.split(" ", 2)[2])
+        elif drained:
+            was = self._config.get(node, "0/1")
+            config = f"{drained[1]}/{was.split('/')[1]}"
+            self._voters.setdefault(config, self._voters.get(was, []))
+        else:
+            return
+        self._config[node] = config
+
+    def _others(self, node: int) -> List[int]:
+        return [voter for voter in self._voters.get(self._config.get(node, "0/1"), []) if voter != node]
+
+    def _send(self, sender: int, receiver: int, kind: str, line: int, answers: Optional[int] = None) -> None:
+        message = Message(len(self.messages), sender, receiver, kind, line, answers)
+        self.messages.append(message)
+        self._newest[sender, receiver] = message
+
+
+def _voters_of(text: str) -> List[int]:
+    """The voters of a configuration that was accepted, by their numbers."""
+    members = json.loads(text)["members"]
+    return sorted(member["_id"] for member in members if member.get("votes", 1))

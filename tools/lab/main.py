@@ -1,0 +1,85 @@
+"""Reads the words behind `lab`, and sees to it that whatever goes wrong is told in one sentence."""
+from __future__ import annotations
+
+import argparse
+import importlib
+import os
+import sys
+from typing import List, NoReturn, Optional
+
+from .errors import INTERRUPT, WORDS, LabError
+
+#: The words, in the order in which help shows them.
+WORD_NAMES = ("run", "picture", "shell", "expand", "test", "shrink", "vary", "sweep", "seed", "explain")
+
+ABOUT = """\
+Asks "what happens to my data if .." of a replica set, and shows the answer: a transcript beside its script, a picture,
+a prompt, the smallest script that still does it, all that may happen round it.
+"""
+
+ENDING = """\
+A short script is a script with macros in it; every word that takes a FILE takes one, and - for standard input:
+
+  elect A [B ..]           A campaigns, asks the voters (or those named) until it has won, and drains
+  pull A [B]               A hears from B (or the primary), takes what it misses, rolls back where it must, flushes,
+                           applies and reports; then it hears how far the commit point is
+  spread A                 A flushes, and every member that hears it pulls from it
+  partition A .. | B ..    no message passes between the sides; nodes that aren't named are a side of their own
+  heal                     the partition ends
+  await A OPTIME [CONCERN] members pull from A until it acknowledges OPTIME (at majority, or at CONCERN)
+  repeat COUNT LINE        LINE so often; # in it is 1, 2 and so on
+  last                     as an OPTIME of ack and await: that of A's newest write
+
+The program that plays the scripts is the one that the environment variable REPLSET names; else the proved one of this
+repository; else one that is built without proofs, in a minute.
+
+statuses: 0 done; 1 a test isn't met, or a variation changes what is watched; 2 wrong words; 3 no script; 4 a file can't
+be read or written; 5 no program, or too old a Python; 6 the program failed; 7 a macro can't go on; 8 nothing found; 130 interrupted
+
+'lab WORD --help' says more about a word. docs/COOKBOOK.md has questions with their scripts and pictures.
+"""
+
+
+class _Parser(argparse.ArgumentParser):
+    """A parser that tells what is wrong in one sentence."""
+
+    def error(self, message: str) -> NoReturn:
+        raise LabError(WORDS, f"{message} ('{self.prog} --help' shows the words)")
+
+
+def _plain(prog: str) -> argparse.HelpFormatter:
+    """Help as wide as its own texts, which stay as they are."""
+    return argparse.RawDescriptionHelpFormatter(prog, max_help_position=20, width=118)
+
+
+def _parser() -> argparse.ArgumentParser:
+    parser = _Parser(prog="lab", description=ABOUT, epilog=ENDING, formatter_class=_plain)
+    words = parser.add_subparsers(dest="word", metavar="WORD", required=True, title="words")
+    for name in WORD_NAMES:
+        module = importlib.import_module(f".words.{name}", __package__)
+        word = words.add_parser(
+            name, help=module.SUMMARY, description=f"{module.SUMMARY}\n\n{module.DETAILS}", formatter_class=_plain
+        )
+        module.add_arguments(word)
+        word.set_defaults(main=module.main)
+    return parser
+
+
+def main(words: Optional[List[str]] = None) -> int:
+    """The status that the lab ends with on these words."""
+    try:
+        arguments = _parser().parse_args(words)
+        status = arguments.main(arguments)
+        sys.stdout.flush()
+        return status
+    except LabError as fault:
+        sys.stdout.flush()
+        print(f"lab: {fault.sentence}", file=sys.stderr)
+        return fault.status
+    except KeyboardInterrupt:
+        print("\nlab: interrupted", file=sys.stderr)
+        return INTERRUPT
+    except BrokenPipeError:
+        # Whoever read has had enough. What is still held back must not be written at the end.
+        os.dup2(os.open(os.devnull, os.O_WRONLY), sys.stdout.fileno())
+        return 0

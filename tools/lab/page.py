@@ -1,0 +1,141 @@
+"""A picture as a page: one file of HTML with the drawing, what its rows say, and a script that shows it."""
+from __future__ import annotations
+
+import json
+from html import escape
+from pathlib import Path
+from typing import Any, Dict, List, Optional
+
+from .documents import Documents
+from .drawing import FOOT, HATCH, HEAD, ROW, SIGNS, STYLE, Drawing
+from .layout import Picture, Row
+from .show import printable
+from .state import State
+
+HERE = Path(__file__).resolve().parent
+
+#: Rows on a printed sheet.
+SHEET = 50
+
+KINDS = {
+    "vote": "elections", "heartbeat": "heartbeats", "fetch": "fetches", "report": "reports", "common": "rollbacks",
+    "write": "writes", "ack": "acknowledgements", "read": "reads", "disk": "disks", "crash": "crashes", "member": "members",
+}
+
+
+def page(picture: Picture, title: str, documents: Optional[Dict[int, Documents]]) -> str:
+    """The whole page."""
+    drawing = Drawing(picture)
+    template = (HERE / "page.html").read_text(encoding="utf-8")
+    parts = {
+        "TITLE": escape(title),
+        "STYLE": STYLE + (HERE / "page.css").read_text(encoding="utf-8") + _filter_rules(picture),
+        "NODES": _boxes({f"n{node}": f"n{node}" for node in range(picture.nodes)}, ""),
+        "KINDS": _boxes({kind: name for kind, name in KINDS.items() if _has(picture, kind)}, "k-"),
+        "DEFS": HATCH,
+        "HEAD": _svg("", drawing.heading(), drawing.width, 0, HEAD),
+        "BODY": _svg("body", f'<g id="drawing" class="run">{drawing.body()}</g>{_rests(drawing)}', drawing.width, 0, drawing.height),
+        "LEGEND": _legend(),
+        "SHEETS": _sheets(drawing, title),
+        "DATA": json.dumps(_data(drawing, documents), separators=(",", ":"), ensure_ascii=True).replace("<", "\\u003c"),
+        "SCRIPT": (HERE / "page.js").read_text(encoding="utf-8"),
+    }
+    for name, text in parts.items():
+        template = template.replace("{{" + name + "}}", text)
+    return template
+
+
+def _has(picture: Picture, kind: str) -> bool:
+    return any(row.kind == kind for row in picture.rows)
+
+
+def _svg(identity: str, content: str, width: int, top: int, height: int) -> str:
+    named = f' id="{identity}"' if identity else ""
+    return (
+        f'<svg{named} class="run" viewBox="0 {top} {width} {height}" width="{width}" height="{height}">{content}</svg>'
+    )
+
+
+def _legend() -> str:
+    """The signs and what they mean, as words that wrap."""
+    return "".join(
+        f'<span class="sign"><svg class="run" width="{room}" height="14" viewBox="0 -11 {room} 14">{sign}</svg>{name}</span>'
+        for sign, room, name in SIGNS
+    )
+
+
+def _boxes(names: Dict[str, str], front: str) -> str:
+    return "".join(
+        f'<label><input type="checkbox" checked data-hides="{front}{name}"> {escape(shown)}</label>'
+        for name, shown in names.items()
+    )
+
+
+def _filter_rules(picture: Picture) -> str:
+    """What a box that isn't checked hides: the drawing gets the class `no-` and the name."""
+    nodes = [f"n{node}" for node in range(picture.nodes)]
+    rules = [f"#drawing.no-{node} .{node}:not(.line), .no-{node} .head.{node} {{ display: none; }}" for node in nodes]
+    rules += [f"#drawing.no-k-{kind} .k-{kind}:not(.line) {{ display: none; }}" for kind in KINDS]
+    rules += [f"#drawing.no-{name} .line.{name} {{ opacity: 0.25; }}" for name in [*nodes, *(f"k-{kind}" for kind in KINDS)]]
+    return "\n".join(rules)
+
+
+def _rests(drawing: Drawing) -> str:
+    """What is pointed at and tapped: a clear stripe over each row."""
+    return "".join(
+        f'<rect class="rest" data-row="{place}" x="0" y="{place * ROW}" width="{drawing.width}" height="{ROW}"/>'
+        for place, row in enumerate(drawing.picture.rows)
+        if row.step is not None
+    )
+
+
+def _sheets(drawing: Drawing, title: str) -> str:
+    """The drawing once more, cut into pieces that fit on paper. Only print shows them."""
+    sheets: List[str] = []
+    count = len(drawing.picture.rows)
+    for top in range(0, max(count, 1), SHEET):
+        rows = min(SHEET, count - top)
+        legend = f'<g transform="translate(0 {HEAD + rows * ROW})">{drawing.legend()}</g>' if top + rows >= count else ""
+        height = HEAD + rows * ROW + (FOOT if legend else 0)
+        inner = (
+            f'<svg x="0" y="{HEAD}" width="{drawing.width}" height="{rows * ROW}" '
+            f'viewBox="0 {top * ROW} {drawing.width} {rows * ROW}"><use href="#drawing"/></svg>'
+        )
+        name = escape(title) + (f", part {top // SHEET + 1} of {-(-count // SHEET)}" if count > SHEET else "")
+        svg = f'<svg class="run" viewBox="0 0 {drawing.width} {height}">{drawing.heading()}{inner}{legend}</svg>'
+        sheets.append(f'<section class="sheet"><h2>{name}</h2>{svg}</section>')
+    return "".join(sheets)
+
+
+def _data(drawing: Drawing, documents: Optional[Dict[int, Documents]]) -> Dict[str, Any]:
+    """What the page's script shows of each row. Documents are told once, and then by their place."""
+    told: List[Documents] = []
+    known: Dict[int, int] = {}
+    rows: List[Any] = []
+    for row in drawing.picture.rows:
+        if row.step is None:
+            rows.append(None)
+            continue
+        node = row.step.node
+        if documents is not None and node is not None and row.line in documents:
+            known[node] = len(told)
+            told.append(tuple(printable(one) for one in documents[row.line]))
+        rows.append(_row(row, None if node is None else known.get(node)))
+    return {
+        "gutter": drawing.gutter, "width": drawing.width, "row": ROW, "rows": rows, "documents": told,
+        "many": documents is None,
+    }
+
+
+def _row(row: Row, documents: Optional[int]) -> Dict[str, Any]:
+    step = row.step
+    assert step is not None
+    return {
+        "line": row.line, "text": row.text, "reply": row.reply, "bad": row.bad, "node": step.node,
+        "more": [printable(one) for one in step.reply.more[:200]], "change": step.told_change(),
+        "states": [_state(state) for state in row.states], "documents": documents,
+    }
+
+
+def _state(state: State) -> List[str]:
+    return [state.role, state.term, state.last, state.durable, state.applied, state.commit, state.config]

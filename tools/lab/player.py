@@ -1,0 +1,104 @@
+"""A script that grows line by line, and what the program replies to it. Each question plays the whole script anew."""
+from __future__ import annotations
+
+from typing import Dict, List, Optional
+
+from .observe import observe
+from .program import last_replies, play
+from .script import SetSize, acting_node, is_silent, set_size, words_of
+from .state import State, read_state
+from .transcript import Reply, Transcript
+
+#: A line that is repeated is looked at so often at a time.
+AT_A_TIME = 6
+
+
+class Player:
+    """The lines so far. Lines that nobody asks about are played with the next question only."""
+
+    def __init__(self, lines: Optional[List[str]] = None):
+        self.lines: List[str] = list(lines or [])
+        self._played: Optional[Transcript] = None
+
+    def add(self, line: str) -> None:
+        """Adds a line, and doesn't ask for its reply."""
+        self.lines.append(line)
+        self._played = None
+
+    def forget(self) -> None:
+        """Must be called where lines were taken away."""
+        self._played = None
+
+    def ask(self, line: str) -> Reply:
+        """Adds a line and gives its reply."""
+        reply = self.look(line)
+        self.add(line)
+        return reply
+
+    def attempt(self, line: str) -> Reply:
+        """The reply to a line, which is added only where it isn't refused."""
+        reply = self.look(line)
+        if not reply.refused:
+            self.add(line)
+        return reply
+
+    def repeat(self, line: str) -> None:
+        """Adds a line as often as it isn't refused. Several at a time are looked at."""
+        taken = AT_A_TIME
+        while taken == AT_A_TIME:
+            replies = last_replies([*self.lines, *[line] * AT_A_TIME], len(self.lines) + 1).replies
+            taken = next((place for place, reply in enumerate(replies) if reply.refused), AT_A_TIME)
+            for _ in range(taken):
+                self.add(line)
+
+    def look(self, line: str) -> Reply:
+        """The reply that a line would have here. It isn't added."""
+        number = len(self.lines) + 1
+        return last_replies([*self.lines, line], number).by_line[number]
+
+    def transcript(self) -> Transcript:
+        """All replies so far."""
+        if self._played is None:
+            self._played = play(self.lines)
+        return self._played
+
+    def size(self) -> SetSize:
+        """How many nodes and members the set has."""
+        return set_size(self.lines)
+
+    def states(self) -> Dict[int, State]:
+        """What each node is now."""
+        nodes = range(self.size().nodes)
+        asked = [f"state n{node}" for node in nodes]
+        first = len(self.lines) + 1
+        transcript = last_replies([*self.lines, *asked], first)
+        return {node: read_state(transcript.text(first + node)) for node in nodes}
+
+    def members(self, config: str) -> List[int]:
+        """The members of a configuration, named by term and version."""
+        if config.endswith("/1"):
+            return list(range(self.size().members))
+        return observe(self.lines, len(self.lines) + 1).mail.members_of(config)
+
+    def other_members(self, node: int) -> List[int]:
+        """The members of a node's configuration but itself: these it asks for votes."""
+        state = read_state(self.look(f"state n{node}").text)
+        return [other for other in self.members(state.config) if other != node]
+
+    def newest_write(self, node: int) -> Optional[str]:
+        """The optime of the newest write that the node was answered with."""
+        for reply in reversed(self.transcript().replies):
+            words = reply.text.split(" ")
+            if words[0] in ("written", "committed") and acting_node(self.lines[reply.line - 1]) == node:
+                return words[1]
+        return None
+
+    def open_block(self) -> Optional[int]:
+        """The place in the list of the `par` that isn't ended yet."""
+        for place in range(len(self.lines) - 1, -1, -1):
+            word = "" if is_silent(self.lines[place]) else words_of(self.lines[place])[0]
+            if word == "end":
+                return None
+            if word == "par":
+                return place
+        return None

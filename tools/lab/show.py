@@ -1,0 +1,67 @@
+"""A script beside its replies, and other texts for a terminal."""
+from __future__ import annotations
+
+import shutil
+import sys
+from typing import Dict, List, Sequence
+
+from .transcript import Transcript
+
+#: A script's line of more than so many characters has its reply below it.
+WIDEST = 56
+
+
+def printable(text: str) -> str:
+    """A text that can be put anywhere: what wasn't UTF-8 becomes question marks."""
+    return text.encode("utf-8", "surrogateescape").decode("utf-8", "replace").rstrip("\r")
+
+
+def beside(lines: Sequence[str], transcript: Transcript, notes: Dict[int, List[str]]) -> List[str]:
+    """Each line with its reply on the right, and under it what more there is of the reply, and its notes."""
+    shown = [printable(line) for line in lines]
+    digits = len(str(len(lines)))
+    width = min(WIDEST, max((len(line) for line in shown if not line.startswith("#")), default=0))
+    indent = " " * (digits + width + 5)
+    told: List[str] = []
+    for number, line in enumerate(shown, 1):
+        reply = transcript.by_line.get(number)
+        front = f"{number:{digits}}  {line}"
+        if reply is None:
+            told.append(front.rstrip())
+            continue
+        if len(line) <= width:
+            told.append(f"{number:{digits}}  {line:{width}}   {printable(reply.text)}")
+        else:
+            told += [front, indent + printable(reply.text)]
+        told += [indent + "  " + printable(more) for more in reply.more]
+        told += [f"{indent}· {note}" for note in notes.get(number, [])]
+    return told
+
+
+def table(rows: Sequence[Sequence[str]]) -> List[str]:
+    """Rows with their columns in line; the first row is the heading."""
+    widths = [max(len(row[place]) for row in rows) for place in range(len(rows[0]))]
+    return ["  ".join(f"{cell:{width}}" for cell, width in zip(row, widths)).rstrip() for row in rows]
+
+
+class Progress:
+    """A bar on standard error, where that is a terminal."""
+
+    def __init__(self, total: int, what: str):
+        self._total, self._what, self._done = total, what, 0
+        self._shown = sys.stderr.isatty()
+
+    def step(self, count: int = 1) -> None:
+        """So many more are done."""
+        self._done += count
+        if not self._shown:
+            return
+        room = max(10, min(40, shutil.get_terminal_size().columns - len(self._what) - 24))
+        full = room * self._done // max(1, self._total)
+        bar = "#" * full + "." * (room - full)
+        print(f"\r{self._what} [{bar}] {self._done} of {self._total}", end="", file=sys.stderr, flush=True)
+
+    def close(self) -> None:
+        """Takes the bar away."""
+        if self._shown:
+            print("\r\033[K", end="", file=sys.stderr, flush=True)

@@ -1,0 +1,1 @@
+"""Tests of the lab over the built program."""

@@ -1,0 +1,54 @@
+"""The replies of a run, by the number of their line and in the order in which they were given."""
+from __future__ import annotations
+
+from dataclasses import dataclass, field
+from typing import Dict, List, Tuple
+
+
+@dataclass(frozen=True)
+class Reply:
+    """The reply to one line: its text, and what stands below it."""
+
+    line: int
+    text: str
+    more: Tuple[str, ...] = ()
+
+    @property
+    def refused(self) -> bool:
+        """Whether the command was refused."""
+        return self.text.startswith("refused ")
+
+    @property
+    def unheard(self) -> bool:
+        """Whether a delivery came to nothing: it was refused or ignored, or brought no vote."""
+        return self.text.startswith(("refused ", "ignored ", "vote refused "))
+
+
+@dataclass
+class Transcript:
+    """All replies of a run: those of a block stand in the order in which its lines were played."""
+
+    replies: List[Reply] = field(default_factory=list)
+    by_line: Dict[int, Reply] = field(default_factory=dict)
+
+    def text(self, line: int) -> str:
+        """The reply to a line, or nothing where it has none."""
+        reply = self.by_line.get(line)
+        return reply.text if reply else ""
+
+
+def read_transcript(text: str) -> Transcript:
+    """The replies in what the program put."""
+    transcript = Transcript()
+    heads: List[Tuple[int, str, List[str]]] = []
+    for line in text.split("\n"):
+        if line.startswith("  "):
+            heads[-1][2].append(line[2:])
+        elif line:
+            number, said = line.split(": ", 1)
+            heads.append((int(number), said, []))
+    for number, said, more in heads:
+        reply = Reply(number, said, tuple(more))
+        transcript.replies.append(reply)
+        transcript.by_line[number] = reply
+    return transcript

@@ -1,0 +1,39 @@
+"""`lab run`: a script beside its replies."""
+from __future__ import annotations
+
+import argparse
+from typing import Dict, List
+
+from ..expand import read_script
+from ..observe import observe
+from ..program import play
+from ..show import beside
+
+SUMMARY = "plays a script and prints each line beside its reply"
+DETAILS = """\
+A short script is shown as the plain one that it comes to, each macro as a comment. With --state each line is
+followed by what it changed at which node, such as
+
+    · n0: Primary→Secondary, term 1→2
+
+which the replies alone don't show: a delivery that makes a node step down answers 'replied mK' or 'ignored ..'."""
+
+
+def add_arguments(parser: argparse.ArgumentParser) -> None:
+    """The word's arguments."""
+    parser.add_argument("file", metavar="FILE", help="a script, short or plain; - for standard input")
+    parser.add_argument("--state", action="store_true", help="tell what each line changed at which node")
+
+
+def main(arguments: argparse.Namespace) -> int:
+    """Prints the run."""
+    lines = read_script(arguments.file)
+    transcript = play(lines)
+    notes: Dict[int, List[str]] = {}
+    if arguments.state:
+        for step in observe(lines).steps:
+            change = step.told_change()
+            if change:
+                notes.setdefault(step.line, []).append(change)
+    print("\n".join(beside(lines, transcript, notes)))
+    return 0
