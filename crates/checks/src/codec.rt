@@ -59,3 +59,25 @@ fn other_bytes_are_refused(rt: HostRuntime) -> Result<(), Fail> {
     );
     Ok(())
 }
+
+/// A document with a value of every kind, as the standard has its bytes.
+const EVERY_KIND: &[u8] =
+    b"}\0\0\0\x10_id\0\x01\0\0\0\x12n\0\x05\0\0\0\0\0\0\0\x02s\0\x03\0\0\0hi\0\
+    \x03d\0\x0c\0\0\0\x10x\0\x02\0\0\0\0\x04a\0\x11\0\0\0\x0a0\0\x021\0\x02\0\0\0y\0\0\
+    \x05b\0\x02\0\0\0\0\x0a\xff\x07i\0\0\x01\x02\x03\x04\x05\x06\x07\x08\x09\x0a\x0b\x08t\0\x01\
+    \x09w\0\xff\xff\xff\xff\xff\xff\xff\xff\x0az\0\x11ts\0\x03\0\0\0\x07\0\0\0\0";
+
+/// The least length up to which the bytes are taken as a document, or refused otherwise than as too few.
+fn first_not_short(alloc: Global, bytes: &[u8]) -> usize {
+    (0..bytes.len())
+        .find(|len| refusal(alloc, &bytes[..*len]) != Some(DecodeError::Short))
+        .unwrap_or(bytes.len())
+}
+
+#[test]
+fn each_cut_of_a_document_is_too_short(rt: HostRuntime) -> Result<(), Fail> {
+    let alloc = rt.alloc();
+    assert_eq!(rt; first_not_short(alloc, EVERY_KIND), 125);
+    assert_eq!(rt; decode(alloc, EVERY_KIND, DOCUMENT)?.len(), 11);
+    Ok(())
+}

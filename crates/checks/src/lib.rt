@@ -7,6 +7,8 @@ mod batches;
 #[cfg(test)]
 mod codec;
 #[cfg(test)]
+mod copies;
+#[cfg(test)]
 mod disks;
 #[cfg(test)]
 mod entries;

@@ -1,8 +1,8 @@
 // The documents that a set lends.
+use crate::running::ran;
 use bson_doc::IdKey;
 use rs_disk::MemDisk;
-use rs_io::{MemSink, MemSource};
-use set_program::{Left, empty_disks, run_set};
+use set_program::Left;
 use set_world::World;
 use std::test::Fail;
 
@@ -22,12 +22,7 @@ fn lends(world: &World<MemDisk>, id: i64) -> bool {
 
 #[test]
 fn a_set_that_is_left_lends_its_documents(rt: HostRuntime) -> Result<(), Fail> {
-    let alloc = rt.alloc();
-    let words = vec![in alloc; String::from_str(alloc, "run")?]?;
-    let mut source = MemSource::new(PULLED.as_bytes().to_vec(alloc)?, Vec::new(alloc));
-    let mut sink = MemSink::new(alloc, Vec::new(alloc));
-    let disks = empty_disks(alloc)?;
-    let outcome = run_set(&rt, alloc, &words, &mut source, &mut sink, disks);
+    let (outcome, _) = ran(&rt, rt.alloc(), &["run"], PULLED.as_bytes(), &[], &[])?;
     let found = match &outcome.left {
         Left::World(world) => lends(world, 1) && lends(world, 2) && !lends(world, 3),
         Left::Parts(..) => false,

@@ -1,5 +1,10 @@
-//! What no clause says of whole sets: that a run succeeds with ample memory, and what the set that is left then lends.
+//! What no clause says of whole sets: that a run succeeds with ample memory, what it puts then, and what the set that is left
+//! lends.
 #![tactic(auto)]
 
 #[cfg(test)]
 mod documents;
+#[cfg(test)]
+mod ends;
+#[cfg(test)]
+mod running;

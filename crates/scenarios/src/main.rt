@@ -1,22 +1,50 @@
-//! Runs each example script of the folder and compares what it prints with what is written beside it.
+//! Runs each example script of the folder and compares what it prints with what is written beside it, and runs some of them where a
+//! disk or the sink fails.
 #![tactic(auto)]
 
 mod batches;
+mod failing_disks;
 mod generated;
+mod lost_replies;
+mod refused;
+mod repeated;
+mod replies;
+mod runs;
 
 use anyhow::{Context, Result};
-use rs_io::{MemSink, MemSource};
+use failing_disks::OnDisks;
 use std::alloc::Global;
 use std::fs;
 use std::process::ExitCode;
 use std::thread::Threads;
 
 fn main(rt: HostRuntime) -> Result<ExitCode> {
+    let examples = examples(&rt, &rt)?;
+    let limits = limits(&rt, &rt)?;
+    let faults = faults(&rt, &rt)?;
+    Ok(if examples && limits && faults {
+        ExitCode::SUCCESS
+    } else {
+        ExitCode::FAILURE
+    })
+}
+
+/// Tells whether something is as it is to be.
+fn tell(rt: &HostRuntime, what: &str, holds: bool) -> Result<bool> {
+    if holds {
+        println!(rt; "{what}: as written")?;
+    } else {
+        println!(rt; "{what}: otherwise")?;
+    }
+    Ok(holds)
+}
+
+fn examples<R: Threads + Sync>(rt: &HostRuntime, threads: &R) -> Result<bool> {
     let mut as_written = true;
-    for name in names(&rt)? {
-        let script = read(&rt, &name, "replset")?;
-        let written = read(&rt, &name, "out")?;
-        let printed = transcript(&rt, rt.alloc(), script)?;
+    for name in names(rt)? {
+        let script = read(rt, &name, "replset")?;
+        let written = read(rt, &name, "out")?;
+        let printed = transcript(threads, rt.alloc(), script)?;
         match first_difference(&written, &printed) {
             None => println!(rt; "{name}: as written")?,
             Some(line) => {
@@ -25,25 +53,46 @@ fn main(rt: HostRuntime) -> Result<ExitCode> {
             }
         }
     }
-    if !draws_the_line(&rt, rt.alloc())? {
-        as_written = false;
-        println!(rt; "the largest document is another")?;
+    Ok(as_written)
+}
+
+/// Scripts that are made here, and not read.
+fn limits<R: Threads + Sync>(rt: &HostRuntime, threads: &R) -> Result<bool> {
+    let alloc = rt.alloc();
+    let documents = tell(rt, "the largest document", draws_the_line(threads, alloc)?)?;
+    let three = comes_in_batches(threads, alloc, batches::THREE, batches::THREE_ENDS)?;
+    let one = comes_in_batches(threads, alloc, batches::ONE, batches::ONE_ENDS)?;
+    let batches = tell(rt, "more than a batch", three && one)?;
+    let generated = tell(rt, "a generated script", sums_up(threads, alloc)?)?;
+    let limits = tell(
+        rt,
+        "scripts over the limits",
+        refused::over_the_limits(threads, alloc)?,
+    )?;
+    Ok(documents && batches && generated && limits)
+}
+
+/// Scripts that are none, sinks and disks that fail, and messages that come again.
+fn faults<R: Threads + Sync>(rt: &HostRuntime, threads: &R) -> Result<bool> {
+    let alloc = rt.alloc();
+    let refused = refused::as_said(threads, alloc, &text(rt, "refused", "table")?)?;
+    let refused = tell(rt, "scripts that are refused", refused)?;
+    let repeated = repeated::change_nothing(threads, alloc, &text(rt, "repeated", "table")?)?;
+    let repeated = tell(rt, "messages that come again", repeated)?;
+    let mut borne = true;
+    for OnDisks { name, calls } in failing_disks::SCRIPTS {
+        let holds = failing_disks::are_borne(threads, alloc, &text(rt, name, "replset")?, calls)?;
+        let what = format!(in alloc; "{name} on failing disks")?;
+        borne = tell(rt, &what, holds)? && borne;
     }
-    if !comes_in_batches(&rt, rt.alloc(), batches::THREE, batches::THREE_ENDS)?
-        || !comes_in_batches(&rt, rt.alloc(), batches::ONE, batches::ONE_ENDS)?
-    {
-        as_written = false;
-        println!(rt; "more than a batch comes otherwise")?;
+    let mut ended = true;
+    for name in lost_replies::SCRIPTS {
+        let (script, transcript) = (text(rt, name, "replset")?, text(rt, name, "out")?);
+        let holds = lost_replies::end_the_run(threads, alloc, &script, &transcript)?;
+        let what = format!(in alloc; "{name} into failing sinks")?;
+        ended = tell(rt, &what, holds)? && ended;
     }
-    if !sums_up(&rt, rt.alloc())? {
-        as_written = false;
-        println!(rt; "a generated script comes to something else")?;
-    }
-    Ok(if as_written {
-        ExitCode::SUCCESS
-    } else {
-        ExitCode::FAILURE
-    })
+    Ok(refused && repeated && borne && ended)
 }
 
 /// The names of the scripts, in order.
@@ -68,27 +117,18 @@ fn read(rt: &HostRuntime, name: &str, ending: &str) -> Result<Vec<u8>> {
     fs::read(rt, path.as_str()).context("reading an example")
 }
 
-/// What the script prints.
-fn transcript<R: Threads + Sync>(rt: &R, alloc: Global, script: Vec<u8>) -> Result<Vec<u8>> {
-    printed(rt, alloc, &["run"], script)
+fn text(rt: &HostRuntime, name: &str, ending: &str) -> Result<String> {
+    Ok(String::from_utf8(read(rt, name, ending)?)?)
 }
 
-/// What the words print, over an input of these bytes.
-fn printed<R: Threads + Sync>(
-    rt: &R,
-    alloc: Global,
-    words: &[&str],
-    input: Vec<u8>,
-) -> Result<Vec<u8>> {
-    let mut owned = Vec::new(alloc);
-    for word in words {
-        owned.push(String::from_str(alloc, word)?)?;
-    }
-    let mut source = MemSource::new(input, Vec::new(alloc));
-    let mut sink = MemSink::new(alloc, Vec::new(alloc));
-    let disks = set_program::empty_disks(alloc)?;
-    let _ = set_program::run_set(rt, alloc, &owned, &mut source, &mut sink, disks);
-    Ok(sink.bytes().to_vec(alloc)?)
+/// What the script prints.
+fn transcript<R: Threads + Sync>(rt: &R, alloc: Global, script: Vec<u8>) -> Result<Vec<u8>> {
+    Ok(runs::run(rt, alloc, &runs::RUN, script)?.put)
+}
+
+/// What the words print, over an empty input.
+fn printed<R: Threads + Sync>(rt: &R, alloc: Global, words: &[&str]) -> Result<Vec<u8>> {
+    Ok(runs::run(rt, alloc, words, Vec::new(alloc))?.put)
 }
 
 /// How many bytes a string may have in the largest document that is stored: `{_id: 1, s: STRING}` has 22 bytes more than
@@ -125,8 +165,8 @@ fn comes_in_batches<R: Threads + Sync>(
 
 /// Whether a generated script comes to its summary, each time that it is asked for, and its transcript tells of as many writes.
 fn sums_up<R: Threads + Sync>(rt: &R, alloc: Global) -> Result<bool> {
-    let first = printed(rt, alloc, &generated::WORDS, Vec::new(alloc))?;
-    let again = printed(rt, alloc, &generated::WORDS, Vec::new(alloc))?;
+    let first = printed(rt, alloc, &generated::WORDS)?;
+    let again = printed(rt, alloc, &generated::WORDS)?;
     let script = fault_script::generate(alloc, 7, 5000, 5)?;
     let lines = transcript(rt, alloc, script)?;
     let written: Result<Vec<&[u8]>, _> = lines

@@ -1,16 +1,16 @@
 -- How a set's disks go on, event by event.
 use Rattle.std.proofs.Common.{ℕ, ◌≡◌, true, List, [], ◌∷◌, ◌++◌, refl, sym, subst, inl, inr}
-use Rattle.std.specs.Prelude.{IsSome, fold}
+use Rattle.std.specs.Prelude.{◌⊎◌, IsSome, fold}
 use Rattle.rs_disk.specs.State.{State}
 use Rattle.set_model.specs.declared.command.Command.{Command}
 use Rattle.set_model.specs.declared.command.Event.{Event}
 use Rattle.set_model.specs.declared.reply.Reply.{Reply}
 use Rattle.set_model.specs.Limits.{is_for}
 use Rattle.set_model.specs.Run.{Run, Sizes, after, opening, run}
-use Rattle.set_model.specs.World.{World, step, touched_node}
+use Rattle.set_model.specs.World.{World, step, task, touched_node}
 use Rattle.node_core.specs.Acting.{DisksActed, Runs}
 use Rattle.set_world.specs.World.{Set}
-use Rattle.set_world.specs.Disks.{AtMostOne, IsStep, IsUndone, OneChanged}
+use Rattle.set_world.specs.Disks.{AtTouched, IsStep, IsUndone, OneChanged}
 use Rattle.set_program.specs.Disks.{DisksPlay, DisksPlayed, DisksRan, DisksStep}
 
 -- an event more is played
@@ -24,11 +24,11 @@ play_more state so_far (earlier ∷ events) event first old new played more =
 -- the disks of a command are those of its event
 of_event : {D : Type 0} (state : D → State) (world : World) (event : Event) (command : Command) (reply : Reply) (old new : List D)
     → command ≡ event.command → reply ≡ (step world event).reply
-    → AtMostOne old new (OneChanged state (DisksActed command reply (IsSome event.failed)) (touched_node world command) old new)
+    → AtTouched (task world command) event.failed old new (λ n. OneChanged state (DisksActed command reply (IsSome event.failed)) n old new)
     → DisksStep state world event old new
 of_event state world event command reply old new command_is reply_is changed =
-    subst (λ (r : Reply). AtMostOne old new (OneChanged state (DisksActed event.command r (IsSome event.failed)) (touched_node world event.command) old new)) reply_is
-    (subst (λ (c : Command). AtMostOne old new (OneChanged state (DisksActed c reply (IsSome event.failed)) (touched_node world c) old new)) command_is changed)
+    subst (λ (r : Reply). AtTouched (task world event.command) event.failed old new (λ n. OneChanged state (DisksActed event.command r (IsSome event.failed)) n old new)) reply_is
+    (subst (λ (c : Command). AtTouched (task world c) event.failed old new (λ n. OneChanged state (DisksActed c reply (IsSome event.failed)) n old new)) command_is changed)
 
 -- a set goes on by a step
 pub step_played : {D : Type 0} (state : D → State) (old new : Set D) (line : ℕ) (command : Command) (reply : Reply) → IsStep state old new line command reply
@@ -45,8 +45,8 @@ played_ran state set first played = (set.disks, played, inl refl)
 
 undone_at : {D : Type 0} (state : D → State) (sizes sizes' : Sizes) (history history' : List Event) (command : Command) (old new : List D)
     → sizes ≡ sizes' → history ≡ history' → is_for sizes.nodes command ≡ true
-    → AtMostOne old new (OneChanged state (Runs ⊥) (touched_node (run sizes history).world command) old new)
-    → AtMostOne old new ((c : Command) × (is_for sizes'.nodes c ≡ true) × OneChanged state (Runs ⊥) (touched_node (run sizes' history').world c) old new)
+    → (new ≡ old) ⊎ OneChanged state (Runs ⊥) (touched_node (run sizes history).world command) old new
+    → (new ≡ old) ⊎ ((c : Command) × (is_for sizes'.nodes c ≡ true) × OneChanged state (Runs ⊥) (touched_node (run sizes' history').world c) old new)
 undone_at state sizes sizes' history history' command old new sizes_are history_is fits (inl same) = inl same
 undone_at state sizes sizes' history history' command old new sizes_are history_is fits (inr one) =
     inr (

@@ -113,14 +113,14 @@ disk_failed state words left rest old new handed ended outcome ends leaves seven
     let failed = when_failed state words left rest old new handed ended outcome ends leaves seven in
     (failed.0, failed.1, failed.2.cause seven)
 
+pub unarmed_at : {D : Type 0} (state : D → State) (handed : List D) → All (λ (disk : D). IsUnarmed (state disk)) handed → (place : ℕ) (disk : D) → slice_get handed place ≡ Some disk → IsUnarmed (state disk)
+unarmed_at {D} state handed unarmed place disk at =
+    subst (λ (d : D). IsUnarmed (state d)) (get_or_from_slice_get handed place disk disk at)
+    (All-get_or (λ (d : D). IsUnarmed (state d)) handed place disk (slice_get_within handed place disk at) unarmed)
+
 pub none_failed : {D : Type 0} (state : D → State) (words : List (String Global)) (left rest old new : Option (List ℕ)) (handed : List D) (ended : Result (Unit {0}) Stop) (outcome : Left D)
     → Ends words left rest old new ended outcome → LeavesDisks state words left rest handed (status_of ended) outcome → All (λ (disk : D). IsUnarmed (state disk)) handed → status_of ended ≢ 7
 none_failed {D} state words left rest old new handed ended outcome ends leaves unarmed seven =
     let failed = when_failed state words left rest old new handed ended outcome ends leaves seven in
-    let armed = failed.2.only_armed seven (λ place disk at. (is_unarmed place disk at).0) in
-    (is_unarmed armed.0 armed.1 armed.2).1 armed.3
-  where
-    is_unarmed : (place : ℕ) (disk : D) → slice_get handed place ≡ Some disk → IsUnarmed (state disk)
-    is_unarmed place disk at =
-        subst (λ (d : D). IsUnarmed (state d)) (get_or_from_slice_get handed place disk disk at)
-        (All-get_or (λ (d : D). IsUnarmed (state d)) handed place disk (slice_get_within handed place disk at) unarmed)
+    let armed = failed.2.only_armed seven (λ place disk at. (unarmed_at state handed unarmed place disk at).0) in
+    (unarmed_at state handed unarmed armed.0 armed.1 armed.2).1 armed.3

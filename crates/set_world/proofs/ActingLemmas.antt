@@ -1,5 +1,5 @@
 -- What a node came to is the model's step of the event.
-use Rattle.std.proofs.Common.{◌≡◌, ◌∙◌, inr, ap, sym, subst, refl, append-nil, is_none, ℕ, true, false, not, ◌&&◌, ◌||◌, Option, None, Some, Result, Ok, Err, length, List, [], ◌++◌, slice_get, slice_set}
+use Rattle.std.proofs.Common.{◌≡◌, ◌∙◌, ap, sym, subst, refl, append-nil, is_none, ℕ, true, false, not, ◌&&◌, ◌||◌, Option, None, Some, Result, Ok, Err, length, List, [], ◌++◌, slice_get, slice_set}
 use Rattle.std.specs.Prelude.{IfOk, OnErr, IsSome, option_and_then}
 use Rattle.std.specs.declared.alloc.AllocError.{AllocError}
 use Rattle.std.specs.Option.{option_map_or}
@@ -18,19 +18,19 @@ use Rattle.node_core.specs.declared.done.Done.{Done}
 use Rattle.node_core.specs.Acting.{Follows, DisksActed, is_here}
 use Rattle.rs_disk.specs.State.{State}
 use Rattle.set_world.specs.Acting.{OneOf, DisksSo, ActedSo, TookSo, UnchangedSo}
-use Rattle.set_world.specs.Disks.{AtMostOne}
+use Rattle.set_world.specs.Disks.{AtTouched}
 use Rattle.set_world.specs.World.{Acts, event_of, nodes_in}
 use Rattle.set_world.proofs.DiskLemmas.{disks_of_acted, disks_of_took}
 use Rattle.set_world.proofs.NodesLemmas.{get_in, nodes_set, nodes_long}
 
 -- an event's plan, by its task
-plan_is : (world : World) (event : Event) (what : Task) (node : Node) → task world event.command ≡ what → slice_get world.nodes (actor what) ≡ Some node
+pub plan_is : (world : World) (event : Event) (what : Task) (node : Node) → task world event.command ≡ what → slice_get world.nodes (actor what) ≡ Some node
     → event_plan world event ≡ plan_of world event what node
 plan_is world event what node is there =
     ap (λ t. option_and_then (plan_of world event t) (slice_get world.nodes (actor t))) is ∙ ap (λ found. option_and_then (plan_of world event what) found) there
 
 -- the step of an event that has a plan
-step_is : (world : World) (event : Event) (what : Task) (plan : Plan) → task world event.command ≡ what → event_plan world event ≡ Some plan
+pub step_is : (world : World) (event : Event) (what : Task) (plan : Plan) → task world event.command ≡ what → event_plan world event ≡ Some plan
     → step world event ≡ with_outcome world (actor what) (done plan event.failed)
 step_is world event what plan is has = ap (by_plan world event) has ∙ ap (λ t. with_outcome world (actor t) (done plan event.failed)) is
 
@@ -102,11 +102,11 @@ own_acts state number next messages command old new (Ok done) is long acted =
 
 pub own_disks : {D : Type 0} (state : D → State) (number next : ℕ) (messages : List Message) (command : Command) (old new : List (Node × D × D)) (result : Result Done AllocError)
     → task (record { nodes = nodes_in old; messages = messages }) command ≡ acts number → IfOk result (λ done. OneOf number (ActedSo state (length old) next command done) old new)
-    → IfOk result (λ done. AtMostOne old new (OneOf (touched_node (record { nodes = nodes_in old; messages = messages }) command) (DisksSo state (DisksActed command done.reply (IsSome done.failed))) old new))
+    → IfOk result (λ done. AtTouched (task (record { nodes = nodes_in old; messages = messages }) command) done.failed old new (λ n. OneOf n (DisksSo state (DisksActed command done.reply (IsSome done.failed))) old new))
 own_disks state number next messages command old new (Err why) is acted = tt
 own_disks state number next messages command old new (Ok done) is acted =
-    inr (subst (λ n. OneOf n (DisksSo state (DisksActed command done.reply (IsSome done.failed))) old new) (sym (ap actor is))
-    (disks_of_acted state number (length old) next command old new done acted))
+    subst (λ t. AtTouched t done.failed old new (λ n. OneOf n (DisksSo state (DisksActed command done.reply (IsSome done.failed))) old new)) (sym is)
+    (disks_of_acted state number (length old) next command old new done acted)
 
 pub taken_acts : {D : Type 0} (state : D → State) (next : ℕ) (messages : List Message) (message : Message) (command : Command) (old new : List (Node × D × D)) (result : Result Done AllocError)
     → task (record { nodes = nodes_in old; messages = messages }) command ≡ takes message → next ≡ length messages → IfOk result (λ done. done.kept ≡ false)
@@ -118,11 +118,15 @@ taken_acts state next messages message command old new (Ok done) is long kept to
 
 pub taken_disks : {D : Type 0} (state : D → State) (next : ℕ) (messages : List Message) (message : Message) (command : Command) (old new : List (Node × D × D)) (result : Result Done AllocError)
     → task (record { nodes = nodes_in old; messages = messages }) command ≡ takes message → is_here command ≡ false → IfOk result (λ done. OneOf message.to (TookSo state next message done) old new)
-    → IfOk result (λ done. AtMostOne old new (OneOf (touched_node (record { nodes = nodes_in old; messages = messages }) command) (DisksSo state (DisksActed command done.reply (IsSome done.failed))) old new))
+    → IfOk result (λ done. AtTouched (task (record { nodes = nodes_in old; messages = messages }) command) done.failed old new (λ n. OneOf n (DisksSo state (DisksActed command done.reply (IsSome done.failed))) old new))
 taken_disks state next messages message command old new (Err why) is none took = tt
 taken_disks state next messages message command old new (Ok done) is none took =
-    inr (subst (λ n. OneOf n (DisksSo state (DisksActed command done.reply (IsSome done.failed))) old new) (sym (ap actor is))
-    (disks_of_took state message.to next message command old new done none took))
+    subst (λ t. AtTouched t done.failed old new (λ n. OneOf n (DisksSo state (DisksActed command done.reply (IsSome done.failed))) old new)) (sym is)
+    (disks_of_took state message.to next message command old new done none took)
+
+-- no such message was sent
+pub nobody_disks : {A : Type 0} (world : World) (command : Command) (came : Done) (old : List A) (At : ℕ → Type 0) → task world command ≡ nothing → came.failed ≡ None → AtTouched (task world command) came.failed old old At
+nobody_disks world command came old At is failed = subst (λ t. AtTouched t came.failed old old At) (sym is) (failed, refl)
 
 -- at the node that the command touches
 pub undone_there : {D : Type 0} (state : D → State) (world : World) (what : Task) (command : Command) (old new : List (Node × D × D)) (result : Result Done AllocError)

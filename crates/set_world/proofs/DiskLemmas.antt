@@ -1,5 +1,5 @@
 -- The disks of nodes, two for each, in order of number.
-use Rattle.std.proofs.Common.{◌≡◌, ◌∙◌, ◌<◌, ◌+◌, ◌*◌, inl, inr, ap, sym, subst, refl, arith, ℕ, zero, suc, false, Some, Result, Ok, Err, length, List, [], ◌∷◌, ◌++◌, slice_get, slice_set, slice_index_or}
+use Rattle.std.proofs.Common.{◌≡◌, ◌∙◌, ◌<◌, ◌+◌, ◌*◌, inl, inr, ap, sym, subst, refl, arith, ℕ, zero, suc, false, Option, Some, Result, Ok, Err, length, List, [], ◌∷◌, ◌++◌, slice_get, slice_set, slice_index_or}
 use Rattle.std.specs.Prelude.{IfOk, OnErr, IsSome}
 use Rattle.std.specs.declared.alloc.AllocError.{AllocError}
 use Rattle.std.proofs.lemmas.Option.{slice_get-get_or, same_Some}
@@ -12,12 +12,12 @@ use Rattle.set_model.specs.declared.reply.Reply.{Reply}
 use Rattle.set_model.specs.declared.command.Event.{Event}
 use Rattle.set_model.specs.Node.{Node}
 use Rattle.set_model.specs.Run.{Sizes, run}
-use Rattle.set_model.specs.World.{World, step, touched_node}
+use Rattle.set_model.specs.World.{World, Task, acts, takes, nothing, step, task, touched_node}
 use Rattle.repl_msg.specs.declared.message.Message.{Message}
 use Rattle.node_core.specs.declared.done.Done.{Done}
 use Rattle.node_core.specs.Acting.{DisksActed, Runs, is_here, orders_after}
 use Rattle.set_world.specs.Acting.{OneOf, DisksSo, ActedSo, TookSo, UnchangedSo, StandsOn, NodesStand}
-use Rattle.set_world.specs.Disks.{OneChanged, AtMostOne, IsStep, IsUndone, StandsThere, AllStand}
+use Rattle.set_world.specs.Disks.{OneChanged, AtTouched, IsStep, IsUndone, StandsThere, AllStand}
 use Rattle.set_world.specs.World.{Set, disks_in, nodes_in, event_of}
 
 two_more : (k : ℕ) → 2 * suc k ≡ suc (suc (2 * k))
@@ -57,6 +57,14 @@ one_changed state Changed number old new idle one = record {
   disks = ap (λ l. disks_in l ++ idle) one.list ∙ set_disks old idle number one.before one.after one.there;
   changed = one.so;
 }
+
+-- the disks of the set, where those of its nodes are so
+all_touched : {D : Type 0} (state : D → State) (Changed : State → State → State → State → Type 0) (what : Task) (failed : Option ℕ) (old new : List (Node × D × D)) (idle : List D)
+    → AtTouched what failed old new (λ n. OneOf n (DisksSo state Changed) old new)
+    → AtTouched what failed (disks_in old ++ idle) (disks_in new ++ idle) (λ n. OneChanged state Changed n (disks_in old ++ idle) (disks_in new ++ idle))
+all_touched state Changed (acts number) failed old new idle one = one_changed state Changed number old new idle one
+all_touched state Changed (takes message) failed old new idle one = one_changed state Changed message.to old new idle one
+all_touched state Changed nothing failed old new idle (none, same) = (none, ap (λ l. disks_in l ++ idle) same)
 
 -- ---- one of a list
 
@@ -167,7 +175,7 @@ module _ {D : Type 0} (state : D → State) (sizes : Sizes) (history : List Even
       (subst (λ w. OneOf (touched_node w command) (DisksSo state Changed) items new) (sym is) one)
 
   pub is_step : (later : List Event) (line : ℕ) (came : Done) → later ≡ history ++ event_of line command came ∷ [] → came.reply ≡ (step (run sizes history).world (event_of line command came)).reply
-      → AtMostOne items new (OneOf (touched_node (record { nodes = nodes_in items; messages = messages }) command) (DisksSo state (DisksActed command came.reply (IsSome came.failed))) items new)
+      → AtTouched (task (record { nodes = nodes_in items; messages = messages }) command) came.failed items new (λ n. OneOf n (DisksSo state (DisksActed command came.reply (IsSome came.failed))) items new)
       → IsStep state (record { sizes = sizes; history = history; disks = disks_in items ++ idle }) (record { sizes = sizes; history = later; disks = disks_in new ++ idle }) line command came.reply
   is_step later line came more reply changed = record {
     event = event_of line command came;
@@ -175,10 +183,9 @@ module _ {D : Type 0} (state : D → State) (sizes : Sizes) (history : List Even
     command_is = refl;
     history = more;
     reply_is = reply;
-    disks = elim changed [
-      | inl none ↦ inl (ap (λ l. disks_in l ++ idle) none)
-      | inr one ↦ inr (touched (DisksActed command came.reply (IsSome came.failed)) one)
-    ];
+    disks = subst (λ w. AtTouched (task w command) came.failed (disks_in items ++ idle) (disks_in new ++ idle)
+        (λ n. OneChanged state (DisksActed command came.reply (IsSome came.failed)) n (disks_in items ++ idle) (disks_in new ++ idle))) (sym is)
+        (all_touched state (DisksActed command came.reply (IsSome came.failed)) (task (record { nodes = nodes_in items; messages = messages }) command) came.failed items new idle changed);
   }
 
   pub is_undone : (later : List Event) → later ≡ history → OneOf (touched_node (record { nodes = nodes_in items; messages = messages }) command) (UnchangedSo state) items new
@@ -197,7 +204,7 @@ module _ {D : Type 0} (state : D → State) (sizes : Sizes) (history : List Even
   world_is = is ∙ (λ i. record { nodes = nodes_in (sym same i); messages = sym same_messages i })
 
   pub stepped : (later : List Event) (line : ℕ) (came : Done) → later ≡ history ++ event_of line command came ∷ [] → came.reply ≡ (step (run sizes history).world (event_of line command came)).reply
-      → AtMostOne nodes new (OneOf (touched_node (record { nodes = nodes_in nodes; messages = now }) command) (DisksSo state (DisksActed command came.reply (IsSome came.failed))) nodes new)
+      → AtTouched (task (record { nodes = nodes_in nodes; messages = now }) command) came.failed nodes new (λ n. OneOf n (DisksSo state (DisksActed command came.reply (IsSome came.failed))) nodes new)
       → IsStep state (record { sizes = sizes; history = history; disks = disks_in items ++ idle }) (record { sizes = sizes; history = later; disks = disks_in new ++ idle }) line command came.reply
   stepped later line came more reply changed =
       subst (λ (l : List (Node × D × D)). IsStep state (record { sizes = sizes; history = history; disks = disks_in l ++ idle }) (record { sizes = sizes; history = later; disks = disks_in new ++ idle }) line command came.reply) same

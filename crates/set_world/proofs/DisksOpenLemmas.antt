@@ -40,7 +40,7 @@ get_seam : {D : Type 0} (front tail : List D) (m : ℕ) → slice_get (front ++ 
 get_seam [] tail m = ap (λ k. slice_get tail k) (let same : zero + m ≡ m = omega arith in same)
 get_seam (x ∷ front) tail m = ap (λ k. slice_get (x ∷ front ++ tail) k) (let same : suc (length front) + m ≡ suc (length front + m) = omega arith in same) ∙ get_seam front tail m
 
-there_too : {D : Type 0} (xs ys : List D) (place : ℕ) (x : D) → length ys ≡ length xs → slice_get xs place ≡ Some x → (y : D) × (slice_get ys place ≡ Some y)
+pub there_too : {D : Type 0} (xs ys : List D) (place : ℕ) (x : D) → length ys ≡ length xs → slice_get xs place ≡ Some x → (y : D) × (slice_get ys place ≡ Some y)
 there_too [] ys place x same at = absurd (cc at)
 there_too (first ∷ xs) [] place x same at = absurd (omega (arith, same))
 there_too (first ∷ xs) (other ∷ ys) zero x same at = (other, refl)

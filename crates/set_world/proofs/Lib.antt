@@ -1,7 +1,8 @@
-mod ActingLemmas
-mod DiskLemmas
-mod DisksOpenLemmas
-mod NodesLemmas
+pub mod ActingLemmas
+pub mod DiskLemmas
+pub mod DisksOpenLemmas
+pub mod FaultLemmas
+pub mod NodesLemmas
 mod OpenLemmas
 mod PoolLemmas
 mod WorldLemmas

@@ -1,5 +1,5 @@
 -- What opening a set and each of its steps do to its disks.
-use Rattle.std.specs.Prelude.{◌≡◌, ◌⊎◌, ◌<◌, ◌≤◌, ◌+◌, ◌*◌, ◌++◌, ◌∷◌, [], ℕ, IsSome, IsTrue, List, Some, length, drop, slice_get, slice_set}
+use Rattle.std.specs.Prelude.{◌≡◌, ◌⊎◌, ◌<◌, ◌≤◌, ◌+◌, ◌*◌, ◌++◌, ◌∷◌, [], ℕ, IsSome, IsTrue, List, Option, None, Some, length, drop, slice_get, slice_set}
 use Rattle.rs_io.specs.Fault.{Rose}
 use Rattle.rs_disk.specs.State.{State}
 use Rattle.set_model.specs.declared.command.Command.{Command}
@@ -7,7 +7,7 @@ use Rattle.set_model.specs.declared.command.Event.{Event}
 use Rattle.set_model.specs.declared.reply.Reply.{Reply}
 use Rattle.set_model.specs.Node.{Node}
 use Rattle.set_model.specs.Run.{run}
-use Rattle.set_model.specs.World.{step, touched_node}
+use Rattle.set_model.specs.World.{Task, acts, takes, nothing, step, task, touched_node}
 use Rattle.node_core.specs.Acting.{DisksActed, Runs}
 use Rattle.node_core.specs.Stands.{Stands}
 use Rattle.set_world.specs.World.{Set}
@@ -25,9 +25,12 @@ pub record OneChanged {D : Type 0} (state : D → State) (Changed : State → St
   pub disks : new ≡ slice_set (slice_set old (2 * number) journal') (2 * number + 1) checkpoints'
   pub changed : Changed (state journal) (state journal') (state checkpoints) (state checkpoints')
 
--- none changed, or those of one node
-abbrev pub AtMostOne : {A : Type 0} → List A → List A → Type 0 → Type 0
-AtMostOne old new One = (new ≡ old) ⊎ One
+-- What an event does with this task, by the node that it touches. Where no such message was sent no node is touched: no store fails
+-- then, and the list is as it was.
+abbrev pub AtTouched : {A : Type 0} → Task → Option ℕ → List A → List A → (ℕ → Type 0) → Type 0
+AtTouched (acts number) failed old new At = At number
+AtTouched (takes message) failed old new At = At message.to
+AtTouched nothing failed old new At = (failed ≡ None) × (new ≡ old)
 
 -- on the two disks of a node of this number stands what the node is
 pub record StandsThere {D : Type 0} (state : D → State) (number : ℕ) (node : Node) (disks : List D) : Type 0 where
@@ -45,23 +48,22 @@ AllStand state set =
 
 -- ---- a step
 
--- One event more stands in the history, of this line and command. It is answered as the model says, and of all disks only those
--- of the node that it touches changed.
+-- One event more stands in the history, of this line and command. It is answered as the model says. Of all disks only those of the
+-- node that it touches changed, and as their calls say.
 pub record IsStep {D : Type 0} (state : D → State) (old new : Set D) (line : ℕ) (command : Command) (reply : Reply) : Type 0 where
   pub event : Event
   pub line_is : event.line ≡ line
   pub command_is : event.command ≡ command
   pub history : new.history ≡ old.history ++ event ∷ []
   pub reply_is : reply ≡ (step (run old.sizes old.history).world event).reply
-  pub disks : AtMostOne old.disks new.disks
-      (OneChanged state (DisksActed command reply (IsSome event.failed)) (touched_node (run old.sizes old.history).world command) old.disks new.disks)
+  pub disks : AtTouched (task (run old.sizes old.history).world command) event.failed old.disks new.disks
+      (λ number. OneChanged state (DisksActed command reply (IsSome event.failed)) number old.disks new.disks)
 
 -- Nothing was done. Where memory was wanting, the disks of the node that would have been touched may have been used: no orders
 -- were given to them.
 pub record IsUndone {D : Type 0} (state : D → State) (old new : Set D) (command : Command) : Type 0 where
   pub history : new.history ≡ old.history
-  pub disks : AtMostOne old.disks new.disks
-      (OneChanged state (Runs ⊥) (touched_node (run old.sizes old.history).world command) old.disks new.disks)
+  pub disks : (new.disks ≡ old.disks) ⊎ OneChanged state (Runs ⊥) (touched_node (run old.sizes old.history).world command) old.disks new.disks
 
 -- ---- two disks on which a node is opened
 

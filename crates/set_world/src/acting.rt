@@ -2,11 +2,11 @@ ghost use Rattle.std.specs.Prelude.{◌≡◌, ◌<◌, ◌^◌, ℕ, [], true, 
 ghost use Rattle.set_model.specs.Limits.{is_for, is_within};
 ghost use Rattle.set_model.specs.Node.{Node as Standing};
 ghost use Rattle.set_model.specs.Taking.{CanTake};
-ghost use Rattle.set_model.specs.World.{touched_node};
+ghost use Rattle.set_model.specs.World.{task, touched_node};
 ghost use Rattle.node_state.specs.Bounds.{IsBounded, IsNumbered};
 ghost use Rattle.node_core.specs.Acting.{DisksActed, is_here};
 ghost use Rattle.set_world.specs.Acting.{ActedSo, DisksSo, MayAct, NodesStand, OneOf, TookSo, UnchangedSo};
-ghost use Rattle.set_world.specs.Disks.{AtMostOne};
+ghost use Rattle.set_world.specs.Disks.{AtTouched};
 ghost use Rattle.set_world.specs.World.{Acts, nodes_in};
 
 use crate::command::{actor, delivered};
@@ -31,7 +31,7 @@ pub(crate) fn act<D: Disk, R: Threads + Sync>(
     requires may { MayAct nodes.old pool.now }
     requires command { is_for pool.now.nodes command.now ≡ true }
     ensures ok { IfOk result (λ done. Acts (record { nodes = nodes_in nodes.old; messages = pool.now.messages }) command.now (nodes_in nodes.new) done) }
-    ensures disks { IfOk result (λ done. AtMostOne nodes.old nodes.new (OneOf (touched_node (record { nodes = nodes_in nodes.old; messages = pool.now.messages }) command.now) (DisksSo D.state (DisksActed command.now done.reply (IsSome done.failed))) nodes.old nodes.new)) }
+    ensures disks { IfOk result (λ done. AtTouched (task (record { nodes = nodes_in nodes.old; messages = pool.now.messages }) command.now) done.failed nodes.old nodes.new (λ number. OneOf number (DisksSo D.state (DisksActed command.now done.reply (IsSome done.failed))) nodes.old nodes.new)) }
     ensures err { OnErr result (OneOf (touched_node (record { nodes = nodes_in nodes.old; messages = pool.now.messages }) command.now) (UnchangedSo D.state) nodes.old nodes.new) }
     ensures stand { NodesStand D.state nodes.old → NodesStand D.state nodes.new }
     ensures len { length nodes.new ≡ length nodes.old }

@@ -1,9 +1,13 @@
 -- The lowest of some numbers, found from the first on.
 use Rattle.std.proofs.Common.{◌≡◌, ◌∙◌, ap, sym, refl, arith, ℕ, Bool, true, false, cond, List, [], ◌∷◌, Option, None, Some, fold, min}
+use Rattle.std.specs.Option.{option_map_or}
 use Rattle.std.specs.Prelude.{nat_lt}
 use Rattle.std.proofs.lemmas.Bool.Decides.{nat_tests}
 use Rattle.member_config.specs.Numbers.{put, in_order, first_of, lowest}
-use Rattle.sync_source.specs.Known.{or_lower}
+
+-- the lower of a number and another, if there is one
+abbrev pub or_lower : ℕ → Option ℕ → Option ℕ
+or_lower number found = Some (option_map_or (min number) found number)
 
 lower : (n other : ℕ) (rest more : List ℕ) (b : Bool) → nat_lt other n ≡ b
     → first_of (cond b (other ∷ rest) (n ∷ more)) ≡ Some (min n other)

@@ -1,8 +1,9 @@
-ghost use Rattle.std.specs.Prelude.{◌≡◌};
+ghost use Rattle.std.specs.Prelude.{◌≡◌, Some, min};
+ghost use Rattle.std.specs.Option.{option_map_or};
 ghost use Rattle.std.specs.Result.{result_ok};
 ghost use Rattle.member_config.specs.Numbers.{lowest};
 ghost use Rattle.repl_msg.specs.Sources as words;
-ghost use Rattle.sync_source.specs.Known.{first_of_member, heard_of, or_lower};
+ghost use Rattle.sync_source.specs.Known.{first_of_member, heard_of};
 
 use member_config::Config;
 use rs_optime::OpTime;
@@ -38,7 +39,7 @@ pub fn choose(config: &Config, own: u32, last: OpTime, known: &[Known]) -> Resul
 
 /// The lower of a number and another, if there is one.
 fn lower(lowest: Option<u32>, number: u32) -> Option<u32>
-    ensures { result ≡ or_lower number lowest }
+    ensures { result ≡ Some (option_map_or (min number) lowest number) }
 {
     match lowest {
         None => Some(number),

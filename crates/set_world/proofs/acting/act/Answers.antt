@@ -2,7 +2,7 @@ use Rattle.std.proofs.Common.{◌≡◌, refl, false, length}
 use Rattle.set_model.specs.World.{World, acts, takes}
 use Rattle.node_core.specs.Acting.{is_here}
 use Rattle.set_world.specs.World.{nodes_in}
-use Rattle.set_world.proofs.ActingLemmas.{acts_nothing, own_acts, own_disks, taken_acts, taken_disks, undone_there}
+use Rattle.set_world.proofs.ActingLemmas.{acts_nothing, nobody_disks, own_acts, own_disks, taken_acts, taken_disks, undone_there}
 use Rattle.set_world.proofs.DiskLemmas.{stand_acted, stand_took}
 use Rattle.set_world.proofs.acting.act.Goals as goal
 
@@ -62,3 +62,8 @@ returns-in-None-delivered-clause-ok g c =
     let world : World = record { nodes = nodes_in c.args.nodes.now; messages = c.args.pool.now.messages } in
     acts_nothing world c.args.command.now c.nothing.result (c.in-None-delivered.ensures.none world refl c.in-None.ensures.own)
     c.nothing.ensures.reply c.nothing.ensures.sent c.nothing.ensures.failed c.nothing.ensures.kept
+
+pub returns-in-None-delivered-clause-disks : goal.returns-in-None-delivered-clause-disks
+returns-in-None-delivered-clause-disks g c =
+    let world : World = record { nodes = nodes_in c.args.nodes.now; messages = c.args.pool.now.messages } in
+    nobody_disks world c.args.command.now c.nothing.result c.args.nodes.now _ (c.in-None-delivered.ensures.none world refl c.in-None.ensures.own) c.nothing.ensures.failed

@@ -1,6 +1,6 @@
 use Rattle.std.proofs.Common.{arith}
 use Rattle.set_program.proofs.EmptyLemmas.{empty_more}
-use Rattle.set_program.proofs.tests.disks_with_a_fault.Goals as goal
+use Rattle.scenarios.proofs.runs.disks_with.Goals as goal
 
 pub loop-place-preserved : goal.loop-place-preserved
 loop-place-preserved c = (

@@ -1,0 +1,264 @@
+-- What the disks of a node went through in a whole run: they were opened, then each event did its part, and maybe a command that
+-- wasn't done.
+use Rattle.std.proofs.Common.{◌≡◌, ◌∙◌, ◌<◌, ◌≤◌, ◌+◌, ◌*◌, ◌&&◌, inl, inr, ap, sym, subst, refl, arith, ℕ, zero, suc, Bool, true, nat_lt, Some, IsTrue, IsSome, List, [], ◌∷◌, Option, String, length, slice_get}
+use Rattle.std.specs.Prelude.{All}
+use Rattle.std.specs.declared.alloc.Global.{Global}
+use Rattle.std.proofs.lemmas.Bool.{cases_Bool, cases_order}
+use Rattle.std.proofs.lemmas.Option.{same_Some, slice_get_cases}
+use Rattle.rs_disk.specs.State.{State}
+use Rattle.set_model.specs.declared.command.Command.{Command}
+use Rattle.set_model.specs.declared.command.Command.TheVariants.{DiskFail}
+use Rattle.set_model.specs.declared.command.Event.{Event}
+use Rattle.set_model.specs.declared.reply.Refusal.TheVariants.{DiskFailed}
+use Rattle.set_model.specs.declared.reply.Reply.{Reply}
+use Rattle.set_model.specs.declared.reply.Reply.TheVariants.{Armed, Refused}
+use Rattle.set_model.specs.Limits.{AllFit, Fits, IsRun, is_for}
+use Rattle.set_model.specs.Node.{Node}
+use Rattle.set_model.specs.Rows.{row}
+use Rattle.set_model.specs.Run.{AreSizes, Run, Sizes, after, opening, run}
+use Rattle.set_model.specs.Safety.{Answers}
+use Rattle.set_model.specs.Stores.{done}
+use Rattle.set_model.specs.World.{World, Step, acts, step, task, touched_node}
+use Rattle.node_core.specs.Acting.{Runs, is_disk_fail}
+use Rattle.set_world.specs.Disks.{IsServed, Opens}
+use Rattle.set_world.specs.World.{Set}
+use Rattle.set_world.proofs.ActingLemmas.{plan_is, step_is}
+use Rattle.set_world.proofs.DisksOpenLemmas.{there_too}
+use Rattle.set_world.proofs.NodesLemmas.{named}
+use Rattle.set_program.specs.Counts.{FailedSoOften, FailuresCount, FaultsAreArmed, FaultsHaveCauses, OfNode, OneRoseOfTwo, OrdersAre, OrdersCount, failures_at}
+use Rattle.set_program.specs.Disks.{DisksRan, DisksUndone}
+use Rattle.set_program.specs.Headline.{IsUnarmed, LeavesDisks}
+use Rattle.set_program.specs.Left.{IfSet}
+use Rattle.set_program.specs.declared.outcome.Left.{Left}
+use Rattle.set_program.specs.declared.outcome.Left.TheVariants.{World as Ran, Parts}
+use Rattle.set_program.proofs.OpenLemmas.{unarmed_at}
+use Rattle.set_program.proofs.CountLemmas.{AnswersHere, apart, NodeHas, NodePlay, NodeStep, broke, changed_here, failed_wider, failures_counted, fault_caused, node_played, one_event_back, one_event_on, orders_told, rose_wider, unchanged_there}
+
+-- ---- who armed a disk
+
+pub record AreUnarmed (j c : State) : Type 0 where
+  pub journal_steady : IsTrue j.is_steady
+  pub checkpoints_steady : IsTrue c.is_steady
+  pub journal : ¬ IsTrue j.is_armed
+  pub checkpoints : ¬ IsTrue c.is_armed
+
+-- a disk of a node of the set is always told to fail
+told_to_fail : (world : World) (event : Event) → Fits world event → is_disk_fail event.command ≡ true → (step world event).reply ≡ Armed
+told_to_fail world event fits fails = go event.command refl fails
+  where
+    at : (number : ℕ) (command : Command) → event.command ≡ command → task world command ≡ acts number → (node : Node) → slice_get world.nodes number ≡ Some node
+        → (step world event).reply ≡ (done (row (length world.nodes) (length world.messages) event.kept node command) event.failed).reply
+    at number command is acting node there =
+        ap (λ (s : Step). s.reply)
+        (step_is world event (acts number) (row (length world.nodes) (length world.messages) event.kept node event.command) (ap (task world) is ∙ acting)
+        (plan_is world event (acts number) node (ap (task world) is ∙ acting) there))
+        ∙ ap (λ c. (done (row (length world.nodes) (length world.messages) event.kept node c) event.failed).reply) is
+
+    known : (number : ℕ) (others : Bool) (command : Command) → event.command ≡ command → is_for (length world.nodes) command ≡ ((nat_lt number (length world.nodes) && true) && others) → number < length world.nodes
+    known number others command is for = named number (length world.nodes) true others (sym for ∙ ap (is_for (length world.nodes)) (sym is) ∙ fits.command)
+
+    go : (command : Command) → event.command ≡ command → is_disk_fail command ≡ true → (step world event).reply ≡ Armed
+    go (DiskFail number disk call pick) is told = elim (slice_get_cases world.nodes number).1 [
+      | inl found ↦ at number (DiskFail number disk call pick) is refl found.0 found.2
+      | inr past ↦ let less : number < length world.nodes = known number _ (DiskFail number disk call pick) is refl in absurd (omega (arith, less, past.0))
+    ]
+    go command is told = absurd (cc told)
+
+pub armed_before : (number : ℕ) (so_far : Run) (events : List Event) → AllFit so_far.world events → (j j' c c' : State) → NodePlay number so_far.world events j j' c c' → AreUnarmed j c
+    → (place : ℕ) (event : Event) → AnswersHere so_far events place number event (Refused DiskFailed)
+    → (before : ℕ) × (earlier : Event) × (before < place) × AnswersHere so_far events before number earlier Armed
+armed_before number so_far [] fit j j' c c' same unarmed place event is = absurd (cc is.event_is)
+armed_before number so_far (first ∷ later) fit j j' c c' (jm, cm, one, rest) unarmed zero event is = absurd (never one)
+  where
+    failed : (IsSome first.failed) × (touched_node so_far.world first.command ≡ number)
+    failed = broke number so_far.world first event (same_Some first event is.event_is) is.touches is.reply_is
+
+    never : NodeStep number so_far.world first j jm c cm → ⊥
+    never (inl acted) = elim (acted.1.fails.only_armed failed.0 unarmed.journal_steady unarmed.checkpoints_steady) [ inl armed ↦ unarmed.journal armed | inr armed ↦ unarmed.checkpoints armed ]
+    never (inr same) = same.0 failed.1
+armed_before number so_far (first ∷ later) fit j j' c c' (jm, cm, one, rest) unarmed (suc place) event is =
+    here (λ still. armed_before number (after so_far first) later fit.1 jm j' cm c' rest still place event (one_event_on so_far first later place number event (Refused DiskFailed) is)) one
+  where
+    on : (AreUnarmed jm cm → (before : ℕ) × (earlier : Event) × (before < place) × AnswersHere (after so_far first) later before number earlier Armed)
+        → AreUnarmed jm cm → (before : ℕ) × (earlier : Event) × (before < suc place) × AnswersHere so_far (first ∷ later) before number earlier Armed
+    on rest still =
+        let found = rest still in
+        (suc found.0, found.1, (let less : found.0 < place = found.2 in omega (arith, less)), one_event_back so_far first later found.0 number found.1 Armed found.3)
+
+    here : (AreUnarmed jm cm → (before : ℕ) × (earlier : Event) × (before < place) × AnswersHere (after so_far first) later before number earlier Armed)
+        → NodeStep number so_far.world first j jm c cm → (before : ℕ) × (earlier : Event) × (before < suc place) × AnswersHere so_far (first ∷ later) before number earlier Armed
+    here again (inr same) = on again (subst (λ s. AreUnarmed s cm) (sym same.1) (subst (λ s. AreUnarmed j s) (sym same.2) unarmed))
+    here again (inl acted) = elim (cases_Bool (is_disk_fail first.command)) [
+      | inl told ↦ (zero, first, omega arith, record { event_is = refl; touches = acted.0; reply_is = told_to_fail so_far.world first fit.0 told })
+      | inr other ↦ on again (record {
+        journal_steady = acted.1.fails.journal_steady unarmed.journal_steady;
+        checkpoints_steady = acted.1.fails.checkpoint_steady unarmed.checkpoints_steady;
+        journal = λ armed. unarmed.journal (acted.1.journal_armed other armed);
+        checkpoints = λ armed. unarmed.checkpoints (acted.1.checkpoints_armed other armed);
+      })
+    ]
+
+-- ---- a node's disks, from those that were handed in to those that are left
+
+pub record NodeRan (number : ℕ) (world : World) (events : List Event) (j j' c c' : State) : Type 0 where
+  pub opened_journal : State
+  pub opened_checkpoints : State
+  pub last_journal : State
+  pub last_checkpoints : State
+  pub journal_served : IsServed j opened_journal
+  pub checkpoints_served : IsServed c opened_checkpoints
+  pub played : NodePlay number world events opened_journal last_journal opened_checkpoints last_checkpoints
+  pub undone : Runs ⊥ last_journal j' last_checkpoints c'
+
+at_all : {A : Type 0} (xs : List A) (i : ℕ) → i < length xs → (x : A) × (slice_get xs i ≡ Some x)
+at_all xs i within = elim (slice_get_cases xs i).1 [ inl found ↦ (found.0, found.2) | inr past ↦ absurd (omega (arith, within, past.0)) ]
+
+runs_none : (j c : State) → Runs ⊥ j j c c
+runs_none j c = record {
+  fails = record {
+    journal_faults = omega arith;
+    checkpoint_faults = omega arith;
+    cause = λ fault. absurd fault;
+    only_armed = λ fault steady also. absurd fault;
+    journal_steady = λ steady. steady;
+    checkpoint_steady = λ steady. steady;
+  };
+  journal_armed = λ armed. armed;
+  checkpoints_armed = λ armed. armed;
+  journal_orders = refl;
+  checkpoints_orders = refl;
+}
+
+undone_there : {D : Type 0} (state : D → State) (set : Set D) (last : List D) (number : ℕ) (j c : State) → NodeHas state number last j c → DisksUndone state set last
+    → (j' : State) × (c' : State) × NodeHas state number set.disks j' c' × Runs ⊥ j j' c c'
+undone_there state set last number j c has (inl same) = (j, c, subst (λ l. NodeHas state number l j c) (sym same) has, runs_none j c)
+undone_there state set last number j c has (inr (command, for, one)) = elim (cases_order (touched_node (run set.sizes set.history).world command) number) [
+  | inl same ↦ changed_here state (Runs ⊥) (touched_node (run set.sizes set.history).world command) number last set.disks j c one has same
+  | inr other ↦ (j, c, unchanged_there state (Runs ⊥) (touched_node (run set.sizes set.history).world command) number last set.disks j c one has (apart (touched_node (run set.sizes set.history).world command) number other), runs_none j c)
+]
+
+pub node_ran : {D : Type 0} (state : D → State) (handed opened : List D) (set : Set D) → Opens state set.sizes.nodes ⊥ handed opened → DisksRan state opened set → (number : ℕ) → 2 * number + 1 < length handed
+    → OfNode state handed set.disks number (NodeRan number (opening set.sizes).world set.history)
+node_ran {D} state handed opened set opens (last, played, undone) number within = record {
+  journal = journal.0;
+  journal' = behind.2.journal;
+  checkpoints = checkpoints.0;
+  checkpoints' = behind.2.checkpoints;
+  journal_was = journal.1;
+  journal_is = behind.2.journal_at;
+  checkpoints_was = checkpoints.1;
+  checkpoints_is = behind.2.checkpoints_at;
+  so = subst (λ s. NodeRan number (opening set.sizes).world set.history (state journal.0) s (state checkpoints.0) (state behind.2.checkpoints)) (sym behind.2.journal_is)
+      (subst (λ s. NodeRan number (opening set.sizes).world set.history (state journal.0) behind.0 (state checkpoints.0) s) (sym behind.2.checkpoints_is)
+      (record {
+        opened_journal = state first.0;
+        opened_checkpoints = state second.0;
+        last_journal = events.0;
+        last_checkpoints = events.1;
+        journal_served = opens.each (2 * number) journal.0 first.0 journal.1 first.1;
+        checkpoints_served = opens.each (2 * number + 1) checkpoints.0 second.0 checkpoints.1 second.1;
+        played = events.3;
+        undone = behind.3;
+      }));
+}
+  where
+    journal : (d : D) × (slice_get handed (2 * number) ≡ Some d)
+    journal = at_all handed (2 * number) (omega (arith, within))
+
+    checkpoints : (d : D) × (slice_get handed (2 * number + 1) ≡ Some d)
+    checkpoints = at_all handed (2 * number + 1) within
+
+    first : (d : D) × (slice_get opened (2 * number) ≡ Some d)
+    first = there_too handed opened (2 * number) journal.0 opens.count journal.1
+
+    second : (d : D) × (slice_get opened (2 * number + 1) ≡ Some d)
+    second = there_too handed opened (2 * number + 1) checkpoints.0 opens.count checkpoints.1
+
+    events : (j' : State) × (c' : State) × NodeHas state number last j' c' × NodePlay number (opening set.sizes).world set.history (state first.0) j' (state second.0) c'
+    events = node_played state (opening set.sizes).world set.history opened last number (state first.0) (state second.0)
+        (record { journal = first.0; checkpoints = second.0; journal_at = first.1; checkpoints_at = second.1; journal_is = refl; checkpoints_is = refl }) played
+
+    behind : (j' : State) × (c' : State) × NodeHas state number set.disks j' c' × Runs ⊥ events.0 j' events.1 c'
+    behind = undone_there state set last number events.0 events.1 events.2 undone
+
+-- ---- what that tells
+
+of_node : {D : Type 0} (state : D → State) (handed left : List D) (number : ℕ) (So Other : State → State → State → State → Type 0) → ((j j' c c' : State) → So j j' c c' → Other j j' c c')
+    → OfNode state handed left number So → OfNode state handed left number Other
+of_node state handed left number So Other tells of = record {
+  journal = of.journal;
+  journal' = of.journal';
+  checkpoints = of.checkpoints;
+  checkpoints' = of.checkpoints';
+  journal_was = of.journal_was;
+  journal_is = of.journal_is;
+  checkpoints_was = of.checkpoints_was;
+  checkpoints_is = of.checkpoints_is;
+  so = tells (state of.journal) (state of.journal') (state of.checkpoints) (state of.checkpoints') of.so;
+}
+
+module _ (number : ℕ) (sizes : Sizes) (events : List Event) (j j' c c' : State) (ran : NodeRan number (opening sizes).world events j j' c c') where
+  pub failures_ran : FailedSoOften (failures_at number (opening sizes).world events) j j' c c'
+  failures_ran = failed_wider (failures_at number (opening sizes).world events) j ran.opened_journal ran.last_journal j' c ran.opened_checkpoints ran.last_checkpoints c'
+      ran.journal_served.faults ran.checkpoints_served.faults ran.undone.fails.journal_faults ran.undone.fails.checkpoint_faults
+      (failures_counted number (opening sizes).world events ran.opened_journal ran.last_journal ran.opened_checkpoints ran.last_checkpoints ran.played)
+
+  pub orders_ran : OrdersAre number (opening sizes).world events j j' c c'
+  orders_ran =
+      let told = orders_told number (opening sizes).world events ran.opened_journal ran.last_journal ran.opened_checkpoints ran.last_checkpoints ran.played in
+      rw (← ran.journal_served.orders, ← ran.checkpoints_served.orders, ran.undone.journal_orders, ran.undone.checkpoints_orders) told
+
+  here : (place : ℕ) (event : Event) (answer : Reply) → Answers sizes events place number event answer → AnswersHere (opening sizes) events place number event answer
+  here place event answer is = record { event_is = is.event_is; touches = is.touches; reply_is = is.reply_is }
+
+  pub fault_ran : (place : ℕ) (event : Event) → Answers sizes events place number event (Refused DiskFailed) → OneRoseOfTwo j j' c c'
+  fault_ran place event is = rose_wider j ran.opened_journal ran.last_journal j' c ran.opened_checkpoints ran.last_checkpoints c'
+      ran.journal_served.faults ran.checkpoints_served.faults ran.undone.fails.journal_faults ran.undone.fails.checkpoint_faults
+      (fault_caused number (opening sizes) events ran.opened_journal ran.last_journal ran.opened_checkpoints ran.last_checkpoints ran.played place event (here place event (Refused DiskFailed) is))
+
+  pub armed_ran : IsRun sizes events → IsUnarmed j → IsUnarmed c → (place : ℕ) (event : Event) → Answers sizes events place number event (Refused DiskFailed)
+      → (before : ℕ) × (earlier : Event) × (before < place) × Answers sizes events before number earlier Armed
+  armed_ran is_run first second place event is =
+      let found = armed_before number (opening sizes) events is_run ran.opened_journal ran.last_journal ran.opened_checkpoints ran.last_checkpoints ran.played
+      (record {
+        journal_steady = ran.journal_served.steady first.0;
+        checkpoints_steady = ran.checkpoints_served.steady second.0;
+        journal = λ armed. first.1 (ran.journal_served.armed armed);
+        checkpoints = λ armed. second.1 (ran.checkpoints_served.armed armed);
+      }) place event (here place event (Refused DiskFailed) is) in
+      (found.0, found.1, found.2, record { event_is = found.3.event_is; touches = found.3.touches; reply_is = found.3.reply_is })
+
+-- ---- what a call leaves
+
+module _ {D : Type 0} (state : D → State) (handed : List D) (many : length handed ≡ 100) where
+  ran_of : (opened : List D) (set : Set D) → AreSizes set.sizes → Opens state set.sizes.nodes ⊥ handed opened → DisksRan state opened set → (number : ℕ) → number < set.sizes.nodes
+      → OfNode state handed set.disks number (NodeRan number (opening set.sizes).world set.history)
+  ran_of opened set sizes opens ran number less =
+      node_ran state handed opened set opens ran number (let most : set.sizes.nodes ≤ 7 = sizes.most in omega (arith, less, most, many))
+
+  module _ (words : List (String Global)) (left rest : Option (List ℕ)) (status : ℕ) where
+    pub failures_left : (outcome : Left D) → IfSet outcome (λ set. AreSizes set.sizes) → LeavesDisks state words left rest handed status outcome → IfSet outcome (FailuresCount state handed)
+    failures_left (Parts events disks) sizes leaves = tt
+    failures_left (Ran set) sizes (opened, opens, ran) = λ number less.
+        of_node state handed set.disks number (NodeRan number (opening set.sizes).world set.history) (FailedSoOften (failures_at number (opening set.sizes).world set.history))
+        (λ j j' c c' node. failures_ran number set.sizes set.history j j' c c' node) (ran_of opened set sizes opens ran number less)
+
+    pub orders_left : (outcome : Left D) → IfSet outcome (λ set. AreSizes set.sizes) → LeavesDisks state words left rest handed status outcome → IfSet outcome (OrdersCount state handed)
+    orders_left (Parts events disks) sizes leaves = tt
+    orders_left (Ran set) sizes (opened, opens, ran) = λ number less.
+        of_node state handed set.disks number (NodeRan number (opening set.sizes).world set.history) (OrdersAre number (opening set.sizes).world set.history)
+        (λ j j' c c' node. orders_ran number set.sizes set.history j j' c c' node) (ran_of opened set sizes opens ran number less)
+
+    pub causes_left : (outcome : Left D) → IfSet outcome (λ set. AreSizes set.sizes) → LeavesDisks state words left rest handed status outcome → IfSet outcome (FaultsHaveCauses state handed)
+    causes_left (Parts events disks) sizes leaves = tt
+    causes_left (Ran set) sizes (opened, opens, ran) = λ place number event less is.
+        of_node state handed set.disks number (NodeRan number (opening set.sizes).world set.history) OneRoseOfTwo
+        (λ j j' c c' node. fault_ran number set.sizes set.history j j' c c' node place event is) (ran_of opened set sizes opens ran number less)
+
+    pub armed_left : (outcome : Left D) → IfSet outcome (λ set. AreSizes set.sizes) → IfSet outcome (λ set. IsRun set.sizes set.history) → LeavesDisks state words left rest handed status outcome
+        → All (λ (disk : D). IsUnarmed (state disk)) handed → IfSet outcome (λ set. FaultsAreArmed set.sizes set.history)
+    armed_left (Parts events disks) sizes is_run leaves unarmed = tt
+    armed_left (Ran set) sizes is_run (opened, opens, ran) unarmed = λ place number event less is.
+        let node = ran_of opened set sizes opens ran number less in
+        armed_ran number set.sizes set.history (state node.journal) (state node.journal') (state node.checkpoints) (state node.checkpoints') node.so is_run
+        (unarmed_at state handed unarmed (2 * number) node.journal node.journal_was) (unarmed_at state handed unarmed (2 * number + 1) node.checkpoints node.checkpoints_was) place event is
