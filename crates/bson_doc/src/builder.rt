@@ -37,6 +37,7 @@ impl Model for DocBuilder {
 }
 
 impl DocBuilder {
+    /// A document without fields.
     pub fn new(alloc: Global) -> Self
         ensures { result ≡ no_fields }
     {
@@ -86,6 +87,7 @@ impl DocBuilder {
         Ok(DocBuilder { alloc, doc, names })
     }
 
+    /// The document as it is, with no room for further fields.
     pub fn finish(self) -> Doc
         ensures { result ≡ self }
     {

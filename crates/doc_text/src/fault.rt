@@ -24,6 +24,7 @@ pub struct Fault {
     pub left: usize,
 }
 
+/// Why a reader stopped: out of memory, or the text breaks a rule.
 #[derive(Clone, Copy)]
 pub enum ReadError {
     Memory,

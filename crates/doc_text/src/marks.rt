@@ -37,6 +37,7 @@ pub fn mark(text: &str, byte: u8) -> Result<&str, ReadError>
     behind(text, byte).ok_or(ReadError::Fault(Fault::at(Rule::Unexpected, text)))
 }
 
+/// The text behind its leading spaces.
 pub fn spaces(text: &str) -> &str
     ensures gives { result.now ≡ behind_spaces text.now }
     ensures shorter { length result.now ≤ length text.now }

@@ -85,6 +85,7 @@ impl Parts {
         }
     }
 
+    /// The parts in their order.
     pub fn as_slice(&self) -> &[Part]
         ensures { result.now ≡ self.now }
     {

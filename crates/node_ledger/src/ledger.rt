@@ -90,6 +90,7 @@ impl Ledger {
         let _ = &self.term;
     }
 
+    /// The term that the node is in.
     pub fn term(&self) -> u64
         ensures { result ≡ self.now.node.term }
     {
@@ -103,12 +104,14 @@ impl Ledger {
         self.term < term
     }
 
+    /// What the node does in the set.
     pub fn role(&self) -> Role
         ensures { result ≡ self.now.node.role }
     {
         self.role
     }
 
+    /// The second that the node's timestamps start from.
     pub fn clock(&self) -> u32
         ensures { result ≡ self.now.node.clock }
     {
@@ -171,6 +174,7 @@ impl Ledger {
         }
     }
 
+    /// The writer of this number, as its last step left it, or none where no writer has the number.
     pub fn writer(&self, number: u32) -> Option<&Writer>
         ensures { option_copied result ≡ maps.get self.now.node.writers number }
     {

@@ -10,6 +10,7 @@ use rs_optime::OpTime;
 use set_model::Role;
 
 impl Ledger {
+    /// Sets the clock, in seconds.
     pub fn set_clock(&mut self, seconds: u32)
         ensures { self.new ≡ record self.old { node = record self.old.node { clock = seconds } } }
     {

@@ -249,6 +249,7 @@ impl State {
 
 // What a node keeps while it is down, and who it is.
 impl State {
+    /// The node's number in the set, counted from 0.
     pub fn number(&self) -> u32
         ensures { result ≡ self.now.node.number }
     {
@@ -262,6 +263,7 @@ impl State {
         &self.first
     }
 
+    /// The second that the node's timestamps start from.
     pub fn clock(&self) -> u32
         ensures { result ≡ self.now.node.clock }
     {
@@ -282,12 +284,14 @@ impl State {
         (self.ledger.last(), self.commit)
     }
 
+    /// The rollback id: how often the node rolled back or came up again.
     pub fn rollback(&self) -> u64
         ensures { result ≡ self.now.node.rollback }
     {
         self.rollback
     }
 
+    /// The records that the node stored, which exist in proofs alone.
     pub fn records(&self) -> &Records
         ensures { result.now.list ≡ self.now.node.records }
     {

@@ -10,6 +10,7 @@ use thiserror::Error;
 #[error("the disk failed")]
 pub struct Failed;
 
+/// Why a write to a disk failed.
 #[derive(Clone, Copy, Debug, PartialEq, Eq, Error)]
 pub enum DiskError {
     #[error("the disk failed")]

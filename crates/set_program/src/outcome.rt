@@ -9,6 +9,7 @@ use rs_disk::Disk;
 use set_model::Event;
 use set_world::World;
 
+/// How a call of the program ended: the status that it exits with, and what it leaves.
 #[derive(Drop)]
 pub struct Outcome<D: Disk> {
     pub status: u8,
