@@ -144,7 +144,7 @@ impl<D: Disk> Node<D> {
     /// fails is no error: it has its number in `failed`, and the node is down then and sends nothing.
     ///
     /// # Errors
-    /// Only memory can be wanting. Then the node is as it was, and its disks keep what they kept.
+    /// Out of memory alone. Then the node is as it was, and its disks keep what they kept.
     pub fn act<R: Threads + Sync>(
         &mut self,
         rt: &R,
@@ -177,7 +177,7 @@ impl<D: Disk> Node<D> {
     /// no error: it has its number in `failed`, and the node is down then and sends nothing.
     ///
     /// # Errors
-    /// Only memory can be wanting. Then the node is as it was, and its disks keep what they kept.
+    /// Out of memory alone. Then the node is as it was, and its disks keep what they kept.
     pub fn take<R: Threads + Sync>(&mut self, rt: &R, next: u64, message: &Message) -> Mem<Done>
         requires bounds { IsBounded self.old.0 }
         requires next { IsNumbered next }

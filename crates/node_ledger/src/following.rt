@@ -68,7 +68,7 @@ impl Ledger {
         self.apply_next(rt, workers, BATCH)
     }
 
-    /// Applies all entries up to an optime that aren't applied yet, batch by batch. Want of memory leaves all as it was.
+    /// Applies all entries up to an optime that aren't applied yet, batch by batch. Out of memory leaves all as it was.
     pub fn apply_to<R: Threads + Sync>(&mut self, rt: &R, to: OpTime) -> Mem<()>
         requires { is_primary self.old.node.role ≡ false }
         ensures ok { OnOk result (self.new ≡ applied_at self.old (later_of self.old.node.applied (last_of (log_up_to to self.old.node.log)))) }
@@ -96,7 +96,7 @@ impl Ledger {
             .saturating_sub(log.up_to(self.applied).len())
     }
 
-    /// Applies so many entries, batch by batch. Where memory is wanting, the first of them are applied.
+    /// Applies so many entries, batch by batch. After out of memory, the first of them are applied.
     fn apply_batches<R: Threads + Sync>(&mut self, rt: &R, count: usize) -> Mem<()>
         requires role { is_primary self.old.node.role ≡ false }
         requires there { count ≤ length (log_behind self.old.node.applied self.old.node.log) }

@@ -191,7 +191,8 @@ impl Ledger {
         }
     }
 
-    /// Makes room for entries that are then written without memory.
+    /// Makes room for so many entries, which are then written without taking memory. Out of memory changes nothing
+    /// but how much room there is.
     pub fn reserve(&mut self, more: usize) -> Mem<()>
         ensures node { self.new.node ≡ self.old.node }
         ensures ok { OnOk result (more ≤ self.new.spare) }

@@ -121,9 +121,9 @@ impl State {
         self.ledger.store()
     }
 
-    /// Begins what a command asks of a node, in a set of so many nodes, where the next message gets this number. For a write
-    /// there is `write`. Only memory can be wanting, and then the node is as it was. What may want memory as it stores has
-    /// changed nothing before.
+    /// Begins what a command asks of a node. `nodes` is how many nodes the set has, and `next` the number that the next
+    /// message gets. For a write there is `write`. Out of memory is the one error, and leaves the node as it was. A command
+    /// that may run out of memory as it stores (`is_long`) has changed nothing by then.
     #[tactic(auto, using(crate::proofs::TurnLemmas::while_up))]
     pub fn start<R: Threads + Sync>(
         &mut self,
@@ -182,7 +182,8 @@ impl State {
         }
     }
 
-    /// Begins what a message comes to at the node.
+    /// Begins what the node does with a message that arrives; `next` is the number that the next message gets. Out of memory
+    /// is the one error, and leaves the node as it was.
     pub fn take<R: Threads + Sync>(&mut self, rt: &R, next: u64, message: &Message) -> Mem<Turn>
         requires bounds { IsBounded self.old.node }
         requires next { IsNumbered next }
@@ -194,7 +195,8 @@ impl State {
         self.take_message(rt, next, message)
     }
 
-    /// Goes on once this stands on the node's disk. Takes no memory.
+    /// Goes on once `item`, which a turn asked to store, is on the node's disk: `then` is what the turn gave with it. It takes
+    /// no memory.
     pub fn go_on(&mut self, item: &Store, then: Then) -> Turn
         requires ready { IsReady item.now then self.old }
         ensures turn { Means result self.new.node (rest_of then (stored self.old.node item.now)) }

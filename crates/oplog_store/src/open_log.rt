@@ -83,7 +83,7 @@ impl OpenLog {
         }
     }
 
-    /// Makes room for entries that `insert` then takes without memory.
+    /// Makes room for so many entries, so that `insert` takes no memory for them.
     pub fn reserve(&mut self, more: usize) -> Mem<()>
         ensures entries { self.new.entries ≡ self.old.entries }
         ensures ok { OnOk result (more ≤ self.new.spare) }
@@ -116,7 +116,7 @@ impl OpenLog {
         }
     }
 
-    /// Keeps a place for the entry of a slot that opens behind all others. None is kept where memory is wanting.
+    /// Keeps a place for the entry of a slot that opens behind all others. Out of memory, none is kept.
     pub fn open(&mut self, at: OpTime)
         ensures { self.new ≡ self.old }
     {

@@ -97,7 +97,7 @@ fn of_node(
     }
 }
 
-/// The same of a command that brings no value, and wants no memory.
+/// The command where its words bring no value. It takes no memory.
 fn of_words(nodes: u32, verb: NodeVerb, node: u32, left: Left<'_>) -> Result<Command, ScriptRule>
     requires { ends_in_value (node_shape verb) ≡ false }
     ensures { result ≡ of_node nodes verb node (option_copied left.entry) }

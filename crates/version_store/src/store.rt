@@ -49,7 +49,7 @@ pub struct Current<'a> {
 }
 
 /// Documents with their versions by optime, and the writers that hold them, in shards. From `take_shards` to
-/// `put_shards` it has no shards: nothing is found there, and what would be put or held wants memory.
+/// `put_shards` it has no shards: nothing is found there, and `put` and `hold` answer out of memory.
 #[derive(Drop)]
 pub struct VersionStore {
     count: u32,
