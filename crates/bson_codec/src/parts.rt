@@ -98,7 +98,7 @@ fn breaks_utf8(bytes: &[u8]) -> bool
     }
 }
 
-/// The letters up to the first zero, which is passed over.
+/// A name, and the bytes behind the zero that closes it. `Utf8` where it is no UTF-8, and `Length` where no zero closes it.
 #[tactic(auto, unfolding(crate::specs::Reading::name_at))]
 pub fn name_of(bytes: &[u8]) -> Result<(&str, &[u8]), DecodeError>
     ensures name { Gives (λ x. (x.0.now, x.1.now)) result (name_at bytes.now) }
@@ -114,7 +114,8 @@ pub fn name_of(bytes: &[u8]) -> Result<(&str, &[u8]), DecodeError>
     }
 }
 
-/// The bytes behind the name that is known, zero included.
+/// The bytes behind a name that is known beforehand, with its zero, as that of an array's item is. `ArrayName` where another
+/// name stands there, `Utf8` where the other byte begins no UTF-8, and `Length` where the bytes end.
 #[tactic(auto, unfolding(crate::specs::Reading::known_name_at))]
 pub fn known_name_of<'a>(name: &[u8], bytes: &'a [u8]) -> Result<&'a [u8], DecodeError>
     ensures { Gives (λ rest. rest.now) result (known_name_at name.now bytes.now) }
@@ -131,7 +132,8 @@ pub fn known_name_of<'a>(name: &[u8], bytes: &'a [u8]) -> Result<&'a [u8], Decod
     Ok(rest)
 }
 
-/// What is behind the length of a document, and what is behind the document.
+/// The bytes of a document behind its length, and the bytes behind the document. `Length` where the length is below 5 or
+/// doesn't fit.
 #[tactic(auto, unfolding(crate::specs::Reading::content_at))]
 pub fn content_of(bytes: &[u8]) -> Result<(&[u8], &[u8]), DecodeError>
     ensures { Gives (λ x. (x.0.now, x.1.now)) result (content_at bytes.now) }

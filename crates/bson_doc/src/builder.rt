@@ -69,7 +69,7 @@ impl DocBuilder {
         self.with_in(more, name, value)
     }
 
-    /// The same. Where there is no room, room for so many fields is made.
+    /// The document with one field more. Where there is no room, room for so many fields is made.
     #[tactic(auto, using(crate::proofs::DocLemmas::doc_lemmas))]
     fn with_in(self, more: usize, name: Text, value: Value) -> Mem<Self>
         requires more { 0 < more }

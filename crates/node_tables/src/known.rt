@@ -69,7 +69,7 @@ impl KnownTable {
         Ok(choose(config, own, last, &known).ok())
     }
 
-    /// Forgets all of it.
+    /// Forgets what was heard of all members.
     pub fn reset(&mut self)
         ensures { self.new ≡ maps.empty }
     {

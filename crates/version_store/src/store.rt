@@ -72,7 +72,7 @@ impl Model for VersionStore {
 }
 
 impl VersionStore {
-    /// No document, in so many shards.
+    /// A store without documents, of so many shards. Out of memory is the one error.
     pub fn new(alloc: Global, shards: u32) -> Mem<Self>
         requires { 0 < shards }
         ensures count { IfOk result (λ store. store.count ≡ shards) }
@@ -112,7 +112,7 @@ impl VersionStore {
         self.history(ns, id)?.holder()
     }
 
-    /// Both by one look-up.
+    /// What `latest` and `holder` give, by one look-up.
     pub fn current(&self, ns: &str, id: &IdKey) -> Current<'_>
         ensures latest { option_copied result.latest ≡ latest_of (versions_at self.now (ns.now, id.now)) }
         ensures rising { IsRising (versions_at self.now (ns.now, id.now)) }
@@ -208,7 +208,7 @@ impl VersionStore {
         self.count
     }
 
-    /// Takes the shards out, by their numbers. None, where they are out.
+    /// Takes the shards out, in order of their numbers, so that threads may work on them: no shards where they are out already.
     pub fn take_shards(&mut self) -> Vec<Shard>
         ensures taken { result.items ≡ self.old.shards }
         ensures whole { AreAllOrNone self.old.count result.items }
@@ -218,7 +218,7 @@ impl VersionStore {
         replace(&mut self.shards, none)
     }
 
-    /// Puts shards there: as many as were taken, each at the place of its number.
+    /// Puts the shards back: as many as were taken, in order of their numbers.
     pub fn put_shards(&mut self, shards: Vec<Shard>)
         requires { AreShards self.old.count shards.items }
         ensures { self.new ≡ record { count = self.old.count; shards = shards.items } }
