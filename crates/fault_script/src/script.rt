@@ -92,7 +92,7 @@ impl Parts {
         &self.parts
     }
 
-    /// The same, to be taken out one by one.
+    /// The parts, to be taken out one by one.
     pub fn into_rest(mut self) -> Rest
         ensures { result ≡ self }
     {
@@ -118,7 +118,7 @@ impl Parts {
         Ok(copies)
     }
 
-    /// The same in no more memory than they need.
+    /// The same parts, in no more memory than they need.
     pub(crate) fn shrunk(mut self) -> Self
         ensures { result ≡ self }
     {

@@ -15,7 +15,7 @@ use bson_doc::Mem;
 use doc_update::LentWrite;
 use set_model::{Command, Reply};
 
-/// A write, or a step of a writer. It stores and sends nothing.
+/// Whether a command is a write, or a step of a writer: these store and send nothing.
 pub fn is_write(command: &Command) -> bool
     ensures { result ≡ is_write command.now }
 {

@@ -35,7 +35,7 @@ use std::marker::Model;
 use std::thread::Threads;
 use version_store::VersionStore;
 
-/// A node that is up, as far as it is in memory. Its documents are those of its log.
+/// A node that is up, as far as it is in memory. What it is to store on its disks it tells by its turns.
 #[derive(Drop)]
 pub struct State {
     pub(crate) alloc: Global,
@@ -87,7 +87,7 @@ impl Model for State {
 }
 
 impl State {
-    /// A node as the set begins.
+    /// A node as the set begins, with this number and this first configuration. Out of memory is the one error.
     pub fn open(alloc: Global, number: u32, config: &Config) -> Mem<State>
         requires number { number < 50 }
         requires config { rule config.now ≡ None }
@@ -272,7 +272,7 @@ impl State {
         self.ledger.clock()
     }
 
-    /// The optime of the documents on the other disk.
+    /// The optime as of which the checkpoint has the documents.
     pub fn stable(&self) -> OpTime
         ensures { result ≡ self.now.node.stable }
     {

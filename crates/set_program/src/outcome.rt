@@ -20,7 +20,7 @@ pub struct Outcome<D: Disk> {
 #[derive(Drop)]
 pub enum Left<D: Disk> {
     World(World<D>),
-    /// No events, and the disks.
+    /// The set wasn't opened: there are no events, and these are the disks.
     Parts(Vec<Event>, Vec<D>),
 }
 
