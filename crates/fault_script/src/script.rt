@@ -19,6 +19,7 @@ pub struct Script {
     pub voters: u32,
     /// How many nodes, the first ones, are members of the first configuration.
     pub members: u32,
+    /// Its commands and blocks, in order.
     pub parts: Parts,
 }
 

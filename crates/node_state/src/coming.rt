@@ -27,8 +27,11 @@ use std::thread::Threads;
 /// Who a node is, and what it keeps in memory while it is down.
 #[derive(Drop)]
 pub struct Coming<'a> {
+    /// Its number in the set.
     pub number: u32,
+    /// The configuration that the set began with.
     pub first: &'a Config,
+    /// The second that its clock shows.
     pub clock: u32,
     /// How often it rolled back or came up before.
     pub rollback: u64,

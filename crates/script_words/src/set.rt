@@ -13,7 +13,9 @@ const MAX_NODES: u32 = 7;
 /// The sizes that a `set` line names.
 #[derive(Clone, Copy, Debug, PartialEq, Eq)]
 pub struct SetLine {
+    /// How many nodes the set has.
     pub nodes: u32,
+    /// How many of them, the first ones, are members.
     pub members: u32,
 }
 

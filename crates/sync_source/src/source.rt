@@ -12,6 +12,7 @@ use thiserror::Error;
 /// What was heard of a member: its last optime, and whether it is primary.
 #[derive(Clone, Copy, Debug, PartialEq, Eq)]
 pub struct Known {
+    /// The number of the member.
     pub member: u32,
     pub last: OpTime,
     pub primary: bool,

@@ -44,6 +44,7 @@ impl From<AllocError> for HoldError {
 /// The newest version of a document, and the writer that holds it.
 #[derive(Drop)]
 pub struct Current<'a> {
+    /// None where it was deleted or never was.
     pub latest: Option<&'a Doc>,
     pub holder: Option<u32>,
 }
