@@ -74,7 +74,7 @@ impl State {
         }
     }
 
-    /// A node wants the entries behind its last.
+    /// A node asks for the entries behind its last.
     fn prepare_fetch(
         &mut self,
         next: u64,

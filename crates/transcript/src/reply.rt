@@ -74,7 +74,7 @@ fn write_text(reply: &Reply, out: &mut String) -> Mem<()>
     }
 }
 
-/// The same of an election or a message.
+/// Appends a reply that tells of an election or a message.
 fn write_protocol(reply: &Reply, out: &mut String) -> Mem<()>
     requires { is_of_protocol reply.now ≡ true }
     ensures { OnOk result (string_bytes out.new ≡ string_bytes out.old ++ reply_text reply.now) }
@@ -109,7 +109,7 @@ fn write_protocol(reply: &Reply, out: &mut String) -> Mem<()>
     }
 }
 
-/// The same of what a node keeps, or of the node itself.
+/// Appends a reply that tells of what a node keeps, or of the node itself.
 fn write_node(reply: &Reply, out: &mut String) -> Mem<()>
     requires { is_of_node reply.now ≡ true }
     ensures { OnOk result (string_bytes out.new ≡ string_bytes out.old ++ reply_text reply.now) }
