@@ -36,7 +36,7 @@ pub fn keyword(text: &str) -> Result<(Keyword, Left<'_>), ScriptRule>
     }
 }
 
-/// The command whose words behind the first one are left.
+/// The command with this first word, from the words that are left, in a set of so many nodes.
 pub fn command(alloc: Global, nodes: u32, verb: Verb, left: Left<'_>) -> Result<Command, LineError>
     ensures { Gives (λ command. command) result (words_at nodes verb (option_copied left.entry)) }
 {

@@ -131,7 +131,7 @@ impl VersionStore {
         }
     }
 
-    /// Lets a writer hold a document. `Held` where another writer holds it.
+    /// Lets a writer hold a document. `Held` where another writer holds it. Either error leaves the store as it was.
     pub fn hold(&mut self, ns: &str, id: &IdKey, writer: u32) -> Result<(), HoldError>
         ensures ok { OnOk result (Changes self.old self.new (ns.now, id.now) (held_by (past_at self.old (ns.now, id.now)) (Some writer))) }
         ensures held { (other : ℕ) → IsErrOf result (HoldError.Held other) ↔ ((holder_at self.old (ns.now, id.now) ≡ Some other) × (other ≢ writer)) }
@@ -150,7 +150,7 @@ impl VersionStore {
         Ok(())
     }
 
-    /// Lets go of a document, whoever holds it.
+    /// Has nobody hold a document, whoever held it.
     pub fn release(&mut self, ns: &str, id: &IdKey)
         ensures { Changes self.old self.new (ns.now, id.now) (held_by (past_at self.old (ns.now, id.now)) None) }
     {
@@ -161,7 +161,7 @@ impl VersionStore {
         shard.release(ns, id);
     }
 
-    /// Adds a version of a document, newer than each that it has. None is a deletion.
+    /// Adds a version of a document, newer than each that it has. None is a deletion. Out of memory leaves the store as it was.
     pub fn put(&mut self, ns: Text, id: IdKey, at: OpTime, doc: Option<Doc>) -> Mem<()>
         requires { All (λ version. is_before version.at at ≡ true) (versions_at self.old (ns, id)) }
         ensures ok { OnOk result (Changes self.old self.new (ns, id) (with_version (past_at self.old (ns, id)) (record { at = at; doc = doc }))) }
