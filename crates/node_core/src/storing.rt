@@ -30,7 +30,8 @@ pub(crate) enum Ended {
     Broken { item: Store, number: u32 },
 }
 
-/// Carries a turn out. It may run out of memory only where it stores one large record or checkpoint, and then nothing has changed.
+/// Carries a turn out. It may run out of memory only where it stores one large record or checkpoint, and then nothing has
+/// changed.
 pub(crate) fn carry_out<D: Disk>(state: &mut State, disks: &mut Disks<D>, turn: Turn) -> Mem<Ended>
     requires rests { Rests state.old.node disks.old.count (D.state disks.old.journal.0) (D.state disks.old.checkpoints) }
     requires ready { IsReadyTurn turn state.old }

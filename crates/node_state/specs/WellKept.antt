@@ -41,8 +41,8 @@ pub record IsReadAs (found : Kept) (records : List Record) : Type 0 where
   pub point : found.point ≡ (kept records).point
   pub entries : log_up_to found.point found.entries ≡ (kept records).entries
 
--- A node can come back with what it stores, whether that is there or not. The documents of its checkpoint are those of what it then
--- keeps, and of its log, and can be read in memory.
+-- A node can come back with what it stores, whether that is there or not. The documents of its checkpoint are those of what it
+-- then keeps, and of its log, and can be read in memory.
 pub record StoresWell (node : Node) (item : Store) : Type 0 where
   pub well : IsWellKept (records_after node.records item) (stable_after node.stable item)
   pub same : log_up_to node.stable (kept (records_after node.records item)).entries ≡ log_up_to node.stable (kept node.records).entries
