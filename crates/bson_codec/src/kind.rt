@@ -19,6 +19,7 @@ pub enum Kind {
     Int64,
 }
 
+/// The kind that a byte names (BSON 1.1), or `Kind` with the byte where it names none that is read here.
 #[tactic(auto, unfolding(crate::specs::Reading::kind_of))]
 pub fn kind_named(byte: u8) -> Result<Kind, DecodeError>
     ensures { Gives (λ k. k) result (kind_of byte) }

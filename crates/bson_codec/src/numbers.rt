@@ -9,6 +9,7 @@ use crate::DecodeError;
 use bson_doc::Mem;
 use byteorder::{ByteOrder, LittleEndian};
 
+/// Appends a number in four bytes. Out of memory is the one error, and nothing is said of `out` then; so it is of the next three.
 #[tactic(auto, unfolding(crate::specs::Numbers::number_bytes))]
 pub fn put_u32(out: &mut Vec<u8>, number: u32) -> Mem<()>
     ensures { OnOk result (out.new.items ≡ out.old.items ++ number_bytes 4 number) }
@@ -18,6 +19,7 @@ pub fn put_u32(out: &mut Vec<u8>, number: u32) -> Mem<()>
     out.extend_from_slice(&bytes)
 }
 
+/// Appends a signed number in four bytes, in two's complement.
 #[tactic(auto, unfolding(crate::specs::Numbers::number_bytes))]
 pub fn put_i32(out: &mut Vec<u8>, number: i32) -> Mem<()>
     ensures { OnOk result (out.new.items ≡ out.old.items ++ number_bytes 4 (cast_unsigned w32 number)) }
@@ -27,6 +29,7 @@ pub fn put_i32(out: &mut Vec<u8>, number: i32) -> Mem<()>
     out.extend_from_slice(&bytes)
 }
 
+/// Appends a number in eight bytes.
 #[tactic(auto, unfolding(crate::specs::Numbers::number_bytes))]
 pub fn put_u64(out: &mut Vec<u8>, number: u64) -> Mem<()>
     ensures { OnOk result (out.new.items ≡ out.old.items ++ number_bytes 8 number) }
@@ -36,6 +39,7 @@ pub fn put_u64(out: &mut Vec<u8>, number: u64) -> Mem<()>
     out.extend_from_slice(&bytes)
 }
 
+/// Appends a signed number in eight bytes, in two's complement.
 #[tactic(auto, unfolding(crate::specs::Numbers::number_bytes))]
 pub fn put_i64(out: &mut Vec<u8>, number: i64) -> Mem<()>
     ensures { OnOk result (out.new.items ≡ out.old.items ++ number_bytes 8 (cast_unsigned w64 number)) }
@@ -56,6 +60,7 @@ pub fn set_u32(bytes: &mut [u8], place: usize, number: u32)
     bytes[place..place + 4].copy_from_slice(&digits);
 }
 
+/// The first `count` bytes, and those behind them. `Length` where there are fewer.
 pub fn bytes_of(bytes: &[u8], count: usize) -> Result<(&[u8], &[u8]), DecodeError>
     ensures { Gives (λ x. (x.0.now, x.1.now)) result (bytes_at count bytes.now) }
 {
@@ -65,6 +70,7 @@ pub fn bytes_of(bytes: &[u8], count: usize) -> Result<(&[u8], &[u8]), DecodeErro
     Ok(bytes.split_at(count))
 }
 
+/// The number in the first four bytes, and the bytes behind it. `Length` where there are fewer.
 #[tactic(auto, unfolding(crate::specs::Numbers::number_in))]
 pub fn u32_of(bytes: &[u8]) -> Result<(u32, &[u8]), DecodeError>
     ensures { Gives (λ x. (x.0, x.1.now)) result (number_at 4 bytes.now) }
@@ -75,6 +81,7 @@ pub fn u32_of(bytes: &[u8]) -> Result<(u32, &[u8]), DecodeError>
     Ok((LittleEndian::read_u32(bytes), &bytes[4..]))
 }
 
+/// The number in the first eight bytes, and the bytes behind it. `Length` where there are fewer.
 #[tactic(auto, unfolding(crate::specs::Numbers::number_in))]
 pub fn u64_of(bytes: &[u8]) -> Result<(u64, &[u8]), DecodeError>
     ensures { Gives (λ x. (x.0, x.1.now)) result (number_at 8 bytes.now) }

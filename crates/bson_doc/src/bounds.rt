@@ -2,7 +2,9 @@
 /// or array inside is a level more.
 #[derive(Clone, Copy, Debug, PartialEq, Eq)]
 pub struct Bounds {
+    /// The most bytes in BSON.
     pub bytes: u32,
+    /// The most levels.
     pub levels: u32,
 }
 

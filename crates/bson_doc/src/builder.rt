@@ -37,6 +37,7 @@ impl Model for DocBuilder {
 }
 
 impl DocBuilder {
+    /// A document without fields.
     pub fn new(alloc: Global) -> Self
         ensures { result ≡ no_fields }
     {
@@ -68,7 +69,7 @@ impl DocBuilder {
         self.with_in(more, name, value)
     }
 
-    /// The same. Where there is no room, room for so many fields is made.
+    /// The document with one field more. Where there is no room, room for so many fields is made.
     #[tactic(auto, using(crate::proofs::DocLemmas::doc_lemmas))]
     fn with_in(self, more: usize, name: Text, value: Value) -> Mem<Self>
         requires more { 0 < more }
@@ -86,6 +87,7 @@ impl DocBuilder {
         Ok(DocBuilder { alloc, doc, names })
     }
 
+    /// The document as it is, with no room for further fields.
     pub fn finish(self) -> Doc
         ensures { result ≡ self }
     {

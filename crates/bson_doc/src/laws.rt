@@ -19,7 +19,7 @@ pub fn keys_are_ordered()
     ensures only_equal { (x y : IdKey) → key_cmp x y ≡ Equal → x ≡ y }
 {}
 
-/// So are the places of documents: a collection's name and a key.
+/// Places of documents, each a collection's name and a key, are totally ordered, and only equal ones tie.
 #[tactic(auto, using(crate::proofs::KeyLemmas::key_order))]
 pub fn places_are_ordered()
     ensures total { IsTotalOrder place_cmp }

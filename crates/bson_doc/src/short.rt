@@ -48,12 +48,14 @@ impl ShortText {
         })
     }
 
+    /// The text as a string.
     pub fn as_str(&self) -> &str
         ensures { result.now ≡ self.now }
     {
         ascii_str(&self.bytes[..self.length as usize])
     }
 
+    /// The same text once more. It takes no memory.
     pub fn copy(&self) -> Self
         ensures { result ≡ self.now }
     {

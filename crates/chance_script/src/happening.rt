@@ -12,8 +12,11 @@ use std::fmt::Write;
 pub enum Happening {
     /// The node inserts the document of this `_id`.
     Insert(u32, u32),
+    /// The node updates the document of this `_id`.
     Update(u32, u32),
+    /// It deletes the document of this `_id`.
     Delete(u32, u32),
+    /// It writes its log to the journal.
     Flush(u32),
     /// The node takes what it misses from the other, applies and stores it, and reports.
     Pull(u32, u32),
@@ -21,9 +24,11 @@ pub enum Happening {
     Election(u32),
     /// It asks the other for common entries.
     Common(u32, u32),
+    /// It makes a checkpoint.
     Checkpoint(u32),
     /// It crashes and comes back.
     Restart(u32),
+    /// It steps down.
     StepDown(u32),
     /// Its clock is set to so many seconds.
     Clock(u32, u32),

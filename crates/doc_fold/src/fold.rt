@@ -28,7 +28,7 @@ pub fn document_after(alloc: Global, op: &Op, before: Option<&Doc>) -> Mem<Optio
     })
 }
 
-/// Applies one entry. Want of memory leaves the documents as they were.
+/// Applies one entry. Out of memory leaves the documents as they were.
 pub fn apply_entry(alloc: Global, docs: &mut BTreeMap<(Text, IdKey), Doc>, entry: &Entry) -> Mem<()>
     requires { IsLawful entry.now }
     ensures ok { OnOk result (documents_of docs.new.entries ≡ applied (documents_of docs.old.entries) entry.now) }

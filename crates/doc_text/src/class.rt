@@ -6,8 +6,11 @@ ghost use Rattle.doc_text.specs.Bytes.{is_name_start};
 /// The bytes that a run may have.
 #[derive(Clone, Copy)]
 pub enum Class {
+    /// A space.
     Space,
+    /// A decimal digit.
     Digit,
+    /// A hexadecimal digit.
     HexDigit,
     /// What a bare name goes on with.
     Name,

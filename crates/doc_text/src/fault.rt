@@ -24,6 +24,7 @@ pub struct Fault {
     pub left: usize,
 }
 
+/// Why a reader stopped: out of memory, or the text breaks a rule.
 #[derive(Clone, Copy)]
 pub enum ReadError {
     Memory,
@@ -52,7 +53,7 @@ impl<T: Drop> From<AllocFailed<T>> for ReadError {
 impl Fault {
     ghost use Rattle.doc_text.specs.Fault.{fault_at, placed};
 
-    /// The first byte of the text breaks the rule, or its end does.
+    /// The fault of a text whose first byte, or whose early end, breaks the rule.
     pub fn at(rule: Rule, text: &str) -> Self
         ensures { result ≡ fault_at rule text.now }
     {
@@ -62,7 +63,7 @@ impl Fault {
         }
     }
 
-    /// The error of a text of so many bytes.
+    /// The error that is answered, with the place of the fault in the whole text, which has `len` bytes.
     pub fn placed(self, len: usize) -> TextError
         ensures { result ≡ placed len self }
     {

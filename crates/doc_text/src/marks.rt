@@ -37,6 +37,7 @@ pub fn mark(text: &str, byte: u8) -> Result<&str, ReadError>
     behind(text, byte).ok_or(ReadError::Fault(Fault::at(Rule::Unexpected, text)))
 }
 
+/// The text behind its leading spaces.
 pub fn spaces(text: &str) -> &str
     ensures gives { result.now ≡ behind_spaces text.now }
     ensures shorter { length result.now ≤ length text.now }
@@ -55,7 +56,7 @@ pub fn end(text: &str, byte: u8) -> Option<&str>
     behind(spaces(text), byte)
 }
 
-/// A mark with spaces round it.
+/// The text behind a mark that has to stand there, with spaces round it.
 #[tactic(auto, unfolding(crate::specs::Marks::spaced_at))]
 pub fn spaced(text: &str, byte: u8) -> Result<&str, ReadError>
     requires { byte < 128 }
@@ -65,7 +66,7 @@ pub fn spaced(text: &str, byte: u8) -> Result<&str, ReadError>
     Ok(spaces(mark(spaces(text), byte)?))
 }
 
-/// A mark with spaces before it.
+/// The text behind a mark that has to stand there, with spaces before it.
 #[tactic(auto, unfolding(crate::specs::Marks::closing_at))]
 pub fn closing(text: &str, byte: u8) -> Result<&str, ReadError>
     requires { byte < 128 }
@@ -75,7 +76,7 @@ pub fn closing(text: &str, byte: u8) -> Result<&str, ReadError>
     mark(spaces(text), byte)
 }
 
-/// The text behind a word.
+/// The text behind a word that has to stand there.
 #[tactic(auto, unfolding(crate::specs::Marks::word_at))]
 pub fn word<'a>(text: &'a str, letters: &[u8]) -> Result<&'a str, ReadError>
     requires { IsAscii letters.now }

@@ -199,7 +199,7 @@ fn write(value: &Value, out: &mut String) -> Mem<()>
     }
 }
 
-/// Appends the one printed text of a value. Want of memory leaves `out` as it was.
+/// Appends the text of a value in the notation, which is always the same one. Out of memory leaves `out` as it was.
 pub fn write_value(value: &Value, out: &mut String) -> Mem<()>
     ensures ok { OnOk result (string_bytes out.new ≡ string_bytes out.old ++ printed (tree_of value.now)) }
     ensures err { OnErr result (string_bytes out.new ≡ string_bytes out.old) }
@@ -215,7 +215,7 @@ pub fn write_value(value: &Value, out: &mut String) -> Mem<()>
     Ok(())
 }
 
-/// Appends the one printed text of a document. Want of memory leaves `out` as it was.
+/// Appends the text of a document in the notation, which is always the same one. Out of memory leaves `out` as it was.
 pub fn write_document(document: &Doc, out: &mut String) -> Mem<()>
     ensures ok { OnOk result (string_bytes out.new ≡ string_bytes out.old ++ printed (tree.document document.now)) }
     ensures err { OnErr result (string_bytes out.new ≡ string_bytes out.old) }

@@ -1,10 +1,10 @@
--- Writes that are lent.
+-- Writes by reference.
 use Rattle.doc_update.specs.declared.lent.LentWrite.{LentWrite}
 use Rattle.doc_update.specs.declared.lent.LentWrite.TheVariants as lent
 use Rattle.doc_update.specs.declared.write.WriteOp.{WriteOp}
 use Rattle.doc_update.specs.declared.write.WriteOp.TheVariants.{Insert, Replace, Update, Delete}
 
--- the write that is lent
+-- the write that a reference stands for
 abbrev pub shown : LentWrite → WriteOp
 shown (lent.Insert ns doc) = Insert ns.now doc.now
 shown (lent.Replace ns id doc) = Replace ns.now id.now doc.now

@@ -1,4 +1,4 @@
--- Refusals, and what a call that may want memory answers.
+-- Refusals of writes, and the results of calls that may run out of memory.
 use Rattle.std.specs.Prelude.{◌≡◌, ⊤, Result, Ok, Err}
 use Rattle.bson_doc.specs.declared.key.KeyError.{KeyError}
 use Rattle.bson_doc.specs.declared.key.KeyError.TheVariants.{Kind, Memory as NoMemory}

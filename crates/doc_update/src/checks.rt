@@ -210,7 +210,7 @@ pub fn check(alloc: Global, op: &WriteOp) -> Result<(Text, IdKey), WriteRefusal>
     check_lent(alloc, op.lent())
 }
 
-/// The same of a write that is lent.
+/// `check` of a write by reference.
 pub fn check_lent(alloc: Global, write: LentWrite<'_>) -> Result<(Text, IdKey), WriteRefusal>
     ensures { Answers result (checked (shown write.entry)) }
 {

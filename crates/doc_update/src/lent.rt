@@ -5,7 +5,7 @@ ghost use Rattle.doc_update.specs.Write.{IsSoundWrite};
 use crate::WriteOp;
 use bson_doc::{Doc, Text, Value};
 
-/// A `WriteOp` whose parts stand elsewhere, so that a write is checked and prepared without a copy.
+/// A `WriteOp` by reference, so that a write is checked and prepared without a copy.
 #[derive(Clone, Copy)]
 pub enum LentWrite<'a> {
     Insert {
@@ -50,7 +50,7 @@ impl LentWrite<'_> {
 }
 
 impl WriteOp {
-    /// Lends the write.
+    /// The write by reference.
     pub fn lent(&self) -> LentWrite<'_>
         ensures { shown result ≡ self.now }
     {

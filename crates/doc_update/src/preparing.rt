@@ -310,7 +310,7 @@ pub fn prepare(alloc: Global, op: &WriteOp, before: Option<&Doc>) -> Result<Prep
     prepare_lent(alloc, op.lent(), before)
 }
 
-/// The same of a write that is lent.
+/// `prepare` of a write by reference.
 pub fn prepare_lent(
     alloc: Global,
     write: LentWrite<'_>,

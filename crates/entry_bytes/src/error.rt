@@ -6,6 +6,7 @@ use bson_doc::KeyError;
 use std::alloc::AllocError;
 use thiserror::Error;
 
+/// Why bytes give no entry.
 #[derive(Clone, Copy, Debug, PartialEq, Eq, Error)]
 pub enum EntryError {
     /// The bytes are no document within the bounds of an entry: the rule that they break.

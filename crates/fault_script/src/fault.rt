@@ -14,6 +14,7 @@ pub struct ScriptFault {
 pub enum ScriptError {
     /// The first faulty line, with its first fault from left to right.
     Fault(ScriptFault),
+    /// Out of memory.
     Memory,
 }
 

@@ -35,6 +35,7 @@ impl Lines {
         }
     }
 
+    /// The lines in their order, each with its number in the script.
     pub fn as_slice(&self) -> &[(u32, Command)]
         ensures { result.now ≡ self.now }
     {
@@ -103,6 +104,7 @@ impl Threads {
         }
     }
 
+    /// The lines of each thread.
     pub fn as_slice(&self) -> &[Lines]
         ensures { result.now ≡ self.now }
     {

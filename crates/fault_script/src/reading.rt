@@ -1,4 +1,4 @@
-// What is known of a script behind some of its lines.
+// What was read of a script so far, after some of its lines.
 ghost use Rattle.std.specs.Prelude.{◌≡◌};
 ghost use Rattle.std.specs.Option.{option_copied};
 ghost use Rattle.script_words.specs.Gives.{Reads, Gives};
@@ -17,7 +17,7 @@ use std::alloc::Global;
 /// How many threads a block may have.
 const MAX_THREADS: usize = 16;
 
-/// What is known of a script behind some of its lines.
+/// What was read of a script so far, after some of its lines.
 #[derive(Drop)]
 pub struct Reading {
     /// The sizes of the set, behind the `set` line.
@@ -28,7 +28,7 @@ pub struct Reading {
 }
 
 impl Reading {
-    /// Nothing is known.
+    /// Nothing is read yet.
     pub fn new(alloc: Global) -> Self
         ensures { result ≡ start }
     {
@@ -146,7 +146,8 @@ impl Reading {
         Ok(())
     }
 
-    /// The script whose last line has the number before this one.
+    /// The script, once all its lines are added; `number` is one more than that of the last. A fault at `number` where there was
+    /// no `set` line, or a block is still open.
     pub fn finish(self, number: u32) -> Result<Script, ScriptFault>
         ensures { result ≡ whole number self self.set self.block }
     {

@@ -19,6 +19,7 @@ pub struct Script {
     pub voters: u32,
     /// How many nodes, the first ones, are members of the first configuration.
     pub members: u32,
+    /// Its commands and blocks, in order.
     pub parts: Parts,
 }
 
@@ -85,13 +86,14 @@ impl Parts {
         }
     }
 
+    /// The parts in their order.
     pub fn as_slice(&self) -> &[Part]
         ensures { result.now ≡ self.now }
     {
         &self.parts
     }
 
-    /// The same, to be taken out one by one.
+    /// The parts, to be taken out one by one.
     pub fn into_rest(mut self) -> Rest
         ensures { result ≡ self }
     {
@@ -117,7 +119,7 @@ impl Parts {
         Ok(copies)
     }
 
-    /// The same in no more memory than they need.
+    /// The same parts, in no more memory than they need.
     pub(crate) fn shrunk(mut self) -> Self
         ensures { result ≡ self }
     {

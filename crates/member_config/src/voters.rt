@@ -49,7 +49,7 @@ impl Config {
         members.any(|member| member.number == number && member.priority > 0)
     }
 
-    /// Whether at most one number votes in just one of the two.
+    /// Whether the voters of the two configurations differ by one at most: at most one number votes in only one of them.
     pub fn one_voter_apart(&self, other: &Config) -> bool
         ensures { result ≡ votes.is_one_voter_apart self.now other.now }
     {

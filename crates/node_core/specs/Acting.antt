@@ -94,7 +94,7 @@ pub record Took (plan : Plan) (new : Node) (j j' c c' : State) (done : Done) : T
   pub stands : Stands new j' c'
   pub runs : Runs (IsSome done.failed) j j' c c'
 
--- memory was wanting: the node is as it was
+-- out of memory: the node is as it was
 pub record Unchanged (old new : Node) (j j' c c' : State) : Type 0 where
   pub node : new ≡ old
   pub stands : Stands new j' c'

@@ -62,7 +62,7 @@ cut_records (Some at) items = items ++ records.Cut at ∷ []
 abbrev pub cut_node : Option OpTime → Node → Node
 cut_node point node = record node { records = cut_records point node.records }
 
--- This node can come up, and wants no more memory for that.
+-- This node can come up, and takes no more memory for that.
 pub record IsPrepared (node : Node) (prepared : Prepared) : Type 0 where
   pub count : prepared.count ≡ length node.records
   pub cut : prepared.cut ≡ cut_point (kept node.records)

@@ -37,7 +37,7 @@ pub(crate) struct Found {
     pub(crate) stable: Stable,
 }
 
-/// A node that can come up without any more memory.
+/// A node that can come up and takes no more memory for it.
 #[derive(Drop)]
 pub(crate) struct Prepared {
     /// The node in memory, as it comes up.
@@ -54,7 +54,7 @@ pub(crate) struct Prepared {
     pub(crate) last: OpTime,
 }
 
-/// Opens the disks of a node that is down, and comes up with what is there. Only memory can be wanting, and then the node is as it was.
+/// Opens the disks of a node that is down, and comes up with what is there. Out of memory leaves the node as it was.
 pub(crate) fn come_up<D: Disk, R: Threads + Sync>(
     alloc: Global,
     rt: &R,

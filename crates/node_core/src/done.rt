@@ -4,7 +4,7 @@ use bson_doc::Mem;
 use repl_msg::Message;
 use set_model::Reply;
 
-/// What a command or a message came to.
+/// What a node did with a command or a message.
 #[derive(Drop)]
 pub struct Done {
     pub reply: Reply,
@@ -17,7 +17,7 @@ pub struct Done {
 }
 
 impl Done {
-    /// The same once more.
+    /// The same outcome once more.
     pub fn copy(&self) -> Mem<Done>
         ensures reply { IfOk result (λ d. d.reply ≡ self.now.reply) }
         ensures sent { IfOk result (λ d. d.sent.items ≡ self.now.sent.items) }

@@ -58,15 +58,15 @@ pub(crate) struct Left {
     pub(crate) doubt: Option<Store>,
 }
 
-/// A node on its two disks. Contracts see the model's node, and the two disks.
+/// A node on its two disks, up or down. Contracts see the node of `set_model`, and the two disks.
 #[derive(Drop)]
 pub struct Node<D: Disk> {
     pub(crate) alloc: Global,
-    /// The node while it is up. While it is down only who it is counts of this.
+    /// The node while it is up. While it is down only its number and its first configuration count.
     pub(crate) state: State,
     pub(crate) disks: Disks<D>,
     pub(crate) up: bool,
-    /// What counts while it is down.
+    /// What it knows while it is down.
     pub(crate) left: Left,
 }
 
@@ -144,7 +144,7 @@ impl<D: Disk> Node<D> {
     /// fails is no error: it has its number in `failed`, and the node is down then and sends nothing.
     ///
     /// # Errors
-    /// Only memory can be wanting. Then the node is as it was, and its disks keep what they kept.
+    /// Out of memory alone. Then the node is as it was, and its disks keep what they kept.
     pub fn act<R: Threads + Sync>(
         &mut self,
         rt: &R,
@@ -177,7 +177,7 @@ impl<D: Disk> Node<D> {
     /// no error: it has its number in `failed`, and the node is down then and sends nothing.
     ///
     /// # Errors
-    /// Only memory can be wanting. Then the node is as it was, and its disks keep what they kept.
+    /// Out of memory alone. Then the node is as it was, and its disks keep what they kept.
     pub fn take<R: Threads + Sync>(&mut self, rt: &R, next: u64, message: &Message) -> Mem<Done>
         requires bounds { IsBounded self.old.0 }
         requires next { IsNumbered next }
@@ -313,7 +313,7 @@ impl<D: Disk> Node<D> {
         self.state.store()
     }
 
-    /// It is up, and not down after a crash or a store that failed.
+    /// Whether it is up, and not down after a crash or a failure of a disk.
     pub fn is_up(&self) -> bool
         ensures { result ≡ self.now.0.up }
     {

@@ -30,7 +30,8 @@ pub(crate) enum Ended {
     Broken { item: Store, number: u32 },
 }
 
-/// Carries a turn out. Memory is wanting only where its one store is a long one, and then nothing has changed.
+/// Carries a turn out. It may run out of memory only where it stores one large record or checkpoint, and then nothing has
+/// changed.
 pub(crate) fn carry_out<D: Disk>(state: &mut State, disks: &mut Disks<D>, turn: Turn) -> Mem<Ended>
     requires rests { Rests state.old.node disks.old.count (D.state disks.old.journal.0) (D.state disks.old.checkpoints) }
     requires ready { IsReadyTurn turn state.old }
@@ -110,7 +111,7 @@ fn said(turn: Turn) -> Ended
     }
 }
 
-/// Does what a command asks, in memory and on the disks. Only memory can be wanting, and then all is as it was.
+/// Does what a command asks, in memory and on the disks. Out of memory is the one error, and then all is as it was.
 pub(crate) fn act_own<D: Disk, R: Threads + Sync>(
     state: &mut State,
     disks: &mut Disks<D>,
@@ -137,7 +138,7 @@ pub(crate) fn act_own<D: Disk, R: Threads + Sync>(
     carry_out(state, disks, turn)
 }
 
-/// Takes a message, in memory and on the disks. Only memory can be wanting, and then all is as it was.
+/// Takes a message, in memory and on the disks. Out of memory is the one error, and then all is as it was.
 pub(crate) fn take_in<D: Disk, R: Threads + Sync>(
     state: &mut State,
     disks: &mut Disks<D>,

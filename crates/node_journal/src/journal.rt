@@ -123,7 +123,7 @@ impl<D: Disk> Journal<D> {
         self.file.append(&self.buffer)
     }
 
-    /// There are fewer than 2^63 records. It is for callers that count them: it only reads.
+    /// There are fewer than 2^63 records: a fact for the proofs of callers that count them, which costs nothing.
     pub fn count_fits(&self)
         ensures { (records : List ARecord) → IsAtRest (D.state self.now.0) records → length records < 2 ^ 63 }
     {
@@ -151,7 +151,7 @@ impl<D: Disk> Journal<D> {
         self.file.arm(call, pick);
     }
 
-    /// The power goes. The pick chooses among what may be left.
+    /// Cuts the power of the disk. The pick chooses among what may be left of what was not synced.
     pub fn power_cut(&mut self, pick: u64)
         ensures disk { IsCut pick (D.state self.old.0) (D.state self.new.0) }
         ensures room { self.new.1 ≡ self.old.1 }

@@ -38,7 +38,7 @@ ledger_node term role clock log slots writers seen applied stable =
       stable = stable;
     }
 
--- A node that comes up with the entries of its log, which it has applied, and the documents of another disk as of an optime.
+-- A node that comes up with the entries of its log, which it has applied, and the documents of its checkpoint as of an optime.
 abbrev pub restored : ℕ → ℕ → List Entry → OpTime → Node
 restored term clock entries at =
     record (opening_node nobody 0) {

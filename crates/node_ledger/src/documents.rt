@@ -22,7 +22,7 @@ use set_model::Role;
 use version_store::{Current, VersionStore};
 
 impl Ledger {
-    /// The documents, as of each optime that is readable.
+    /// The documents, as of each optime that can still be read.
     pub fn store(&self) -> &VersionStore
         ensures latest { (place : Place) → latest_of (versions_at result.now place) ≡ maps.get (local_documents self.now.node) place }
         ensures shown { (place : Place) (at : OpTime) → IsReadable self.now.node at
@@ -31,7 +31,8 @@ impl Ledger {
         &self.store
     }
 
-    /// The optime as of which a read at `local` shows documents: on a primary one behind every entry.
+    /// The optime as of which a read at `local` shows documents: on a primary one later than every entry, and on another node how
+    /// far its log is applied.
     pub fn local_point(&self) -> OpTime
         ensures readable { IsReadable self.now.node result }
         ensures shown { log_up_to result self.now.node.log ≡ shown_log self.now.node Local }
@@ -69,7 +70,7 @@ impl Ledger {
         self.store.holder(ns, id)
     }
 
-    /// Both by one look-up: a document as a read at `local` shows it, and the open writer that holds it.
+    /// What `latest` and `holder` give, by one look-up.
     pub fn current(&self, ns: &str, id: &IdKey) -> Current<'_>
         ensures latest { option_copied result.latest ≡ maps.get (local_documents self.now.node) (ns.now, id.now) }
         ensures own { IfSome (option_copied result.latest) (λ document. BeginsWithId document × (id_key document ≡ Some id.now)) }

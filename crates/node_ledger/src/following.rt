@@ -42,7 +42,7 @@ pub(crate) fn insert_all(log: &mut OpenLog, slots: &mut Slots, entries: Vec<Entr
 }
 
 impl Ledger {
-    /// Writes entries behind the log, in the room that there is. They are applied by and by.
+    /// Appends entries to the log of a node that isn't primary, in the room that `reserve` made. They aren't applied yet.
     pub fn append(&mut self, entries: Vec<Entry>)
         requires role { is_primary self.old.node.role ≡ false }
         requires spare { length entries.items ≤ self.old.spare }
@@ -57,7 +57,8 @@ impl Ledger {
         insert_all(&mut self.log, &mut self.slots, entries);
     }
 
-    /// Applies the next batch, of at most 5,000 entries, by so many workers. The result is how many entries there were.
+    /// Applies the next batch, of at most 5,000 entries, by so many workers. The result is how many entries there were. Out of
+    /// memory leaves all as it was.
     pub fn apply<R: Threads + Sync>(&mut self, rt: &R, workers: u32) -> Mem<usize>
         requires role { is_primary self.old.node.role ≡ false }
         requires workers { (0 < workers) × (workers ≤ 16) }
@@ -68,7 +69,7 @@ impl Ledger {
         self.apply_next(rt, workers, BATCH)
     }
 
-    /// Applies all entries up to an optime that aren't applied yet, batch by batch. Want of memory leaves all as it was.
+    /// Applies all entries up to an optime that aren't applied yet, batch by batch. Out of memory leaves all as it was.
     pub fn apply_to<R: Threads + Sync>(&mut self, rt: &R, to: OpTime) -> Mem<()>
         requires { is_primary self.old.node.role ≡ false }
         ensures ok { OnOk result (self.new ≡ applied_at self.old (later_of self.old.node.applied (last_of (log_up_to to self.old.node.log)))) }
@@ -96,7 +97,7 @@ impl Ledger {
             .saturating_sub(log.up_to(self.applied).len())
     }
 
-    /// Applies so many entries, batch by batch. Where memory is wanting, the first of them are applied.
+    /// Applies so many entries, batch by batch. After out of memory, the first of them are applied.
     fn apply_batches<R: Threads + Sync>(&mut self, rt: &R, count: usize) -> Mem<()>
         requires role { is_primary self.old.node.role ≡ false }
         requires there { count ≤ length (log_behind self.old.node.applied self.old.node.log) }
@@ -133,7 +134,7 @@ impl Ledger {
         Ok(count)
     }
 
-    /// Drops the entries behind a point, an entry's optime or ZERO, with what they left of the documents.
+    /// Drops the entries behind a point, which is an applied entry's optime or ZERO, and takes the documents back to it.
     pub fn cut(&mut self, point: OpTime)
         requires role { is_primary self.old.node.role ≡ false }
         requires kept { is_before point self.old.node.stable ≡ false }
@@ -146,7 +147,7 @@ impl Ledger {
         self.drop_unapplied();
     }
 
-    /// Has the documents as of an optime, up to which the log is applied then.
+    /// Takes the documents back to an optime, up to which the log then counts as applied.
     fn unapply(&mut self, at: OpTime)
         requires role { is_primary self.old.node.role ≡ false }
         requires kept { is_before at self.old.node.stable ≡ false }
@@ -167,7 +168,8 @@ impl Ledger {
         self.log.cut(self.applied);
     }
 
-    /// Drops the versions that no read at an optime or behind it shows: the other disk has the documents there.
+    /// Drops the versions of documents that no read at an optime or behind it shows, once the checkpoint has the documents as of
+    /// that optime.
     pub fn prune(&mut self, at: OpTime)
         requires later { is_before at self.old.node.stable ≡ false }
         requires applied { is_before (applied_point self.old.node) at ≡ false }

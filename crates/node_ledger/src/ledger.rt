@@ -23,9 +23,11 @@ use visibility_point::visible_open;
 /// How many shards the documents are spread over.
 pub(crate) const SHARDS: u32 = 64;
 
-/// The log, the slots that are open with their writers, and the documents, with the role and the term that they hang on.
+/// The log of a node, the open slots with their writers, and the documents, with the role and the term that decide how far
+/// the log can be read and applied.
 ///
-/// A primary's documents go on to the end of its log. Another node's stand where its log is applied, and it has no slots.
+/// A primary's documents are those of its whole log. Another node's are those of its log as far as that is applied, and it
+/// has no open slots.
 #[derive(Drop)]
 pub struct Ledger {
     pub(crate) alloc: Global,
@@ -64,7 +66,7 @@ impl Model for Ledger {
 }
 
 impl Ledger {
-    /// A ledger as the set begins.
+    /// The ledger of a node that has written nothing yet: a secondary in term 0. Out of memory is the one error.
     pub fn new(alloc: Global) -> Mem<Self>
         ensures { IfOk result (λ ledger. ledger.node ≡ opening_node nobody 0) }
     {
@@ -82,7 +84,7 @@ impl Ledger {
         })
     }
 
-    /// What is always true of a ledger.
+    /// The log is in order and lawful, and no two writers hold one document: facts for callers' proofs, which cost nothing.
     pub fn is_sound(&self)
         ensures node { IsSound self.now.node }
         ensures writers { AreApart self.now.node }
@@ -90,46 +92,50 @@ impl Ledger {
         let _ = &self.term;
     }
 
+    /// The term that the node is in.
     pub fn term(&self) -> u64
         ensures { result ≡ self.now.node.term }
     {
         self.term
     }
 
-    /// Whether a term is a later one.
+    /// Whether a term is later than the node's.
     pub fn is_below(&self, term: u64) -> bool
         ensures { result ≡ nat_lt self.now.node.term term }
     {
         self.term < term
     }
 
+    /// What the node does in the set.
     pub fn role(&self) -> Role
         ensures { result ≡ self.now.node.role }
     {
         self.role
     }
 
+    /// The second that the node's timestamps start from.
     pub fn clock(&self) -> u32
         ensures { result ≡ self.now.node.clock }
     {
         self.clock
     }
 
-    /// How far the log of a node that isn't primary is applied. On a primary it is how far it was once it had drained.
+    /// How far the log of a node that isn't primary is applied. On a primary this stays where it was when it had drained; see
+    /// `applied_point`.
     pub fn applied(&self) -> OpTime
         ensures { result ≡ self.now.node.applied }
     {
         self.applied
     }
 
-    /// The optime as of which the other disk has the documents. No read may go back further.
+    /// The optime as of which the checkpoint has the documents. No read may go back further.
     pub fn stable(&self) -> OpTime
         ensures { result ≡ self.now.node.stable }
     {
         self.stable
     }
 
-    /// How far the log is applied. On a primary it is how far it is visible.
+    /// How far the log is applied; on a primary, how far it is visible.
     pub fn applied_point(&self) -> OpTime
         ensures { result ≡ applied_point self.now.node }
     {
@@ -171,13 +177,14 @@ impl Ledger {
         }
     }
 
+    /// The writer of this number, as its last step left it, or none where no writer has the number.
     pub fn writer(&self, number: u32) -> Option<&Writer>
         ensures { option_copied result ≡ maps.get self.now.node.writers number }
     {
         self.writers.get(number)
     }
 
-    /// Whether a writer has a slot.
+    /// Whether a writer has an open slot.
     pub fn is_writing(&self, number: u32) -> bool
         ensures { result ≡ is_open (maps.get self.now.node.writers number) }
     {
@@ -187,7 +194,8 @@ impl Ledger {
         }
     }
 
-    /// Makes room for entries that are then written without memory.
+    /// Makes room for so many entries, which are then written without taking memory. Out of memory changes nothing
+    /// but how much room there is.
     pub fn reserve(&mut self, more: usize) -> Mem<()>
         ensures node { self.new.node ≡ self.old.node }
         ensures ok { OnOk result (more ≤ self.new.spare) }

@@ -39,7 +39,8 @@ fn stored(alloc: Global, documents: BTreeMap<(Text, IdKey), Doc>, at: OpTime) ->
 }
 
 impl Ledger {
-    /// A ledger of these entries, all applied, where the other disk has the documents that they leave as of an optime.
+    /// The ledger of a secondary that comes up: the log is these entries, all applied, and `documents` are those that the
+    /// checkpoint has, as of the optime `at`. Out of memory is the one error.
     pub fn restore<R: Threads + Sync>(
         rt: &R,
         alloc: Global,

@@ -1,4 +1,4 @@
-// What a node is, and the term and the clock that it goes by.
+// The role of a node, its term and its clock.
 ghost use Rattle.std.specs.Prelude.{◌≡◌, ◌^◌, ◌<◌, ◌≤◌, false};
 ghost use Rattle.set_model.specs.Changes.{stepped_down};
 ghost use Rattle.set_model.specs.Points.{if_primary, last_point};
@@ -10,13 +10,14 @@ use rs_optime::OpTime;
 use set_model::Role;
 
 impl Ledger {
+    /// Sets the clock, in seconds.
     pub fn set_clock(&mut self, seconds: u32)
         ensures { self.new ≡ record self.old { node = record self.old.node { clock = seconds } } }
     {
         self.clock = seconds;
     }
 
-    /// Enters a term.
+    /// Enters a term, which isn't earlier than the node's and is below 2^63. Only a secondary enters one.
     pub fn set_term(&mut self, term: u64)
         requires role { self.old.node.role ≡ Secondary }
         requires later { self.old.node.term ≤ term }
@@ -26,7 +27,7 @@ impl Ledger {
         self.term = term;
     }
 
-    /// Takes a role, of one that isn't primary and stays none.
+    /// Changes between Secondary, Candidate and Draining. For a primary there are `become_primary` and `step_down`.
     pub fn set_role(&mut self, role: Role)
         requires from { is_primary self.old.node.role ≡ false }
         requires to { is_primary role ≡ false }
@@ -35,7 +36,7 @@ impl Ledger {
         self.role = role;
     }
 
-    /// Takes writes, once the whole log is applied.
+    /// Makes a draining node primary, once its whole log is applied.
     pub fn become_primary(&mut self)
         requires role { self.old.node.role ≡ Draining }
         requires applied { self.old.node.applied ≡ last_point self.old.node }
@@ -44,7 +45,8 @@ impl Ledger {
         self.role = Role::Primary;
     }
 
-    /// Is a secondary, whose log is applied as far as its documents go. Its open writers are lost, and let their documents go.
+    /// Makes the node a secondary. A primary's log then counts as applied to its end. Its slots are closed without entries, the
+    /// writers that had them are lost, and hold their documents no longer.
     pub fn step_down(&mut self)
         ensures { self.new ≡ record self.old { node = stepped_down self.old.node } }
     {

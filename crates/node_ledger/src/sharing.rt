@@ -43,14 +43,15 @@ impl Ledger {
         self.log.get(at)
     }
 
-    /// Copies of all entries, in their order.
+    /// Copies of all entries, in their order. Out of memory is the one error.
     pub fn entries(&self) -> Mem<EntryList>
         ensures { IfOk result (λ list. list ≡ self.now.node.log) }
     {
         Ok(EntryList::new(self.log.copies(self.alloc)?))
     }
 
-    /// The answer to a node whose last optime is `base`, where the log is visible up to `visible`.
+    /// The answer to a node whose last optime is `base`, where the log is visible up to `visible`, as `oplog_fetcher` gives it.
+    /// Out of memory is the one error.
     pub fn fetched(
         &mut self,
         visible: OpTime,
@@ -121,7 +122,8 @@ impl Ledger {
         self.log.settled().after(at).len() as u64
     }
 
-    /// The documents that the entries behind an optime touched, as a read at `local` shows them.
+    /// The documents that the entries behind an optime touched, each once, as a read at `local` shows them: what a rollback to
+    /// that optime takes. Out of memory is the one error.
     pub fn lost_behind(&mut self, at: OpTime) -> Mem<Vec<LostDocument>>
         ensures lost { IfOk result (λ lost. map lost_of lost.items ≡ touched_documents (λ place. maps.get (local_documents self.old.node) place) (log_behind at self.old.node.log)) }
         ensures same { self.new ≡ self.old }

@@ -68,7 +68,8 @@ struct Slot {
 }
 
 impl Ledger {
-    /// Opens a slot for a writer's op, whose document no writer holds. The writer then holds it.
+    /// Opens a slot for a writer's op, whose document no writer holds, and gives its optime. The writer then holds the document.
+    /// Out of memory leaves all as it was.
     pub fn open(&mut self, number: u32, ns: &str, id: &IdKey, op: Op) -> Mem<OpTime>
         requires role { self.old.node.role ≡ Primary }
         requires room { self.old.node.seen < 2 ^ 64 - 1 }
@@ -103,7 +104,8 @@ impl Ledger {
         Ok(at)
     }
 
-    /// Writes a writer's entry at its slot, and closes that. The writer lets its document go.
+    /// Writes a writer's entry at its slot, closes the slot, and gives its optime. The writer no longer holds its document. Out
+    /// of memory leaves all as it was.
     pub fn settle(&mut self, number: u32) -> Mem<OpTime>
         requires { IsWriting self.old.node.writers number }
         ensures ok { IfOk result (λ at. (op : Op) × HasOpen self.old.node.writers number at op × (self.new.node ≡ settled self.old.node number at op)) }
@@ -124,7 +126,7 @@ impl Ledger {
         Ok(slot.at)
     }
 
-    /// Closes a writer's slot with no entry. The writer is forgotten, and lets its document go.
+    /// Closes a writer's slot with no entry. The writer is forgotten, and no longer holds its document.
     pub fn abort(&mut self, number: u32)
         requires { IsWriting self.old.node.writers number }
         ensures node { (at : OpTime) × (op : Op) × HasOpen self.old.node.writers number at op × (self.new.node ≡ aborted self.old.node number at) }

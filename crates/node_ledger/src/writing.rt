@@ -34,7 +34,8 @@ fn append(log: &mut OpenLog, slots: &mut Slots, optime: OpTime, op: Op)
 }
 
 impl Ledger {
-    /// Writes an entry for a document that no writer holds. `after` is what the op leaves of it.
+    /// Writes an entry at the next optime, which it gives, for a document that no writer holds. `after` is what the op leaves of
+    /// the document. Out of memory leaves all as it was.
     pub fn write(&mut self, ns: Text, id: IdKey, op: Op, after: Option<Doc>) -> Mem<OpTime>
         requires role { self.old.node.role ≡ Primary }
         requires room { self.old.node.seen < 2 ^ 64 - 1 }
@@ -55,7 +56,7 @@ impl Ledger {
         Ok(at)
     }
 
-    /// Writes an entry that touches no document, in the room that there is.
+    /// Writes a no-op at the next optime, which it gives, in the room that `reserve` made.
     pub fn append_noop(&mut self) -> OpTime
         requires role { self.old.node.role ≡ Primary }
         requires room { self.old.node.seen < 2 ^ 64 - 1 }

@@ -19,7 +19,7 @@ use Rattle.set_model.specs.Points.{next_optime}
 use Rattle.node_ledger.specs.Versions.{IsSmall}
 use Rattle.node_state.specs.declared.admission.Admission.{Admission}
 
--- a refusal that isn't want of memory
+-- a refusal, which out of memory isn't
 abbrev pub IsRefusal : WriteRefusal → Refusal → Type 0
 IsRefusal Memory refusal = ⊥
 IsRefusal why refusal = refusal ≡ refusal_of why

@@ -30,7 +30,7 @@ pub record Foretells (told : Told) (raised : Bool) (term : ℕ) (plan : Node →
   pub at : OpTime
   pub same : new ≡ record old { applied = at }
 
--- a message that is made ready so: it wants no memory once its term is taken
+-- a message that is made ready so: no memory is taken for it once its term is
 abbrev pub is_foreseen : Body → Bool
 is_foreseen (bodies.Fetch base) = true
 is_foreseen (bodies.FetchReply reply) = true

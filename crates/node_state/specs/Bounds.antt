@@ -23,7 +23,7 @@ is_own (Restart node) = false
 is_own (DiskFail node disk call pick) = false
 is_own _ = true
 
--- what stores so much that it may want memory as it does
+-- commands that store so much that memory may run out as they do
 abbrev pub is_long : Command → Bool
 is_long (Flush node) = true
 is_long (Checkpoint node) = true

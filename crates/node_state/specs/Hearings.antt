@@ -1,4 +1,4 @@
--- Heartbeats and reports in steps of the code.
+-- Heartbeats and reports, in the steps in which the code takes them.
 use Rattle.std.specs.Prelude.{ℕ, ◌==◌, Bool, true, false, not, ◌&&◌, nat_lt, Option, None, Some, if◌then◌else◌}
 use Rattle.rs_optime.specs.declared.optime.OpTime.{OpTime}
 use Rattle.member_config.specs.Config.{is_newer}

@@ -1,4 +1,4 @@
--- What going on needs: nothing is wanting between two stores, and what was made before is what the rest of the row says.
+-- What going on needs: no memory runs out between two stores, and what was made before is what the remaining steps are to leave.
 use Rattle.std.specs.Prelude.{◌≡◌, ◌<◌, ◌≤◌, ◌-◌, ◌^◌, ◌+◌, ℕ, false, List, [], ◌∷◌, All, Option, None, Some, IfSome, length, ⊤, ◌⊎◌}
 use Rattle.rs_optime.specs.declared.optime.OpTime.{OpTime}
 use Rattle.oplog_entry.specs.Visible.{ZERO}

@@ -1,4 +1,4 @@
--- A plan in code: what a row comes to at a node, and how it goes on once something is stored.
+-- A plan in code: what a command or a message comes to at a node, and how it goes on once something is stored.
 use Rattle.std.specs.Prelude.{◌≡◌, List, None, Some}
 use Rattle.repl_msg.specs.declared.message.Message.{Message}
 use Rattle.set_model.specs.declared.reply.Reply.{Reply}

@@ -27,8 +27,11 @@ use std::thread::Threads;
 /// Who a node is, and what it keeps in memory while it is down.
 #[derive(Drop)]
 pub struct Coming<'a> {
+    /// Its number in the set.
     pub number: u32,
+    /// The configuration that the set began with.
     pub first: &'a Config,
+    /// The second that its clock shows.
     pub clock: u32,
     /// How often it rolled back or came up before.
     pub rollback: u64,
@@ -36,8 +39,9 @@ pub struct Coming<'a> {
 }
 
 impl State {
-    /// A node that comes up with what was read of its journal, and with the documents of its other disk as of an optime. Entries
-    /// behind the journal's point are left out: a cut at the point stands among the records.
+    /// A node that comes up with what was read of its journal (`found`), and with the documents that its checkpoint has, as of
+    /// the optime `stable`. Entries behind the journal's point are left out, since the node cuts its log there as it comes up.
+    /// Out of memory is the one error.
     pub fn restored<R: Threads + Sync>(
         rt: &R,
         alloc: Global,
@@ -88,7 +92,8 @@ impl State {
 
 // Facts of a node in memory, for the proofs of who stores for it.
 impl State {
-    /// It is up, with nothing in doubt, its log is sound, and it knows who it is.
+    /// It is up, with nothing in doubt, its log is in order, and its number and first configuration are lawful: a fact for
+    /// callers' proofs, which costs nothing.
     pub fn is_sound(&self)
         ensures sound { IsSound self.now.node }
         ensures up { self.now.node.up ≡ true }
@@ -100,7 +105,7 @@ impl State {
         self.ledger.is_sound();
     }
 
-    /// What it keeps is enough to come back with.
+    /// The node could come up again with its records and its checkpoint: a fact for callers' proofs, which costs nothing.
     pub fn is_well_kept(&self)
         ensures { IsWellKept self.now.node.records self.now.node.stable }
     {
@@ -108,7 +113,7 @@ impl State {
         self.ledger.is_sound();
     }
 
-    /// So is what it then keeps that stores something.
+    /// It could do so too once this is stored: a fact for callers' proofs, which costs nothing.
     pub fn stores_well(&self, _item: &Store, _then: &Then)
         requires ready { IsReady _item.now _then.now self.now }
         requires stored { CanBeStored _item.now }

@@ -15,7 +15,7 @@ use bson_doc::Mem;
 use doc_update::LentWrite;
 use set_model::{Command, Reply};
 
-/// A write, or a step of a writer. It stores and sends nothing.
+/// Whether a command is a write, or a step of a writer: these store and send nothing.
 pub fn is_write(command: &Command) -> bool
     ensures { result ≡ is_write command.now }
 {
@@ -43,7 +43,7 @@ impl State {
         Ok(self.answered(reply))
     }
 
-    /// Does a write, or a step of a writer, and answers it. Only memory can be wanting, and then the node is as it was.
+    /// Does a write, or a step of a writer, and answers it. Out of memory is the one error, and leaves the node as it was.
     #[tactic(auto, using(crate::proofs::TurnLemmas::while_up))]
     pub fn write(&mut self, command: &Command) -> Mem<Reply>
         requires bounds { IsBounded self.old.node }

@@ -199,7 +199,7 @@ impl State {
         self.answered(Reply::Checkpoint(at))
     }
 
-    /// The other disk has the documents as of this optime.
+    /// The checkpoint has the documents as of this optime.
     fn keep_documents(&mut self, item: &Store, at: OpTime)
         requires ready { IsCheckpoint item.now at self.old.node }
         ensures { self.new.node ≡ stored self.old.node item.now }

@@ -1,4 +1,4 @@
-// How a node that won begins to lead: steps that several rows take.
+// How a node that won begins to lead: steps that several commands and messages share.
 ghost use Rattle.std.specs.Prelude.{◌≡◌, ◌-◌, ◌^◌, ◌<◌, ◌≤◌, false, IfOk, OnOk, OnErr};
 ghost use Rattle.oplog_entry.specs.declared.entry.Op.TheVariants.{Noop};
 ghost use Rattle.member_config.specs.Config.{in_term};

@@ -1,6 +1,6 @@
 //! A node of a replica set in memory: its log and documents, its vote, its points, its configuration, and what it heard of others.
 //!
-//! What a command or a message comes to is a turn: it is finished, or it stores something and goes on once that stands.
+//! What it does with a command or a message is a turn: it is finished, or it stores something and goes on once that is on disk.
 #![tactic(auto)]
 
 mod admission;

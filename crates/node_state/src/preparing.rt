@@ -1,4 +1,4 @@
-// What a message comes to, made ready before anything is stored: memory may be wanting only here.
+// What a message comes to, made ready before anything is stored: only here may memory run out.
 ghost use Rattle.std.specs.Prelude.{◌≡◌, ◌<◌, nat_lt, true, IfOk, OnErr};
 ghost use Rattle.set_model.specs.Deliver as delivered;
 ghost use Rattle.set_model.specs.Fetching.{fetch_told};
@@ -41,7 +41,7 @@ impl State {
         }
     }
 
-    /// A message that wants no memory once its term is taken.
+    /// A message for which no memory is taken once the node has its term.
     pub(crate) fn prepare<R: Threads + Sync>(
         &mut self,
         rt: &R,
@@ -74,7 +74,7 @@ impl State {
         }
     }
 
-    /// A node wants the entries behind its last.
+    /// A node asks for the entries behind its last.
     fn prepare_fetch(
         &mut self,
         next: u64,

@@ -35,7 +35,7 @@ use std::marker::Model;
 use std::thread::Threads;
 use version_store::VersionStore;
 
-/// A node that is up, as far as it is in memory. Its documents are those of its log.
+/// A node that is up, as far as it is in memory. What it is to store on its disks it tells by its turns.
 #[derive(Drop)]
 pub struct State {
     pub(crate) alloc: Global,
@@ -87,7 +87,7 @@ impl Model for State {
 }
 
 impl State {
-    /// A node as the set begins.
+    /// A node as the set begins, with this number and this first configuration. Out of memory is the one error.
     pub fn open(alloc: Global, number: u32, config: &Config) -> Mem<State>
         requires number { number < 50 }
         requires config { rule config.now ≡ None }
@@ -121,9 +121,9 @@ impl State {
         self.ledger.store()
     }
 
-    /// Begins what a command asks of a node, in a set of so many nodes, where the next message gets this number. For a write
-    /// there is `write`. Only memory can be wanting, and then the node is as it was. What may want memory as it stores has
-    /// changed nothing before.
+    /// Begins what a command asks of a node. `nodes` is how many nodes the set has, and `next` the number that the next
+    /// message gets. For a write there is `write`. Out of memory is the one error, and leaves the node as it was. A command
+    /// that may run out of memory as it stores (`is_long`) has changed nothing by then.
     #[tactic(auto, using(crate::proofs::TurnLemmas::while_up))]
     pub fn start<R: Threads + Sync>(
         &mut self,
@@ -182,7 +182,8 @@ impl State {
         }
     }
 
-    /// Begins what a message comes to at the node.
+    /// Begins what the node does with a message that arrives; `next` is the number that the next message gets. Out of memory
+    /// is the one error, and leaves the node as it was.
     pub fn take<R: Threads + Sync>(&mut self, rt: &R, next: u64, message: &Message) -> Mem<Turn>
         requires bounds { IsBounded self.old.node }
         requires next { IsNumbered next }
@@ -194,7 +195,8 @@ impl State {
         self.take_message(rt, next, message)
     }
 
-    /// Goes on once this stands on the node's disk. Takes no memory.
+    /// Goes on once `item`, which a turn asked to store, is on the node's disk: `then` is what the turn gave with it. It takes
+    /// no memory.
     pub fn go_on(&mut self, item: &Store, then: Then) -> Turn
         requires ready { IsReady item.now then self.old }
         ensures turn { Means result self.new.node (rest_of then (stored self.old.node item.now)) }
@@ -249,6 +251,7 @@ impl State {
 
 // What a node keeps while it is down, and who it is.
 impl State {
+    /// The node's number in the set, counted from 0.
     pub fn number(&self) -> u32
         ensures { result ≡ self.now.node.number }
     {
@@ -262,13 +265,14 @@ impl State {
         &self.first
     }
 
+    /// The second that the node's timestamps start from.
     pub fn clock(&self) -> u32
         ensures { result ≡ self.now.node.clock }
     {
         self.ledger.clock()
     }
 
-    /// The optime of the documents on the other disk.
+    /// The optime as of which the checkpoint has the documents.
     pub fn stable(&self) -> OpTime
         ensures { result ≡ self.now.node.stable }
     {
@@ -282,12 +286,14 @@ impl State {
         (self.ledger.last(), self.commit)
     }
 
+    /// The rollback id: how often the node rolled back or came up again.
     pub fn rollback(&self) -> u64
         ensures { result ≡ self.now.node.rollback }
     {
         self.rollback
     }
 
+    /// The records that the node stored, which exist in proofs alone.
     pub fn records(&self) -> &Records
         ensures { result.now.list ≡ self.now.node.records }
     {

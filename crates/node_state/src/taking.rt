@@ -108,7 +108,7 @@ impl State {
         }
     }
 
-    /// A message of no higher term that is made ready, and then wants no memory.
+    /// A message of no higher term that is made ready, and for which no memory is taken from then on.
     fn take_foreseen<R: Threads + Sync>(
         &mut self,
         rt: &R,

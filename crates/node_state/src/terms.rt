@@ -1,4 +1,4 @@
-// Terms and the votes in them: steps that several rows take.
+// Terms and the votes in them: steps that several commands and messages share.
 ghost use Rattle.std.specs.Prelude.{◌≡◌, ◌^◌, ◌<◌, ◌≤◌, Some, IfSome, if◌then◌else◌};
 ghost use Rattle.member_config.specs.Voters.{voters};
 ghost use Rattle.set_model.specs.Changes.{in_new_term, stepped_down};

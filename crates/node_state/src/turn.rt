@@ -1,13 +1,13 @@
-// What a command or a message comes to, step by step: the node stores something, and goes on once it stands on its disk.
+// What a node does with a command or a message, step by step: it stores something, and goes on once that is on its disk.
 //
-// Whatever memory the rest wants is in here already, since nothing may be wanting between two stores.
+// All memory that the later steps need is taken beforehand and lies in here, since a node mustn't run out between two stores.
 use election_core::Tally;
 use member_config::Config;
 use repl_msg::{FetchReply, Message, VoteAsk, VoteRefusal};
 use rs_optime::OpTime;
 use set_model::{Ignored, LostList, Reply, Store};
 
-/// A row of the model as far as it has come.
+/// How far a node has come with a command or a message.
 #[derive(Drop)]
 pub enum Turn {
     /// It has its reply, and the messages that it sends.
@@ -16,7 +16,7 @@ pub enum Turn {
     Storing { item: Store, then: Then },
 }
 
-/// How a row goes on once its store stands.
+/// What the node does once that which it stores is on its disk.
 #[derive(Drop)]
 pub enum Then {
     /// The node is a candidate of the next term, with its own vote, and asks the others.
@@ -29,20 +29,20 @@ pub enum Then {
     Drain {
         config: Config,
     },
-    /// So many entries are in the journal, and the log is durable up to the point.
+    /// So many more entries are in the journal, and the log is durable up to the point.
     Flush {
         count: u64,
         point: OpTime,
     },
-    /// The documents at this optime are kept.
+    /// The checkpoint has the documents as of this optime.
     Checkpoint {
         at: OpTime,
     },
-    /// The primary has a new configuration.
+    /// The primary goes by its new configuration.
     Reconfig {
         config: Config,
     },
-    /// The node takes a higher term together with its vote, and answers the one who asked.
+    /// The node enters a higher term, with its vote or none (`why` is the reason), and answers the candidate.
     VoteInTerm {
         next: u64,
         from: u32,
@@ -50,7 +50,7 @@ pub enum Then {
         why: Option<VoteRefusal>,
         sent: Vec<Message>,
     },
-    /// It votes in its term, and answers.
+    /// It votes in the term that it is in, and answers the candidate.
     VoteGiven {
         next: u64,
         from: u32,
@@ -58,12 +58,12 @@ pub enum Then {
         why: Option<VoteRefusal>,
         sent: Vec<Message>,
     },
-    /// It took a message's term, and then the message.
+    /// It enters a message's higher term, and then takes the message.
     TookTerm {
         term: u64,
         told: Told,
     },
-    /// It has a configuration that it heard of.
+    /// It goes by a newer configuration that a heartbeat brought.
     Installed {
         config: Config,
         hearing: Hearing,
@@ -76,20 +76,20 @@ pub enum Then {
     },
 }
 
-/// What a message comes to, once its term is taken.
+/// What the node does with a message, once it has entered its term.
 #[derive(Drop)]
 pub enum Told {
-    /// It is answered.
+    /// It sends this answer.
     Answered {
         next: u64,
         sent: Vec<Message>,
     },
-    /// Its entries go on behind the log.
+    /// The answer's entries are written behind the log.
     Fetched {
         from: u32,
         reply: FetchReply,
     },
-    /// A node tells how it stands. Its configuration is installed, where it is given here.
+    /// A heartbeat is heard. `config` is its configuration, where the node installs it, and `kept` a copy for the journal.
     Heard {
         config: Option<Config>,
         kept: Option<Config>,
@@ -101,11 +101,11 @@ pub enum Told {
         removed: u64,
         lost: LostList,
     },
-    /// It isn't taken.
+    /// The message isn't taken.
     Ignored(Ignored),
 }
 
-/// What a node told of itself, and the answer to it.
+/// What a heartbeat tells of its sender, and the answer to it, where one is sent.
 #[derive(Drop)]
 pub struct Hearing {
     pub from: u32,
@@ -115,7 +115,7 @@ pub struct Hearing {
     pub answer: Option<Answer>,
 }
 
-/// The answer to a heartbeat.
+/// The answer to a heartbeat: the number of its message, and the message.
 #[derive(Drop)]
 pub struct Answer {
     pub next: u64,

@@ -37,7 +37,7 @@ impl State {
         }
     }
 
-    /// The same of a write that nothing refuses.
+    /// Opens a slot for a write that nothing refuses.
     #[tactic(auto, using(crate::proofs::AdmitLemmas::closed_writers))]
     fn begin_admitted(&mut self, writer: u32, admission: Admission) -> Mem<Reply>
         requires seen { self.old.node.seen < 2 ^ 64 - 1 }

@@ -29,7 +29,7 @@ impl State {
         }
     }
 
-    /// The same of a write to this place.
+    /// What a write to this place comes to.
     fn admit_at(&self, ns: Text, id: IdKey, lent: LentWrite<'_>) -> Mem<Result<Admission, Refusal>>
         requires role { self.now.node.role ≡ Role.Primary }
         requires name { is_collection (collection_of (shown lent)) ≡ true }
@@ -65,7 +65,7 @@ impl State {
         }
     }
 
-    /// The same of a write that nothing refuses.
+    /// Writes an entry for a write that nothing refuses.
     fn write_admitted(&mut self, admission: Admission) -> Mem<Reply>
         requires seen { self.old.node.seen < 2 ^ 64 - 1 }
         requires role { self.old.node.role ≡ Role.Primary }

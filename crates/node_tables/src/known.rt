@@ -60,8 +60,9 @@ impl KnownTable {
         self.places[member as usize] = Some(Heard { last, primary });
     }
 
-    /// The member from which a node fetches: of the other members that go further than its last optime the one with the
-    /// lowest number.
+    /// The member from which a node fetches: of the other members whose last optime is later
+    /// than its own the one with the lowest number, or none. Where chaining isn't allowed, only a primary counts. Out of
+    /// memory is the one error.
     pub fn source(&self, config: &Config, own: u32, last: OpTime) -> Mem<Option<u32>>
         ensures { IfOk result (λ source. source ≡ lowest (sources_of config.now own last (maps.get self.now))) }
     {
@@ -69,7 +70,7 @@ impl KnownTable {
         Ok(choose(config, own, last, &known).ok())
     }
 
-    /// Forgets all of it.
+    /// Forgets what was heard of all members.
     pub fn reset(&mut self)
         ensures { self.new ≡ maps.empty }
     {

@@ -8,6 +8,7 @@ ghost use Rattle.repl_msg.specs.contracts.record.Record.{the_row as record_row};
 use set_model::Store;
 use std::marker::Model;
 
+/// The records that a node stored, oldest first.
 #[derive(Drop)]
 pub struct Records {
     pub ghost list: { List Record } by { coded_list record_row.coded },
@@ -23,18 +24,21 @@ unsafe impl Send for Records {}
 impl Records {
     ghost use Rattle.node_tables.specs.Records.{no_records, with_stored};
 
+    /// No record.
     pub fn none() -> Records
         ensures { result ≡ no_records }
     {
         Records {}
     }
 
+    /// The records once this is stored too. Documents that are stored are no record.
     pub fn with(&self, _item: &Store) -> Records
         ensures { result ≡ with_stored self.now _item.now }
     {
         Records {}
     }
 
+    /// The same records once more.
     pub fn same(&self) -> Records
         ensures { result ≡ self.now }
     {

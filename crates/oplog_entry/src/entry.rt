@@ -101,7 +101,7 @@ impl Op {
         Ok(Some((ns, key)))
     }
 
-    /// The same, with a copy of the collection's name.
+    /// What `touched` gives, with a copy of the collection's name.
     pub fn key(&self) -> Mem<Option<(Text, IdKey)>>
         requires { IsLawfulOp self.now }
         ensures { IfOk result (λ place. place ≡ place_of self.now) }
@@ -132,7 +132,7 @@ impl Entry {
         self.op.touched()
     }
 
-    /// The same, with a copy of the collection's name.
+    /// What `touched` gives, with a copy of the collection's name.
     pub fn key(&self) -> Mem<Option<(Text, IdKey)>>
         requires { IsLawful self.now }
         ensures { IfOk result (λ place. place ≡ place_of self.now.op) }

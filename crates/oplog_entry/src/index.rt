@@ -33,6 +33,7 @@ impl<'a> Model for FieldIndex<'a> {
 }
 
 impl<'a> FieldIndex<'a> {
+    /// The index of a document. Out of memory is the one error.
     pub fn new(alloc: Global, document: &'a Doc) -> Mem<Self>
         ensures index { IfOk result (λ index. index ≡ document.now) }
         ensures names { IsDocument document.now }

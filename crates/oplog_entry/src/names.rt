@@ -32,6 +32,7 @@ impl<'a> Model for NameSet<'a> {
 }
 
 impl<'a> NameSet<'a> {
+    /// The set of the strings among some values; other values are passed over. Out of memory is the one error.
     pub fn new(alloc: Global, values: &'a Items) -> Mem<Self>
         ensures { IfOk result (λ names. names ≡ strings_of values.now) }
     {
@@ -44,6 +45,7 @@ impl<'a> NameSet<'a> {
         Ok(NameSet { values, names })
     }
 
+    /// Whether a name is among the strings.
     pub fn contains(&self, name: &Text) -> bool
         ensures { result ≡ is_among name.now self.now }
     {

@@ -16,8 +16,9 @@ use std::alloc::Global;
 /// The most entries of one answer.
 pub const MOST_ENTRIES: usize = 5_000;
 
-/// The answer to a node whose last optime is `base`, from a log that is visible up to `visible`: the next visible
-/// entries, where the log shows that one, and none elsewhere.
+/// The answer to a node whose last optime is `base`, from a log that is visible up to `visible`: the next visible entries, at
+/// most 5,000, where `base` is ZERO or a visible entry's optime (`holds`), and none elsewhere. Out of memory is the one
+/// error.
 pub fn reply_to(
     alloc: Global,
     log: &Oplog,

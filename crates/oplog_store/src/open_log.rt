@@ -83,7 +83,7 @@ impl OpenLog {
         }
     }
 
-    /// Makes room for entries that `insert` then takes without memory.
+    /// Makes room for so many entries, so that `insert` takes no memory for them.
     pub fn reserve(&mut self, more: usize) -> Mem<()>
         ensures entries { self.new.entries ≡ self.old.entries }
         ensures ok { OnOk result (more ≤ self.new.spare) }
@@ -116,7 +116,7 @@ impl OpenLog {
         }
     }
 
-    /// Keeps a place for the entry of a slot that opens behind all others. None is kept where memory is wanting.
+    /// Keeps a place for the entry of a slot that opens behind all others. Out of memory, none is kept, and the log is the same.
     pub fn open(&mut self, at: OpTime)
         ensures { self.new ≡ self.old }
     {
@@ -137,14 +137,14 @@ impl OpenLog {
         settle(&mut self.settled, &mut self.beyond);
     }
 
-    /// Brings all entries into one piece. No place is kept any more.
+    /// Brings all entries into one piece, which `settled` then lends. No place is kept any more.
     pub fn gather(&mut self)
         ensures { self.new ≡ record { entries = self.old.entries; settled = self.old.entries; spare = self.old.spare } }
     {
         gather(&mut self.settled, &mut self.beyond);
     }
 
-    /// Brings the entries up to an optime into one piece.
+    /// Brings the entries up to an optime into one piece, which `settled` then lends.
     pub fn gather_up_to(&mut self, at: OpTime)
         ensures entries { self.new.entries ≡ self.old.entries }
         ensures spare { self.new.spare ≡ self.old.spare }

@@ -61,7 +61,7 @@ pub(crate) fn precedes(one: OpTime, two: OpTime) -> bool
     one.ts < two.ts && one.term <= two.term
 }
 
-/// Keeps a place for the entry of a slot that opens. None is kept where something stands behind it, or memory is wanting.
+/// Keeps a place for the entry of a slot that opens. None is kept where something stands behind it, or when memory runs out.
 /// `last` is the optime of the last entry.
 pub(crate) fn open(beyond: &mut VecDeque<Place>, last: OpTime, at: OpTime)
     ensures { (settled : List Entry) → IsHeld settled beyond.old.items → last ≡ last_of (settled ++ written beyond.old.items) → Moved settled beyond.old.items 0 settled beyond.new.items 1 }
@@ -82,8 +82,8 @@ fn end_of(beyond: &VecDeque<Place>, last: OpTime) -> OpTime
     }
 }
 
-/// Puts an entry at the place that is kept for it, or behind all places. It comes back where there is no place, or memory
-/// is wanting.
+/// Puts an entry at the place that is kept for it, or behind all places. It comes back where there is no place, or
+/// when memory runs out.
 pub(crate) fn put(beyond: &mut VecDeque<Place>, entry: Entry) -> Option<Entry>
     ensures placed { IfNone result ((settled : List Entry) → IsHeld settled beyond.old.items → IsOplog (with_entry (settled ++ written beyond.old.items) entry) → Placed settled beyond.old.items entry beyond.new.items) }
     ensures back { IfSome result (λ other. (other ≡ entry) × (beyond.new.items ≡ beyond.old.items)) }

@@ -1,4 +1,4 @@
--- Acknowledgements and reads: what the parts answer at a node's values, and what the node's rows say.
+-- Acknowledgements and reads: what the crates that decide them answer, given a node's values, and what the node answers.
 use Rattle.std.specs.Prelude.{◌≡◌, List, Option, None, Some}
 use Rattle.rs_optime.specs.declared.optime.OpTime.{OpTime}
 use Rattle.oplog_entry.specs.declared.entry.Entry.{Entry}

@@ -1,4 +1,4 @@
--- Votes and tallies: what the parts answer at a node's values, and what the node's rows say.
+-- Votes and tallies: what the crates that decide them answer, given a node's values, and what the node answers.
 use Rattle.std.specs.Prelude.{◌≡◌, ℕ, List}
 use Rattle.vote_store.specs.Voting.{vote_for}
 use Rattle.member_config.specs.declared.config.Config.{Config}

@@ -1,4 +1,4 @@
--- Sources, fetching and rollback: what the parts answer at a node's values, and what the node's rows say.
+-- Sources, fetching and rollback: what the crates that decide them answer, given a node's values, and what the node answers.
 use Rattle.std.specs.Prelude.{◌≡◌, ℕ, true, not, nat_lt, List, filter, length, Result, Ok, Err, if◌then◌else◌}
 use Rattle.std.specs.List.{All}
 use Rattle.std.specs.FinMap as maps

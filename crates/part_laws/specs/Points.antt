@@ -1,4 +1,4 @@
--- Commit points and configurations: what the parts answer at a node's values, and what the node's rows say.
+-- Commit points and configurations: what the crates that decide them answer, given a node's values, and what the node answers.
 use Rattle.std.specs.Prelude.{◌≡◌, ℕ, not, Option, Some, if◌then◌else◌}
 use Rattle.std.specs.Option.{option_map}
 use Rattle.rs_optime.specs.declared.optime.OpTime.{OpTime}

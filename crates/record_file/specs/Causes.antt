@@ -1,3 +1,4 @@
+-- The error of a record file for each error of its disk.
 use Rattle.rs_disk.specs.declared.disk.DiskError.{DiskError}
 use Rattle.rs_disk.specs.declared.disk.DiskError.TheVariants.{Failed, Memory}
 use Rattle.record_file.specs.declared.error.FileError.{FileError}

@@ -54,7 +54,7 @@ abbrev pub answer_of : {D A : Type 0} → Result ((D × ℕ) × A) (D × FileErr
 answer_of (Ok opened) = Ok opened
 answer_of (Err refused) = Err refused.1
 
--- which of these calls were made where the answer is an error: a fault ends them, and want of memory comes between two
+-- which of these calls were made where the answer is an error: a fault ends them, and memory runs out between two
 abbrev pub StopsBy : FileError → List Step → State → State → Type 0
 StopsBy Disk steps old new = Breaks steps old new
 StopsBy Memory steps old new = MakesFirst steps old new

@@ -6,6 +6,7 @@ use rs_disk::{DiskError, Failed};
 use std::alloc::AllocError;
 use thiserror::Error;
 
+/// Why a call of a record file failed.
 #[derive(Clone, Copy, Debug, PartialEq, Eq, Error)]
 pub enum FileError {
     #[error("the disk failed")]

@@ -16,7 +16,7 @@ use rs_disk::Disk;
 use std::alloc::{AllocError, Global};
 use std::marker::Model;
 
-/// Contracts see it as its disk, and how many bytes its buffer can take.
+/// A record file. Contracts see it as its disk, and how many bytes its buffer can take.
 #[derive(Drop)]
 pub struct RecordFile<D: Disk> {
     disk: D,
@@ -130,7 +130,8 @@ impl<D: Disk> RecordFile<D> {
         Ok(())
     }
 
-    /// Takes the memory for records of so many bytes together, with 5 more for each of them.
+    /// Takes the memory for records of so many bytes together, where each counts 5 more than it has. Out of memory leaves the
+    /// file as it was.
     pub fn reserve(&mut self, more: u64) -> Result<(), AllocError>
         ensures same { SameButRoom (D.state self.old.0) (D.state self.new.0) }
         ensures open { IsOpen (D.state self.old.0) → IsOpen (D.state self.new.0) }
@@ -151,7 +152,7 @@ impl<D: Disk> RecordFile<D> {
         self.disk.arm(call, pick);
     }
 
-    /// The power goes. The pick chooses among what may be left.
+    /// Cuts the power of the disk. The pick chooses among what may be left of what was not synced.
     pub fn power_cut(&mut self, pick: u64)
         ensures disk { IsCut pick (D.state self.old.0) (D.state self.new.0) }
         ensures buffer { self.new.1 ≡ self.old.1 }

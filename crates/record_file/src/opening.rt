@@ -1,4 +1,4 @@
-// An opening.
+// How a file is opened: its records are read, and its end is repaired.
 ghost use Rattle.std.specs.Prelude.{◌≡◌, [], ◌∷◌, length, IfOk, IsErrOf};
 ghost use Rattle.rs_disk.specs.File.{contents};
 ghost use Rattle.rs_disk.specs.State.{Keeps};

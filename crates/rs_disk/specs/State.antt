@@ -44,7 +44,7 @@ abbrev pub Ends : {E : Type 0} → File → File → Result (Unit {0}) E → Sta
 Ends during done (Ok _) old new = IsDone during done old new
 Ends during done (Err _) old new = IsCrashed during old new
 
--- how a write ends: want of memory leaves the disk as it was
+-- how a write ends: out of memory leaves the disk as it was
 abbrev pub Writes : ℕ → List ℕ → Result (Unit {0}) DiskError → State → State → Type 0
 Writes at bytes (Ok _) old new = IsDone (changed (write at bytes) old.file) (changed (write at bytes) old.file) old new
 Writes at bytes (Err Failed) old new = IsCrashed (changed (write at bytes) old.file) old new

@@ -10,6 +10,7 @@ use thiserror::Error;
 #[error("the disk failed")]
 pub struct Failed;
 
+/// Why a write to a disk failed.
 #[derive(Clone, Copy, Debug, PartialEq, Eq, Error)]
 pub enum DiskError {
     #[error("the disk failed")]
@@ -70,20 +71,21 @@ pub trait Disk {
         ensures room { at + length bytes.now ≤ max (length (contents (state self.old).file)) (state self.old).room
             → result ≢ Err DiskError.Memory };
 
-    /// Cuts the file to a length.
+    /// Cuts the file to its first `to` bytes.
     fn cut(&mut self, to: u64) -> Result<(), Failed>
         requires { to ≤ length (contents (state self.old).file) }
         ensures outcome { Ends (changed (cut to) (state self.old).file) (changed (cut to) (state self.old).file) result
             (state self.old) (state self.new) }
         ensures keeps { Keeps (IsErr result) (state self.old) (state self.new) };
 
-    /// After it, a crash leaves what a read gives.
+    /// Makes what was written durable: after it, a crash leaves what a read gives.
     fn sync(&mut self) -> Result<(), Failed>
         ensures outcome { Ends (state self.old).file (settled (contents (state self.old).file)) result
             (state self.old) (state self.new) }
         ensures keeps { Keeps (IsErr result) (state self.old) (state self.new) };
 
-    /// Takes the memory for writes of up to so many bytes past the end.
+    /// Takes the memory for writes of up to so many bytes past the end, which then can't run out of it. An error, also where
+    /// 2^63 bytes would be reached, leaves the file as it was.
     fn reserve(&mut self, more: u64) -> Result<(), AllocError>
         ensures same { SameButRoom (state self.old) (state self.new) }
         ensures kept { (state self.old).room ≤ (state self.new).room }
@@ -96,7 +98,7 @@ pub trait Disk {
     fn arm(&mut self, call: u32, pick: Option<u64>)
         ensures { IsArmed call pick (state self.old) (state self.new) };
 
-    /// The power goes. The pick chooses among what may be left.
+    /// Cuts the power: what was written since the last `sync` may be lost or torn. The pick chooses among what may be left.
     fn power_cut(&mut self, pick: u64)
         ensures { IsCut pick (state self.old) (state self.new) };
 

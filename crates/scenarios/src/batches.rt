@@ -15,6 +15,7 @@ const FETCH: &str = "heartbeat n0 n1\ndeliver n0 n1\nfetch n1\ndeliver n1 n0\nde
 /// Node 0 leads, with the no-op of its term, in these sets: of three members, and of one with a node beside it.
 pub const THREE: &str = "set 3\ncampaign n0\ndeliver m0\ndeliver m2\ndrain n0\n";
 
+/// The set of one member, with a node beside it.
 pub const ONE: &str = "set 2 1\ncampaign n0\ndrain n0\n";
 
 /// How the transcripts end, from the first answer that is taken.
@@ -23,6 +24,7 @@ pub const THREE_ENDS: &str =
     5014: replied m10\n5015: took 1 last 1/0/5001\n5016: applied 5000 to 1/0/5000\n5017: applied 1 to 1/0/5001\n\
     5018: found {_id: 1, n: 300}\n";
 
+/// How the transcript of the set of one member ends.
 pub const ONE_ENDS: &str =
     "5008: took 5000 last 1/0/5000\n5009: sent m4\n5010: replied m5\n5011: sent m6 to n0\n\
     5012: replied m7\n5013: took 1 last 1/0/5001\n5014: applied 5000 to 1/0/5000\n5015: applied 1 to 1/0/5001\n\

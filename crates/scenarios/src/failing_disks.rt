@@ -14,6 +14,7 @@ pub struct OnDisks {
     pub calls: &'static [u32],
 }
 
+/// The scripts that are run with each of these calls failing.
 pub const SCRIPTS: [OnDisks; 4] = [
     OnDisks {
         name: "first",

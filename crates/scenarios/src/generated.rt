@@ -3,6 +3,7 @@
 /// The words that ask for it.
 pub const WORDS: [&str; 4] = ["chaos", "7", "5000", "5"];
 
+/// The summary that the script of these words has to put.
 pub const SUMMARY: &str = "\
 events 16488
 written 77

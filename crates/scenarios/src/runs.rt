@@ -23,6 +23,7 @@ pub struct Ran {
 }
 
 impl Ran {
+    /// Whether the run ended with this status, and put just this.
     pub fn is(&self, status: u8, put: &str) -> bool {
         self.status == status && self.put.as_slice() == put.as_bytes()
     }

@@ -17,7 +17,7 @@ abbrev pub Fails : {Y : Type 0} → LineError → Result Y ScriptRule → Type 0
 Fails errors.Memory read = Unit {0}
 Fails (errors.Rule rule) read = read ≡ Err rule
 
--- the same of a function that may want memory
+-- such a result of a function that may run out of memory
 abbrev pub Gives : {X Y : Type 0} → (X → Y) → Result X LineError → Result Y ScriptRule → Type 0
 Gives view (Ok x) read = read ≡ Ok (view x)
 Gives view (Err error) read = Fails error read

@@ -30,7 +30,7 @@ value_of (timestamp ts) = Timestamp ts
 abbrev pub unexpected : {A : Type 0} → Result A ScriptRule
 unexpected = Err (BadText Unexpected)
 
--- the rule that an error tells. Reading as such wants no memory.
+-- the rule that an error tells. The definition of reading knows no out of memory.
 abbrev pub text_rule : TextError → TextRule
 text_rule (errors.Unexpected place) = Unexpected
 text_rule (errors.Number place) = Number

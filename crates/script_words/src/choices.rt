@@ -104,7 +104,7 @@ fn disk_of(word: &str) -> Result<DiskName, ScriptRule>
     }
 }
 
-/// What an acknowledgement is asked for.
+/// The write whose acknowledgement is asked for.
 #[tactic(auto, unfolding(crate::specs::Words::target_at))]
 pub fn target(left: Left<'_>) -> Read<'_, Target>
     ensures { Reads (λ x. (x.0, option_copied x.1)) result (target_at (option_copied left.entry)) }
@@ -113,7 +113,7 @@ pub fn target(left: Left<'_>) -> Read<'_, Target>
     Ok((target_of(word)?, rest))
 }
 
-/// How many have to have it.
+/// How many members the write has to be durable on.
 #[tactic(auto, unfolding(crate::specs::Words::concern_at))]
 pub fn concern(left: Left<'_>) -> Read<'_, AckConcern>
     ensures { Reads (λ x. (x.0, option_copied x.1)) result (concern_at (option_copied left.entry)) }

@@ -36,7 +36,7 @@ pub fn keyword(text: &str) -> Result<(Keyword, Left<'_>), ScriptRule>
     }
 }
 
-/// The command whose words behind the first one are left.
+/// The command with this first word, from the words that are left, in a set of so many nodes.
 pub fn command(alloc: Global, nodes: u32, verb: Verb, left: Left<'_>) -> Result<Command, LineError>
     ensures { Gives (λ command. command) result (words_at nodes verb (option_copied left.entry)) }
 {
@@ -97,7 +97,7 @@ fn of_node(
     }
 }
 
-/// The same of a command that brings no value, and wants no memory.
+/// The command where its words bring no value. It takes no memory.
 fn of_words(nodes: u32, verb: NodeVerb, node: u32, left: Left<'_>) -> Result<Command, ScriptRule>
     requires { ends_in_value (node_shape verb) ≡ false }
     ensures { result ≡ of_node nodes verb node (option_copied left.entry) }

@@ -8,9 +8,11 @@ use std::alloc::AllocError;
 pub enum ScriptRule {
     /// The line has more than 1,048,576 bytes.
     LineTooLong,
+    /// The line is no UTF-8.
     NotUtf8,
     /// The first command isn't `set`, or there is none.
     NoSetLine,
+    /// The first word names no command.
     UnknownCommand,
     /// The line has too few words, or too many.
     WordCount,
@@ -39,12 +41,19 @@ pub enum ScriptRule {
 /// The rule of the notation that a value breaks.
 #[derive(Clone, Copy, Debug, PartialEq, Eq)]
 pub enum TextRule {
+    /// A character stands where it can't go on, or the text ends too early.
     Unexpected,
+    /// A number is outside its kind's range.
     Number,
+    /// An unknown escape in a string.
     Escape,
+    /// No hexadecimal digits, or a wrong number of them.
     Hex,
+    /// A name stands twice in a document.
     DuplicateName,
+    /// There are more than 100 levels.
     TooDeep,
+    /// A zero byte in a name.
     NameZero,
 }
 
@@ -53,6 +62,7 @@ pub enum TextRule {
 pub enum LineError {
     /// The first rule that the line breaks.
     Rule(ScriptRule),
+    /// Out of memory.
     Memory,
 }
 

@@ -13,11 +13,13 @@ const MAX_NODES: u32 = 7;
 /// The sizes that a `set` line names.
 #[derive(Clone, Copy, Debug, PartialEq, Eq)]
 pub struct SetLine {
+    /// How many nodes the set has.
     pub nodes: u32,
+    /// How many of them, the first ones, are members.
     pub members: u32,
 }
 
-/// `set NODES`, and `MEMBERS` or nothing
+/// The sizes that a `set` line names: `set NODES MEMBERS`, where `MEMBERS` may be left out and then is `NODES`.
 #[tactic(auto, unfolding(crate::specs::Set::set_line))]
 pub fn set_line(text: &str) -> Result<SetLine, ScriptRule>
     ensures { result ≡ set_line text.now }

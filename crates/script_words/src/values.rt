@@ -29,7 +29,7 @@ pub fn value(alloc: Global, text: &str) -> Result<(Value, &str), LineError>
     Ok((value, &text[end..]))
 }
 
-/// What stands behind the one space behind a value that another follows.
+/// The text behind the single space that parts a value from the one that follows it.
 pub fn behind_space(text: &str) -> Result<&str, ScriptRule>
     ensures { Reads (λ rest. rest.now) result (behind_space text.now) }
 {
@@ -39,7 +39,7 @@ pub fn behind_space(text: &str) -> Result<&str, ScriptRule>
     }
 }
 
-/// The value that a text is. This and the next one are inlined, so that values are moved less.
+/// The value that the whole text spells. This and the next one are inlined, so that values are moved less.
 #[inline(always)]
 #[tactic(auto, unfolding(crate::specs::Values::last_value))]
 pub fn last_value(alloc: Global, text: &str) -> Result<Value, LineError>
@@ -53,7 +53,7 @@ pub fn last_value(alloc: Global, text: &str) -> Result<Value, LineError>
     }
 }
 
-/// The document that a text is.
+/// The document that the whole text spells.
 #[inline(always)]
 #[tactic(auto, unfolding(crate::specs::Values::last_document))]
 pub fn last_document(alloc: Global, text: &str) -> Result<Doc, LineError>

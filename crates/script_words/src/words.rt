@@ -127,7 +127,7 @@ pub fn number_of(
     }
 }
 
-/// Any number of 64 bits, as above.
+/// Any number below 2^64; `form` and `range` as in `number_of`.
 pub fn long_of(word: &str, form: ScriptRule, range: ScriptRule) -> Result<u64, ScriptRule>
     ensures { result ≡ number_of form range 0 18446744073709551615 word.now }
 {

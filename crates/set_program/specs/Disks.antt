@@ -27,7 +27,7 @@ DisksPlay {D} state world (event ∷ later) old new =
 abbrev pub DisksPlayed : {D : Type 0} → (D → State) → List D → Set D → Type 0
 DisksPlayed state first set = DisksPlay state (opening set.sizes).world set.history first set.disks
 
--- at most the disks of one node were used, for a command that wasn't done since memory was wanting
+-- at most the disks of one node were used, for a command that wasn't done since memory ran out
 abbrev pub DisksUndone : {D : Type 0} → (D → State) → Set D → List D → Type 0
 DisksUndone state set last =
     (set.disks ≡ last)

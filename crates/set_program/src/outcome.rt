@@ -9,17 +9,21 @@ use rs_disk::Disk;
 use set_model::Event;
 use set_world::World;
 
+/// How a call of the program ended: the status that it exits with, and what it leaves.
 #[derive(Drop)]
 pub struct Outcome<D: Disk> {
+    /// 0 to 7, as `run_set` says.
     pub status: u8,
+    /// The set, or its disks.
     pub left: Left<D>,
 }
 
 /// The set as far as it was run, or its disks where it wasn't run.
 #[derive(Drop)]
 pub enum Left<D: Disk> {
+    /// The set, as far as it was run.
     World(World<D>),
-    /// No events, and the disks.
+    /// The set wasn't opened: there are no events, and these are the disks.
     Parts(Vec<Event>, Vec<D>),
 }
 

@@ -23,7 +23,8 @@ use std::alloc::Global;
 use std::thread::Threads;
 use transcript::{Summary, write_summary};
 
-/// Plays parts as a task asks.
+/// Plays the parts of a script as a task asks: it puts each reply, or only the summary of the run. An error says why it stopped
+/// before the end.
 pub fn play_task<K: Sink, D: Disk, R: Threads + Sync>(
     rt: &R,
     alloc: Global,

@@ -59,7 +59,7 @@ pub record IsStep {D : Type 0} (state : D → State) (old new : Set D) (line : �
   pub disks : AtTouched (task (run old.sizes old.history).world command) event.failed old.disks new.disks
       (λ number. OneChanged state (DisksActed command reply (IsSome event.failed)) number old.disks new.disks)
 
--- Nothing was done. Where memory was wanting, the disks of the node that would have been touched may have been used: no orders
+-- Nothing was done. Where memory ran out, the disks of the node that would have been touched may have been used: no orders
 -- were given to them.
 pub record IsUndone {D : Type 0} (state : D → State) (old new : Set D) (command : Command) : Type 0 where
   pub history : new.history ≡ old.history

@@ -12,6 +12,7 @@ use thiserror::Error;
 /// What was heard of a member: its last optime, and whether it is primary.
 #[derive(Clone, Copy, Debug, PartialEq, Eq)]
 pub struct Known {
+    /// The number of the member.
     pub member: u32,
     pub last: OpTime,
     pub primary: bool,
@@ -22,8 +23,9 @@ pub struct Known {
 #[error("no member goes further")]
 pub struct NoSource;
 
-/// The lowest number among the other members that go further than an optime. Where chaining isn't allowed, only a
-/// primary counts. What stands first in `known` holds of a member.
+/// The member that a node fetches from: the lowest number among the other members whose last optime is later than `last`.
+/// Where the configuration doesn't allow chaining, only a primary counts. Where `known` names a member twice, the first
+/// counts. `NoSource` where there is no such member.
 pub fn choose(config: &Config, own: u32, last: OpTime, known: &[Known]) -> Result<u32, NoSource>
     ensures { result_ok result ≡ lowest (words.sources_of config.now own last (heard_of known.now)) }
 {

@@ -7,14 +7,14 @@ use bson_doc::Mem;
 use itoa::Buffer;
 use rs_optime::OpTime;
 
-/// A number. Most replies have some, and the buffer costs less than a format.
+/// Appends a number. Most replies have some, and the buffer costs less than a format.
 pub fn write_number(number: u64, out: &mut String) -> Mem<()>
     ensures { OnOk result (string_bytes out.new ≡ string_bytes out.old ++ decimal number) }
 {
     out.push_str(Buffer::new().format(number))
 }
 
-/// An optime, as its `Display` has it.
+/// Appends an optime, as its `Display` has it.
 pub fn write_optime(at: OpTime, out: &mut String) -> Mem<()>
     ensures { OnOk result (string_bytes out.new ≡ string_bytes out.old ++ optime_text at) }
 {
@@ -25,7 +25,7 @@ pub fn write_optime(at: OpTime, out: &mut String) -> Mem<()>
     write_number(at.ts & 0xffff_ffff, out)
 }
 
-/// Some words and an optime.
+/// Appends some words and an optime.
 pub fn write_at(words: &str, at: OpTime, out: &mut String) -> Mem<()>
     ensures { OnOk result (string_bytes out.new ≡ string_bytes out.old ++ (words.now ++ optime_text at)) }
 {
@@ -33,7 +33,7 @@ pub fn write_at(words: &str, at: OpTime, out: &mut String) -> Mem<()>
     write_optime(at, out)
 }
 
-/// A number and an optime, with words before each.
+/// Appends a number and an optime, with words before each.
 pub fn write_counted(
     words: &str,
     count: u64,
@@ -49,7 +49,7 @@ pub fn write_counted(
     write_optime(at, out)
 }
 
-/// An optime and a number, with words before each.
+/// Appends an optime and a number, with words before each.
 pub fn write_counted_behind(
     words: &str,
     at: OpTime,
@@ -65,7 +65,7 @@ pub fn write_counted_behind(
     write_number(count, out)
 }
 
-/// Two numbers, with words before each.
+/// Appends two numbers, with words before each.
 pub fn write_pair(words: &str, first: u64, between: &str, second: u32, out: &mut String) -> Mem<()>
     ensures { OnOk result (string_bytes out.new ≡ string_bytes out.old ++ (words.now ++ decimal first ++ between.now ++ decimal second)) }
 {

@@ -14,7 +14,7 @@ use doc_text::write_document;
 use set_model::Reply;
 use std::fmt::Write;
 
-/// Appends the reply to the command of a line, with its line end. Want of memory leaves `out` as it was.
+/// Appends the reply to the command of a line, with its line end. Out of memory leaves `out` as it was.
 pub fn write_reply(line: u32, reply: &Reply, out: &mut String) -> Mem<()>
     ensures ok { OnOk result (string_bytes out.new ≡ string_bytes out.old ++ line_text (line, reply.now)) }
     ensures err { OnErr result (string_bytes out.new ≡ string_bytes out.old) }
@@ -24,7 +24,8 @@ pub fn write_reply(line: u32, reply: &Reply, out: &mut String) -> Mem<()>
     out.push_str(&text)
 }
 
-/// Puts the same in place of what stood in `text`, whose memory serves again. After want of memory `text` means nothing.
+/// Writes that line into `text` in place of what stood there, and uses its memory again. After out of memory
+/// `text` is of no use.
 pub fn set_reply(line: u32, reply: &Reply, text: &mut String) -> Mem<()>
     ensures { OnOk result (string_bytes text.new ≡ line_text (line, reply.now)) }
 {
@@ -73,7 +74,7 @@ fn write_text(reply: &Reply, out: &mut String) -> Mem<()>
     }
 }
 
-/// The same of an election or a message.
+/// Appends a reply that tells of an election or a message.
 fn write_protocol(reply: &Reply, out: &mut String) -> Mem<()>
     requires { is_of_protocol reply.now ≡ true }
     ensures { OnOk result (string_bytes out.new ≡ string_bytes out.old ++ reply_text reply.now) }
@@ -108,7 +109,7 @@ fn write_protocol(reply: &Reply, out: &mut String) -> Mem<()>
     }
 }
 
-/// The same of what a node keeps, or of the node itself.
+/// Appends a reply that tells of what a node keeps, or of the node itself.
 fn write_node(reply: &Reply, out: &mut String) -> Mem<()>
     requires { is_of_node reply.now ≡ true }
     ensures { OnOk result (string_bytes out.new ≡ string_bytes out.old ++ reply_text reply.now) }

@@ -109,7 +109,7 @@ impl Shard {
         self.put_in(ns.as_str(), id, at, doc)
     }
 
-    /// The same, where the collection's name is lent.
+    /// `put` with the collection's name by reference.
     pub fn put_in(&mut self, ns: &str, id: IdKey, at: OpTime, doc: Option<Doc>) -> Mem<()>
         requires own { BelongsTo self.old.number self.old.count (ns.now, id) }
         requires later { All (λ version. is_before version.at at ≡ true) (past_of self.old (ns.now, id)).versions }

@@ -44,12 +44,13 @@ impl From<AllocError> for HoldError {
 /// The newest version of a document, and the writer that holds it.
 #[derive(Drop)]
 pub struct Current<'a> {
+    /// None where it was deleted or never was.
     pub latest: Option<&'a Doc>,
     pub holder: Option<u32>,
 }
 
 /// Documents with their versions by optime, and the writers that hold them, in shards. From `take_shards` to
-/// `put_shards` it has no shards: nothing is found there, and what would be put or held wants memory.
+/// `put_shards` it has no shards: nothing is found there, and `put` and `hold` answer out of memory.
 #[derive(Drop)]
 pub struct VersionStore {
     count: u32,
@@ -72,7 +73,7 @@ impl Model for VersionStore {
 }
 
 impl VersionStore {
-    /// No document, in so many shards.
+    /// A store without documents, of so many shards. Out of memory is the one error.
     pub fn new(alloc: Global, shards: u32) -> Mem<Self>
         requires { 0 < shards }
         ensures count { IfOk result (λ store. store.count ≡ shards) }
@@ -112,7 +113,7 @@ impl VersionStore {
         self.history(ns, id)?.holder()
     }
 
-    /// Both by one look-up.
+    /// What `latest` and `holder` give, by one look-up.
     pub fn current(&self, ns: &str, id: &IdKey) -> Current<'_>
         ensures latest { option_copied result.latest ≡ latest_of (versions_at self.now (ns.now, id.now)) }
         ensures rising { IsRising (versions_at self.now (ns.now, id.now)) }
@@ -130,7 +131,7 @@ impl VersionStore {
         }
     }
 
-    /// Lets a writer hold a document. `Held` where another writer holds it.
+    /// Lets a writer hold a document. `Held` where another writer holds it. Either error leaves the store as it was.
     pub fn hold(&mut self, ns: &str, id: &IdKey, writer: u32) -> Result<(), HoldError>
         ensures ok { OnOk result (Changes self.old self.new (ns.now, id.now) (held_by (past_at self.old (ns.now, id.now)) (Some writer))) }
         ensures held { (other : ℕ) → IsErrOf result (HoldError.Held other) ↔ ((holder_at self.old (ns.now, id.now) ≡ Some other) × (other ≢ writer)) }
@@ -149,7 +150,7 @@ impl VersionStore {
         Ok(())
     }
 
-    /// Lets go of a document, whoever holds it.
+    /// Has nobody hold a document, whoever held it.
     pub fn release(&mut self, ns: &str, id: &IdKey)
         ensures { Changes self.old self.new (ns.now, id.now) (held_by (past_at self.old (ns.now, id.now)) None) }
     {
@@ -160,7 +161,7 @@ impl VersionStore {
         shard.release(ns, id);
     }
 
-    /// Adds a version of a document, newer than each that it has. None is a deletion.
+    /// Adds a version of a document, newer than each that it has. None is a deletion. Out of memory leaves the store as it was.
     pub fn put(&mut self, ns: Text, id: IdKey, at: OpTime, doc: Option<Doc>) -> Mem<()>
         requires { All (λ version. is_before version.at at ≡ true) (versions_at self.old (ns, id)) }
         ensures ok { OnOk result (Changes self.old self.new (ns, id) (with_version (past_at self.old (ns, id)) (record { at = at; doc = doc }))) }
@@ -208,7 +209,7 @@ impl VersionStore {
         self.count
     }
 
-    /// Takes the shards out, by their numbers. None, where they are out.
+    /// Takes the shards out, in order of their numbers, so that threads may work on them: no shards where they are out already.
     pub fn take_shards(&mut self) -> Vec<Shard>
         ensures taken { result.items ≡ self.old.shards }
         ensures whole { AreAllOrNone self.old.count result.items }
@@ -218,7 +219,7 @@ impl VersionStore {
         replace(&mut self.shards, none)
     }
 
-    /// Puts shards there: as many as were taken, each at the place of its number.
+    /// Puts the shards back: as many as were taken, in order of their numbers.
     pub fn put_shards(&mut self, shards: Vec<Shard>)
         requires { AreShards self.old.count shards.items }
         ensures { self.new ≡ record { count = self.old.count; shards = shards.items } }
