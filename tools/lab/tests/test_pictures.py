@@ -62,9 +62,10 @@ class Messages(unittest.TestCase):
     """Whom each message goes to, which the replies don't tell of a candidate's."""
 
     def test_the_numbers_are_those_of_the_replies(self) -> None:
-        examples = [path.read_text(encoding="utf-8").splitlines() for path in (TOP / "crates/scenarios/data").glob("*_c*.replset")]
-        members = [path.read_text(encoding="utf-8").splitlines() for path in (TOP / "crates/scenarios/data").glob("*config*.replset")]
-        for lines in [*examples, *members, script_by_chance(5, 1500)]:
+        examples = [path.read_text(encoding="utf-8") for path in (TOP / "crates" / "scenarios" / "data").glob("*.replset")]
+        members = [example.splitlines() for example in examples if "reconfig" in example]
+        self.assertGreater(len(members), 3)
+        for lines in [*members, script_by_chance(5, 1500)]:
             for step in observe(lines).steps:
                 said = re.search(r"(?:sent|replied) m(\d+)(?: (\d+))?(?: to n\d+)?$", step.reply.text)
                 count = int(said[2] or 1) if said else 0
