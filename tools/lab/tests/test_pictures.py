@@ -58,6 +58,22 @@ class Layout(unittest.TestCase):
         self.assertEqual([message.receiver for message in observe(plain).steps[-1].sent], [0, 2])
 
 
+class Messages(unittest.TestCase):
+    """Whom each message goes to, which the replies don't tell of a candidate's."""
+
+    def test_the_numbers_are_those_of_the_replies(self) -> None:
+        examples = [path.read_text(encoding="utf-8") for path in (TOP / "crates" / "scenarios" / "data").glob("*.replset")]
+        members = [example.splitlines() for example in examples if "reconfig" in example]
+        self.assertGreater(len(members), 3)
+        for lines in [*members, script_by_chance(5, 1500)]:
+            for step in observe(lines).steps:
+                said = re.search(r"(?:sent|replied) m(\d+)(?: (\d+))?(?: to n\d+)?$", step.reply.text)
+                count = int(said[2] or 1) if said else 0
+                self.assertEqual(len(step.sent), count, step)
+                if said and count:
+                    self.assertEqual(step.sent[0].number, int(said[1]), step)
+
+
 class Files(LabTest):
     """`lab picture`."""
 
