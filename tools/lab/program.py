@@ -12,8 +12,8 @@ from .transcript import Transcript, read_transcript
 
 TOP = Path(__file__).resolve().parents[2]
 
-#: What builds a program of this checkout in a minute, with nothing proved: the first of these that is there.
-BUILDERS = ("tools/build_unproved", "bench/quick")
+#: Builds a program of this checkout in a minute, with nothing proved.
+BUILDER = TOP / "tools" / "build_unproved"
 
 _found: dict = {}
 
@@ -39,18 +39,17 @@ def _search(name: str) -> str:
 
 
 def _build(name: str, target: Path) -> str:
-    builder = next((TOP / place for place in BUILDERS if os.access(TOP / place, os.X_OK)), None)
     crate = TOP / "crates" / name
-    if builder is None or not crate.is_dir():
+    if not os.access(BUILDER, os.X_OK) or not crate.is_dir():
         raise LabError(PROGRAM, f"there is no program {name} here: set {name.upper()} to the path of one")
     print(f"lab: building {name} without proofs, which takes a minute", file=sys.stderr)
     target.parent.mkdir(exist_ok=True)
     try:
-        done = subprocess.run([str(builder), str(target), str(crate)], stdout=subprocess.DEVNULL, stderr=subprocess.PIPE)
+        done = subprocess.run([str(BUILDER), str(target), str(crate)], stdout=subprocess.DEVNULL, stderr=subprocess.PIPE)
     except OSError as fault:
-        raise LabError(PROGRAM, f"{builder.name} can't be run: {fault.strerror}") from None
+        raise LabError(PROGRAM, f"{BUILDER.name} can't be run: {fault.strerror}") from None
     if done.returncode != 0 or not os.access(target, os.X_OK):
-        raise LabError(PROGRAM, f"there is no program {name}, and {builder.name} built none (is rt on the path?)")
+        raise LabError(PROGRAM, f"there is no program {name}, and {BUILDER.name} built none (is rt on the path?)")
     return str(target)
 
 
