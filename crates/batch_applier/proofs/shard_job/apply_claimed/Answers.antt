@@ -3,6 +3,7 @@ use Rattle.std.specs.Prelude.{slice_index_or}
 use Rattle.bson_doc.proofs.BindLemmas.{on_ok}
 use Rattle.batch_applier.specs.Parts.{IsApplied, IsBegun}
 use Rattle.batch_applier.specs.Jobs.{AreAllJobs, AreBack}
+use denote.Param.Send.{sendable}
 use Rattle.batch_applier.proofs.Crosses.{job_send}
 use Rattle.batch_applier.proofs.JobLemmas.{jobs_ready, all_jobs, each_back, same_begun, got}
 use Rattle.batch_applier.proofs.shard_job.apply_claimed.Goals as goal
@@ -11,7 +12,7 @@ pub done_by_workers-requires-clause-ready : goal.done_by_workers-requires-clause
 done_by_workers-requires-clause-ready g c κs within = jobs_ready c.args.shards.now c.args.parts.now _ c.requires.ready c.in_ok-jobs.ensures.ok
 
 pub done_by_workers-requires-send-T : goal.done_by_workers-requires-send-T
-done_by_workers-requires-send-T g c κs within = job_send _ _
+done_by_workers-requires-send-T g c κs within = search (job_send, sendable)
 
 pub take_back-requires-clause-jobs : goal.take_back-requires-clause-jobs
 take_back-requires-clause-jobs g c = λ k within. let d = c.in-Ok.ensures.done.1 in let j = all_jobs _ _ _ c.in_ok-jobs.ensures.ok k (subst (λ n. k < n) d.0 within) in let y = d.1 k j.0 j.1 in (y.0, y.1)
