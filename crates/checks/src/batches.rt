@@ -18,7 +18,7 @@ use version_store::VersionStore;
 const TURNS: u32 = 1_000_000;
 
 // Entries enough that workers are threads.
-const MANY: i32 = 300;
+const MANY: u32 = 300;
 
 // The longest batch.
 const MOST: usize = 5000;
@@ -178,11 +178,13 @@ impl Gate for Held {
 }
 
 // So many changes of one document.
-fn of_one_document(alloc: Global, count: i32) -> Result<Vec<Change>, Fail> {
+fn of_one_document(alloc: Global, count: u32) -> Result<Vec<Change>, Fail>
+    requires { count ≤ 300 }
+{
     let mut changes = Vec::new(alloc);
     changes.push(Change::Insert(1))?;
     for n in 1..count {
-        changes.push(Change::Set(1, n))?;
+        changes.push(Change::Set(1, n as i32))?;
     }
     Ok(changes)
 }
@@ -200,22 +202,22 @@ fn a_worker_that_finds_no_shard_runs_beside_the_other(rt: HostRuntime) -> Result
         assert_eq!(rt; held.second.load(Ordering::SeqCst), 1);
         assert_eq!(rt; held.in_time.load(Ordering::SeqCst), 1);
         assert_eq!(rt; n_at(&store, 1, 1), Some(0));
-        assert_eq!(rt; n_at(&store, 1, count as u64), Some(count - 1));
+        assert_eq!(rt; n_at(&store, 1, u64::from(count)), Some(count as i32 - 1));
     }
     Ok(())
 }
 
 // Each entry changes one of forty documents, in turns that `first` begins. A third of them deletes.
-fn in_turns(alloc: Global, first: i32) -> Result<Vec<Change>, Fail>
-    requires { (0 ≤ first) × (first ≤ 200) }
+fn in_turns(alloc: Global, first: u32) -> Result<Vec<Change>, Fail>
+    requires { first ≤ 200 }
 {
     let mut changes = Vec::new(alloc);
     for n in 1..=MANY {
-        let id = (7 * n + first) % 40;
+        let id = ((7 * n + first) % 40) as i32;
         changes.push(if n % 3 == 0 {
             Change::Delete(id)
         } else {
-            Change::InsertWith(id, n)
+            Change::InsertWith(id, n as i32)
         })?;
     }
     Ok(changes)
@@ -224,7 +226,7 @@ fn in_turns(alloc: Global, first: i32) -> Result<Vec<Change>, Fail>
 // At each optime that a batch has, each of the forty documents is the same in both.
 fn are_same(one: &VersionStore, other: &VersionStore) -> bool {
     for id in 0..40 {
-        for ts in 1..=MANY as u64 {
+        for ts in 1..=u64::from(MANY) {
             if n_at(one, id, ts) != n_at(other, id, ts) {
                 return false;
             }
@@ -240,7 +242,10 @@ fn any_number_of_workers_leaves_the_same(rt: HostRuntime) -> Result<(), Fail> {
         assert!(rt; changes.len() <= MOST);
         let alone = applied(&rt, rt.alloc(), 16, &changes, 1, &NoGate)?;
         let id = (7 * (MANY - 1) + first) % 40;
-        assert_eq!(rt; n_at(&alone, i64::from(id), MANY as u64), Some(MANY - 1));
+        assert_eq!(rt;
+            n_at(&alone, i64::from(id), u64::from(MANY)),
+            Some(MANY as i32 - 1)
+        );
         for workers in [2, 7, 16] {
             let store = applied(&rt, rt.alloc(), 16, &changes, workers, &NoGate)?;
             assert!(rt; are_same(&alone, &store));
