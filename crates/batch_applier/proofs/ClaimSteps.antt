@@ -1,12 +1,12 @@
 -- Each step of the workers on the table of jobs keeps its rule.
-use Rattle.std.proofs.Common.{◌≡◌, ◌≢◌, ◌⊎◌, ℕ, zero, suc, ◌+◌, ◌-◌, ◌%◌, ◌^◌, ◌<◌, ◌≤◌, ◌==◌, List, [], ◌∷◌, ◌++◌, map, length, get_or, set, Option, Some, None, unwrap_or, refl, sym, ap, ◌∙◌, subst, inl, inr, ⊎_elim, arith, length-set, get_or-set_same, mod-eq_of_lt}
+use Rattle.std.proofs.Common.{◌≡◌, ◌≢◌, ◌⊎◌, ℕ, zero, suc, ◌+◌, ◌-◌, ◌%◌, ◌^◌, ◌<◌, ◌≤◌, List, [], ◌∷◌, ◌++◌, map, length, get_or, set, Option, Some, None, unwrap_or, refl, sym, ap, ◌∙◌, subst, inl, inr, ⊎_elim, arith, length-set, get_or-set_same, mod-eq_of_lt}
 use mathlib.Core.Logic.{dite}
 use mathlib.Core.Option.{none, some, some-injective, some-ne-none}
 use native.Mathlib.Decide.{ℕ_discrete, dec_le}
 use lib.ListN.{get_elem?}
 use Rattle.atomic_table.specs.Table.{State, Me, step, Act, keeps, takes, gives, chain, Valid, carried_after, stepped, opening, Allows, Splits, Joins, Final, Seen as WithView}
 use Rattle.atomic_table.proofs.Lists.{at_set, set_here, set_else, at_snoc, at_longer, at_map}
-use Rattle.turn_board.specs.History.{times, below, total}
+use Rattle.turn_board.specs.History.{times, below}
 use Rattle.turn_board.proofs.Sums.{total_set, two_of_total, total_append, one_if_same, below_more}
 use Rattle.batch_applier.specs.declared.view.View.{View}
 use Rattle.batch_applier.specs.Claims.{opened, one_part, other_parts, joined, spent, holding, ending, IsFree, HasDone, Fits, IsOut, Stands, AreReadyJobs, claimed, Kept, AreDone}

@@ -15,7 +15,7 @@ use std::thread::Threads;
 use version_store::{Shard, VersionStore};
 
 /// Below so many entries a thread costs more than it saves.
-const FEW: usize = 64;
+const FEW: usize = 1000;
 
 /// Applies a batch of at most 5,000 entries to a store, in 1 to 16 workers. A worker claims one shard after another and
 /// applies the entries on its documents, in order, so entries on one document stay in order. Each document then has

@@ -1,7 +1,6 @@
 // A shard with its entries, as a job for a worker.
 ghost use Rattle.std.specs.Prelude.{◌≡◌, ◌≤◌, ◌<◌, ◌^◌, length, OnOk, OnErr, IfOk};
 ghost use Rattle.std.specs.Mem.Slots.{slots_items, slots_len, IsFull};
-ghost use Rattle.batch_applier.specs.Claims.{AreDone};
 ghost use Rattle.batch_applier.specs.Jobs.{AreJobs, AreAllJobs, AreBack, AreAllApplied};
 ghost use Rattle.batch_applier.specs.Parts.{AreReady, Each, IsReady, IsApplied, IsBegun};
 

@@ -17,8 +17,10 @@ use version_store::VersionStore;
 // How often the first worker looks for the second.
 const TURNS: u32 = 1_000_000;
 
-// Entries enough that workers are threads.
-const MANY: u32 = 300;
+// Entries so few that workers take no threads, and enough that they do.
+const FEW: u32 = 300;
+
+const MANY: u32 = 1000;
 
 // The longest batch.
 const MOST: usize = 5000;
@@ -179,7 +181,7 @@ impl Gate for Held {
 
 // So many changes of one document.
 fn of_one_document(alloc: Global, count: u32) -> Result<Vec<Change>, Fail>
-    requires { count ≤ 300 }
+    requires { count ≤ 1000 }
 {
     let mut changes = Vec::new(alloc);
     changes.push(Change::Insert(1))?;
@@ -190,8 +192,8 @@ fn of_one_document(alloc: Global, count: u32) -> Result<Vec<Change>, Fail>
 }
 
 #[test]
-fn a_worker_that_finds_no_shard_runs_beside_the_other(rt: HostRuntime) -> Result<(), Fail> {
-    for count in [MANY, 2] {
+fn workers_run_side_by_side(rt: HostRuntime) -> Result<(), Fail> {
+    for count in [MANY, FEW] {
         let held = Held {
             second: AtomicU64::new(0),
             in_time: AtomicU64::new(0),
@@ -207,12 +209,12 @@ fn a_worker_that_finds_no_shard_runs_beside_the_other(rt: HostRuntime) -> Result
     Ok(())
 }
 
-// Each entry changes one of forty documents, in turns that `first` begins. A third of them deletes.
-fn in_turns(alloc: Global, first: u32) -> Result<Vec<Change>, Fail>
-    requires { first ≤ 200 }
+// So many entries, each on one of forty documents, in turns that `first` begins. A third of them deletes.
+fn in_turns(alloc: Global, first: u32, count: u32) -> Result<Vec<Change>, Fail>
+    requires { (first ≤ 200) × (count ≤ 1000) }
 {
     let mut changes = Vec::new(alloc);
-    for n in 1..=MANY {
+    for n in 1..=count {
         let id = ((7 * n + first) % 40) as i32;
         changes.push(if n % 3 == 0 {
             Change::Delete(id)
@@ -223,10 +225,10 @@ fn in_turns(alloc: Global, first: u32) -> Result<Vec<Change>, Fail>
     Ok(changes)
 }
 
-// At each optime that a batch has, each of the forty documents is the same in both.
-fn are_same(one: &VersionStore, other: &VersionStore) -> bool {
+// At each of so many optimes each of the forty documents is the same in both.
+fn are_same(one: &VersionStore, other: &VersionStore, count: u32) -> bool {
     for id in 0..40 {
-        for ts in 1..=u64::from(MANY) {
+        for ts in 1..=u64::from(count) {
             if n_at(one, id, ts) != n_at(other, id, ts) {
                 return false;
             }
@@ -235,21 +237,41 @@ fn are_same(one: &VersionStore, other: &VersionStore) -> bool {
     true
 }
 
+// Whether 1, 2, 7 and 16 workers leave the same of such a batch.
+fn leave_the_same<R: Threads + Sync>(
+    rt: &R,
+    alloc: Global,
+    first: u32,
+    count: u32,
+) -> Result<bool, Fail>
+    requires { (first ≤ 200) × (count ≤ 1000) }
+{
+    let changes = in_turns(alloc, first, count)?;
+    if changes.len() > MOST {
+        return Ok(false);
+    }
+    let alone = applied(rt, alloc, 16, &changes, 1, &NoGate)?;
+    if n_at(&alone, i64::from((7 + first) % 40), 1) != Some(1) {
+        return Ok(false);
+    }
+    for workers in [2, 7, 16] {
+        let store = applied(rt, alloc, 16, &changes, workers, &NoGate)?;
+        if !are_same(&alone, &store, count) {
+            return Ok(false);
+        }
+    }
+    Ok(true)
+}
+
 #[test]
 fn any_number_of_workers_leaves_the_same(rt: HostRuntime) -> Result<(), Fail> {
     for first in 1..=200 {
-        let changes = in_turns(rt.alloc(), first)?;
-        assert!(rt; changes.len() <= MOST);
-        let alone = applied(&rt, rt.alloc(), 16, &changes, 1, &NoGate)?;
-        let id = (7 * (MANY - 1) + first) % 40;
-        assert_eq!(rt;
-            n_at(&alone, i64::from(id), u64::from(MANY)),
-            Some(MANY as i32 - 1)
-        );
-        for workers in [2, 7, 16] {
-            let store = applied(&rt, rt.alloc(), 16, &changes, workers, &NoGate)?;
-            assert!(rt; are_same(&alone, &store));
-        }
+        let same = leave_the_same(&rt, rt.alloc(), first, FEW)?;
+        assert!(rt; same);
+    }
+    for first in 1..=20 {
+        let same = leave_the_same(&rt, rt.alloc(), first, MANY)?;
+        assert!(rt; same);
     }
     Ok(())
 }

@@ -1,5 +1,4 @@
-use Rattle.std.proofs.Common.{rules, ◌∙◌, ◌<◌, sym, subst, length}
-use Rattle.std.specs.Prelude.{slice_index_or}
+use Rattle.std.proofs.Common.{◌<◌, sym, subst}
 use Rattle.bson_doc.proofs.BindLemmas.{on_ok}
 use Rattle.batch_applier.specs.Parts.{IsApplied, IsBegun}
 use Rattle.batch_applier.specs.Jobs.{AreAllJobs, AreBack}

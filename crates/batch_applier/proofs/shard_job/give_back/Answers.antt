@@ -1,4 +1,4 @@
-use Rattle.std.proofs.Common.{◌≡◌, ◌+◌, ◌-◌, ◌<◌, ◌≤◌, ℕ, arith, ◌∙◌, length, take, refl, sym, ap, length-set}
+use Rattle.std.proofs.Common.{◌≡◌, ◌+◌, ◌-◌, ◌≤◌, ℕ, arith, ◌∙◌, length, take, refl, sym, ap, length-set}
 use Rattle.std.proofs.lemmas.List.{take_all}
 use Rattle.batch_applier.proofs.ClaimSteps.{inside}
 use Rattle.batch_applier.proofs.JobLemmas.{given_more, not_given, less_taken, took, last_read}

@@ -1,5 +1,5 @@
 use Rattle.std.proofs.Common.{◌≡◌, ◌<◌, ◌≤◌, ℕ, Some, length, true, false}
-use Rattle.std.specs.Prelude.{slice_index_or, OnOk, IsTrue}
+use Rattle.std.specs.Prelude.{slice_index_or, OnOk}
 use Rattle.std.specs.Result.{IsOk}
 use Rattle.std.specs.Mem.Slots.{slots_items, slots_len, slots_filled}
 use mathlib.Core.Option.{some}

@@ -1,4 +1,4 @@
-use Rattle.std.proofs.Common.{rules, refl, arith, ◌∙◌, sym, subst, ap, ◌<◌, inr}
+use Rattle.std.proofs.Common.{refl, arith, ◌∙◌, sym, subst, ap, ◌<◌}
 use Rattle.batch_applier.proofs.ClaimSteps.{held_or_ended}
 use Rattle.batch_applier.proofs.claims.Claims.work.Goals as goal
 
