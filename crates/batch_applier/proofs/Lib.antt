@@ -3,3 +3,6 @@ pub mod PastLemmas
 mod PartLemmas
 mod WorkerLemmas
 mod BatchLemmas
+mod ClaimSteps
+mod JobLemmas
+mod Crosses

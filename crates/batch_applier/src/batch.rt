@@ -1,21 +1,24 @@
-ghost use Rattle.std.specs.Prelude.{◌≡◌, ◌<◌, ◌≤◌, [], All, length, OnOk, OnErr};
+ghost use Rattle.std.specs.Prelude.{◌≡◌, ◌<◌, ◌≤◌, ◌^◌, [], All, length, OnOk, OnErr};
 ghost use Rattle.oplog_entry.specs.Lawful.{IsLawful};
 ghost use Rattle.version_store.specs.Past.{back_before};
 ghost use Rattle.version_store.specs.Store.{AreShards, ChangesEach};
 ghost use Rattle.batch_applier.specs.Applied.{IsBatch, HasApplied};
-ghost use Rattle.batch_applier.specs.Parts.{IsApplied, IsBegun, IsEachReady, EachOf};
+ghost use Rattle.batch_applier.specs.Parts.{IsApplied, IsBegun, IsEachReady, EachOf, AreReady, Each};
 
 use crate::gate::Gate;
-use crate::part::parted;
-use crate::workers::run_workers;
+use crate::part::{Part, apply_in_turn, parted};
+use crate::shard_job::apply_claimed;
 use oplog_entry::Entry;
 use rs_optime::{Mem, OpTime};
 use std::alloc::{AllocError, Global};
 use std::thread::Threads;
 use version_store::{Shard, VersionStore};
 
-/// Applies a batch of at most 5,000 entries to a store, in 1 to 16 workers. Each worker has a range of the shards and
-/// applies the entries on documents of these, in order, so entries on one document stay in order. Each document then has
+/// Below so many entries a thread costs more than it saves.
+const FEW: usize = 1000;
+
+/// Applies a batch of at most 5,000 entries to a store, in 1 to 16 workers. A worker claims one shard after another and
+/// applies the entries on its documents, in order, so entries on one document stay in order. Each document then has
 /// the versions that the entries leave, one after another. Want of memory leaves each as it was.
 ///
 /// The entries are lawful, with rising optimes past every version in the store.
@@ -78,6 +81,33 @@ fn apply_to<R: Threads + Sync, G: Gate + Sync>(
     ensures begun { EachOf IsBegun shards.old shards.new entries.now }
 {
     let parts = parted(alloc, entries, count)?;
-    let size = count.div_ceil(workers) as usize;
-    run_workers(rt, gate, alloc, 1, size, &parts, shards)
+    let few = entries.len() < FEW;
+    apply_parts(rt, gate, alloc, workers, few, &parts, shards)
+}
+
+/// Applies the parts in workers that claim the shards. One worker, and few entries, take no thread: every worker passes the
+/// gate in the caller then, the first as the last, and the first does all.
+fn apply_parts<R: Threads + Sync, G: Gate + Sync>(
+    rt: &R,
+    gate: &G,
+    alloc: Global,
+    workers: u32,
+    few: bool,
+    parts: &[Part<'_>],
+    shards: &mut [Shard],
+) -> Mem<()>
+    requires workers { (0 < workers) × (workers ≤ 16) }
+    requires count { length shards.old ≤ 2 ^ 32 }
+    requires ready { AreReady shards.old parts.now }
+    ensures ok { OnOk result (Each IsApplied shards.old shards.new parts.now) }
+    ensures begun { Each IsBegun shards.old shards.new parts.now }
+{
+    if workers > 1 && !few {
+        return apply_claimed(rt, gate, alloc, workers, parts, shards);
+    }
+    for other in 2..=workers {
+        gate.pass(other);
+    }
+    gate.pass(1);
+    apply_in_turn(alloc, parts, shards)
 }

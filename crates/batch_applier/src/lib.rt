@@ -3,8 +3,11 @@
 #![tactic(auto)]
 
 mod batch;
+mod claims;
 mod gate;
 mod part;
+mod shard_job;
+mod view;
 mod workers;
 
 pub use batch::apply_batch;

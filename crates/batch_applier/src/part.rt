@@ -1,11 +1,11 @@
 // The entries of a batch, by the shards that their documents belong to.
-ghost use Rattle.std.specs.Prelude.{◌≡◌, ◌<◌, ◌++◌, ◌∷◌, ◌↔◌, [], All, IsTrue, Some, None, length, IfOk, MatchOption, OnOk, OnErr, true};
+ghost use Rattle.std.specs.Prelude.{◌≡◌, ◌<◌, ◌++◌, ◌∷◌, [], All, Some, None, length, IfOk, MatchOption, OnOk, OnErr, true};
 ghost use Rattle.bson_doc.specs.Place.{Place};
 ghost use Rattle.oplog_entry.specs.Lawful.{IsLawful};
 ghost use Rattle.oplog_entry.specs.Step.{place_of};
 ghost use Rattle.version_store.specs.Past.{is_before};
 ghost use Rattle.version_store.specs.Shards.{past_of, BelongsTo};
-ghost use Rattle.batch_applier.specs.Parts.{is_in, AreParts, IsAdded, IsReady, IsApplied, IsBegun};
+ghost use Rattle.batch_applier.specs.Parts.{is_in, AreParts, AreReady, Each, IsAdded, IsReady, IsApplied, IsBegun};
 
 use bson_doc::{IdKey, Text};
 use doc_fold::document_after;
@@ -100,12 +100,6 @@ impl<'a> Part<'a> {
         })
     }
 
-    pub(crate) fn is_empty(&self) -> bool
-        ensures { IsTrue result ↔ (self.now ≡ []) }
-    {
-        self.touches.is_empty()
-    }
-
     fn push(&mut self, touch: Touch<'a>) -> Mem<()>
         ensures ok { OnOk result (self.new ≡ self.old ++ touch.entry ∷ []) }
         ensures err { OnErr result (self.new ≡ self.old) }
@@ -163,4 +157,16 @@ fn empty_parts<'a>(alloc: Global, count: u32, room: usize) -> Mem<Vec<Part<'a>>>
         parts.push(Part::with_capacity(alloc, room)?)?;
     }
     Ok(parts)
+}
+
+/// Applies the parts of all shards, one after another. Where memory is wanting, some of the entries have been applied.
+pub(crate) fn apply_in_turn(alloc: Global, parts: &[Part<'_>], shards: &mut [Shard]) -> Mem<()>
+    requires { AreReady shards.old parts.now }
+    ensures ok { OnOk result (Each IsApplied shards.old shards.new parts.now) }
+    ensures begun { Each IsBegun shards.old shards.new parts.now }
+{
+    for place in 0..shards.len() {
+        parts[place].apply(alloc, &mut shards[place])?;
+    }
+    Ok(())
 }

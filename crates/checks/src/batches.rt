@@ -12,10 +12,18 @@ use std::sync::atomic::{AtomicU64, Ordering};
 use std::test::Fail;
 use std::thread;
 use std::thread::Threads;
-use version_store::{VersionStore, shard_of};
+use version_store::VersionStore;
 
 // How often the first worker looks for the second.
 const TURNS: u32 = 1_000_000;
+
+// Entries so few that workers take no threads, and enough that they do.
+const FEW: u32 = 300;
+
+const MANY: u32 = 1000;
+
+// The longest batch.
+const MOST: usize = 5000;
 
 // A new document.
 fn insert(alloc: Global, id: i32) -> Result<Op, Fail>
@@ -43,28 +51,59 @@ fn update(alloc: Global, id: i32, n: i32) -> Result<Op, Fail>
     })
 }
 
-fn op_of(alloc: Global, id: i32, n: i32) -> Result<Op, Fail>
+// A new document with its `n`.
+fn insert_with(alloc: Global, id: i32, n: i32) -> Result<Op, Fail>
     ensures { IfOk result (λ op. (ts : ℕ) → IsLawful (record { optime = record { term = 1; ts = ts }; op = op })) }
 {
-    if n == 0 {
-        return insert(alloc, id);
-    }
-    update(alloc, id, n)
+    let mut o = Doc::new(alloc);
+    o.push(Text::from_str(alloc, "_id")?, Value::Int32(id))?;
+    o.push(Text::from_str(alloc, "n")?, Value::Int32(n))?;
+    let ns = Text::from_str(alloc, "t")?;
+    Ok(Op::Insert { ns, o })
 }
 
-// For each key a new document, or an update where a number stands beside it, at rising optimes.
-fn batch(alloc: Global, ids: &[i32], numbers: &[i32]) -> Result<Vec<Entry>, Fail>
-    requires { length numbers.now ≡ length ids.now }
-    ensures len { IfOk result (λ entries. length entries.items ≡ length ids.now) }
+// The document is gone.
+fn delete(alloc: Global, id: i32) -> Result<Op, Fail>
+    ensures { IfOk result (λ op. (ts : ℕ) → IsLawful (record { optime = record { term = 1; ts = ts }; op = op })) }
+{
+    let ns = Text::from_str(alloc, "t")?;
+    Ok(Op::Delete {
+        ns,
+        id: Value::Int32(id),
+    })
+}
+
+#[derive(Clone, Copy)]
+enum Change {
+    Insert(i32),
+    InsertWith(i32, i32),
+    Set(i32, i32),
+    Delete(i32),
+}
+
+fn op_of(alloc: Global, change: Change) -> Result<Op, Fail>
+    ensures { IfOk result (λ op. (ts : ℕ) → IsLawful (record { optime = record { term = 1; ts = ts }; op = op })) }
+{
+    match change {
+        Change::Insert(id) => insert(alloc, id),
+        Change::InsertWith(id, n) => insert_with(alloc, id, n),
+        Change::Set(id, n) => update(alloc, id, n),
+        Change::Delete(id) => delete(alloc, id),
+    }
+}
+
+// The changes at rising optimes.
+fn batch(alloc: Global, changes: &[Change]) -> Result<Vec<Entry>, Fail>
+    ensures len { IfOk result (λ entries. length entries.items ≡ length changes.now) }
     ensures each { IfOk result (λ entries. (k : ℕ) (d : Seen) → k < length entries.items → IsLawful (slice_index_or entries.items k d) × ((slice_index_or entries.items k d).optime ≡ record { term = 1; ts = k + 1 })) }
 {
     let mut entries = Vec::new(alloc);
-    for place in 0..ids.len() {
+    for place in 0..changes.len() {
         let optime = OpTime {
             term: 1,
             ts: place as u64 + 1,
         };
-        let op = op_of(alloc, ids[place], numbers[place])?;
+        let op = op_of(alloc, changes[place])?;
         entries.push(Entry { optime, op })?;
     }
     Ok(entries)
@@ -74,17 +113,17 @@ fn applied<R: Threads + Sync, G: Gate + Sync>(
     rt: &R,
     alloc: Global,
     shards: u32,
-    ids: &[i32],
-    numbers: &[i32],
+    changes: &[Change],
+    workers: u32,
     gate: &G,
 ) -> Result<VersionStore, Fail>
     requires shards { 0 < shards }
-    requires few { length ids.now ≤ 5000 }
-    requires pairs { length numbers.now ≡ length ids.now }
+    requires few { length changes.now ≤ 5000 }
+    requires workers { (0 < workers) × (workers ≤ 16) }
 {
     let mut store = VersionStore::new(alloc, shards)?;
-    let entries = batch(alloc, ids, numbers)?;
-    apply_batch(rt, &mut store, &entries, 2, gate)?;
+    let entries = batch(alloc, changes)?;
+    apply_batch(rt, &mut store, &entries, workers, gate)?;
     Ok(store)
 }
 
@@ -99,14 +138,14 @@ fn n_at(store: &VersionStore, id: i64, ts: u64) -> Option<i32> {
 
 #[test]
 fn documents_are_there_at_their_optimes(rt: HostRuntime) -> Result<(), Fail> {
-    let store = applied(
-        &rt,
-        rt.alloc(),
-        8,
-        &[1, 2, 1, 3, 1],
-        &[0, 0, 7, 0, 8],
-        &NoGate,
-    )?;
+    let changes = [
+        Change::Insert(1),
+        Change::Insert(2),
+        Change::Set(1, 7),
+        Change::Insert(3),
+        Change::Set(1, 8),
+    ];
+    let store = applied(&rt, rt.alloc(), 8, &changes, 2, &NoGate)?;
     assert_eq!(rt; n_at(&store, 1, 2), Some(0));
     assert_eq!(rt; n_at(&store, 1, 3), Some(7));
     assert_eq!(rt; n_at(&store, 1, 4), Some(7));
@@ -140,17 +179,99 @@ impl Gate for Held {
     }
 }
 
+// So many changes of one document.
+fn of_one_document(alloc: Global, count: u32) -> Result<Vec<Change>, Fail>
+    requires { count ≤ 1000 }
+{
+    let mut changes = Vec::new(alloc);
+    changes.push(Change::Insert(1))?;
+    for n in 1..count {
+        changes.push(Change::Set(1, n as i32))?;
+    }
+    Ok(changes)
+}
+
 #[test]
 fn workers_run_side_by_side(rt: HostRuntime) -> Result<(), Fail> {
-    let held = Held {
-        second: AtomicU64::new(0),
-        in_time: AtomicU64::new(0),
-    };
-    assert_eq!(rt; shard_of("t", &IdKey::Number(1), 2), 0);
-    assert_eq!(rt; shard_of("t", &IdKey::Number(2), 2), 1);
-    let store = applied(&rt, rt.alloc(), 2, &[1, 2], &[0, 0], &held)?;
-    assert_eq!(rt; held.in_time.load(Ordering::SeqCst), 1);
-    assert_eq!(rt; n_at(&store, 1, 1), Some(0));
-    assert_eq!(rt; n_at(&store, 2, 2), Some(0));
+    for count in [MANY, FEW] {
+        let held = Held {
+            second: AtomicU64::new(0),
+            in_time: AtomicU64::new(0),
+        };
+        let changes = of_one_document(rt.alloc(), count)?;
+        assert!(rt; changes.len() <= MOST);
+        let store = applied(&rt, rt.alloc(), 2, &changes, 2, &held)?;
+        assert_eq!(rt; held.second.load(Ordering::SeqCst), 1);
+        assert_eq!(rt; held.in_time.load(Ordering::SeqCst), 1);
+        assert_eq!(rt; n_at(&store, 1, 1), Some(0));
+        assert_eq!(rt; n_at(&store, 1, u64::from(count)), Some(count as i32 - 1));
+    }
+    Ok(())
+}
+
+// So many entries, each on one of forty documents, in turns that `first` begins. A third of them deletes.
+fn in_turns(alloc: Global, first: u32, count: u32) -> Result<Vec<Change>, Fail>
+    requires { (first ≤ 200) × (count ≤ 1000) }
+{
+    let mut changes = Vec::new(alloc);
+    for n in 1..=count {
+        let id = ((7 * n + first) % 40) as i32;
+        changes.push(if n % 3 == 0 {
+            Change::Delete(id)
+        } else {
+            Change::InsertWith(id, n as i32)
+        })?;
+    }
+    Ok(changes)
+}
+
+// At each of so many optimes each of the forty documents is the same in both.
+fn are_same(one: &VersionStore, other: &VersionStore, count: u32) -> bool {
+    for id in 0..40 {
+        for ts in 1..=u64::from(count) {
+            if n_at(one, id, ts) != n_at(other, id, ts) {
+                return false;
+            }
+        }
+    }
+    true
+}
+
+// Whether 1, 2, 7 and 16 workers leave the same of such a batch.
+fn leave_the_same<R: Threads + Sync>(
+    rt: &R,
+    alloc: Global,
+    first: u32,
+    count: u32,
+) -> Result<bool, Fail>
+    requires { (first ≤ 200) × (count ≤ 1000) }
+{
+    let changes = in_turns(alloc, first, count)?;
+    if changes.len() > MOST {
+        return Ok(false);
+    }
+    let alone = applied(rt, alloc, 16, &changes, 1, &NoGate)?;
+    if n_at(&alone, i64::from((7 + first) % 40), 1) != Some(1) {
+        return Ok(false);
+    }
+    for workers in [2, 7, 16] {
+        let store = applied(rt, alloc, 16, &changes, workers, &NoGate)?;
+        if !are_same(&alone, &store, count) {
+            return Ok(false);
+        }
+    }
+    Ok(true)
+}
+
+#[test]
+fn any_number_of_workers_leaves_the_same(rt: HostRuntime) -> Result<(), Fail> {
+    for first in 1..=200 {
+        let same = leave_the_same(&rt, rt.alloc(), first, FEW)?;
+        assert!(rt; same);
+    }
+    for first in 1..=20 {
+        let same = leave_the_same(&rt, rt.alloc(), first, MANY)?;
+        assert!(rt; same);
+    }
     Ok(())
 }

@@ -41,7 +41,8 @@ impl Model for Shard {
 }
 
 impl Shard {
-    pub(crate) fn new(alloc: Global, number: u32, count: u32) -> Self
+    /// A shard without documents, with its number among so many.
+    pub fn new(alloc: Global, number: u32, count: u32) -> Self
         ensures { result ≡ record { number = number; count = count; collections = [] } }
     {
         Shard {

@@ -1,0 +1,44 @@
+-- A shard may go to another thread, and a part of a batch may be seen from one, so a job may go. One type after another: a
+-- `search` through all of them runs out of steps.
+use denote.Param.Send.{IsSend, IsSync, sendable}
+use Rattle.std.proofs.Crossing as heap
+use Rattle.std.proofs.MapsCrossing as maps
+use Rattle.bson_doc.specs.contracts.doc.Doc as doc
+use Rattle.bson_doc.proofs.doc.Doc.TheLaws.TheKnot as documents
+use Rattle.bson_doc.proofs.text.Text.TheSendSync.{the_send as text_send, the_sync as text_sync}
+use Rattle.bson_doc.proofs.text.Bytes.TheSendSync.{the_send as bytes_send, the_sync as bytes_sync}
+use Rattle.bson_doc.proofs.key.IdKey.TheSendSync.{the_send as key_send}
+use Rattle.version_store.specs.contracts.history.History as history
+use Rattle.version_store.specs.contracts.collection.Collection as collection
+use Rattle.version_store.specs.contracts.shard.Shard as shard
+use Rattle.oplog_entry.specs.contracts.entry.Entry as entry
+use Rattle.batch_applier.specs.contracts.part.Part as part
+use Rattle.batch_applier.specs.contracts.part.Touch as touch
+use Rattle.batch_applier.specs.contracts.shard_job.ShardJob as job
+
+doc_send : IsSend doc.the_row
+doc_send = search (sendable, documents.crosses, heap.crosses, text_send, bytes_send) depth 40 fits 20000
+
+doc_sync : IsSync doc.the_row
+doc_sync = search (sendable, documents.crosses, heap.crosses, text_sync, bytes_sync) depth 40 fits 20000
+
+history_send : IsSend history.the_row
+history_send = search (sendable, heap.crosses, doc_send) depth 40 fits 20000
+
+collection_send : IsSend collection.the_row
+collection_send = search (sendable, heap.crosses, maps.crosses, key_send, history_send) depth 40 fits 20000
+
+shard_send : IsSend shard.the_row
+shard_send = search (sendable, heap.crosses, maps.crosses, collection_send) depth 40 fits 20000
+
+entry_sync : IsSync entry.the_row
+entry_sync = search (sendable, documents.crosses, heap.crosses, text_sync, bytes_sync, doc_sync) depth 40 fits 20000
+
+touch_sync : (a : _) → IsSync (touch.the_row a)
+touch_sync a = search (sendable, heap.crosses, text_sync, entry_sync) depth 40 fits 20000
+
+part_sync : (a : _) → IsSync (part.the_row a)
+part_sync a = search (sendable, heap.crosses, touch_sync) depth 40 fits 20000
+
+pub job_send : (a b : _) → IsSend (job.the_row a b)
+job_send a b = search (sendable, heap.crosses, shard_send, part_sync) depth 40 fits 20000
