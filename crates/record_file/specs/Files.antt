@@ -55,7 +55,7 @@ disk_after (Ok opened) = opened.0.0
 disk_after (Err refused) = refused.0
 
 -- what an opening answers, but for the disk that it hands back
-abbrev pub answer_of : {D A : Type 0} → Result ((D × ℕ) × A) (D × FileError) → Result ((D × ℕ) × A) FileError
+abbrev pub answer_of : {D A : Type 0} → Result A (D × FileError) → Result A FileError
 answer_of (Ok opened) = Ok opened
 answer_of (Err refused) = Err refused.1
 
