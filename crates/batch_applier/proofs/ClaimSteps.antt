@@ -5,18 +5,14 @@ use mathlib.Core.Option.{none, some, some-injective, some-ne-none}
 use native.Mathlib.Decide.{ℕ_discrete, dec_le}
 use lib.ListN.{get_elem?}
 use Rattle.atomic_table.specs.Table.{State, Me, step, Act, keeps, takes, gives, chain, Valid, carried_after, stepped, opening, Allows, Splits, Joins, Final, Seen as WithView}
-use Rattle.atomic_table.proofs.Lists.{at_set, set_here, set_else, at_snoc, at_longer, at_map}
+use Rattle.atomic_table.proofs.Lists.{set_here, set_else, at_snoc, at_longer, at_map}
 use Rattle.turn_board.specs.History.{times, below}
 use Rattle.turn_board.proofs.Sums.{total_set, two_of_total, total_append, one_if_same, below_more}
+use Rattle.turn_board.proofs.Steps.{there, each_set}
 use Rattle.batch_applier.specs.declared.view.View.{View}
 use Rattle.batch_applier.specs.Claims.{opened, one_part, other_parts, joined, spent, holding, ending, IsFree, HasDone, Fits, IsOut, Stands, AreReadyJobs, claimed, Kept, AreDone}
 
 module _ {A : Type 0} where
-  there : (l : List A) (i : ℕ) (a b : A) → get_elem? l i ≡ some a → get_elem? (set l i b) i ≡ some b
-  there [] i a b e = absurd (some-ne-none a (sym e))
-  there (x ∷ xs) zero a b e = refl
-  there (x ∷ xs) (suc i) a b e = there xs i a b e
-
   pub inside : (l : List A) (i : ℕ) (a : A) → get_elem? l i ≡ some a → i < length l
   inside [] i a e = absurd (some-ne-none a (sym e))
   inside (x ∷ xs) zero a e = omega arith
@@ -63,10 +59,6 @@ module _ {T : Type 0} where
   out_same l i v w k x here same out = let j : ℕ = out.0 in let u : View T = out.1 in dite (ℕ_discrete j i)
       (λ e. (i, w, there l i v w here, same ∙ (ap (λ (z : View T). z.taken) (some-injective v u (sym here ∙ (ap (get_elem? l) (sym e) ∙ out.2))) ∙ out.3)))
       (λ other. (j, u, set_else l i j w other ∙ out.2, out.3))
-
-  each_set : (P : View T → Type 0) (l : List (View T)) (i : ℕ) (b : View T) → P b → ((j : ℕ) (a : View T) → j ≢ i → get_elem? l j ≡ some a → P a)
-      → (j : ℕ) (a : View T) → get_elem? (set l i b) j ≡ some a → P a
-  each_set P l i b mine others j a e = ⊎_elim (λ (t : (j ≡ i) × (b ≡ a)). subst P t.1 mine) (λ (t : (j ≢ i) × (get_elem? l j ≡ some a)). others j a t.0 t.1) (at_set l i j b a e)
 
   later : (jobs : List (Option T)) (n m : ℕ) (v : View T) → n ≤ m → Fits jobs n v → Fits jobs m v
   later jobs n m v up f = record {
@@ -351,13 +343,7 @@ module _ {T : Type 0} where
   pub same_held : (k : ℕ) (x y : T) (c others : List (ℕ × Option T)) (o : Option T) → c ≡ (k, Some x) ∷ [] → c ≡ (k, o) ∷ others → o ≡ Some y → x ≡ y
   same_held k x y c others o has found is = ap (value_or x) (sym has ∙ found) ∙ ap (λ (p : Option T). unwrap_or p x) is
 
-  -- what a seat knows behind a claim
-  pub held_or_ended : (ready : T → Type 0) (count slots n : ℕ) (old after : Me (Option T) (View T)) (live ended : ℕ) → count ≡ slots → 0 < old.0.live → old.0.live ≡ live → old.0.ended ≡ ended
-      → (n < slots → (x : T) × (after ≡ (holding old.0 n x, (n, Some x) ∷ [])) × ready x) → (slots ≤ n → after ≡ (ending old.0 n, []))
-      → (n < count → (x : T) × (after.0.taken ≡ Some (n, x)) × (after.1 ≡ (n, Some x) ∷ []) × ready x × (after.0.live ≡ live) × (after.0.ended ≡ ended))
-      × (count ≤ n → IsFree after × (after.0.live + 1 ≡ live) × (after.0.ended ≡ ended + 1))
-  held_or_ended ready count slots n old after live ended same some_live is_live is_ended job over = (
-    (λ less. let j = job (omega arith) in (j.0, ap (λ m. m.0.taken) j.1, ap (λ m. m.1) j.1, j.2, ap (λ m. m.0.live) j.1 ∙ is_live, ap (λ m. m.0.ended) j.1 ∙ is_ended)),
-    (λ past. let o = over (omega arith) in let l : after.0.live ≡ old.0.live - 1 = ap (λ m. m.0.live) o in let e : after.0.ended ≡ old.0.ended + 1 = ap (λ m. m.0.ended) o in
-        ((ap (λ m. m.0.taken) o, ap (λ m. m.1) o), omega arith, omega arith)),
-  )
+  -- how often a seat may claim a job yet, with the job that it has
+  abbrev pub claims_left : ℕ → Option (ℕ × T) → ℕ
+  claims_left count None = count + 1
+  claims_left count (Some t) = count - t.0

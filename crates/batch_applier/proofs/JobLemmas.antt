@@ -12,6 +12,7 @@ use Rattle.version_store.specs.Shards.{Shard}
 use Rattle.batch_applier.specs.Parts.{IsReady, IsBegun, AreReady, Each}
 use Rattle.batch_applier.specs.Jobs.{AreJobs, AreAllJobs, AreBack}
 use Rattle.batch_applier.specs.declared.shard_job.ShardJob.{ShardJob}
+use Rattle.batch_applier.proofs.WorkerLemmas.{begun_nothing}
 
 no_shard : Shard
 no_shard = record { number = 0; count = 0; collections = [] }
@@ -123,11 +124,8 @@ pub got : {A E P : Type 0} (r : Result A E) → IsOk r → OnOk r P → P
 got (Ok a) is h = h
 got (Err e) is h = absurd (cc)
 
-begun_same : (s : Shard) (p : List Entry) → IsBegun s s p
-begun_same s p = (0, record { each = λ place. refl; number = refl; count = refl })
-
 pub same_begun : (shards new : List Shard) (parts : List (List Entry)) (jobs : List (Option ShardJob)) → AreJobs shards parts jobs → AreBack jobs new → Each IsBegun shards new parts
 same_begun shards new parts jobs are back = record {
   long = back.0 ∙ are.0;
-  each = λ k s p within. subst (λ b. IsBegun (slice_index_or shards k s) b (slice_index_or parts k p)) (sym (each_same shards new parts jobs are back k s within)) (begun_same (slice_index_or shards k s) (slice_index_or parts k p));
+  each = λ k s p within. subst (λ b. IsBegun (slice_index_or shards k s) b (slice_index_or parts k p)) (sym (each_same shards new parts jobs are back k s within)) (begun_nothing (slice_index_or shards k s) (slice_index_or parts k p));
 }

@@ -32,6 +32,10 @@ module _ {T : Type 0} where
   abbrev pub ending : View T → ℕ → View T
   ending v n = record { live = v.live - 1; ended = v.ended + 1; drawn = n ∷ v.drawn; taken = None }
 
+  -- one of its parts drew a number past the last job
+  abbrev pub HasNone : Me (Option T) (View T) → Me (Option T) (View T) → Type 0
+  HasNone m after = (n : ℕ) × (after ≡ (ending m.0 n, []))
+
   abbrev pub IsFree : Me (Option T) (View T) → Type 0
   IsFree m = (m.0.taken ≡ None) × (m.1 ≡ [])
 
@@ -63,9 +67,18 @@ module _ {T : Type 0} (ready : T → Type 0) where
   abbrev pub AreReadyJobs : List (Option T) → Type 0
   AreReadyJobs jobs = (k : ℕ) → k < length jobs → (x : T) × (get_elem? jobs k ≡ some (Some x)) × ready x
 
+  -- it has the job with the number k, which is not done yet
+  abbrev pub HasJob : Me (Option T) (View T) → ℕ → Type 0
+  HasJob m k = (x : T) × (m.0.taken ≡ Some (k, x)) × (m.1 ≡ (k, Some x) ∷ []) × ready x
+
+  -- it took the job with the number n
+  abbrev pub HasClaimed : Me (Option T) (View T) → ℕ → Me (Option T) (View T) → Type 0
+  HasClaimed m n after = (x : T) × (after ≡ (holding m.0 n x, (n, Some x) ∷ [])) × ready x
+
   -- what a claim tells: the job of the number drawn, where there is one
   abbrev pub claimed : Step (Option T) → Me (Option T) (View T) → ℕ → Me (Option T) (View T) → Type 0
-  claimed st m n after = (n < st.slots → (x : T) × (after ≡ (holding m.0 n x, (n, Some x) ∷ [])) × ready x) × (st.slots ≤ n → after ≡ (ending m.0 n, [])) × ((k : ℕ) (x : T) → m.0.taken ≡ Some (k, x) → k < n)
+  claimed st m n after = (n < st.slots → HasClaimed m n after) × (st.slots ≤ n → after ≡ (ending m.0 n, []))
+      × ((k : ℕ) (x : T) → m.0.taken ≡ Some (k, x) → k < n)
 
 module _ {T : Type 0} (ready : T → Type 0) (done : T → T → Type 0) where
   -- each number below the word was drawn by one seat

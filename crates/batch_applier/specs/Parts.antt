@@ -1,5 +1,5 @@
 -- How a batch is parted over shards, and what is done to each shard.
-use Rattle.std.specs.Prelude.{◌≡◌, ◌<◌, ◌%◌, ℕ, Bool, true, false, List, [], ◌∷◌, ◌++◌, Option, None, Some, length, take, filter, nat_eq, slice_index_or}
+use Rattle.std.specs.Prelude.{◌≡◌, ◌<◌, ◌%◌, ℕ, Bool, true, false, List, [], ◌∷◌, ◌++◌, Option, None, Some, length, take, filter, nat_eq, slice_index_or, OnOk, Result}
 use Rattle.std.specs.List.{All, AllPairs}
 use Rattle.bson_doc.specs.Place.{Place}
 use Rattle.oplog_entry.specs.declared.entry.Entry.{Entry}
@@ -61,3 +61,7 @@ pub record AreReady (shards : List Shard) (parts : List (List Entry)) : Type 0 w
 pub record Each (So : Shard → Shard → List Entry → Type 0) (old new : List Shard) (parts : List (List Entry)) : Type 0 where
   pub long : length new ≡ length old
   pub each : (k : ℕ) (s : Shard) (p : List Entry) → k < length old → So (slice_index_or old k s) (slice_index_or new k s) (slice_index_or parts k p)
+
+-- all parts are applied to their shards; where memory runs out, of each some entries, from the first on
+abbrev pub AreApplied : {A E : Type 0} → Result A E → (old new : List Shard) → List (List Entry) → Type 0
+AreApplied result old new parts = OnOk result (Each IsApplied old new parts) × Each IsBegun old new parts

@@ -3,7 +3,7 @@ ghost use Rattle.oplog_entry.specs.Lawful.{IsLawful};
 ghost use Rattle.version_store.specs.Past.{back_before};
 ghost use Rattle.version_store.specs.Store.{AreShards, ChangesEach};
 ghost use Rattle.batch_applier.specs.Applied.{IsBatch, HasApplied};
-ghost use Rattle.batch_applier.specs.Parts.{IsApplied, IsBegun, IsEachReady, EachOf, AreReady, Each};
+ghost use Rattle.batch_applier.specs.Parts.{IsApplied, IsBegun, IsEachReady, EachOf, AreReady, AreApplied};
 
 use crate::gate::Gate;
 use crate::part::{Part, apply_in_turn, parted};
@@ -17,9 +17,9 @@ use version_store::{Shard, VersionStore};
 /// Below so many entries a thread costs more than it saves.
 const FEW: usize = 1000;
 
-/// Applies a batch of at most 5,000 entries to a store, in 1 to 16 workers. A worker claims one shard after another and
-/// applies the entries on its documents, in order, so entries on one document stay in order. Each document then has
-/// the versions that the entries leave, one after another. Want of memory leaves each as it was.
+/// Applies a batch of at most 5,000 entries to a store, in 1 to 16 workers. A worker claims one shard after
+/// another and applies the entries on its documents, in order, so entries on one document stay in order. Each
+/// document then has the versions that the entries leave, one after another. Out of memory leaves each as it was.
 ///
 /// The entries are lawful, with rising optimes past every version in the store.
 pub fn apply_batch<R: Threads + Sync, G: Gate + Sync>(
@@ -62,8 +62,8 @@ fn put_back(store: &mut VersionStore, shards: Vec<Shard>, first: OpTime, done: M
     done
 }
 
-/// Parts the entries over the shards, and has them applied. Where memory is wanting, each shard has had some of its entries
-/// applied, from the first on.
+/// Parts the entries over the shards, and has them applied. Where memory runs out, each shard has had some of
+/// its entries applied, from the first on.
 fn apply_to<R: Threads + Sync, G: Gate + Sync>(
     rt: &R,
     shards: &mut [Shard],
@@ -85,8 +85,8 @@ fn apply_to<R: Threads + Sync, G: Gate + Sync>(
     apply_parts(rt, gate, alloc, workers, few, &parts, shards)
 }
 
-/// Applies the parts in workers that claim the shards. One worker, and few entries, take no thread: every worker passes the
-/// gate in the caller then, the first as the last, and the first does all.
+/// Applies the parts in workers that claim the shards. One worker, and few entries, take no thread: every worker
+/// passes the gate in the caller then, the first as the last, and the first does all.
 fn apply_parts<R: Threads + Sync, G: Gate + Sync>(
     rt: &R,
     gate: &G,
@@ -99,8 +99,7 @@ fn apply_parts<R: Threads + Sync, G: Gate + Sync>(
     requires workers { (0 < workers) × (workers ≤ 16) }
     requires count { length shards.old ≤ 2 ^ 32 }
     requires ready { AreReady shards.old parts.now }
-    ensures ok { OnOk result (Each IsApplied shards.old shards.new parts.now) }
-    ensures begun { Each IsBegun shards.old shards.new parts.now }
+    ensures { AreApplied result shards.old shards.new parts.now }
 {
     if workers > 1 && !few {
         return apply_claimed(rt, gate, alloc, workers, parts, shards);

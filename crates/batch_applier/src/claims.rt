@@ -1,7 +1,7 @@
 // Jobs that workers claim, each once.
-ghost use Rattle.std.specs.Prelude.{◌≡◌, ◌⊎◌, ℕ, ◌+◌, ◌^◌, ◌<◌, ◌≤◌, ◌∷◌, [], length, Some, IfOk, IfErr};
+ghost use Rattle.std.specs.Prelude.{◌≡◌, ◌⊎◌, ℕ, ◌+◌, ◌^◌, ◌<◌, ◌≤◌, [], length, Some, IfOk, IfErr, IfSome, MatchOption};
 ghost use Rattle.std.specs.Mem.Slots.{slots_items, slots_len, IsFull};
-ghost use Rattle.batch_applier.specs.Claims.{opened, one_part, other_parts, joined, spent, holding, ending, IsFree, HasDone, AreReadyJobs, AreDone, claimed, Kept};
+ghost use Rattle.batch_applier.specs.Claims.{opened, one_part, other_parts, joined, spent, IsFree, HasNone, HasJob, HasClaimed, HasDone, AreReadyJobs, AreDone, claimed, Kept};
 
 use crate::view::View;
 use atomic_table::{Closed, Join, Play, Refused, Seat, Split, Table, TableRule};
@@ -64,7 +64,7 @@ pub(crate) struct Claims<T: Job> {
 }
 
 impl<T: Job> Claims<T> {
-    /// Its error is want of memory.
+    /// Out of memory hands the jobs back.
     pub(crate) fn new(
         alloc: Global,
         jobs: Vec<Option<T>>,
@@ -101,22 +101,33 @@ impl<T: Job> Claims<T> {
         self.table.shared.join_seat::<Absorbs>(claimer, other);
     }
 
-    // Puts back the job that was done, and takes the one of the next number, where there is one.
-    fn claim(&self, claimer: &mut Claimer<T>) -> u64
-        requires claimer { (claimer.old.table_id ≡ self.now.table.shared.table_id) × (0 < claimer.old.me.0.live) }
+    // Puts back the job that was done, and takes the one of the next number, which it tells. None where no job
+    // is left.
+    #[tactic(auto, using(crate::proofs::ClaimSteps::claims))]
+    fn claim(&self, claimer: &mut Claimer<T>) -> Option<usize>
+        requires claimer { claimer.old.table_id ≡ self.now.table.shared.table_id }
+        requires live { 0 < claimer.old.me.0.live }
         requires done { IsFree claimer.old.me ⊎ HasDone T.done claimer.old.me }
         ensures same { claimer.new.table_id ≡ claimer.old.table_id }
-        ensures job { result < length self.now.table.shared.key.value.items → (x : T) × (claimer.new.me ≡ (holding claimer.old.me.0 result x, (result, Some x) ∷ [])) × T.ready x }
-        ensures over { length self.now.table.shared.key.value.items ≤ result → claimer.new.me ≡ (ending claimer.old.me.0 result, []) }
-        ensures next { (k : ℕ) (x : T) → claimer.old.me.0.taken ≡ Some (k, x) → k < result }
+        ensures claimed { MatchOption result (HasNone claimer.old.me claimer.new.me)
+            (λ n. HasClaimed T.ready claimer.old.me n claimer.new.me) }
+        ensures within { IfSome result (λ n. n < length self.now.table.shared.key.value.items) }
+        ensures later { IfSome result (λ n. (k : ℕ) (x : T) → claimer.old.me.0.taken ≡ Some (k, x) → k < n) }
     {
-        self.table.shared.fetch_add::<Draws>(claimer, CLAIMS, 1)
+        let place = self.table.shared.fetch_add::<Draws>(claimer, CLAIMS, 1) as usize;
+        if place < self.table.slot_count() {
+            Some(place)
+        } else {
+            None
+        }
     }
 
     // Does the job that it has.
     fn run(&self, claimer: &mut Claimer<T>, place: usize)
-        requires { (claimer.old.table_id ≡ self.now.table.shared.table_id) × ((x : T) × (claimer.old.me.0.taken ≡ Some (place, x)) × (claimer.old.me.1 ≡ (place, Some x) ∷ []) × T.ready x) }
-        ensures { (claimer.new.table_id ≡ claimer.old.table_id) × (claimer.new.me.0 ≡ claimer.old.me.0) × HasDone T.done claimer.new.me }
+        requires claimer { claimer.old.table_id ≡ self.now.table.shared.table_id }
+        requires job { HasJob T.ready claimer.old.me place }
+        ensures claimer { (claimer.new.table_id ≡ claimer.old.table_id) × (claimer.new.me.0 ≡ claimer.old.me.0) }
+        ensures done { HasDone T.done claimer.new.me }
     {
         let Some(job) = self.table.shared.exchange(claimer, place, None) else {
             unreachable!()
@@ -131,11 +142,8 @@ impl<T: Job> Claims<T> {
         ensures same { claimer.new.table_id ≡ claimer.old.table_id }
         ensures ended { IsFree claimer.new.me × (claimer.new.me.0.live + 1 ≡ claimer.old.me.0.live) × (claimer.new.me.0.ended ≡ claimer.old.me.0.ended + 1) }
     {
-        let count = self.table.slot_count() as u64;
-        let mut place = self.claim(claimer);
-        while place < count {
-            self.run(claimer, place as usize);
-            place = self.claim(claimer);
+        while let Some(place) = self.claim(claimer) {
+            self.run(claimer, place);
         }
     }
 

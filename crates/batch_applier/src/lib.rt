@@ -1,5 +1,5 @@
-//! Batches of oplog entries, applied to a store by several threads. What the store shows afterwards is what applying
-//! the entries one after another shows.
+//! Batches of oplog entries, applied to a store by several threads. What the store shows afterwards is what
+//! applying the entries one after another shows.
 #![tactic(auto)]
 
 mod batch;

@@ -5,7 +5,7 @@ ghost use Rattle.oplog_entry.specs.Lawful.{IsLawful};
 ghost use Rattle.oplog_entry.specs.Step.{place_of};
 ghost use Rattle.version_store.specs.Past.{is_before};
 ghost use Rattle.version_store.specs.Shards.{past_of, BelongsTo};
-ghost use Rattle.batch_applier.specs.Parts.{is_in, AreParts, AreReady, Each, IsAdded, IsReady, IsApplied, IsBegun};
+ghost use Rattle.batch_applier.specs.Parts.{is_in, AreParts, AreReady, AreApplied, IsAdded, IsReady, IsApplied, IsBegun};
 
 use bson_doc::{IdKey, Text};
 use doc_fold::document_after;
@@ -107,7 +107,8 @@ impl<'a> Part<'a> {
         Ok(self.touches.push(touch)?)
     }
 
-    /// Applies the entries to their shard, in order. Where memory is wanting, the first of them have been applied.
+    /// Applies the entries to their shard, in order. Where memory runs out, some of them have been applied, from
+    /// the first on.
     pub(crate) fn apply(&self, alloc: Global, shard: &mut Shard) -> Mem<()>
         requires { IsReady shard.old self.now }
         ensures ok { OnOk result (IsApplied shard.old shard.new self.now) }
@@ -159,11 +160,11 @@ fn empty_parts<'a>(alloc: Global, count: u32, room: usize) -> Mem<Vec<Part<'a>>>
     Ok(parts)
 }
 
-/// Applies the parts of all shards, one after another. Where memory is wanting, some of the entries have been applied.
+/// Applies the parts of all shards, one after another. Where memory runs out, some of the entries have been
+/// applied.
 pub(crate) fn apply_in_turn(alloc: Global, parts: &[Part<'_>], shards: &mut [Shard]) -> Mem<()>
     requires { AreReady shards.old parts.now }
-    ensures ok { OnOk result (Each IsApplied shards.old shards.new parts.now) }
-    ensures begun { Each IsBegun shards.old shards.new parts.now }
+    ensures { AreApplied result shards.old shards.new parts.now }
 {
     for place in 0..shards.len() {
         parts[place].apply(alloc, &mut shards[place])?;

@@ -2,7 +2,7 @@
 ghost use Rattle.std.specs.Prelude.{◌≡◌, ◌≤◌, ◌<◌, ◌^◌, length, OnOk, OnErr, IfOk};
 ghost use Rattle.std.specs.Mem.Slots.{slots_items, slots_len, IsFull};
 ghost use Rattle.batch_applier.specs.Jobs.{AreJobs, AreAllJobs, AreBack, AreAllApplied};
-ghost use Rattle.batch_applier.specs.Parts.{AreReady, Each, IsReady, IsApplied, IsBegun};
+ghost use Rattle.batch_applier.specs.Parts.{AreReady, AreApplied, IsReady, IsApplied, IsBegun};
 
 use crate::claims::Job;
 use crate::gate::Gate;
@@ -57,8 +57,7 @@ pub(crate) fn apply_claimed<R: Threads + Sync, G: Gate + Sync>(
     requires workers { (0 < workers) × (workers ≤ 16) }
     requires few { length shards.old ≤ 2 ^ 32 }
     requires ready { AreReady shards.old parts.now }
-    ensures ok { OnOk result (Each IsApplied shards.old shards.new parts.now) }
-    ensures begun { Each IsBegun shards.old shards.new parts.now }
+    ensures { AreApplied result shards.old shards.new parts.now }
 {
     let jobs = jobs_of(alloc, parts, shards)?;
     match done_by_workers(rt, gate, alloc, workers, jobs) {

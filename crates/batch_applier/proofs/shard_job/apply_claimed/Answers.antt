@@ -19,14 +19,16 @@ take_back-requires-clause-jobs g c = λ k within. let d = c.in-Ok.ensures.done.1
 pub give_back-requires-clause-jobs : goal.give_back-requires-clause-jobs
 give_back-requires-clause-jobs g c = subst AreAllJobs (sym c.in-Err.ensures.err) (all_jobs _ _ _ c.in_ok-jobs.ensures.ok)
 
-pub returns-in-Ok-clause-ok : goal.returns-in-Ok-clause-ok
-returns-in-Ok-clause-ok g c = let d = c.in-Ok.ensures.done.1 in on_ok c.take_back.result
-    (λ all. each_back IsApplied c.args.shards.now c.take_back.new.shards c.args.parts.now c.in_ok-jobs.jobs.items _ c.in_ok-jobs.ensures.ok d.0 (λ k x at. let y = d.1 k x at in (y.0, y.1, got y.0.applied (all k y.0 y.1) y.2.0)) c.take_back.ensures.back)
-    c.take_back.ensures.ok
+pub returns-in-Ok : goal.returns-in-Ok
+returns-in-Ok g c = let d = c.in-Ok.ensures.done.1 in let back = c.take_back.ensures.back in (
+  on_ok c.take_back.result
+      (λ all. each_back IsApplied c.args.shards.now c.take_back.new.shards c.args.parts.now c.in_ok-jobs.jobs.items _ c.in_ok-jobs.ensures.ok d.0 (λ k x at. let y = d.1 k x at in (y.0, y.1, got y.0.applied (all k y.0 y.1) y.2.0)) back)
+      c.take_back.ensures.ok,
+  each_back IsBegun c.args.shards.now c.take_back.new.shards c.args.parts.now c.in_ok-jobs.jobs.items _ c.in_ok-jobs.ensures.ok d.0 (λ k x at. let y = d.1 k x at in (y.0, y.1, y.2.1)) back,
+)
 
-pub returns-in-Ok-clause-begun : goal.returns-in-Ok-clause-begun
-returns-in-Ok-clause-begun g c = let d = c.in-Ok.ensures.done.1 in
-    each_back IsBegun c.args.shards.now c.take_back.new.shards c.args.parts.now c.in_ok-jobs.jobs.items _ c.in_ok-jobs.ensures.ok d.0 (λ k x at. let y = d.1 k x at in (y.0, y.1, y.2.1)) c.take_back.ensures.back
-
-pub returns-in-Err-clause-begun : goal.returns-in-Err-clause-begun
-returns-in-Err-clause-begun g c = same_begun c.args.shards.now c.give_back.new.shards c.args.parts.now c.in_ok-jobs.jobs.items c.in_ok-jobs.ensures.ok (subst (λ l. AreBack l c.give_back.new.shards) c.in-Err.ensures.err c.give_back.ensures)
+pub returns-in-Err : goal.returns-in-Err
+returns-in-Err g c = (
+  tt,
+  same_begun c.args.shards.now c.give_back.new.shards c.args.parts.now c.in_ok-jobs.jobs.items c.in_ok-jobs.ensures.ok (subst (λ l. AreBack l c.give_back.new.shards) c.in-Err.ensures.err c.give_back.ensures),
+)
