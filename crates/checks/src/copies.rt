@@ -1,13 +1,17 @@
-// Copies of documents, entries, configurations, records and messages: memory suffices for each, and it says what was copied.
-use bson_doc::{Bytes, Doc, Items, Text, Value};
+// Copies of documents, keys, entries, configurations, records and messages: memory suffices for each, and it says what
+// was copied, also when what was copied has changed or is gone.
+use bson_doc::{Bytes, Doc, IdKey, Items, Text, Value};
 use member_config::{Config, Member, MemberList};
 use oplog_entry::{Entry, Op};
-use repl_msg::{Beat, Body, Message, Record};
+use repl_msg::{Beat, Body, EntryList, FetchReply, Kept, Message, OptimeList, Record};
 use rs_optime::OpTime;
 use std::alloc::Global;
 use std::test::Fail;
+use vote_store::Vote;
 
 const AT: OpTime = OpTime { term: 1, ts: 2 };
+
+const LATER: OpTime = OpTime { term: 1, ts: 3 };
 
 /// A text that has room in no value, but lies behind a box.
 const LONG: &str = "a text of more than sixteen bytes";
@@ -31,9 +35,31 @@ fn is_nested(document: &Doc) -> bool {
 
 #[test]
 fn a_document_is_copied_with_what_is_in_it(rt: HostRuntime) -> Result<(), Fail> {
-    let document = nested(rt.alloc())?;
+    let alloc = rt.alloc();
+    let mut document = nested(alloc)?;
     let copy = document.copy()?;
+    document.push(Text::from_str(alloc, "a")?, Value::Null)?;
+    assert_eq!(rt; copy.len(), 1);
+    drop(document);
     assert!(rt; is_nested(&copy));
+    Ok(())
+}
+
+/// Whether a key is the long text.
+fn is_long(key: &IdKey) -> bool {
+    match key {
+        IdKey::Text(text) => text.as_str() == LONG,
+        _ => false,
+    }
+}
+
+#[test]
+fn a_key_is_copied_with_its_text(rt: HostRuntime) -> Result<(), Fail> {
+    let key = IdKey::Text(Text::from_str(rt.alloc(), LONG)?);
+    let copy = key.copy()?;
+    assert!(rt; copy == key);
+    drop(key);
+    assert!(rt; is_long(&copy));
     Ok(())
 }
 
@@ -48,6 +74,7 @@ fn an_entry_is_copied_with_its_document(rt: HostRuntime) -> Result<(), Fail> {
         },
     };
     let copy = entry.copy()?;
+    drop(entry);
     let found = match &copy.op {
         Op::Insert { o, .. } => is_nested(o),
         _ => false,
@@ -82,6 +109,20 @@ fn is_of_one(config: &Config) -> bool {
 }
 
 #[test]
+fn a_configuration_is_copied_with_its_members(rt: HostRuntime) -> Result<(), Fail> {
+    let mut config = of_one(rt.alloc())?;
+    let copy = config.copy()?;
+    config.members.push(Member {
+        number: 6,
+        votes: false,
+        priority: 0,
+    })?;
+    assert!(rt; is_of_one(&copy));
+    assert!(rt; !is_of_one(&config));
+    Ok(())
+}
+
+#[test]
 fn a_record_is_copied_with_its_configuration(rt: HostRuntime) -> Result<(), Fail> {
     let record = Record::Config(of_one(rt.alloc())?);
     let found = match record.copy()? {
@@ -106,10 +147,97 @@ fn a_message_is_copied_with_its_beat(rt: HostRuntime) -> Result<(), Fail> {
         }),
     };
     let copy = message.copy()?;
+    drop(message);
     let found = match &copy.body {
         Body::Heartbeat(beat) => is_of_one(&beat.config),
         _ => false,
     };
     assert!(rt; found);
+    Ok(())
+}
+
+#[test]
+fn optimes_are_copied(rt: HostRuntime) -> Result<(), Fail> {
+    let mut optimes = OptimeList::new(rt.alloc());
+    optimes.push(AT)?;
+    let copy = optimes.copy()?;
+    optimes.push(LATER)?;
+    assert_eq!(rt; optimes.as_slice().len(), 2);
+    assert_eq!(rt; copy.as_slice(), [AT].as_slice());
+    Ok(())
+}
+
+/// One entry, which deletes a document.
+fn deletion(alloc: Global) -> Result<EntryList, Fail> {
+    let mut entries = Vec::new(alloc);
+    entries.push(Entry {
+        optime: AT,
+        op: Op::Delete {
+            ns: Text::from_str(alloc, LONG)?,
+            id: Value::Int32(5),
+        },
+    })?;
+    Ok(EntryList::new(entries))
+}
+
+/// Whether there is one entry, which deletes from the collection with the long name.
+fn is_deletion(entries: &EntryList) -> bool {
+    match entries.as_slice() {
+        [entry] => deletes(&entry.op),
+        _ => false,
+    }
+}
+
+fn deletes(op: &Op) -> bool {
+    match op {
+        Op::Delete { ns, .. } => ns.as_str() == LONG,
+        _ => false,
+    }
+}
+
+#[test]
+fn fetched_entries_are_copied(rt: HostRuntime) -> Result<(), Fail> {
+    let reply = FetchReply {
+        base: OpTime::ZERO,
+        holds: true,
+        entries: deletion(rt.alloc())?,
+        visible: LATER,
+        commit: AT,
+        primary: false,
+    };
+    let copy = reply.copy()?;
+    drop(reply);
+    assert!(rt; is_deletion(&copy.entries));
+    assert!(rt; copy.holds && !copy.primary);
+    assert_eq!(rt;
+        (copy.base, copy.visible, copy.commit),
+        (OpTime::ZERO, LATER, AT)
+    );
+    Ok(())
+}
+
+#[test]
+fn what_a_journal_keeps_is_copied(rt: HostRuntime) -> Result<(), Fail> {
+    let alloc = rt.alloc();
+    let vote = Vote {
+        term: 3,
+        candidate: Some(1),
+    };
+    let kept = Kept {
+        vote,
+        config: Some(of_one(alloc)?),
+        entries: deletion(alloc)?,
+        point: AT,
+        count: 4,
+    };
+    let copy = kept.copy()?;
+    drop(kept);
+    assert!(rt; is_deletion(&copy.entries));
+    let found = match &copy.config {
+        Some(config) => is_of_one(config),
+        None => false,
+    };
+    assert!(rt; found);
+    assert_eq!(rt; (copy.vote, copy.point, copy.count), (vote, AT, 4));
     Ok(())
 }

@@ -1,9 +1,7 @@
-//! What no clause says of the crates of bytes, stores and threads: memory that suffices, values from outside, one
-//! fault in mid-stream, and threads that really run.
+//! What no clause says of the crates of bytes, disks and records: memory that suffices, values from outside, and one
+//! fault in mid-stream.
 #![tactic(auto)]
 
-#[cfg(test)]
-mod batches;
 #[cfg(test)]
 mod codec;
 #[cfg(test)]
@@ -19,12 +17,6 @@ mod journals;
 #[cfg(test)]
 mod records;
 #[cfg(test)]
-mod slots;
-#[cfg(test)]
-mod stores;
-#[cfg(test)]
 mod streams;
-#[cfg(test)]
-mod turns;
 #[cfg(test)]
 mod values;

@@ -1,5 +1,5 @@
 use Rattle.batch_applier.proofs.FreshLemmas.{fresh_batch}
-use Rattle.checks.proofs.batches.applied.Goals as goal
+use Rattle.checks_stores.proofs.batches.applied.Goals as goal
 
 pub apply_batch-requires-clause-batch : goal.apply_batch-requires-clause-batch
 apply_batch-requires-clause-batch g c κs within =

@@ -2,7 +2,7 @@ use Rattle.std.proofs.Common.{◌∙◌, ◌+◌, ap, sym}
 use Rattle.std.proofs.lemmas.List.{length_push}
 use Rattle.oplog_entry.specs.declared.entry.Entry.{Entry}
 use Rattle.batch_applier.proofs.FreshLemmas.{numbered_more}
-use Rattle.checks.proofs.batches.batch.Goals as goal
+use Rattle.checks_stores.proofs.batches.batch.Goals as goal
 
 pub loop-place-preserved : goal.loop-place-preserved
 loop-place-preserved c =
