@@ -9,6 +9,8 @@ mod numbers;
 mod reading;
 mod saving;
 mod stable;
+#[cfg(test)]
+mod tests;
 mod writing;
 
 pub use checkpoints::Checkpoints;
