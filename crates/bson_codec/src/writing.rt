@@ -53,7 +53,8 @@ fn put_binary(out: &mut Vec<u8>, subtype: u8, bytes: &[u8]) -> Mem<()>
     out.extend_from_slice(bytes)
 }
 
-/// Ends the document that begins at `start` with four bytes of room for its length. Out of memory is the one error.
+/// Ends the document that begins at `start` with four bytes of room for its length. Out of memory is the one
+/// error.
 pub fn close(out: &mut Vec<u8>, start: usize) -> Mem<()>
     requires room { start + 4 ≤ length out.old.items }
     requires short { length out.old.items + 1 < start + 2 ^ 31 }
@@ -125,12 +126,12 @@ pub fn write(alloc: Global, document: &Doc, out: &mut Vec<u8>) -> Mem<()>
     close(out, start)
 }
 
-/// Appends a field: its kind, its name and its value. Out of memory is the one error, and nothing is said of `out` then; so
-/// it is of the next three.
+/// Appends a field: its kind, its name and its value. Out of memory is the one error, and nothing is said of
+/// `out` then; so it is of the next two.
 pub fn put_field(alloc: Global, out: &mut Vec<u8>, name: &str, value: &Value) -> Mem<()>
     requires { value_length (tree_of value.now) < 2 ^ 31 }
-    ensures laid { OnOk result (out.new.items
-        ≡ out.old.items ++ element (type_byte (tree_of value.now)) name.now (value_bytes (tree_of value.now))) }
+    ensures laid { OnOk result (out.new.items ≡ out.old.items
+        ++ element (type_byte (tree_of value.now)) name.now (value_bytes (tree_of value.now))) }
     ensures longer { OnOk result (vec_capacity out.old ≤ vec_capacity out.new) }
 {
     put_name(out, value.kind(), name)?;
@@ -140,7 +141,8 @@ pub fn put_field(alloc: Global, out: &mut Vec<u8>, name: &str, value: &Value) ->
 /// Appends a field whose value is a string.
 pub fn put_string(out: &mut Vec<u8>, name: &str, string: &str) -> Mem<()>
     requires { length string.now + 1 < 2 ^ 31 }
-    ensures laid { OnOk result (out.new.items ≡ out.old.items ++ element 2 name.now (value_bytes (a_text string.now))) }
+    ensures laid { OnOk result (out.new.items ≡ out.old.items
+        ++ element 2 name.now (value_bytes (a_text string.now))) }
     ensures sound { is_utf8 string.now ≡ true }
     ensures longer { OnOk result (vec_capacity out.old ≤ vec_capacity out.new) }
 {
@@ -151,7 +153,8 @@ pub fn put_string(out: &mut Vec<u8>, name: &str, string: &str) -> Mem<()>
 /// Appends a field whose value is a document.
 pub fn put_document(alloc: Global, out: &mut Vec<u8>, name: &str, document: &Doc) -> Mem<()>
     requires { document_length document.now < 2 ^ 31 }
-    ensures laid { OnOk result (out.new.items ≡ out.old.items ++ element 3 name.now (document_bytes document.now)) }
+    ensures laid { OnOk result (out.new.items ≡ out.old.items
+        ++ element 3 name.now (document_bytes document.now)) }
     ensures longer { OnOk result (vec_capacity out.old ≤ vec_capacity out.new) }
 {
     put_name(out, 3, name)?;
@@ -162,7 +165,8 @@ pub fn put_document(alloc: Global, out: &mut Vec<u8>, name: &str, document: &Doc
 pub fn put_size(out: &mut Vec<u8>, start: usize)
     requires room { start + 4 ≤ length out.old.items }
     requires short { length out.old.items < start + 4 + 2 ^ 32 }
-    ensures laid { out.new.items ≡ (take start out.old.items ++ number_bytes 4 (length out.old.items - (start + 4)))
+    ensures laid { out.new.items
+        ≡ (take start out.old.items ++ number_bytes 4 (length out.old.items - (start + 4)))
         ++ drop (start + 4) out.old.items }
     ensures longer { vec_capacity out.old ≤ vec_capacity out.new }
 {

@@ -33,7 +33,8 @@ stamped optime rest =
 -- the members in front of `o`
 abbrev pub members_in_front : OpTime → Op → Fields
 members_in_front optime op =
-    stamped optime (field (codes "op") (text (letter_of op)) (field (codes "ns") (text (collection_of op)) no_fields))
+    stamped optime
+    (field (codes "op") (text (letter_of op)) (field (codes "ns") (text (collection_of op)) no_fields))
 
 abbrev pub head_of : Entry → Fields
 head_of entry = members_in_front entry.optime entry.op

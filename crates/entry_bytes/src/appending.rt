@@ -1,4 +1,5 @@
-// The bytes of an entry, appended to others. No document is made of it, but of an update's target and of short bodies.
+// The bytes of an entry, appended to others. No document is made of it, but of an update's target and of short
+// bodies.
 ghost use Rattle.std.specs.Prelude.{◌≡◌, ◌+◌, ◌<◌, ◌≤◌, ◌^◌, ◌++◌, codes, length, OnOk, vec_capacity};
 ghost use Rattle.bson_doc.specs.Length.{document_length, fields_length};
 ghost use Rattle.bson_doc.specs.Sound.{AreSoundFields, IsSound};
@@ -44,7 +45,8 @@ fn put_stamp(alloc: Global, optime: OpTime, out: &mut Vec<u8>) -> Mem<()>
 fn put_head(alloc: Global, optime: OpTime, op: &Op, out: &mut Vec<u8>) -> Mem<()>
     requires term { optime.term < 2 ^ 63 }
     requires short { length (collection_of op.now) + 1 < 2 ^ 31 }
-    ensures laid { OnOk result (out.new.items ≡ out.old.items ++ fields_bytes (members_in_front optime op.now)) }
+    ensures laid { OnOk result (out.new.items
+        ≡ out.old.items ++ fields_bytes (members_in_front optime op.now)) }
     ensures sound { OnOk result (AreSoundFields (members_in_front optime op.now)) }
     ensures longer { OnOk result (vec_capacity out.old ≤ vec_capacity out.new) }
 {
@@ -57,7 +59,8 @@ fn put_head(alloc: Global, optime: OpTime, op: &Op, out: &mut Vec<u8>) -> Mem<()
 fn put_body(alloc: Global, op: &Op, out: &mut Vec<u8>) -> Mem<()>
     requires lawful { IsLawfulOp op.now }
     requires short { document_length (body_of op.now) < 2 ^ 31 }
-    ensures laid { OnOk result (out.new.items ≡ out.old.items ++ element 3 (codes "o") (document_bytes (body_of op.now))) }
+    ensures laid { OnOk result (out.new.items
+        ≡ out.old.items ++ element 3 (codes "o") (document_bytes (body_of op.now))) }
     ensures sound { OnOk result (IsSound (body_of op.now)) }
     ensures longer { OnOk result (vec_capacity out.old ≤ vec_capacity out.new) }
 {
@@ -77,7 +80,8 @@ fn put_body(alloc: Global, op: &Op, out: &mut Vec<u8>) -> Mem<()>
 // Appends the member `o2`, where there is one.
 fn put_target(alloc: Global, op: &Op, out: &mut Vec<u8>) -> Mem<()>
     requires { fields_length (last_member (target_of op.now)) < 2 ^ 31 }
-    ensures laid { OnOk result (out.new.items ≡ out.old.items ++ fields_bytes (last_member (target_of op.now))) }
+    ensures laid { OnOk result (out.new.items
+        ≡ out.old.items ++ fields_bytes (last_member (target_of op.now))) }
     ensures sound { OnOk result (AreSoundFields (last_member (target_of op.now))) }
     ensures longer { OnOk result (vec_capacity out.old ≤ vec_capacity out.new) }
 {
