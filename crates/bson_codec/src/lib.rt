@@ -16,3 +16,4 @@ pub use encoding::encode;
 pub use error::{DecodeError, EncodeError};
 pub use laws::bytes_spell_one_document;
 pub use whole::decode;
+pub use writing::{close, put_document, put_field, put_size, put_string, write};

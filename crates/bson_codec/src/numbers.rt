@@ -1,5 +1,5 @@
 // Numbers in little-endian bytes.
-ghost use Rattle.std.specs.Prelude.{◌≡◌, ◌≤◌, ◌+◌, ◌++◌, OnOk, length, take, drop};
+ghost use Rattle.std.specs.Prelude.{◌≡◌, ◌≤◌, ◌+◌, ◌++◌, OnOk, length, take, drop, vec_capacity};
 ghost use Rattle.std.specs.Int.{w32, w64, cast_unsigned};
 ghost use Rattle.bson_codec.specs.Numbers.{number_bytes};
 ghost use Rattle.bson_codec.specs.Outcome.{Gives};
@@ -12,7 +12,8 @@ use byteorder::{ByteOrder, LittleEndian};
 /// Appends a number in four bytes. Out of memory is the one error, and nothing is said of `out` then; so it is of the next three.
 #[tactic(auto, unfolding(crate::specs::Numbers::number_bytes))]
 pub fn put_u32(out: &mut Vec<u8>, number: u32) -> Mem<()>
-    ensures { OnOk result (out.new.items ≡ out.old.items ++ number_bytes 4 number) }
+    ensures laid { OnOk result (out.new.items ≡ out.old.items ++ number_bytes 4 number) }
+    ensures longer { OnOk result (vec_capacity out.old ≤ vec_capacity out.new) }
 {
     let mut bytes = [0; 4];
     LittleEndian::write_u32(&mut bytes, number);
@@ -22,7 +23,8 @@ pub fn put_u32(out: &mut Vec<u8>, number: u32) -> Mem<()>
 /// Appends a signed number in four bytes, in two's complement.
 #[tactic(auto, unfolding(crate::specs::Numbers::number_bytes))]
 pub fn put_i32(out: &mut Vec<u8>, number: i32) -> Mem<()>
-    ensures { OnOk result (out.new.items ≡ out.old.items ++ number_bytes 4 (cast_unsigned w32 number)) }
+    ensures laid { OnOk result (out.new.items ≡ out.old.items ++ number_bytes 4 (cast_unsigned w32 number)) }
+    ensures longer { OnOk result (vec_capacity out.old ≤ vec_capacity out.new) }
 {
     let mut bytes = [0; 4];
     LittleEndian::write_i32(&mut bytes, number);
@@ -32,7 +34,8 @@ pub fn put_i32(out: &mut Vec<u8>, number: i32) -> Mem<()>
 /// Appends a number in eight bytes.
 #[tactic(auto, unfolding(crate::specs::Numbers::number_bytes))]
 pub fn put_u64(out: &mut Vec<u8>, number: u64) -> Mem<()>
-    ensures { OnOk result (out.new.items ≡ out.old.items ++ number_bytes 8 number) }
+    ensures laid { OnOk result (out.new.items ≡ out.old.items ++ number_bytes 8 number) }
+    ensures longer { OnOk result (vec_capacity out.old ≤ vec_capacity out.new) }
 {
     let mut bytes = [0; 8];
     LittleEndian::write_u64(&mut bytes, number);
@@ -42,7 +45,8 @@ pub fn put_u64(out: &mut Vec<u8>, number: u64) -> Mem<()>
 /// Appends a signed number in eight bytes, in two's complement.
 #[tactic(auto, unfolding(crate::specs::Numbers::number_bytes))]
 pub fn put_i64(out: &mut Vec<u8>, number: i64) -> Mem<()>
-    ensures { OnOk result (out.new.items ≡ out.old.items ++ number_bytes 8 (cast_unsigned w64 number)) }
+    ensures laid { OnOk result (out.new.items ≡ out.old.items ++ number_bytes 8 (cast_unsigned w64 number)) }
+    ensures longer { OnOk result (vec_capacity out.old ≤ vec_capacity out.new) }
 {
     let mut bytes = [0; 8];
     LittleEndian::write_i64(&mut bytes, number);

@@ -1,18 +1,21 @@
 // The bytes of a document, appended to others. A length is filled in once its document is written.
-ghost use Rattle.std.specs.Prelude.{◌≡◌, ◌++◌, ◌∷◌, [], ◌<◌, ◌≤◌, ◌+◌, ◌-◌, ◌^◌, OnOk, length, take, drop};
+ghost use Rattle.std.specs.Prelude.{◌≡◌, ◌++◌, ◌∷◌, [], ◌<◌, ◌≤◌, ◌+◌, ◌-◌, ◌^◌, OnOk, length, take, drop, true, vec_capacity};
 ghost use Rattle.std.specs.Fmt.{decimal};
 ghost use Rattle.bson_doc.specs.View.{tree_of};
-ghost use Rattle.bson_doc.specs.Tree.{array};
+ghost use Rattle.bson_doc.specs.Tree.{array, text as a_text};
 ghost use Rattle.bson_doc.specs.Length.{value_length, document_length, items_length};
 ghost use Rattle.bson_codec.specs.Numbers.{number_bytes};
-ghost use Rattle.bson_codec.specs.Spelling.{value_bytes, document_bytes};
+ghost use Rattle.std.specs.Str.{is_utf8};
+ghost use Rattle.bson_doc.specs.Key.{type_byte};
+ghost use Rattle.bson_codec.specs.Spelling.{element, value_bytes, document_bytes};
 
 use crate::numbers::{put_i32, put_i64, put_u32, put_u64, set_u32};
 use bson_doc::{Doc, Items, Mem, Value};
 use std::alloc::Global;
 
 fn put_name(out: &mut Vec<u8>, kind: u8, name: &str) -> Mem<()>
-    ensures { OnOk result (out.new.items ≡ out.old.items ++ kind ∷ (name.now ++ 0 ∷ [])) }
+    ensures laid { OnOk result (out.new.items ≡ out.old.items ++ kind ∷ (name.now ++ 0 ∷ [])) }
+    ensures longer { OnOk result (vec_capacity out.old ≤ vec_capacity out.new) }
 {
     out.push(kind)?;
     out.extend_from_slice(name.as_bytes())?;
@@ -21,7 +24,8 @@ fn put_name(out: &mut Vec<u8>, kind: u8, name: &str) -> Mem<()>
 
 /// An item's name: its place in decimal.
 fn put_place(alloc: Global, out: &mut Vec<u8>, kind: u8, place: usize) -> Mem<()>
-    ensures { OnOk result (out.new.items ≡ out.old.items ++ kind ∷ (decimal place ++ 0 ∷ [])) }
+    ensures laid { OnOk result (out.new.items ≡ out.old.items ++ kind ∷ (decimal place ++ 0 ∷ [])) }
+    ensures longer { OnOk result (vec_capacity out.old ≤ vec_capacity out.new) }
 {
     let name = place.to_string(alloc)?;
     put_name(out, kind, name.as_str())
@@ -29,8 +33,9 @@ fn put_place(alloc: Global, out: &mut Vec<u8>, kind: u8, place: usize) -> Mem<()
 
 fn put_text(out: &mut Vec<u8>, text: &str) -> Mem<()>
     requires { length text.now + 1 < 2 ^ 31 }
-    ensures { OnOk result (out.new.items ≡ out.old.items
+    ensures laid { OnOk result (out.new.items ≡ out.old.items
         ++ (number_bytes 4 (length text.now + 1) ++ text.now ++ 0 ∷ [])) }
+    ensures longer { OnOk result (vec_capacity out.old ≤ vec_capacity out.new) }
 {
     put_u32(out, text.len() as u32 + 1)?;
     out.extend_from_slice(text.as_bytes())?;
@@ -39,21 +44,24 @@ fn put_text(out: &mut Vec<u8>, text: &str) -> Mem<()>
 
 fn put_binary(out: &mut Vec<u8>, subtype: u8, bytes: &[u8]) -> Mem<()>
     requires { length bytes.now < 2 ^ 31 }
-    ensures { OnOk result (out.new.items ≡ out.old.items
+    ensures laid { OnOk result (out.new.items ≡ out.old.items
         ++ (number_bytes 4 (length bytes.now) ++ subtype ∷ bytes.now)) }
+    ensures longer { OnOk result (vec_capacity out.old ≤ vec_capacity out.new) }
 {
     put_u32(out, bytes.len() as u32)?;
     out.push(subtype)?;
     out.extend_from_slice(bytes)
 }
 
-/// Ends the document that begins at `start` with four bytes of room for its length.
-fn close(out: &mut Vec<u8>, start: usize) -> Mem<()>
+/// Ends the document that begins at `start` with four bytes of room for its length. Out of memory is the one
+/// error.
+pub fn close(out: &mut Vec<u8>, start: usize) -> Mem<()>
     requires room { start + 4 ≤ length out.old.items }
     requires short { length out.old.items + 1 < start + 2 ^ 31 }
-    ensures { OnOk result (out.new.items
+    ensures laid { OnOk result (out.new.items
         ≡ (take start out.old.items ++ number_bytes 4 (length out.old.items + 1 - start))
         ++ (drop (start + 4) out.old.items ++ 0 ∷ [])) }
+    ensures longer { OnOk result (vec_capacity out.old ≤ vec_capacity out.new) }
 {
     out.push(0)?;
     let length = (out.len() - start) as u32;
@@ -64,7 +72,8 @@ fn close(out: &mut Vec<u8>, start: usize) -> Mem<()>
 #[cycle(write)]
 fn write_value(alloc: Global, value: &Value, out: &mut Vec<u8>) -> Mem<()>
     requires { value_length (tree_of value.now) < 2 ^ 31 }
-    ensures { OnOk result (out.new.items ≡ out.old.items ++ value_bytes (tree_of value.now)) }
+    ensures laid { OnOk result (out.new.items ≡ out.old.items ++ value_bytes (tree_of value.now)) }
+    ensures longer { OnOk result (vec_capacity out.old ≤ vec_capacity out.new) }
 {
     match value {
         Value::Null => Ok(()),
@@ -83,7 +92,8 @@ fn write_value(alloc: Global, value: &Value, out: &mut Vec<u8>) -> Mem<()>
 #[cycle(write)]
 fn write_items(alloc: Global, items: &Items, out: &mut Vec<u8>) -> Mem<()>
     requires { 5 + items_length 0 items.now < 2 ^ 31 }
-    ensures { OnOk result (out.new.items ≡ out.old.items ++ value_bytes (array items.now)) }
+    ensures laid { OnOk result (out.new.items ≡ out.old.items ++ value_bytes (array items.now)) }
+    ensures longer { OnOk result (vec_capacity out.old ≤ vec_capacity out.new) }
 {
     let start = out.len();
     out.extend_from_slice(&[0; 4])?;
@@ -101,7 +111,8 @@ fn write_items(alloc: Global, items: &Items, out: &mut Vec<u8>) -> Mem<()>
 #[cycle(write)]
 pub fn write(alloc: Global, document: &Doc, out: &mut Vec<u8>) -> Mem<()>
     requires { document_length document.now < 2 ^ 31 }
-    ensures { OnOk result (out.new.items ≡ out.old.items ++ document_bytes document.now) }
+    ensures laid { OnOk result (out.new.items ≡ out.old.items ++ document_bytes document.now) }
+    ensures longer { OnOk result (vec_capacity out.old ≤ vec_capacity out.new) }
 {
     let start = out.len();
     out.extend_from_slice(&[0; 4])?;
@@ -113,4 +124,52 @@ pub fn write(alloc: Global, document: &Doc, out: &mut Vec<u8>) -> Mem<()>
         write_value(alloc, value, out)?;
     }
     close(out, start)
+}
+
+/// Appends a field: its kind, its name and its value. Out of memory is the one error, and nothing is said of
+/// `out` then; so it is of the next two.
+pub fn put_field(alloc: Global, out: &mut Vec<u8>, name: &str, value: &Value) -> Mem<()>
+    requires { value_length (tree_of value.now) < 2 ^ 31 }
+    ensures laid { OnOk result (out.new.items ≡ out.old.items
+        ++ element (type_byte (tree_of value.now)) name.now (value_bytes (tree_of value.now))) }
+    ensures longer { OnOk result (vec_capacity out.old ≤ vec_capacity out.new) }
+{
+    put_name(out, value.kind(), name)?;
+    write_value(alloc, value, out)
+}
+
+/// Appends a field whose value is a string.
+pub fn put_string(out: &mut Vec<u8>, name: &str, string: &str) -> Mem<()>
+    requires { length string.now + 1 < 2 ^ 31 }
+    ensures laid { OnOk result (out.new.items ≡ out.old.items
+        ++ element 2 name.now (value_bytes (a_text string.now))) }
+    ensures sound { is_utf8 string.now ≡ true }
+    ensures longer { OnOk result (vec_capacity out.old ≤ vec_capacity out.new) }
+{
+    put_name(out, 2, name)?;
+    put_text(out, string)
+}
+
+/// Appends a field whose value is a document.
+pub fn put_document(alloc: Global, out: &mut Vec<u8>, name: &str, document: &Doc) -> Mem<()>
+    requires { document_length document.now < 2 ^ 31 }
+    ensures laid { OnOk result (out.new.items ≡ out.old.items
+        ++ element 3 name.now (document_bytes document.now)) }
+    ensures longer { OnOk result (vec_capacity out.old ≤ vec_capacity out.new) }
+{
+    put_name(out, 3, name)?;
+    write(alloc, document, out)
+}
+
+/// Writes over the four bytes at a place how many bytes stand behind them.
+pub fn put_size(out: &mut Vec<u8>, start: usize)
+    requires room { start + 4 ≤ length out.old.items }
+    requires short { length out.old.items < start + 4 + 2 ^ 32 }
+    ensures laid { out.new.items
+        ≡ (take start out.old.items ++ number_bytes 4 (length out.old.items - (start + 4)))
+        ++ drop (start + 4) out.old.items }
+    ensures longer { vec_capacity out.old ≤ vec_capacity out.new }
+{
+    let size = (out.len() - start - 4) as u32;
+    set_u32(out, start, size);
 }

@@ -51,7 +51,8 @@ impl<D: Disk> Checkpoints<D> {
 
         // A crash at any moment leaves a checkpoint that a crash before the call might have left.
         ensures any_moment { EachMoment (IsOneOf (D.state disk)) (D.state disk) (D.state (disk_after result)) }
-        ensures keeps { Keeps (IsErrOf (answer_of result) FileError.Disk) (D.state disk) (D.state (disk_after result)) }
+        ensures keeps { Keeps (IsErrOf (answer_of result) FileError.Disk)
+            (D.state disk) (D.state (disk_after result)) }
     {
         let mut checkpoints = Checkpoints {
             alloc,
@@ -87,8 +88,8 @@ impl<D: Disk> Checkpoints<D> {
     /// Saves the documents that a store shows as of an optime. After `Ok` every crash leaves them.
     ///
     /// # Errors
-    /// `Memory` leaves the file as it was: what a checkpoint takes is taken before its first record is added. After `Disk` the
-    /// store has failed, and only `close` is left.
+    /// `Memory` leaves the file as it was: what a checkpoint takes is taken before its first record is added. After
+    /// `Disk` the store has failed, and only `close` is left.
     pub fn save(&mut self, at: OpTime, store: &VersionStore) -> Result<(), FileError>
         requires open { IsOpen (D.state self.old) }
         requires can { AllCanBeSaved store.now at }
@@ -99,7 +100,8 @@ impl<D: Disk> Checkpoints<D> {
         ensures records { OnOk result ((documents : Documents) → Shows store.now at documents
             → (records : List ARecord) → RestsWith (D.state self.old) records
             → RestsWith (D.state self.new) (records ++ checkpoint (record { at = at; documents = documents }))) }
-        ensures shows { result ≢ Err FileError.Memory → (documents : Documents) × Shows store.now at documents }
+        ensures shows { result ≢ Err FileError.Memory
+            → (documents : Documents) × Shows store.now at documents }
         ensures memory { result ≡ Err FileError.Memory → SameButRoom (D.state self.old) (D.state self.new) }
         ensures open { OnOk result (IsOpen (D.state self.new)) }
         ensures still_open { result ≡ Err FileError.Memory → IsOpen (D.state self.new) }

@@ -18,8 +18,9 @@ impl Marked {
     // With the record at this place, by its kind.
     fn with(self, place: usize, kind: u8) -> Marked
         requires { place + 1 < 2 ^ 64 }
-        ensures { (records : List ARecord) (item : ARecord) → kind ≡ slice_index (record_bytes item) 0 → place < length records
-            → take (place + 1) records ≡ take place records ++ item ∷ [] → Marks records place self.from self.to self.begun
+        ensures { (records : List ARecord) (item : ARecord) → kind ≡ slice_index (record_bytes item) 0
+            → place < length records → take (place + 1) records ≡ take place records ++ item ∷ []
+            → Marks records place self.from self.to self.begun
             → Marks records (place + 1) result.from result.to result.begun }
     {
         if kind == 1 {
@@ -38,8 +39,9 @@ impl Marked {
     // With the record at this place, which ends a checkpoint if one has begun.
     fn ended(self, place: usize) -> Marked
         requires { place + 1 < 2 ^ 64 }
-        ensures { (records : List ARecord) (item : ARecord) → 3 ≡ slice_index (record_bytes item) 0 → place < length records
-            → take (place + 1) records ≡ take place records ++ item ∷ [] → Marks records place self.from self.to self.begun
+        ensures { (records : List ARecord) (item : ARecord) → 3 ≡ slice_index (record_bytes item) 0
+            → place < length records → take (place + 1) records ≡ take place records ++ item ∷ []
+            → Marks records place self.from self.to self.begun
             → Marks records (place + 1) result.from result.to result.begun }
     {
         match self.begun {
@@ -55,9 +57,11 @@ impl Marked {
 
 // Finds the last whole checkpoint.
 pub(crate) fn last_in(pieces: &[Vec<u8>]) -> Marked
-    requires { (records : List ARecord) × All IsRecord records × (lists pieces.now ≡ map record_bytes records) }
+    requires { (records : List ARecord) × All IsRecord records
+        × (lists pieces.now ≡ map record_bytes records) }
     ensures within { (result.from ≤ result.to) × (result.to ≤ length pieces.now) }
-    ensures last { (records : List ARecord) → All IsRecord records → lists pieces.now ≡ map record_bytes records
+    ensures last { (records : List ARecord) → All IsRecord records
+        → lists pieces.now ≡ map record_bytes records
         → last_whole (slice_range records result.from result.to) ≡ last_whole records }
 {
     let mut found = Marked {

@@ -1,4 +1,5 @@
-// The records of a checkpoint: where it begins, its documents in pieces, and where it ends. Only the last makes it count.
+// The records of a checkpoint: where it begins, its documents in pieces, and where it ends. Only the last makes it
+// count.
 ghost use Rattle.std.specs.Prelude.{All, IfOk, IsSome, OnOk, map};
 ghost use Rattle.record_file.specs.Records.{lists};
 ghost use Rattle.oplog_entry.specs.Docs.{Documents};
@@ -40,7 +41,8 @@ fn records_of(
 ) -> Mem<Vec<Vec<u8>>>
     requires can { AllCanBeSaved store.now at }
     requires shown { All (λ place. IsSome (shown_at store.now place at)) places.now }
-    ensures { IfOk result (λ records. AreSpelled (checkpoint_of at (map (saved_at store.now at) places.now)) (lists records.items)) }
+    ensures { IfOk result (λ records.
+        AreSpelled (checkpoint_of at (map (saved_at store.now at) places.now)) (lists records.items)) }
 {
     let mut records = Vec::new(alloc);
     records.push(begin_bytes(alloc, at)?)?;

@@ -8,10 +8,10 @@ ghost use Rattle.checkpoint_store.specs.Shown.{AllCanBeSaved, CanBeSaved, saved_
 ghost use Rattle.checkpoint_store.specs.Spelled.{PIECE, IsOptime, IsSaved, IsSpelled};
 
 use crate::numbers::{put_u32, put_u64};
-use bson_codec::{DOCUMENT, EncodeError, encode};
+use bson_codec::{put_size, write};
 use bson_doc::{Doc, IdKey, Text};
 use rs_optime::{Mem, OpTime};
-use std::alloc::{AllocError, Global};
+use std::alloc::Global;
 use version_store::VersionStore;
 
 fn put_optime(out: &mut Vec<u8>, at: OpTime) -> Mem<()>
@@ -30,19 +30,20 @@ fn put_sized(out: &mut Vec<u8>, bytes: &[u8]) -> Mem<()>
     out.extend_from_slice(bytes)
 }
 
+// Appends a document at its place, with room for its length until it has been written.
 fn put_saved(out: &mut Vec<u8>, place: &(Text, IdKey), document: &Doc) -> Mem<()>
     requires { CanBeSaved place.now document.now }
     ensures laid { OnOk result (out.new.items ≡ out.old.items ++ saved_bytes (place.now, document.now)) }
     ensures fits { OnOk result (IsSaved (place.now, document.now)) }
 {
-    let bytes = match encode(*out.allocator(), document, DOCUMENT) {
-        Ok(bytes) => bytes,
-        Err(EncodeError::Memory) => return Err(AllocError),
-        Err(EncodeError::TooDeep | EncodeError::TooLarge) => unreachable!(),
-    };
     place.0.is_utf8();
+    document.is_sound();
     put_sized(out, place.0.as_str().as_bytes())?;
-    put_sized(out, &bytes)
+    let start = out.len();
+    put_u32(out, 0)?;
+    write(*out.allocator(), document, out)?;
+    put_size(out, start);
+    Ok(())
 }
 
 // The document that a store shows at a place.

@@ -4,3 +4,4 @@ pub mod MarkLemmas
 pub mod OptimeLemmas
 pub mod PartLemmas
 pub mod PlaceLemmas
+pub mod AppendingLemmas

@@ -31,10 +31,13 @@ stamped optime rest =
     (field (codes "t") (int64 (pos optime.term)) (field (codes "v") (int32 (pos 2)) rest))
 
 -- the members in front of `o`
+abbrev pub members_in_front : OpTime → Op → Fields
+members_in_front optime op =
+    stamped optime
+    (field (codes "op") (text (letter_of op)) (field (codes "ns") (text (collection_of op)) no_fields))
+
 abbrev pub head_of : Entry → Fields
-head_of entry =
-    stamped entry.optime
-    (field (codes "op") (text (letter_of entry.op)) (field (codes "ns") (text (collection_of entry.op)) no_fields))
+head_of entry = members_in_front entry.optime entry.op
 
 -- ---- as they are read
 -- these are the op's members

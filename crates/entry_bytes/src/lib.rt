@@ -2,6 +2,7 @@
 //! of a lawful entry are read as that entry, and no others are read.
 #![tactic(auto)]
 
+mod appending;
 mod error;
 mod laws;
 mod ops;
@@ -9,6 +10,7 @@ mod places;
 mod reading;
 mod writing;
 
+pub use appending::put_bytes;
 pub use error::EntryError;
 pub use laws::documents_tell_entries;
 pub use reading::of_bytes;

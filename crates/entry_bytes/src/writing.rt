@@ -98,7 +98,7 @@ pub fn body(alloc: Global, op: &Op) -> Mem<Doc>
 }
 
 /// Which document an update changes.
-fn target(alloc: Global, op: &Op) -> Mem<Option<Doc>>
+pub(crate) fn target(alloc: Global, op: &Op) -> Mem<Option<Doc>>
     ensures { IfOk result (λ target. target ≡ target_of op.now) }
 {
     match op {

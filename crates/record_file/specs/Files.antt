@@ -43,7 +43,8 @@ IsBeforeOrAfter records piece image = HasRecords image records ⊎ HasRecords im
 -- the records, and behind them the first of those that are added
 abbrev pub HasFirst : List (List ℕ) → List (List ℕ) → List ℕ → Type 0
 HasFirst records added image =
-    (first : List (List ℕ)) × (rest : List (List ℕ)) × (added ≡ first ++ rest) × HasRecords image (records ++ first)
+    (first : List (List ℕ)) × (rest : List (List ℕ)) × (added ≡ first ++ rest)
+    × HasRecords image (records ++ first)
 
 -- how many bytes records may take, with 5 for each, before memory is needed
 abbrev pub spare : State → ℕ → ℕ
@@ -76,7 +77,8 @@ append_steps at tail = changes (write at tail) ∷ syncs ∷ changes (write (at 
 -- the calls that add these records, one behind the other, to a file of so many bytes
 abbrev pub adding_steps : ℕ → List (List ℕ) → List Step
 adding_steps at [] = []
-adding_steps at (piece ∷ pieces) = append_steps at (body piece ++ 0 ∷ []) ++ adding_steps (at + (length piece + 5)) pieces
+adding_steps at (piece ∷ pieces) =
+    append_steps at (body piece ++ 0 ∷ []) ++ adding_steps (at + (length piece + 5)) pieces
 
 -- the calls of an opening of an empty file, and of one with records
 abbrev pub first_steps : List Step

@@ -24,10 +24,12 @@ pub(crate) fn add<D: Disk>(
 
     ensures memory { result ≡ Err FileError.Memory → SameButRoom (D.state disk.old) (D.state disk.new) }
     ensures room { length piece.now + 5 ≤ vec_capacity buffer.old
-        → length (contents (D.state disk.old).file) + (length piece.now + 5) ≤ (D.state disk.old).room → result ≢ Err FileError.Memory }
+        → length (contents (D.state disk.old).file) + (length piece.now + 5) ≤ (D.state disk.old).room
+        → result ≢ Err FileError.Memory }
     ensures longer { OnOk result (length (contents (D.state disk.new).file)
         ≡ length (contents (D.state disk.old).file) + (length piece.now + 5)) }
-    ensures calls { EndsBy result (append_steps (length (contents (D.state disk.old).file)) (body piece.now ++ 0 ∷ []))
+    ensures calls { EndsBy result
+        (append_steps (length (contents (D.state disk.old).file)) (body piece.now ++ 0 ∷ []))
         (D.state disk.old) (D.state disk.new) }
     ensures keeps { Keeps (IsErrOf result FileError.Disk) (D.state disk.old) (D.state disk.new) }
     ensures capacity { vec_capacity buffer.old ≤ vec_capacity buffer.new }
@@ -61,7 +63,8 @@ pub(crate) fn add_all<D: Disk>(
     requires short { All (λ piece. length piece.items < 2 ^ 32) pieces.now }
 
     ensures memory { result ≡ Err FileError.Memory → SameButRoom (D.state disk.old) (D.state disk.new) }
-    ensures calls { EndsBy result (adding_steps (length (contents (D.state disk.old).file)) (lists pieces.now))
+    ensures calls { EndsBy result
+        (adding_steps (length (contents (D.state disk.old).file)) (lists pieces.now))
         (D.state disk.old) (D.state disk.new) }
     ensures keeps { Keeps (IsErrOf result FileError.Disk) (D.state disk.old) (D.state disk.new) }
 {
@@ -78,9 +81,10 @@ fn reserve_for<D: Disk>(
     requires { All (λ piece. length piece.items < 2 ^ 32) pieces.now }
     ensures same { SameButRoom (D.state disk.old) (D.state disk.new) }
     ensures kept { (D.state disk.old).room ≤ (D.state disk.new).room }
-    ensures together { OnOk result (length (contents (D.state disk.new).file) + sum_by (λ piece. length piece.items + 5) pieces.now
-        ≤ (D.state disk.new).room) }
-    ensures longest { OnOk result (All (λ piece. length piece.items + 5 ≤ vec_capacity buffer.new) pieces.now) }
+    ensures together { OnOk result (length (contents (D.state disk.new).file)
+        + sum_by (λ piece. length piece.items + 5) pieces.now ≤ (D.state disk.new).room) }
+    ensures longest { OnOk result
+        (All (λ piece. length piece.items + 5 ≤ vec_capacity buffer.new) pieces.now) }
 {
     disk.reserve(bytes_of(pieces)?)?;
     buffer.clear();
@@ -122,12 +126,13 @@ fn add_each<D: Disk>(
 ) -> Result<(), FileError>
     requires open { IsOpen (D.state disk.old) }
     requires short { All (λ piece. length piece.items < 2 ^ 32) pieces.now }
-    requires together { length (contents (D.state disk.old).file) + sum_by (λ piece. length piece.items + 5) pieces.now
-        ≤ (D.state disk.old).room }
+    requires together { length (contents (D.state disk.old).file)
+        + sum_by (λ piece. length piece.items + 5) pieces.now ≤ (D.state disk.old).room }
     requires longest { All (λ piece. length piece.items + 5 ≤ vec_capacity buffer.old) pieces.now }
 
     ensures memory { result ≢ Err FileError.Memory }
-    ensures calls { EndsBy result (adding_steps (length (contents (D.state disk.old).file)) (lists pieces.now))
+    ensures calls { EndsBy result
+        (adding_steps (length (contents (D.state disk.old).file)) (lists pieces.now))
         (D.state disk.old) (D.state disk.new) }
     ensures keeps { Keeps (IsErrOf result FileError.Disk) (D.state disk.old) (D.state disk.new) }
 {

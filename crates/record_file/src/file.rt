@@ -131,8 +131,8 @@ impl<D: Disk> RecordFile<D> {
     /// Adds records one behind the other. After `Ok` every crash leaves all of them.
     ///
     /// # Errors
-    /// `Memory` leaves the file as it was: what they take is taken before the first of them is added. After `Disk` the file
-    /// has failed, and only `close` is left.
+    /// `Memory` leaves the file as it was: what they take is taken before the first of them is added. After `Disk`
+    /// the file has failed, and only `close` is left.
     pub fn append_all(&mut self, pieces: &[Vec<u8>]) -> Result<(), FileError>
         requires open { IsOpen (D.state self.old.0) }
         requires short { All (λ piece. length piece.items < 2 ^ 32) pieces.now }
@@ -143,10 +143,11 @@ impl<D: Disk> RecordFile<D> {
         ensures open { OnOk result (IsOpen (D.state self.new.0)) }
         ensures still_open { result ≡ Err FileError.Memory → IsOpen (D.state self.new.0) }
         ensures left { IsRecordDisk (D.state self.new.0) }
-        ensures calls { EndsBy result (adding_steps (length (contents (D.state self.old.0).file)) (lists pieces.now))
+        ensures calls { EndsBy result
+            (adding_steps (length (contents (D.state self.old.0).file)) (lists pieces.now))
             (D.state self.old.0) (D.state self.new.0) }
 
-        // A crash at any moment of the call leaves the records from before it, with the first of the new ones.
+        // A crash at any moment of it leaves the records from before it, with the first of the new ones.
         ensures any_moment { (records : List (List ℕ)) → IsAtRest (D.state self.old.0) records
             → EachMoment (HasFirst records (lists pieces.now)) (D.state self.old.0) (D.state self.new.0) }
         ensures keeps { Keeps (IsErrOf result FileError.Disk) (D.state self.old.0) (D.state self.new.0) }

@@ -29,8 +29,8 @@ write-close-requires-clause-short t c =
     omega (arith, ap length whole, length-append (c.args.out.now.items ++ 0 ∷ 0 ∷ 0 ∷ 0 ∷ []) (fields_bytes c.args.document.now), length-append c.args.out.now.items (0 ∷ 0 ∷ 0 ∷ 0 ∷ []), length-fields_bytes c.args.document.now) in
     omega arith
 
-pub write-returns : goal.write-returns
-write-returns t c =
+pub write-returns-clause-laid : goal.write-returns-clause-laid
+write-returns-clause-laid t c =
     let past : count c.args.document.now ≤ c.loop-place.place = omega arith in
     let known = rw (fields_from-end c.args.document.now c.loop-place.place past) at c.loop-place.invariant.0 in
     let whole : c.loop-place.out.items ≡ (c.args.out.now.items ++ 0 ∷ 0 ∷ 0 ∷ 0 ∷ []) ++ fields_bytes c.args.document.now =
@@ -38,7 +38,7 @@ write-returns t c =
     let start : c.len-start.result ≡ length c.args.out.now.items = omega arith in
     let sealed = closed c.args.out.now.items (0 ∷ 0 ∷ 0 ∷ 0 ∷ []) (fields_bytes c.args.document.now) c.loop-place.out.items refl whole in
     let counted = ap (λ (n : ℕ). c.args.out.now.items ++ (number_bytes 4 (5 + n) ++ fields_bytes c.args.document.now ++ 0 ∷ [])) (length-fields_bytes c.args.document.now) in
-    IfOk-equal c.close.result c.close.new.out.items _ _ c.close.ensures (rw start (sealed ∙ counted))
+    IfOk-equal c.close.result c.close.new.out.items _ _ c.close.ensures.laid (rw start (sealed ∙ counted))
 
 pub write_items-close-requires-clause-room : goal.write_items-close-requires-clause-room
 write_items-close-requires-clause-room t c =
@@ -60,8 +60,8 @@ write_items-close-requires-clause-short t c =
     omega (arith, ap length whole, length-append (c.args.out.now.items ++ 0 ∷ 0 ∷ 0 ∷ 0 ∷ []) (items_bytes 0 c.args.items.now), length-append c.args.out.now.items (0 ∷ 0 ∷ 0 ∷ 0 ∷ []), length-items_bytes 0 c.args.items.now) in
     omega arith
 
-pub write_items-returns : goal.write_items-returns
-write_items-returns t c =
+pub write_items-returns-clause-laid : goal.write_items-returns-clause-laid
+write_items-returns-clause-laid t c =
     let past : items_count c.args.items.now ≤ c.loop-place.place = omega arith in
     let known = rw (trees_from-end c.args.items.now c.loop-place.place past) at c.loop-place.invariant.0 in
     let whole : c.loop-place.out.items ≡ (c.args.out.now.items ++ 0 ∷ 0 ∷ 0 ∷ 0 ∷ []) ++ items_bytes 0 c.args.items.now =
@@ -69,4 +69,4 @@ write_items-returns t c =
     let start : c.len-start.result ≡ length c.args.out.now.items = omega arith in
     let sealed = closed c.args.out.now.items (0 ∷ 0 ∷ 0 ∷ 0 ∷ []) (items_bytes 0 c.args.items.now) c.loop-place.out.items refl whole in
     let counted = ap (λ (n : ℕ). c.args.out.now.items ++ (number_bytes 4 (5 + n) ++ items_bytes 0 c.args.items.now ++ 0 ∷ [])) (length-items_bytes 0 c.args.items.now) in
-    IfOk-equal c.close.result c.close.new.out.items _ _ c.close.ensures (rw start (sealed ∙ counted))
+    IfOk-equal c.close.result c.close.new.out.items _ _ c.close.ensures.laid (rw start (sealed ∙ counted))

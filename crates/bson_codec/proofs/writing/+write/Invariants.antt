@@ -1,4 +1,4 @@
-use Rattle.std.proofs.Common.{◌≡◌, ◌+◌, ◌*◌, ◌≤◌, ◌++◌}
+use Rattle.std.proofs.Common.{◌≡◌, ◌+◌, ◌*◌, ◌≤◌, ◌++◌, vec_capacity}
 use Rattle.bson_doc.specs.Tree.{fields_from, fields_size, trees_from, trees_size, tree_size}
 use Rattle.bson_doc.specs.View.{tree_of}
 use Rattle.bson_doc.specs.Length.{fields_length, items_length}
@@ -19,9 +19,11 @@ invariant-write-loop-place l =
     (l.out.items ++ fields_bytes (fields_from l.place l.document) ≡ l.initial.out.items ++ fields_bytes l.document)
     × (fields_size (fields_from l.place l.document) ≤ fields_size l.document)
     × (fields_length (fields_from l.place l.document) ≤ fields_length l.document)
+    × (vec_capacity l.initial.out ≤ vec_capacity l.out)
 
 abbrev pub invariant-write_items-loop-place : goal.invariant-write_items-loop-place
 invariant-write_items-loop-place l =
     (l.out.items ++ items_bytes l.place (trees_from l.place l.items) ≡ l.initial.out.items ++ items_bytes 0 l.items)
     × (trees_size (trees_from l.place l.items) ≤ trees_size l.items)
     × (items_length l.place (trees_from l.place l.items) ≤ items_length 0 l.items)
+    × (vec_capacity l.initial.out ≤ vec_capacity l.out)

@@ -1,0 +1,109 @@
+// The bytes of an entry, appended to others. No document is made of it, but of an update's target and of short
+// bodies.
+ghost use Rattle.std.specs.Prelude.{◌≡◌, ◌+◌, ◌<◌, ◌≤◌, ◌^◌, ◌++◌, codes, length, OnOk, vec_capacity};
+ghost use Rattle.bson_doc.specs.Length.{document_length, fields_length};
+ghost use Rattle.bson_doc.specs.Sound.{AreSoundFields, IsSound};
+ghost use Rattle.bson_doc.specs.Tree.{no_fields};
+ghost use Rattle.bson_codec.specs.Spelling.{document_bytes, element, fields_bytes};
+ghost use Rattle.oplog_entry.specs.Lawful.{IsLawful, IsLawfulOp};
+ghost use Rattle.entry_bytes.specs.Layout.{body_of, collection_of, document_of, last_member, target_of};
+ghost use Rattle.entry_bytes.specs.Parts.{members_in_front, stamped};
+
+use crate::writing::{body, letter, target};
+use bson_codec::{close, put_document, put_field, put_string};
+use bson_doc::{Mem, Value};
+use oplog_entry::{Entry, Op};
+use rs_optime::OpTime;
+use std::alloc::Global;
+
+// The collection of an op, or none.
+fn collection_in(op: &Op) -> &str
+    ensures name { result.now ≡ collection_of op.now }
+{
+    match op {
+        Op::Insert { ns, .. }
+        | Op::Replace { ns, .. }
+        | Op::Fields { ns, .. }
+        | Op::Delete { ns, .. } => ns.as_str(),
+        Op::Noop => "",
+    }
+}
+
+// Appends the optime and the version.
+fn put_stamp(alloc: Global, optime: OpTime, out: &mut Vec<u8>) -> Mem<()>
+    requires { optime.term < 2 ^ 63 }
+    ensures laid { OnOk result (out.new.items ≡ out.old.items ++ fields_bytes (stamped optime no_fields)) }
+    ensures fits { optime.ts < 2 ^ 64 }
+    ensures longer { OnOk result (vec_capacity out.old ≤ vec_capacity out.new) }
+{
+    put_field(alloc, out, "ts", &Value::Timestamp(optime.ts))?;
+    put_field(alloc, out, "t", &Value::Int64(optime.term as i64))?;
+    put_field(alloc, out, "v", &Value::Int32(2))
+}
+
+// Appends the members in front of `o`.
+fn put_head(alloc: Global, optime: OpTime, op: &Op, out: &mut Vec<u8>) -> Mem<()>
+    requires term { optime.term < 2 ^ 63 }
+    requires short { length (collection_of op.now) + 1 < 2 ^ 31 }
+    ensures laid { OnOk result (out.new.items
+        ≡ out.old.items ++ fields_bytes (members_in_front optime op.now)) }
+    ensures sound { OnOk result (AreSoundFields (members_in_front optime op.now)) }
+    ensures longer { OnOk result (vec_capacity out.old ≤ vec_capacity out.new) }
+{
+    put_stamp(alloc, optime, out)?;
+    put_string(out, "op", letter(op))?;
+    put_string(out, "ns", collection_in(op))
+}
+
+// Appends the member `o`.
+fn put_body(alloc: Global, op: &Op, out: &mut Vec<u8>) -> Mem<()>
+    requires lawful { IsLawfulOp op.now }
+    requires short { document_length (body_of op.now) < 2 ^ 31 }
+    ensures laid { OnOk result (out.new.items
+        ≡ out.old.items ++ element 3 (codes "o") (document_bytes (body_of op.now))) }
+    ensures sound { OnOk result (IsSound (body_of op.now)) }
+    ensures longer { OnOk result (vec_capacity out.old ≤ vec_capacity out.new) }
+{
+    match op {
+        Op::Insert { o, .. } | Op::Replace { o, .. } => {
+            o.is_sound();
+            put_document(alloc, out, "o", o)
+        }
+        Op::Fields { .. } | Op::Delete { .. } | Op::Noop => {
+            let body = body(alloc, op)?;
+            body.is_sound();
+            put_document(alloc, out, "o", &body)
+        }
+    }
+}
+
+// Appends the member `o2`, where there is one.
+fn put_target(alloc: Global, op: &Op, out: &mut Vec<u8>) -> Mem<()>
+    requires { fields_length (last_member (target_of op.now)) < 2 ^ 31 }
+    ensures laid { OnOk result (out.new.items
+        ≡ out.old.items ++ fields_bytes (last_member (target_of op.now))) }
+    ensures sound { OnOk result (AreSoundFields (last_member (target_of op.now))) }
+    ensures longer { OnOk result (vec_capacity out.old ≤ vec_capacity out.new) }
+{
+    let Some(target) = target(alloc, op)? else {
+        return Ok(());
+    };
+    target.is_sound();
+    put_document(alloc, out, "o2", &target)
+}
+
+/// Appends the bytes of a lawful entry, the one spelling of its document.
+pub fn put_bytes(alloc: Global, entry: &Entry, out: &mut Vec<u8>) -> Mem<()>
+    requires lawful { IsLawful entry.now }
+    requires short { document_length (document_of entry.now) < 2 ^ 31 }
+    ensures laid { OnOk result (out.new.items ≡ out.old.items ++ document_bytes (document_of entry.now)) }
+    ensures sound { OnOk result (IsSound (document_of entry.now)) }
+    ensures longer { OnOk result (vec_capacity out.old ≤ vec_capacity out.new) }
+{
+    let start = out.len();
+    out.extend_from_slice(&[0; 4])?;
+    put_head(alloc, entry.optime, &entry.op, out)?;
+    put_body(alloc, &entry.op, out)?;
+    put_target(alloc, &entry.op, out)?;
+    close(out, start)
+}
