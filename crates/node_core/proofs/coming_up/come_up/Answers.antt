@@ -3,7 +3,7 @@ use Rattle.std.specs.Prelude.{OnErr, Result}
 use Rattle.node_core.specs.Coming.{IsFound, settled}
 use Rattle.node_core.specs.Down.{down_node, left_in}
 use Rattle.node_core.proofs.PuttingLemmas.{runs_then}
-use Rattle.node_core.proofs.ReopeningLemmas.{found_settles, goes_up, lies_on, stands_checkpoints}
+use Rattle.node_core.proofs.ReopeningLemmas.{found_settles, goes_up, lies_on, reopened, stands_checkpoints}
 use Rattle.node_core.proofs.coming_up.come_up.Goals as goal
 
 on_err : {T E : Type 0} (result : Result T E) (P : Type 0) → P → OnErr result P
@@ -30,6 +30,13 @@ returns-in_err-prepared-in-Ok-clause-left g c =
     (g.D.Disk.state c.args.disks.now.journal.0) (g.D.Disk.state c.open_both.new.disks.journal.0)
     (g.D.Disk.state c.args.disks.now.checkpoints) (g.D.Disk.state c.open_both.new.disks.checkpoints)
     c.requires.down c.open_both.ensures.count c.requires.lies (c.open_both.ensures.stands node c.requires.lies.stands))
+
+pub returns-in_err-prepared-in-Ok-clause-reopened : goal.returns-in_err-prepared-in-Ok-clause-reopened
+returns-in_err-prepared-in-Ok-clause-reopened g c =
+    on_err c.from_residual.result _
+    (reopened (g.D.Disk.state c.args.disks.now.journal.0) (g.D.Disk.state c.open_both.new.disks.journal.0)
+    (g.D.Disk.state c.args.disks.now.checkpoints) (g.D.Disk.state c.open_both.new.disks.checkpoints)
+    c.in-Ok.ensures.runs c.open_both.ensures.journal c.open_both.ensures.checkpoints)
 
 pub go_up-requires-clause-well : goal.go_up-requires-clause-well
 go_up-requires-clause-well g c =
@@ -64,6 +71,12 @@ returns-in-Err-Memory-clause-left g c =
     (g.D.Disk.state c.args.disks.now.journal.0) (g.D.Disk.state c.open_both.new.disks.journal.0)
     (g.D.Disk.state c.args.disks.now.checkpoints) (g.D.Disk.state c.open_both.new.disks.checkpoints)
     c.requires.down c.open_both.ensures.count c.requires.lies (c.open_both.ensures.stands node c.requires.lies.stands)
+
+pub returns-in-Err-Memory-clause-reopened : goal.returns-in-Err-Memory-clause-reopened
+returns-in-Err-Memory-clause-reopened g c =
+    reopened (g.D.Disk.state c.args.disks.now.journal.0) (g.D.Disk.state c.open_both.new.disks.journal.0)
+    (g.D.Disk.state c.args.disks.now.checkpoints) (g.D.Disk.state c.open_both.new.disks.checkpoints)
+    c.in-Err-Memory.ensures.runs c.open_both.ensures.journal c.open_both.ensures.checkpoints
 
 pub returns-in-Err-Disk-clause-rests : goal.returns-in-Err-Disk-clause-rests
 returns-in-Err-Disk-clause-rests g c =

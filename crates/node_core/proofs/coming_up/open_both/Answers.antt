@@ -2,8 +2,9 @@ use Rattle.std.proofs.Common.{◌≡◌, Ok, Err, rules}
 use Rattle.std.specs.Prelude.{Result}
 use Rattle.record_file.specs.declared.error.FileError.{FileError}
 use Rattle.record_file.specs.declared.error.FileError.TheVariants.{Disk, Memory}
+use Rattle.node_journal.specs.Files.{IsOneOf as IsOneJournal}
 use Rattle.node_core.specs.declared.coming_up.Found.{Found}
-use Rattle.node_core.proofs.ReopeningLemmas.{read_both, runs_opened, stands_both, stands_opened, stands_reserved}
+use Rattle.node_core.proofs.ReopeningLemmas.{read_both, runs_opened, stands_both, stands_opened, stands_reserved, then_reserved, unopened}
 use Rattle.node_core.proofs.coming_up.open_both.Goals as goal
 
 no_fault : {T : Type 0} (result : Result T FileError) → result ≡ Err Memory → result ≡ Err Disk → ⊥
@@ -20,6 +21,9 @@ pub returns-in_err-kept-clause-stands : goal.returns-in_err-kept-clause-stands
 returns-in_err-kept-clause-stands g c = λ node stands.
     stands_opened node (g.D.Disk.state c.args.disks.now.journal.0) (g.D.Disk.state c.reopen.new.self.0) (g.D.Disk.state c.args.disks.now.checkpoints) stands c.reopen.ensures.any_moment
 
+pub returns-in_err-kept-clause-checkpoints : goal.returns-in_err-kept-clause-checkpoints
+returns-in_err-kept-clause-checkpoints g c = unopened (g.D.Disk.state c.args.disks.now.checkpoints) c.requires.checkpoints
+
 pub returns-in_err-stable-clause-stands : goal.returns-in_err-stable-clause-stands
 returns-in_err-stable-clause-stands g c = λ node stands.
     stands_both node (g.D.Disk.state c.args.disks.now.journal.0) (g.D.Disk.state c.reopen.new.self.0) (g.D.Disk.state c.args.disks.now.checkpoints) (g.D.Disk.state c.reopen-2.new.self)
@@ -31,6 +35,11 @@ returns-in_err-reserve-clause-stands g c = λ node stands.
     (stands_both node (g.D.Disk.state c.args.disks.now.journal.0) (g.D.Disk.state c.reopen.new.self.0) (g.D.Disk.state c.args.disks.now.checkpoints) (g.D.Disk.state c.reopen-2.new.self)
     c.reopen.ensures.any_moment c.reopen-2.ensures.any_moment stands)
     c.reserve.ensures.same
+
+pub returns-in_err-reserve-clause-journal : goal.returns-in_err-reserve-clause-journal
+returns-in_err-reserve-clause-journal g c =
+    then_reserved (IsOneJournal (g.D.Disk.state c.args.disks.now.journal.0)) (g.D.Disk.state c.args.disks.now.journal.0) (g.D.Disk.state c.reopen.new.self.0) (g.D.Disk.state c.reserve.new.self.0)
+    c.reopen.ensures.any_moment c.reserve.ensures.same
 
 pub returns-in_err-reserve-clause-runs : goal.returns-in_err-reserve-clause-runs
 returns-in_err-reserve-clause-runs g c =
@@ -52,6 +61,11 @@ returns-clause-stands g c = λ node stands.
     (stands_both node (g.D.Disk.state c.args.disks.now.journal.0) (g.D.Disk.state c.reopen.new.self.0) (g.D.Disk.state c.args.disks.now.checkpoints) (g.D.Disk.state c.reopen-2.new.self)
     c.reopen.ensures.any_moment c.reopen-2.ensures.any_moment stands)
     c.reserve.ensures.same
+
+pub returns-clause-journal : goal.returns-clause-journal
+returns-clause-journal g c =
+    then_reserved (IsOneJournal (g.D.Disk.state c.args.disks.now.journal.0)) (g.D.Disk.state c.args.disks.now.journal.0) (g.D.Disk.state c.reopen.new.self.0) (g.D.Disk.state c.reserve.new.self.0)
+    c.reopen.ensures.any_moment c.reserve.ensures.same
 
 pub returns-clause-runs : goal.returns-clause-runs
 returns-clause-runs g c =

@@ -1,7 +1,7 @@
 use Rattle.std.proofs.Common.{sym, subst}
 use Rattle.set_model.specs.declared.store.Store.{Store}
 use Rattle.node_core.specs.Putting.{CanBePut, Puts}
-use Rattle.node_core.proofs.PuttingLemmas.{can_save, checkpoint_put}
+use Rattle.node_core.proofs.PuttingLemmas.{can_save, checkpoint_put, same_checkpoints}
 use Rattle.node_core.proofs.disks.Disks.put.Goals as goal
 
 pub save-requires-clause-can : goal.save-requires-clause-can
@@ -22,3 +22,7 @@ returns-in-Checkpoint-clause-puts g c =
     subst (λ (s : Store). Puts c.save.result n s c.args.self.now.count j k') (sym c.in-Checkpoint.is)
     (checkpoint_put c.save.result n c.in-Checkpoint.at c.args.self.now.count j k k' c.requires.rests can c.store.result.now c.store.ensures.shown
     c.save.ensures.ok c.save.ensures.memory c.save.ensures.any_moment)
+
+pub returns-in-Checkpoint-clause-memory : goal.returns-in-Checkpoint-clause-memory
+returns-in-Checkpoint-clause-memory g c = λ is.
+    same_checkpoints (g.D.Disk.state c.args.self.now.journal.0) (g.D.Disk.state c.args.self.now.checkpoints) (g.D.Disk.state c.save.new.self) (c.save.ensures.memory is)

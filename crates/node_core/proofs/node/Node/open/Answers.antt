@@ -1,7 +1,8 @@
 use Rattle.std.proofs.Common.{[]}
 use Rattle.checkpoint_store.specs.Files.{empty_disk}
-use Rattle.node_core.proofs.ActingLemmas.{rests_stand}
-use Rattle.node_core.proofs.OpeningLemmas.{empty_journal, opens_rested}
+use Rattle.set_model.specs.Node.{opening_node}
+use Rattle.node_core.proofs.OpeningLemmas.{empty_journal, empty_stands, opens_rested}
+use Rattle.node_core.proofs.ReopeningLemmas.{stands_both}
 use Rattle.node_core.proofs.node.Node.open.Goals as goal
 
 pub open-requires-3 : goal.open-requires-3
@@ -17,9 +18,6 @@ invariant_of-result g c =
 
 pub returns-clause-stands : goal.returns-clause-stands
 returns-clause-stands g c =
-    let j = g.D.Disk.state c.in-Ok-open.journal.0 in
-    let k = g.D.Disk.state c.in-Ok-open-2.checkpoints in
-    rests_stand c.in-Ok.state.node 0 j k
-    (opens_rested c.args.config.now c.args.number c.in-Ok.state.node j (g.D.Disk.state c.args.checkpoint) k c.in-Ok-open-2.field-0-1 c.in-Ok.ensures
-    (c.in-Ok-open.ensures.at_rest [] (empty_journal (g.D.Disk.state c.args.journal) c.requires.journal)) c.requires.checkpoint
-    c.in-Ok-open-2.ensures.stable c.in-Ok-open-2.ensures.at_rest)
+    stands_both (opening_node c.args.config.now c.args.number) (g.D.Disk.state c.args.journal) (g.D.Disk.state c.in-Ok-open.journal.0) (g.D.Disk.state c.args.checkpoint) (g.D.Disk.state c.in-Ok-open-2.checkpoints)
+    c.in-Ok-open.ensures.any_moment c.in-Ok-open-2.ensures.any_moment
+    (empty_stands c.args.config.now c.args.number (g.D.Disk.state c.args.journal) (g.D.Disk.state c.args.checkpoint) c.requires.journal c.requires.checkpoint)
