@@ -33,11 +33,11 @@ at_begin config first (suc count) (suc n) node there =
 
 pub opening_stands : {D : Type 0} (state : D → State) (sizes : Sizes) (config : Config) (disks : List D) → config ≡ first_config sizes.members → AllBegin state config sizes.nodes disks
     → AllStand state (opening_set sizes disks)
-opening_stands state sizes config disks is begin number node there =
+opening_stands state sizes config disks is each number node there =
     let at = at_begin (first_config sizes.members) 0 sizes.nodes number node there in
     let same : opening_node config number ≡ node =
     ap (λ c. opening_node c number) is ∙ ap (λ k. opening_node (first_config sizes.members) k) (let plain : number ≡ 0 + number = omega arith in plain) ∙ sym at.1 in
-    subst (λ (n : Node). StandsThere state number n disks) same (begin number at.0)
+    subst (λ (n : Node). StandsThere state number n disks) same (each number at.0)
 
 -- ---- disks on which nothing stands
 

@@ -1,4 +1,4 @@
-use Rattle.std.proofs.Common.{◌≡◌, ◌≤◌, ◌∙◌, Ok, Err, true, [], ap, inl, rules, subst, sym}
+use Rattle.std.proofs.Common.{◌≡◌, ◌≤◌, ◌∙◌, Err, true, [], ap, inl, rules, subst, sym}
 use Rattle.std.proofs.lemmas.Result.{err_from_is_err_and}
 use Rattle.fault_script.specs.Script.{is_part_for, lines_of}
 use Rattle.set_model.specs.Run.{Sizes}
@@ -40,7 +40,7 @@ returns-in_err-play_part-clause-disks g c =
 pub loop-part-preserved : goal.loop-part-preserved
 loop-part-preserved g c =
     let later : g.K.Sink.faults c.loop-part.sink ≤ g.K.Sink.faults c.play_part.new.sink = search rules in
-    let played = whole_goes_on g.D.Disk.state (lines_of c.in-Some.part) c.loop-part.world c.play_part.new.world (Ok tt) (λ out. cc out) c.in_ok-play_part.ensures.disks in
+    let played = whole_goes_on g.D.Disk.state (lines_of c.in-Some.part) c.loop-part.world c.play_part.new.world _ (λ out. cc out) c.in_ok-play_part.ensures.disks in
     part_played g.K.Sink.held g.K.Sink.faults g.K.Sink.steady g.D.Disk.state (is_part_for c.args.world.now.sizes.nodes) c.args.parts c.loop-part.rest
     c.args.sink.now c.loop-part.sink c.args.world.now c.loop-part.world c.loop-part.invariant c.in-Some.part c.next.new.self c.in-Some.ensures
     c.play_part.new.sink c.play_part.new.world c.in_ok-play_part.ensures.plays c.play_part.ensures.sizes played later (λ still. (c.in_ok-play_part.ensures.steady still).0)
