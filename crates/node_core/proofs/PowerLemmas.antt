@@ -27,7 +27,6 @@ use Rattle.node_core.specs.Resting.{IsResting, Lies, Rests}
 use Rattle.node_core.specs.Stands.{HasDocumentsOf, HasRecordsOf, Stands, documents_at}
 use Rattle.node_core.specs.declared.done.Done.{Done}
 use Rattle.node_core.proofs.ActingLemmas.{answered_follows, resting_stands, unfailed, unkept}
-use Rattle.node_core.proofs.PuttingLemmas.{documents_stay}
 
 -- ---- disks that were given orders
 
@@ -105,6 +104,16 @@ module _ (pick : ℕ) (node : Node) (left : Left) (j j' c c' : State) (one : IsC
 arms_files : (disk : DiskName) (call : ℕ) (pick : Option ℕ) (j j' c c' : State) → Arms disk call pick j j' c c' → (j'.file ≡ j.file) × (c'.file ≡ c.file)
 arms_files disks.Journal call pick j j' c c' arms = (ap (λ (s : State). s.file) arms.0, ap (λ (s : State). s.file) arms.1)
 arms_files disks.Checkpoint call pick j j' c c' arms = (ap (λ (s : State). s.file) arms.0, ap (λ (s : State). s.file) arms.1)
+
+documents_stay : (old new : State) (stable : Stable) → new.file ≡ old.file → CheckpointRests old stable → CheckpointRests new stable
+documents_stay old new stable same rests = record {
+  records = rests.records;
+  rests = record {
+    each = rests.rests.each;
+    rests = record { front = rests.rests.rests.front; open_records = rests.rests.rests.open_records; file = same ∙ rests.rests.rests.file };
+  };
+  last = rests.last;
+}
 
 stands_still : (node : Node) (j j' c c' : State) → j'.file ≡ j.file → c'.file ≡ c.file → Stands node j c → Stands node j' c'
 stands_still node j j' c c' one two stands = record {

@@ -23,7 +23,7 @@ use Rattle.node_journal.proofs.DiskLemmas.{rest_only, rest_reserved}
 use Rattle.checkpoint_store.specs.Files.{IsAtRest as CheckpointRests, IsBeforeOrAfter as IsOldOrNew}
 use Rattle.checkpoint_store.specs.Shown.{AllCanBeSaved, Shows}
 use Rattle.checkpoint_store.specs.declared.stable.Stable.{Stable}
-use Rattle.checkpoint_store.proofs.OnceLemmas.{rest_has}
+use Rattle.checkpoint_store.proofs.OnceLemmas.{rest_has, rest_reserved as documents_reserved}
 use Rattle.set_model.specs.declared.command.Command.{Command}
 use Rattle.set_model.specs.declared.command.Command.TheVariants.{Restart}
 use Rattle.set_model.specs.declared.store.Store.TheVariants as stores
@@ -188,21 +188,11 @@ rests_same node new count j c records stable rests = record {
 
 -- ---- and so does one whose disks are as they were
 
-pub documents_stay : (old new : State) (stable : Stable) → new.file ≡ old.file → CheckpointRests old stable → CheckpointRests new stable
-documents_stay old new stable same rests = record {
-  records = rests.records;
-  rests = record {
-    each = rests.rests.each;
-    rests = record { front = rests.rests.rests.front; open_records = rests.rests.rests.open_records; file = same ∙ rests.rests.rests.file };
-  };
-  last = rests.last;
-}
-
 pub rests_left : (node : Node) (count : ℕ) (j j' c c' : State) → AreSame j j' c c' → Rests node count j c → Rests node count j' c'
 rests_left node count j j' c c' same rests = record {
   counted = rests.counted;
   records = rest_reserved j j' node.records same.journal rests.records;
-  documents = documents_stay c c' (documents_at node node.stable) (ap (λ (s : State). s.file) same.checkpoints) rests.documents;
+  documents = documents_reserved c c' (documents_at node node.stable) same.checkpoints rests.documents;
 }
 
 -- ---- a record
