@@ -104,8 +104,8 @@ pub record AreSame (j j' c c' : State) : Type 0 where
   pub journal : SameButRoom j j'
   pub checkpoints : SameButRoom c c'
 
--- Two disks that were opened anew, as far as memory went. No orders were given to them, and at each moment a crash left a list that
--- one before might have left.
+-- Two disks that were opened anew, as far as memory went. No orders were given to them, and at each moment a
+-- crash left a list that one before might have left.
 pub record AreReopened (j j' c c' : State) : Type 0 where
   pub runs : Runs ⊥ j j' c c'
   pub journal : EachMoment (IsOneJournal j) j j'

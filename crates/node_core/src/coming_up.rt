@@ -97,9 +97,10 @@ fn open_both<D: Disk>(disks: &mut Disks<D>) -> Result<Found, FileError>
         → Stands node (D.state disks.new.journal.0) (D.state disks.new.checkpoints) }
     ensures room { OnOk result (SHORT ≤ spare (D.state disks.new.journal.0) disks.new.journal.1) }
     ensures count { disks.new.count ≡ disks.old.count }
-    ensures journal { EachMoment (IsOneJournal (D.state disks.old.journal.0)) (D.state disks.old.journal.0) (D.state disks.new.journal.0) }
-    ensures checkpoints { EachMoment (IsOneCheckpoint (D.state disks.old.checkpoints)) (D.state disks.old.checkpoints)
-        (D.state disks.new.checkpoints) }
+    ensures journal { EachMoment (IsOneJournal (D.state disks.old.journal.0))
+        (D.state disks.old.journal.0) (D.state disks.new.journal.0) }
+    ensures checkpoints { EachMoment (IsOneCheckpoint (D.state disks.old.checkpoints))
+        (D.state disks.old.checkpoints) (D.state disks.new.checkpoints) }
     ensures runs { Runs (IsErrOf result FileError.Disk) (D.state disks.old.journal.0) (D.state disks.new.journal.0)
         (D.state disks.old.checkpoints) (D.state disks.new.checkpoints) }
 {

@@ -37,7 +37,8 @@ impl<D: Disk> Disks<D> {
         ensures puts { Puts result state.now.node item.now self.new.count (D.state self.new.journal.0) (D.state self.new.checkpoints) }
         ensures runs { Runs (IsErrOf result FileError.Disk) (D.state self.old.journal.0) (D.state self.new.journal.0)
             (D.state self.old.checkpoints) (D.state self.new.checkpoints) }
-        ensures memory { result ≡ Err FileError.Memory → AreSame (D.state self.old.journal.0) (D.state self.new.journal.0)
+        ensures memory { result ≡ Err FileError.Memory
+            → AreSame (D.state self.old.journal.0) (D.state self.new.journal.0)
             (D.state self.old.checkpoints) (D.state self.new.checkpoints) }
         ensures room { IsShortStore item.now → SHORT ≤ spare (D.state self.old.journal.0) self.old.journal.1 → result ≢ Err FileError.Memory }
         ensures spare { OnOk result (IsShortStore item.now → spare (D.state self.old.journal.0) self.old.journal.1
@@ -58,7 +59,8 @@ impl<D: Disk> Disks<D> {
             → Puts result node (Store.Record item.now) self.new.count (D.state self.new.journal.0) (D.state self.new.checkpoints) }
         ensures runs { Runs (IsErrOf result FileError.Disk) (D.state self.old.journal.0) (D.state self.new.journal.0)
             (D.state self.old.checkpoints) (D.state self.new.checkpoints) }
-        ensures memory { result ≡ Err FileError.Memory → AreSame (D.state self.old.journal.0) (D.state self.new.journal.0)
+        ensures memory { result ≡ Err FileError.Memory
+            → AreSame (D.state self.old.journal.0) (D.state self.new.journal.0)
             (D.state self.old.checkpoints) (D.state self.new.checkpoints) }
         ensures room { IsShort item.now → SHORT ≤ spare (D.state self.old.journal.0) self.old.journal.1 → result ≢ Err FileError.Memory }
         ensures spare { OnOk result (IsShort item.now → spare (D.state self.old.journal.0) self.old.journal.1

@@ -100,8 +100,8 @@ impl<D: Disk> Node<D> {
     /// A node as the set begins, on two empty disks: the journal's, and that of the checkpoints.
     ///
     /// # Errors
-    /// `Memory`, or `Disk` where one of them failed. The disks are handed back in the same order, and on them still stands
-    /// the node as the set begins.
+    /// `Memory`, or `Disk` where one of them failed. The disks are handed back in the same order, and on them
+    /// still stands the node as the set begins.
     pub fn open(
         alloc: Global,
         number: u32,
@@ -118,7 +118,8 @@ impl<D: Disk> Node<D> {
             (D.state (checkpoints_after result)) }
 
         // The journal is opened first.
-        ensures first { (checkpoints_after result ≡ checkpoint) ⊎ JournalRests (D.state (journal_after result)) [] }
+        ensures first { (checkpoints_after result ≡ checkpoint)
+            ⊎ JournalRests (D.state (journal_after result)) [] }
         ensures runs { Runs (HasFailed result) (D.state journal) (D.state (journal_after result))
             (D.state checkpoint) (D.state (checkpoints_after result)) }
     {
@@ -151,8 +152,8 @@ impl<D: Disk> Node<D> {
     /// fails is no error: it has its number in `failed`, and the node is down then and sends nothing.
     ///
     /// # Errors
-    /// Out of memory alone. Then the node is as it was, and so are its files. Only a restart may have opened them anew, and then
-    /// they keep what they kept.
+    /// Out of memory alone. Then the node is as it was, and so are its files. Only a restart may have opened them
+    /// anew, and then they keep what they kept.
     pub fn act<R: Threads + Sync>(
         &mut self,
         rt: &R,

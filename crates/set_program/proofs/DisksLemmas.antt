@@ -42,14 +42,17 @@ step_played state old new line command reply is sizes first played =
 pub ran_as : {D : Type 0} (state : D → State) (One Two : Type 0) (IsNext IsAlso : ℕ → Command → Type 0) (first : List D) (set : Set D) → (One → Two)
     → ((line : ℕ) (command : Command) → IsNext line command → IsAlso line command) → DisksRan state One IsNext first set → DisksRan state Two IsAlso first set
 ran_as state One Two IsNext IsAlso first set memory then (inl played) = inl played
-ran_as state One Two IsNext IsAlso first set memory then (inr (out, began)) = inr (memory out, record {
-  last = began.last;
-  played = began.played;
-  line = began.line;
-  command = began.command;
-  next = then began.line began.command began.next;
-  undone = began.undone;
-})
+ran_as state One Two IsNext IsAlso first set memory then (inr (out, began)) = inr (
+  memory out,
+  record {
+    last = began.last;
+    played = began.played;
+    line = began.line;
+    command = began.command;
+    next = then began.line began.command began.next;
+    undone = began.undone;
+  },
+)
 
 -- there was none
 pub ran_whole : {D : Type 0} (state : D → State) (OutOfMemory : Type 0) (IsNext : ℕ → Command → Type 0) (first : List D) (set : Set D) → ¬ OutOfMemory → DisksRan state OutOfMemory IsNext first set
@@ -66,12 +69,15 @@ undone_at state sizes sizes' history history' command old new sizes_are history_
 -- a command wasn't done
 pub undone_ran : {D : Type 0} (state : D → State) (old new : Set D) (line : ℕ) (command : Command) (IsNext : ℕ → Command → Type 0) → IsNext line command → IsUndone state old new command
     → new.sizes ≡ old.sizes → (first : List D) → DisksPlayed state first old → DisksRan state ⊤ IsNext first new
-undone_ran state old new line command IsNext next is sizes first played = inr (tt, record {
-  last = old.disks;
-  played = subst (λ (es : List Event). DisksPlay state (opening new.sizes).world es first old.disks) (sym is.history)
-      (subst (λ (s : Sizes). DisksPlay state (opening s).world old.history first old.disks) (sym sizes) played);
-  line = line;
-  command = command;
-  next = next;
-  undone = undone_at state old.sizes new.sizes old.history new.history command old.disks new.disks (sym sizes) (sym is.history) is.disks;
-})
+undone_ran state old new line command IsNext next is sizes first played = inr (
+  tt,
+  record {
+    last = old.disks;
+    played = subst (λ (es : List Event). DisksPlay state (opening new.sizes).world es first old.disks) (sym is.history)
+        (subst (λ (s : Sizes). DisksPlay state (opening s).world old.history first old.disks) (sym sizes) played);
+    line = line;
+    command = command;
+    next = next;
+    undone = undone_at state old.sizes new.sizes old.history new.history command old.disks new.disks (sym sizes) (sym is.history) is.disks;
+  },
+)

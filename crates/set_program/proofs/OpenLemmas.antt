@@ -45,9 +45,11 @@ opened_ran {D} state parts old new result none goes =
     comes : (line : ℕ) (command : Command) → IsNextOf (lines_in parts) old.history new.history line command → ComesNext parts new.history line command
     comes line command next =
         let added : new.history ≡ next.adds.added = next.adds.events ∙ ap (λ (es : List Event). es ++ next.adds.added) none in
-        let lines : map line_of new.history ≡ next.played = ap (map line_of) added ∙ next.adds.lines_are in
-        (next.later, subst (λ (ls : List (ℕ × Command)). AreOrdersOf parts ls)
-        (next.lines_are ∙ ap (λ (ls : List (ℕ × Command)). ls ++ (line, command) ∷ next.later) (sym lines)) (orders_of parts))
+        let lines : map line_of new.history ≡ next.played = ap (map line_of) added ∙ next.adds.lines_are in (
+          next.later,
+          subst (λ (ls : List (ℕ × Command)). AreOrdersOf parts ls)
+              (next.lines_are ∙ ap (λ (ls : List (ℕ × Command)). ls ++ (line, command) ∷ next.later) (sym lines)) (orders_of parts),
+        )
 
 pub set_leaves : {D : Type 0} (state : D → State) (read : Script) (handed : List D) (old new : Set D) (result : Result (Unit {0}) Stop)
     → old.history ≡ [] → old.sizes ≡ sizes_of read → new.sizes ≡ old.sizes → Opens state read.nodes ⊥ handed old.disks → GoOn state (lines_in read.parts) old new (result ≡ Err Memory)

@@ -42,6 +42,8 @@ RunsScript task read old new ended (Parts events disks) =
 -- and these disks are left
 abbrev pub OpensScript : {D : Type 0} → (D → State) → Script → List D → ℕ → Left D → Type 0
 OpensScript {D} state read handed status (World set) =
-    (opened : List D) × Opens state set.sizes.nodes ⊥ handed opened × DisksRan state (status ≡ 1) (ComesNext read.parts set.history) opened set
+    (opened : List D) × Opens state set.sizes.nodes ⊥ handed opened
+    × DisksRan state (status ≡ 1) (ComesNext read.parts set.history) opened set
 OpensScript {D} state read handed status (Parts events disks) =
-    IsOneOf (1 ∷ 7 ∷ []) status × Opens state read.nodes (status ≡ 7) handed disks.items × AllStand state (opening_set (sizes_of read) disks.items)
+    IsOneOf (1 ∷ 7 ∷ []) status × Opens state read.nodes (status ≡ 7) handed disks.items
+    × AllStand state (opening_set (sizes_of read) disks.items)

@@ -37,4 +37,5 @@ pub record DisksBegan {D : Type 0} (state : D → State) (IsNext : ℕ → Comma
 
 -- By its events alone, or where memory ran out maybe by one command more.
 abbrev pub DisksRan : {D : Type 0} → (D → State) → Type 0 → (ℕ → Command → Type 0) → List D → Set D → Type 0
-DisksRan state OutOfMemory IsNext first set = DisksPlayed state first set ⊎ (OutOfMemory × DisksBegan state IsNext first set)
+DisksRan state OutOfMemory IsNext first set =
+    DisksPlayed state first set ⊎ (OutOfMemory × DisksBegan state IsNext first set)

@@ -38,7 +38,8 @@ pub record IsNextOf (lines : List (ℕ × Command)) (old new : List Event) (line
 -- disks that played up to here go on so by the lines
 abbrev pub GoOn : {D : Type 0} → (D → State) → List (ℕ × Command) → Set D → Set D → Type 0 → Type 0
 GoOn {D} state lines old new OutOfMemory =
-    (first : List D) → DisksPlayed state first old → DisksRan state OutOfMemory (IsNextOf lines old.history new.history) first new
+    (first : List D) → DisksPlayed state first old
+    → DisksRan state OutOfMemory (IsNextOf lines old.history new.history) first new
 
 -- the lines are played, and their replies kept behind earlier ones
 pub record Stepped {D : Type 0} (state : D → State) (lines : List (ℕ × Command)) (old new : Set D) (before after : List (ℕ × Reply)) : Type 0 where

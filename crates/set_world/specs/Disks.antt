@@ -60,10 +60,12 @@ pub record IsStep {D : Type 0} (state : D → State) (old new : Set D) (line : �
   pub disks : AtTouched (task (run old.sizes old.history).world command) event.failed old.disks new.disks
       (λ number. OneChanged state (DisksActed command reply (IsSome event.failed)) number old.disks new.disks)
 
--- A command that wasn't done used at most the disks of the node that it would have touched. It leaves them as such a command does.
+-- A command that wasn't done used at most the disks of the node that it would have touched, and leaves them as
+-- such a command does.
 abbrev pub DisksUndone : {D : Type 0} → (D → State) → World → Command → List D → List D → Type 0
 DisksUndone state world command old new =
-    (new ≡ old) ⊎ AtTouched (task world command) None old new (λ number. OneChanged state (DisksLeft command) number old new)
+    (new ≡ old)
+    ⊎ AtTouched (task world command) None old new (λ number. OneChanged state (DisksLeft command) number old new)
 
 -- Nothing was done: memory ran out, or the history is full.
 pub record IsUndone {D : Type 0} (state : D → State) (old new : Set D) (command : Command) : Type 0 where
@@ -99,7 +101,8 @@ pub record IsServed (old new : State) : Type 0 where
 
 -- on the disks of each of so many nodes stands what it is as a set with this configuration begins
 abbrev pub AllBegin : {D : Type 0} → (D → State) → Config → ℕ → List D → Type 0
-AllBegin state config count disks = (number : ℕ) → number < count → StandsThere state number (opening_node config number) disks
+AllBegin state config count disks =
+    (number : ℕ) → number < count → StandsThere state number (opening_node config number) disks
 
 -- the count of one of the first disks rose
 abbrev pub OneRose : {D : Type 0} → (D → State) → ℕ → List D → List D → Type 0

@@ -32,7 +32,9 @@ pub(crate) fn act<D: Disk, R: Threads + Sync>(
     requires command { is_for pool.now.nodes command.now ≡ true }
     ensures ok { IfOk result (λ done. Acts (record { nodes = nodes_in nodes.old; messages = pool.now.messages }) command.now (nodes_in nodes.new) done) }
     ensures disks { IfOk result (λ done. AtTouched (task (record { nodes = nodes_in nodes.old; messages = pool.now.messages }) command.now) done.failed nodes.old nodes.new (λ number. OneOf number (DisksSo D.state (DisksActed command.now done.reply (IsSome done.failed))) nodes.old nodes.new)) }
-    ensures err { OnErr result (AtTouched (task (record { nodes = nodes_in nodes.old; messages = pool.now.messages }) command.now) None nodes.old nodes.new (λ number. OneOf number (UnchangedSo D.state (DisksLeft command.now)) nodes.old nodes.new)) }
+    ensures err { OnErr result (AtTouched
+        (task (record { nodes = nodes_in nodes.old; messages = pool.now.messages }) command.now) None nodes.old nodes.new
+        (λ number. OneOf number (UnchangedSo D.state (DisksLeft command.now)) nodes.old nodes.new)) }
     ensures stand { NodesStand D.state nodes.old → NodesStand D.state nodes.new }
     ensures len { length nodes.new ≡ length nodes.old }
 {

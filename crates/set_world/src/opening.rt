@@ -44,8 +44,8 @@ fn put_first<D: Disk>(disks: &mut Vec<D>, disk: D)
     }
 }
 
-/// Opens nodes on the first disks, two for each. Where one can't be opened, all disks stand in their places again, and on them
-/// still stand the nodes as the set begins.
+/// Opens nodes on the first disks, two for each. Where one can't be opened, all disks stand in their places again,
+/// and on them still stand the nodes as the set begins.
 pub(crate) fn open_nodes<D: Disk>(
     alloc: Global,
     count: u32,
@@ -90,7 +90,8 @@ fn open_next<D: Disk>(
     ensures node { IfOk result (λ node. node.0 ≡ opening_node config.now number) }
     ensures stands { IfOk result (StandsOn D.state) }
     ensures two { IfOk result (λ node. TwoRun D.state ⊥ disks.old.items node.1 node.2 disks.new.items) }
-    ensures back { IfErr result (λ error. TwoBack D.state (opening_node config.now number) (error ≡ IsDisk) disks.old.items disks.new.items) }
+    ensures back { IfErr result (λ error. TwoBack D.state (opening_node config.now number) (error ≡ IsDisk)
+        disks.old.items disks.new.items) }
     ensures fewer { OnOk result (vec_len disks.new + 2 ≡ vec_len disks.old) }
     ensures all { OnErr result (vec_len disks.new ≡ vec_len disks.old) }
     ensures capacity { vec_capacity disks.new ≡ vec_capacity disks.old }

@@ -64,8 +64,8 @@ impl<D: Disk> World<D> {
     /// each on the next two disks: its journal, and then its checkpoints.
     ///
     /// # Errors
-    /// `Disk` where a disk of one of the nodes failed, and `Memory` where memory ran out. Either hands back the disks, each in its
-    /// place, and on them still stand the nodes as the set begins.
+    /// `Disk` where a disk of one of the nodes failed, and `Memory` where memory ran out. Either hands back the
+    /// disks, each in its place, and on them still stand the nodes as the set begins.
     #[tactic(auto, using(crate::proofs::OpenLemmas::begins))]
     pub fn open(
         alloc: Global,
@@ -111,8 +111,9 @@ impl<D: Disk> World<D> {
     /// which one did.
     ///
     /// # Errors
-    /// `HistoryFull` where the history has 4,294,967,295 events: nothing is done. `Memory` where memory ran out: the nodes, the
-    /// messages, the history and the disks' files are as they were. Only a restart may have opened its node's disks anew.
+    /// `HistoryFull` where the history has 4,294,967,295 events: nothing is done. `Memory` where memory ran out: the
+    /// nodes, the messages, the history and the disks' files are as they were. Only a restart may have opened its
+    /// node's disks anew.
     pub fn step<R: Threads + Sync>(
         &mut self,
         rt: &R,

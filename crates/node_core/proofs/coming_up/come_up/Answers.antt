@@ -1,7 +1,11 @@
-use Rattle.std.proofs.Common.{◌∙◌, ap, inr, sym, subst, ℕ, Ok, Err}
+use Rattle.std.proofs.Common.{◌∙◌, ap, inr, sym, subst, ℕ, Bool, Ok, Err}
 use Rattle.std.specs.Prelude.{OnErr, Result}
+use Rattle.set_model.specs.Disk.{recovered, settled_doubt}
+use Rattle.set_model.specs.Node.{Node}
+use Rattle.set_model.specs.Stores.{storing}
+use Rattle.node_core.specs.Acting.{Follows}
 use Rattle.node_core.specs.Coming.{IsFound, settled}
-use Rattle.node_core.specs.Down.{down_node, left_in}
+use Rattle.node_core.specs.Down.{down_node, left_in, seen_node}
 use Rattle.node_core.proofs.PuttingLemmas.{runs_then}
 use Rattle.node_core.proofs.ReopeningLemmas.{found_settles, goes_up, lies_on, reopened, stands_checkpoints}
 use Rattle.node_core.proofs.coming_up.come_up.Goals as goal
@@ -57,6 +61,14 @@ go_up-requires-clause-rests g c =
     (g.D.Disk.state c.args.disks.now.checkpoints) (g.D.Disk.state c.open_both.new.disks.checkpoints)
     c.requires.lies c.in-Ok.ensures.read (c.in_ok-prepared-in-Ok.ensures.left ∙ ap (λ (n : ℕ). settled node n c.in-Ok.found) c.open_both.ensures.count)
     c.in_ok-prepared-in-Ok.ensures.prepared.count).1
+
+pub returns-in_ok-prepared-in-Ok-clause-follows : goal.returns-in_ok-prepared-in-Ok-clause-follows
+returns-in_ok-prepared-in-Ok-clause-follows g c =
+    let node = down_node c.args.state.now.node (left_in c.args.left.now) in
+    let prepared = c.in_ok-prepared-in-Ok in
+    subst (λ (n : Node). Follows (storing node (recovered n)) (seen_node c.go_up.new.up c.go_up.new.state.node (left_in c.go_up.new.left)) c.go_up.result)
+    (prepared.ensures.left ∙ ap (λ (b : Bool). settled_doubt node c.args.left.now.doubt b) (sym (c.go_up.ensures.kept ∙ prepared.ensures.kept)))
+    (c.go_up.ensures.follows node)
 
 pub returns-in_ok-prepared-in-Ok-clause-runs : goal.returns-in_ok-prepared-in-Ok-clause-runs
 returns-in_ok-prepared-in-Ok-clause-runs g c =

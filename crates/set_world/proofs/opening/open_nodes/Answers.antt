@@ -6,7 +6,7 @@ use Rattle.set_world.specs.World.{disks_in, nodes_in}
 use Rattle.set_model.specs.Node.{Node, opening_node}
 use Rattle.set_world.specs.Acting.{NodesStand}
 use Rattle.set_world.specs.Disks.{Opens}
-use Rattle.set_world.proofs.BeginLemmas.{all_back, all_empty}
+use Rattle.set_world.proofs.BeginLemmas.{all_back, all_empty, on_err}
 use Rattle.set_world.proofs.DisksOpenLemmas.{more_stand, none_stand, opens_more, opens_none, opens_refused, opens_wide}
 use Rattle.set_world.proofs.OpenLemmas.{nodes_more, all_behind}
 use Rattle.set_world.proofs.opening.open_nodes.Goals as goal
@@ -54,6 +54,12 @@ returns-in-Err-clause-refused g c =
     let many : length c.loop-number.nodes.items ≡ vec_len c.loop-number.nodes = search rules in
     opens_refused g.D.Disk.state c.loop-number.number c.args.count (c.in-Err.error ≡ Disk) c.args.disks.now.items c.loop-number.nodes.items c.loop-number.disks.items c.open_next.new.disks.items c.give_back.new.disks.items
     c.loop-number.invariant.7 (many ∙ c.loop-number.invariant.1) c.loop-number-test.true (opening_node c.args.config.now c.loop-number.number) c.in-Err.ensures.back c.give_back.ensures.items
+
+pub returns-in_err-nodes-clause-handed_back : goal.returns-in_err-nodes-clause-handed_back
+returns-in_err-nodes-clause-handed_back g c =
+    let many : length c.args.disks.now.items ≡ vec_len c.args.disks.now = search rules in
+    on_err c.from_residual.result _
+    (all_empty g.D.Disk.state c.args.config.now c.args.count c.args.disks.now.items c.requires.empty (omega (arith, c.requires.enough, many)))
 
 pub returns-in-Err-clause-handed_back : goal.returns-in-Err-clause-handed_back
 returns-in-Err-clause-handed_back g c =
