@@ -21,7 +21,7 @@ use Rattle.set_world.specs.Acting.{OneOf, DisksSo, ActedSo, TookSo, UnchangedSo}
 use Rattle.set_world.specs.Disks.{AtTouched}
 use Rattle.set_world.specs.World.{Acts, event_of, nodes_in}
 use Rattle.set_world.proofs.DiskLemmas.{disks_of_acted, disks_of_took, undelivered}
-use Rattle.set_world.proofs.NodesLemmas.{get_in, nodes_set, nodes_long}
+use Rattle.set_world.proofs.NodesLemmas.{get_in, nodes_set, nodes_long, same_nodes}
 
 -- an event's plan, by its task
 pub plan_is : (world : World) (event : Event) (what : Task) (node : Node) → task world event.command ≡ what → slice_get world.nodes (actor what) ≡ Some node
@@ -143,3 +143,10 @@ taken_undone state world message command old new (Ok done) is none undone = tt
 taken_undone state world message command old new (Err why) is none undone =
     subst (λ t. AtTouched t None old new (λ n. OneOf n (UnchangedSo state (DisksLeft command)) old new)) (sym is)
     (undelivered state message.to command old new none undone)
+
+-- the nodes are as they were
+pub nodes_still : {D : Type 0} (state : D → State) (Disks : State → State → State → State → Type 0) (what : Task) (nodes new : List (Node × D × D))
+    → AtTouched what None nodes new (λ n. OneOf n (UnchangedSo state Disks) nodes new) → nodes_in new ≡ nodes_in nodes
+nodes_still state Disks (acts number) nodes new one = ap nodes_in one.list ∙ same_nodes nodes number one.before one.after one.there one.so.node
+nodes_still state Disks (takes message) nodes new one = ap nodes_in one.list ∙ same_nodes nodes message.to one.before one.after one.there one.so.node
+nodes_still state Disks nothing nodes new (none, same) = ap nodes_in same

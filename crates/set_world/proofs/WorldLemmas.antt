@@ -8,7 +8,7 @@ use Rattle.set_model.specs.declared.command.Event.{Event}
 use Rattle.set_model.specs.Limits.{Fits, AllFit, IsSoundWrite, write_of, is_for}
 use Rattle.set_model.specs.Node.{Node}
 use Rattle.set_model.specs.Run.{Run, Sizes, opening, after, run, world_at}
-use Rattle.set_model.specs.World.{World, Step, Task, acts, takes, nothing, step}
+use Rattle.set_model.specs.World.{World, Step, Task, step}
 use Rattle.set_model.proofs.RunLemmas.{run-append}
 use Rattle.safety_laws.specs.Bounds.{NumbersStaySmall, IsSmallNode, IsSmallMessage}
 use Rattle.safety_laws.specs.Laws.{InEveryRun}
@@ -21,7 +21,8 @@ use Rattle.set_world.specs.Acting.{MayAct, OneOf, UnchangedSo}
 use Rattle.set_world.specs.Disks.{AtTouched}
 use Rattle.set_world.specs.Pool.{Pool, IsBetweenNodes}
 use Rattle.set_world.specs.World.{IsReached, IsStanding, Acts, event_of, nodes_in}
-use Rattle.set_world.proofs.NodesLemmas.{node_at, nodes_long, same_nodes}
+use Rattle.set_world.proofs.ActingLemmas.{nodes_still}
+use Rattle.set_world.proofs.NodesLemmas.{node_at, nodes_long}
 
 -- a run goes on by an event that fits
 AllFit-more : (so_far : Run) (front : List Event) (event : Event) → AllFit so_far.world front → Fits (fold after so_far front).world event → AllFit so_far.world (front ++ event ∷ [])
@@ -223,12 +224,6 @@ pub lent_node : {D : Type 0} (sizes : Sizes) (history : List Event) (items : Lis
 lent_node sizes history items pool stands number d within = ap (λ (w : World). slice_get w.nodes number) stands.reached.world ∙ node_at items number d within
 
 -- ---- a step for which memory ran out
-
-nodes_still : {D : Type 0} (state : D → State) (Disks : State → State → State → State → Type 0) (what : Task) (nodes new : List (Node × D × D))
-    → AtTouched what None nodes new (λ n. OneOf n (UnchangedSo state Disks) nodes new) → nodes_in new ≡ nodes_in nodes
-nodes_still state Disks (acts number) nodes new one = ap nodes_in one.list ∙ same_nodes nodes number one.before one.after one.there one.so.node
-nodes_still state Disks (takes message) nodes new one = ap nodes_in one.list ∙ same_nodes nodes message.to one.before one.after one.there one.so.node
-nodes_still state Disks nothing nodes new (none, same) = ap nodes_in same
 
 pub stands_still : {D : Type 0} (state : D → State) (Disks : State → State → State → State → Type 0) (sizes : Sizes) (history later : List Event) (items nodes new : List (Node × D × D)) (old pool : Pool) (what : Task)
     → IsStanding sizes history (nodes_in items) old → nodes ≡ items → pool.nodes ≡ old.nodes → pool.messages ≡ old.messages → later ≡ history
