@@ -96,7 +96,7 @@ refused_runs task read held error stop events disks is none = (none, Keeps-same 
 pub asked_leaves : {D : Type 0} (state : D → State) (words : List (String Global)) (left rest : Option (List ℕ)) (task : Task) (read : Script) (handed : List D) (status : ℕ) (outcome : Left D)
     → Asks words task → IsScriptOf task left rest read → OpensScript state read handed status outcome → LeavesDisks state words left rest handed status outcome
 asked_leaves state words left rest task read handed status (World set) asks is opens = (read, (task, asks, is), opens)
-asked_leaves state words left rest task read handed status (Parts events disks) asks is (one, opens) = inr (one, (read, (task, asks, is), opens))
+asked_leaves state words left rest task read handed status (Parts events disks) asks is (one, opens, stand) = inr (one, (read, (task, asks, is), opens, stand))
 
 -- a set that was opened doesn't end with a fault of a disk
 not_opening : {D : Type 0} (task : Task) (parts : List Part) (old new : Option (List ℕ)) (ended : Result (Unit {0}) Stop) (set : Set D) → EndsTask task parts old new ended set → status_of ended ≢ 7
