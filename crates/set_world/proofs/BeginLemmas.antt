@@ -1,6 +1,6 @@
 -- On the disks of a set that couldn't be opened stands what its nodes are as it begins.
 use Rattle.std.proofs.Common.{◌≡◌, ◌∙◌, ◌<◌, ◌≤◌, ◌+◌, ◌*◌, ◌-◌, inl, inr, ap, sym, subst, refl, arith, ℕ, zero, suc, Some, length, List, [], ◌∷◌, ◌++◌, slice_get}
-use Rattle.std.specs.Prelude.{All, OnErr, Result, Ok, Err}
+use Rattle.std.specs.Prelude.{All}
 use Rattle.std.proofs.lemmas.Bool.{cases_order}
 use Rattle.std.proofs.lemmas.List.Elements.{All-get_or}
 use Rattle.std.proofs.lemmas.Option.{get_or_from_slice_get, same_Some, slice_get_cases}
@@ -70,10 +70,6 @@ begins_on state config number k disks empty within =
 -- no node was opened yet
 pub all_empty : {D : Type 0} (state : D → State) (config : Config) (count : ℕ) (disks : List D) → AreEmpty state disks → 2 * count ≤ length disks → AllBegin state config count disks
 all_empty state config count disks empty enough number less = begins_on state config number number disks empty (omega (arith, less, enough))
-
-pub on_err : {T E : Type 0} (result : Result T E) (P : Type 0) → P → OnErr result P
-on_err (Ok value) P holds = tt
-on_err (Err error) P holds = holds
 
 -- ---- disks of which the first nodes were opened
 

@@ -1,4 +1,5 @@
 use Rattle.std.proofs.Common.{◌≡◌, ◌∙◌, ◌≤◌, ◌+◌, ◌*◌, ◌++◌, [], List, ap, arith, length, refl, rules, subst, sym, vec_len, vec_capacity}
+use Rattle.std.proofs.lemmas.Result.{err_from_is_err_and}
 use Rattle.record_file.specs.declared.error.FileError.TheVariants.{Disk}
 use Rattle.rs_disk.specs.File.{IsEmpty}
 use Rattle.set_model.specs.World.{nodes_from}
@@ -6,7 +7,7 @@ use Rattle.set_world.specs.World.{disks_in, nodes_in}
 use Rattle.set_model.specs.Node.{Node, opening_node}
 use Rattle.set_world.specs.Acting.{NodesStand}
 use Rattle.set_world.specs.Disks.{Opens}
-use Rattle.set_world.proofs.BeginLemmas.{all_back, all_empty, on_err}
+use Rattle.set_world.proofs.BeginLemmas.{all_back, all_empty}
 use Rattle.set_world.proofs.DisksOpenLemmas.{more_stand, none_stand, opens_more, opens_none, opens_refused, opens_wide}
 use Rattle.set_world.proofs.OpenLemmas.{nodes_more, all_behind}
 use Rattle.set_world.proofs.opening.open_nodes.Goals as goal
@@ -58,8 +59,8 @@ returns-in-Err-clause-refused g c =
 pub returns-in_err-nodes-clause-handed_back : goal.returns-in_err-nodes-clause-handed_back
 returns-in_err-nodes-clause-handed_back g c =
     let many : length c.args.disks.now.items ≡ vec_len c.args.disks.now = search rules in
-    on_err c.from_residual.result _
-    (all_empty g.D.Disk.state c.args.config.now c.args.count c.args.disks.now.items c.requires.empty (omega (arith, c.requires.enough, many)))
+    let p = err_from_is_err_and c.from_residual.result c.from_residual.ensures.1 in
+    rw p.1 (all_empty g.D.Disk.state c.args.config.now c.args.count c.args.disks.now.items c.requires.empty (omega (arith, c.requires.enough, many)))
 
 pub returns-in-Err-clause-handed_back : goal.returns-in-Err-clause-handed_back
 returns-in-Err-clause-handed_back g c =

@@ -1,4 +1,5 @@
 use Rattle.std.proofs.Common.{◌≡◌, ◌∙◌, ◌<◌, ◌≤◌, ◌++◌, ◌∷◌, [], true, List, ap, refl, sym, subst, rules, arith, length, take, drop}
+use Rattle.std.proofs.lemmas.Result.{err_from_is_err_and}
 use Rattle.set_model.specs.Limits.{is_for}
 use Rattle.set_model.specs.Run.{Sizes}
 use Rattle.set_model.specs.World.{task}
@@ -6,7 +7,6 @@ use Rattle.node_core.specs.Acting.{DisksLeft}
 use Rattle.set_world.specs.Acting.{NodesStand}
 use Rattle.set_world.specs.Disks.{IsStep, IsUndone}
 use Rattle.set_world.specs.World.{Set, disks_in, event_of, nodes_in}
-use Rattle.set_world.proofs.BeginLemmas.{on_err}
 use Rattle.set_world.proofs.DiskLemmas.{stepped, undone, untouched}
 use Rattle.set_world.proofs.NodesLemmas.{whole}
 use Rattle.set_world.proofs.WorldLemmas.{GoesOn, acts_now, goes_on, stands_still}
@@ -71,7 +71,8 @@ returns-in_err-reserve-2-clause-err g c =
     let sizes : Sizes = record { nodes = c.self.inside.size; members = c.self.inside.members } in
     let disks : List g.row.D.Denot = disks_in c.self.inside.nodes.items ++ c.self.inside.idle.items in
     let now : Set g.row.D.Denot = record { sizes = sizes; history = c.reserve.new.self.items; disks = disks } in
-    on_err _ _ (subst (λ (s : Set g.row.D.Denot). IsUndone g.D.Disk.state s now c.args.command) c.self.view_is
+    let p = err_from_is_err_and c.from_residual-in_err-reserve-2.result c.from_residual-in_err-reserve-2.ensures.1 in
+    rw p.1 (subst (λ (s : Set g.row.D.Denot). IsUndone g.D.Disk.state s now c.args.command) c.self.view_is
     (untouched g.D.Disk.state (record { sizes = sizes; history = c.self.inside.history.items; disks = disks }) now c.args.command c.reserve.ensures.items refl))
 
 pub returns-in-Err-clause-err : goal.returns-in-Err-clause-err
