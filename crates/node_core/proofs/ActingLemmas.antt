@@ -1,6 +1,6 @@
 -- What a command or a message comes to at a node on its disks, by what was done in memory and on the disks.
 use Rattle.std.proofs.Common.{◌≡◌, ◌∙◌, inl, ap, sym, subst, refl, ℕ, Bool, true, false, not, ◌&&◌, ◌||◌, [], Option, None, if◌then◌else◌}
-use Rattle.std.specs.Prelude.{IsSome, IfOk, Result, Ok, Err}
+use Rattle.std.specs.Prelude.{IsSome, IfOk, OnErr, Result, Ok, Err}
 use Rattle.rs_disk.specs.Orders.{Orders}
 use Rattle.rs_disk.specs.State.{State}
 use Rattle.node_journal.proofs.DiskLemmas.{rest_only}
@@ -18,7 +18,7 @@ use Rattle.node_core.proofs.PuttingLemmas.{runs_as, runs_none}
 use Rattle.set_model.specs.Limits.{is_restart, passes_first, is_in_doubt}
 use Rattle.set_model.specs.Node.{Node}
 use Rattle.set_model.specs.Stores.{Plan, finished, done as comes_to, reaches, if_up}
-use Rattle.node_core.specs.Acting.{Acted, Follows, Runs, Took, is_here, orders_after}
+use Rattle.node_core.specs.Acting.{Acted, AreSame, DisksLeft, Follows, Runs, Took, Unchanged, is_here, orders_after}
 use Rattle.node_state.specs.Bounds.{is_own}
 use Rattle.node_core.specs.Down.{Left, down_node, seen_node}
 use Rattle.node_core.specs.Resting.{IsResting, Rests}
@@ -71,7 +71,7 @@ acted_own plan command old new j j' c c' done own kept took = record {
   };
 }
 
--- as a result where memory may have been wanting
+-- as a result where memory may have run out
 pub own_acted : {E : Type 0} (result : Result Done E) (nodes next : ℕ) (command : Command) (old new : Node) (j j' c c' : State) → is_own command ≡ true
     → IfOk result (λ done. Took (row nodes next false old command) new j j' c c' done) → IfOk result (λ done. done.kept ≡ false)
     → IfOk result (λ done. Acted (row nodes next done.kept old command) command old new j j' c c' done)
@@ -79,6 +79,16 @@ own_acted (Err error) nodes next command old new j j' c c' own took kept = tt
 own_acted (Ok done) nodes next command old new j j' c c' own took kept =
     subst (λ (k : Bool). Acted (row nodes next k old command) command old new j j' c c' done) (sym kept)
     (acted_own (row nodes next false old command) command old new j j' c c' done own kept took)
+
+left_own : (command : Command) (j j' c c' : State) → is_own command ≡ true → AreSame j j' c c' → DisksLeft command j j' c c'
+left_own (Restart node) j j' c c' own same = absurd (own_not own)
+left_own _ j j' c c' own same = same
+
+pub own_unchanged : {T E : Type 0} (result : Result T E) (command : Command) (old new : Node) (j j' c c' : State) → is_own command ≡ true
+    → OnErr result (Unchanged AreSame old new j j' c c') → OnErr result (Unchanged (DisksLeft command) old new j j' c c')
+own_unchanged (Ok value) command old new j j' c c' own undone = tt
+own_unchanged (Err error) command old new j j' c c' own undone =
+    record { node = undone.node; stands = undone.stands; disks = left_own command j j' c c' own undone.disks }
 
 -- which commands those are
 pub own_here : (command : Command) → is_here command ≡ true → ((n pick : ℕ) → command ≡ Crash n pick → ⊥) → ((n : ℕ) → command ≡ Restart n → ⊥)

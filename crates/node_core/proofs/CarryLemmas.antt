@@ -185,6 +185,10 @@ long_only command (Storing item then) new plan r s means does long =
     by_command (Checkpoint number) may = refl
     by_command _ may = absurd (long may)
 
+pub err_on : {T E : Type 0} (result : Result T E) (A B : Type 0) → OnErr result A → (A → B) → OnErr result B
+err_on (Ok value) A B one then = tt
+err_on (Err error) A B one then = then one
+
 pub err_both : {T E : Type 0} (result : Result T E) (A B C : Type 0) → OnErr result A → OnErr result B → (A → B → C) → OnErr result C
 err_both (Ok value) A B C one two both = tt
 err_both (Err error) A B C one two both = both one two

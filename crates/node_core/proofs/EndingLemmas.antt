@@ -4,7 +4,7 @@ use Rattle.std.specs.Prelude.{IsSome, OnErr, Result, Ok, Err}
 use Rattle.rs_disk.specs.State.{State}
 use Rattle.set_model.specs.Node.{Node}
 use Rattle.set_model.specs.Stores.{Plan}
-use Rattle.node_core.specs.Acting.{Follows, Runs, Took, Unchanged}
+use Rattle.node_core.specs.Acting.{AreSame, Follows, Runs, Took, Unchanged}
 use Rattle.node_core.specs.Down.{Left, seen_node}
 use Rattle.node_core.specs.Putting.{EndsFrom, IsBroken, Leaves}
 use Rattle.node_core.specs.Resting.{IsResting, Rests}
@@ -31,13 +31,13 @@ took_ended plan true later node new left left' count j j' c c' ended done is_up 
   runs = runs_as j j' c c' failed runs;
 }
 
--- memory was wanting
+-- memory ran out
 pub unchanged : {T E : Type 0} (result : Result T E) (up : Bool) (node new : Node) (left : Left) (count : ℕ) (j j' c c' : State) → up ≡ true → new ≡ node → Rests node count j' c'
-    → Runs ⊥ j j' c c' → OnErr result (Unchanged (seen_node up node left) (seen_node up new left) j j' c c')
-unchanged (Ok value) up node new left count j j' c c' is_up same rests runs = tt
-unchanged (Err error) false node new left count j j' c c' is_up same rests runs = absurd (up_not is_up)
-unchanged (Err error) true node new left count j j' c c' is_up same rests runs = record {
+    → AreSame j j' c c' → OnErr result (Unchanged AreSame (seen_node up node left) (seen_node up new left) j j' c c')
+unchanged (Ok value) up node new left count j j' c c' is_up same rests unused = tt
+unchanged (Err error) false node new left count j j' c c' is_up same rests unused = absurd (up_not is_up)
+unchanged (Err error) true node new left count j j' c c' is_up same rests unused = record {
   node = same;
   stands = subst (λ (n : Node). Stands n j' c') (sym same) (rests_stand node count j' c' rests);
-  runs = runs;
+  disks = unused;
 }

@@ -1,5 +1,5 @@
 -- A node as the set begins, on two empty disks.
-use Rattle.std.proofs.Common.{◌≡◌, inl, ap, sym, subst, refl, ℕ, [], length, arith}
+use Rattle.std.proofs.Common.{◌≡◌, inl, ap, sym, subst, refl, ℕ, List, [], length, arith}
 use Rattle.rs_disk.specs.File.{IsEmpty, contents}
 use Rattle.rs_disk.specs.State.{State}
 use Rattle.member_config.specs.declared.config.Config.{Config}
@@ -10,17 +10,31 @@ use Rattle.checkpoint_store.specs.declared.stable.Stable.{Stable}
 use Rattle.checkpoint_store.proofs.OnceLemmas.{checkpoint_once}
 use Rattle.set_model.specs.Node.{Node, opening_node}
 use Rattle.node_core.specs.Resting.{Rests}
+use Rattle.node_core.specs.Stands.{Stands}
 
--- an empty file has no records
-pub empty_journal : (state : State) → IsEmpty state.file → HasJournal (contents state.file) []
-empty_journal state empty = record { each = λ k d within. absurd (omega arith); has = inl (omega (arith, ap length empty.reads), refl) }
+-- no bytes are no records
+no_records : (image : List ℕ) → image ≡ [] → HasJournal image []
+no_records image none = record { each = λ k d within. absurd (omega arith); has = inl (omega (arith, ap length none), refl) }
 
 -- and no checkpoint
-pub empty_checkpoint : (state : State) → IsEmpty state.file → HasCheckpoint (contents state.file) no_stable
-empty_checkpoint state empty = record {
+no_checkpoint : (image : List ℕ) → image ≡ [] → HasCheckpoint image no_stable
+no_checkpoint image none = record {
   records = [];
-  list = record { each = λ k d within. absurd (omega arith); has = inl (omega (arith, ap length empty.reads), refl) };
+  list = record { each = λ k d within. absurd (omega arith); has = inl (omega (arith, ap length none), refl) };
   last = refl;
+}
+
+pub empty_journal : (state : State) → IsEmpty state.file → HasJournal (contents state.file) []
+empty_journal state empty = no_records (contents state.file) empty.reads
+
+pub empty_checkpoint : (state : State) → IsEmpty state.file → HasCheckpoint (contents state.file) no_stable
+empty_checkpoint state empty = no_checkpoint (contents state.file) empty.reads
+
+-- on two empty disks stands the node as the set begins
+pub empty_stands : (config : Config) (number : ℕ) (j c : State) → IsEmpty j.file → IsEmpty c.file → Stands (opening_node config number) j c
+empty_stands config number j c first second = record {
+  records = λ image left. inl (no_records image (first.leaves image left));
+  documents = λ image left. inl (no_checkpoint image (second.leaves image left));
 }
 
 pub opens_rested : (config : Config) (number : ℕ) (node : Node) (j c c' : State) (stable : Stable) → node ≡ opening_node config number → JournalRests j [] → IsEmpty c.file

@@ -23,12 +23,14 @@ use Rattle.node_journal.proofs.DiskLemmas.{rest_only, rest_reserved}
 use Rattle.checkpoint_store.specs.Files.{IsAtRest as CheckpointRests, IsBeforeOrAfter as IsOldOrNew}
 use Rattle.checkpoint_store.specs.Shown.{AllCanBeSaved, Shows}
 use Rattle.checkpoint_store.specs.declared.stable.Stable.{Stable}
-use Rattle.checkpoint_store.proofs.OnceLemmas.{rest_has}
+use Rattle.checkpoint_store.proofs.OnceLemmas.{rest_has, rest_reserved as documents_reserved}
+use Rattle.set_model.specs.declared.command.Command.{Command}
+use Rattle.set_model.specs.declared.command.Command.TheVariants.{Restart}
 use Rattle.set_model.specs.declared.store.Store.TheVariants as stores
 use Rattle.set_model.specs.Node.{Node}
 use Rattle.set_model.specs.Stores.{stored, in_doubt}
 use Rattle.node_ledger.specs.Ledger.{IsReadable}
-use Rattle.node_core.specs.Acting.{Runs}
+use Rattle.node_core.specs.Acting.{AreSame, DisksLeft, Runs}
 use Rattle.node_core.specs.Putting.{IsKeepable, IsSavable, Puts}
 use Rattle.node_core.specs.Resting.{Rests}
 use Rattle.node_core.specs.Stands.{Stands, documents_at}
@@ -83,12 +85,31 @@ runs_checkpoints j c c' keeps = record {
   checkpoints_orders = keeps.orders;
 }
 
--- a reservation
-pub runs_reserved : (j j' c : State) → SameButRoom j j' → Runs ⊥ j j' c c
-runs_reserved j j' c same = subst (λ (s : State). Runs ⊥ j s c c) (sym same) (at_room j c j'.room)
+-- ---- disks as they were
+
+pub same_none : (j c : State) → AreSame j j c c
+same_none j c = record { journal = refl; checkpoints = refl }
+
+pub same_journal : (j j' c : State) → SameButRoom j j' → AreSame j j' c c
+same_journal j j' c same = record { journal = same; checkpoints = refl }
+
+pub same_checkpoints : (j c c' : State) → SameButRoom c c' → AreSame j j c c'
+same_checkpoints j c c' same = record { journal = refl; checkpoints = same }
+
+room_then : (one two three : State) → SameButRoom one two → SameButRoom two three → SameButRoom one three
+room_then one two three first second = second ∙ ap (λ (s : State). record s { room = three.room }) first
+
+pub same_then : (j0 j1 j2 c0 c1 c2 : State) → AreSame j0 j1 c0 c1 → AreSame j1 j2 c1 c2 → AreSame j0 j2 c0 c2
+same_then j0 j1 j2 c0 c1 c2 first second =
+    record { journal = room_then j0 j1 j2 first.journal second.journal; checkpoints = room_then c0 c1 c2 first.checkpoints second.checkpoints }
+
+pub runs_same : (j j' c c' : State) → AreSame j j' c c' → Runs ⊥ j j' c c'
+runs_same j j' c c' same =
+    subst (λ (s : State). Runs ⊥ j s c c') (sym same.journal)
+    (subst (λ (s : State). Runs ⊥ j (record j { room = j'.room }) c s) (sym same.checkpoints) (at_rooms j c j'.room c'.room))
   where
-    at_room : (j c : State) (room : ℕ) → Runs ⊥ j (record j { room = room }) c c
-    at_room j c room = record {
+    at_rooms : (j c : State) (one two : ℕ) → Runs ⊥ j (record j { room = one }) c (record c { room = two })
+    at_rooms j c one two = record {
       fails = record {
         journal_faults = omega arith;
         checkpoint_faults = omega arith;
@@ -102,6 +123,15 @@ runs_reserved j j' c same = subst (λ (s : State). Runs ⊥ j s c c) (sym same) 
       journal_orders = refl;
       checkpoints_orders = refl;
     }
+
+-- a reservation
+pub runs_reserved : (j j' c : State) → SameButRoom j j' → Runs ⊥ j j' c c
+runs_reserved j j' c same = runs_same j j' c c (same_journal j j' c same)
+
+-- a command that wasn't done
+pub left_runs : (command : Command) (j j' c c' : State) → DisksLeft command j j' c c' → Runs ⊥ j j' c c'
+left_runs (Restart node) j j' c c' left = left.runs
+left_runs _ j j' c c' left = runs_same j j' c c' left
 
 -- one run after another: a fault is one of the first or of the second
 pub runs_then : {F G H : Type 0} (j0 j1 j2 c0 c1 c2 : State) → (H → F ⊎ G) → Runs F j0 j1 c0 c1 → Runs G j1 j2 c1 c2 → Runs H j0 j2 c0 c2
@@ -156,6 +186,15 @@ rests_same node new count j c records stable rests = record {
     same : documents_at node node.stable ≡ documents_at new new.stable
     same = λ i. record { at = sym stable i; documents = docs (log_up_to (sym stable i) (kept (sym records i)).entries) }
 
+-- ---- and so does one whose disks are as they were
+
+pub rests_left : (node : Node) (count : ℕ) (j j' c c' : State) → AreSame j j' c c' → Rests node count j c → Rests node count j' c'
+rests_left node count j j' c c' same rests = record {
+  counted = rests.counted;
+  records = rest_reserved j j' node.records same.journal rests.records;
+  documents = documents_reserved c c' (documents_at node node.stable) same.checkpoints rests.documents;
+}
+
 -- ---- a record
 
 module _ (node : Node) (item : Record) (count : ℕ) (j j' c : State) (rests : Rests node count j c) where
@@ -168,9 +207,9 @@ module _ (node : Node) (item : Record) (count : ℕ) (j j' c : State) (rests : R
     documents = subst (λ (s : Stable). CheckpointRests c s) (sym can.same) rests.documents;
   }
 
-  -- memory was wanting
+  -- memory ran out
   pub reserved : SameButRoom j j' → Rests node count j' c
-  reserved same = record { counted = rests.counted; records = rest_reserved j j' node.records same rests.records; documents = rests.documents }
+  reserved same = rests_left node count j j' c c (same_journal j j' c same) rests
 
   -- it is in doubt
   pub doubted : ((records : List Record) → JournalRests j records → EachMoment (IsBeforeOrAfter records item) j j')
@@ -202,8 +241,8 @@ module _ (node : Node) (at : OpTime) (count : ℕ) (j c c' : State) (rests : Res
     documents = ok found shows (documents_at node node.stable) rests.documents;
   }
 
-  pub unsaved : ((stable : Stable) → CheckpointRests c stable → CheckpointRests c' stable) → Rests node count j c'
-  unsaved memory = record { counted = rests.counted; records = rests.records; documents = memory (documents_at node node.stable) rests.documents }
+  pub unsaved : SameButRoom c c' → Rests node count j c'
+  unsaved same = rests_left node count j j c c' (same_checkpoints j c c' same) rests
 
   pub half_saved : ((documents : Documents) → Shows store at documents → (stable : Stable) → CheckpointRests c stable
       → EachMoment (IsOldOrNew stable (record { at = at; documents = documents })) c c')
@@ -222,9 +261,9 @@ is_done = Ok tt
 ok_not : (error : FileError) → is_done ≡ Err error → ⊥
 ok_not error is = cc
 
--- where memory was wanting
-abbrev pub Wanting : Result (Unit {0}) FileError → Type 0 → Type 0
-Wanting result P = result ≡ Err Memory → P
+-- where memory ran out
+abbrev pub RanOut : Result (Unit {0}) FileError → Type 0 → Type 0
+RanOut result P = result ≡ Err Memory → P
 
 -- a record without entries, with its 5 bytes more
 pub short_size : (item : Record) → IsShort item → CanBeKept item → length (record_bytes item) + 5 ≤ 473
@@ -244,7 +283,7 @@ module _ (node : Node) (item : Record) (count : ℕ) (j j' c : State) (rests : R
     uncounted = tt;
   }
 
-  pub record_failed : (error : FileError) → Wanting (Err error) (SameButRoom j j') → Puts (Err error) node (stores.Record item) count j' c
+  pub record_failed : (error : FileError) → RanOut (Err error) (SameButRoom j j') → Puts (Err error) node (stores.Record item) count j' c
   record_failed error memory = record {
     ok = tt;
     memory = λ is. reserved node item count j j' c rests (memory is);
@@ -256,7 +295,7 @@ module _ (node : Node) (item : Record) (count : ℕ) (j j' c : State) (rests : R
 pub checkpoint_put : (result : Result (Unit {0}) FileError) (node : Node) (at : OpTime) (count : ℕ) (j c c' : State) (rests : Rests node count j c) (can : IsSavable node at)
     (store : Documented) (shown : (place : Place) (o : OpTime) → IsReadable node o → shown_at store place o ≡ get (docs (log_up_to o node.log)) place)
     → OnOk result ((documents : Documents) → Shows store at documents → (stable : Stable) → CheckpointRests c stable → CheckpointRests c' (record { at = at; documents = documents }))
-    → (result ≡ Err Memory → (stable : Stable) → CheckpointRests c stable → CheckpointRests c' stable)
+    → RanOut result (SameButRoom c c')
     → ((documents : Documents) → Shows store at documents → (stable : Stable) → CheckpointRests c stable
     → EachMoment (IsOldOrNew stable (record { at = at; documents = documents })) c c')
     → Puts result node (stores.Checkpoint at) count j c'

@@ -3,7 +3,7 @@ use Rattle.std.proofs.Common.{◌≡◌, ◌∙◌, ⊎_elim, inl, inr, ap, sym,
 use Rattle.std.specs.Prelude.{◌⊎◌}
 use Rattle.rs_disk.specs.File.{LeavesOnly, contents}
 use Rattle.rs_disk.specs.Images.{read_is_image}
-use Rattle.rs_disk.specs.Moments.{EachMoment}
+use Rattle.rs_disk.specs.Moments.{EachMoment, starts}
 use Rattle.rs_disk.specs.State.{State, Keeps, SameButRoom}
 use Rattle.rs_optime.specs.Later.{same_optime}
 use Rattle.rs_optime.specs.declared.optime.OpTime.{OpTime}
@@ -23,14 +23,14 @@ use Rattle.set_model.specs.declared.store.Store.TheVariants as stores
 use Rattle.set_model.specs.Disk.{settled_doubt}
 use Rattle.set_model.specs.Node.{Node}
 use Rattle.set_model.specs.Stores.{stored}
-use Rattle.node_core.specs.Acting.{Runs}
+use Rattle.node_core.specs.Acting.{AreReopened, Runs}
 use Rattle.node_core.specs.Coming.{IsFound, IsRead, is_there, settled}
 use Rattle.node_core.specs.Down.{Left, down_node}
 use Rattle.node_core.specs.Resting.{IsResting, IsWellKeptWith, Lies, Rests}
 use Rattle.node_core.specs.Stands.{HasDocumentsOf, HasRecordsOf, Stands, documents_at}
 use Rattle.node_core.specs.declared.coming_up.Found.{Found}
 use Rattle.node_state.specs.WellKept.{IsWellKept}
-use Rattle.node_core.proofs.PuttingLemmas.{runs_checkpoints, runs_journal, runs_reserved, runs_then}
+use Rattle.node_core.proofs.PuttingLemmas.{runs_as, runs_checkpoints, runs_journal, runs_reserved, runs_then}
 
 -- ---- disks that can be opened
 
@@ -66,6 +66,17 @@ module _ (node : Node) (j j' c : State) (stands : Stands node j c) where
 pub stands_both : (node : Node) (j j' c c' : State) → EachMoment (IsOneJournal j) j j' → EachMoment (IsOneCheckpoint c) c c' → Stands node j c → Stands node j' c'
 stands_both node j j' c c' moments others stands =
     record { records = records_opened node j j' stands.records moments; documents = documents_opened node c c' stands.documents others }
+
+-- so at each moment they were a disk's that might have been the one before
+pub unopened : (c : State) → IsCheckpointDisk c → EachMoment (IsOneCheckpoint c) c c
+unopened c is = starts (IsOneCheckpoint c) c (λ image left. let has = is.leaves image left in (has.0, has.1, (image, left, has.1)))
+
+pub then_reserved : (P : List ℕ → Type 0) (old mid new : State) → EachMoment P old mid → SameButRoom mid new → EachMoment P old new
+then_reserved P old mid new moments same =
+    subst (λ (s : State). EachMoment P old s) (sym same) (record { since = moments.since; passed = moments.passed; left = moments.left; now = moments.now })
+
+pub reopened : {Fault : Type 0} (j j' c c' : State) → Runs Fault j j' c c' → EachMoment (IsOneJournal j) j j' → EachMoment (IsOneCheckpoint c) c c' → AreReopened j j' c c'
+reopened j j' c c' runs journal checkpoints = record { runs = runs_as j j' c c' (λ none. absurd none) runs; journal = journal; checkpoints = checkpoints }
 
 -- both were read, and memory for a record was taken
 pub read_both : (found : Found) (j j1 j2 c c' : State) → SameButRoom j1 j2 → ((items : List Record) → HasJournal (contents j.file) items → found.kept ≡ kept items)

@@ -20,7 +20,7 @@ use Rattle.set_model.specs.Outcome.{refused}
 use Rattle.set_model.specs.Rollback.{cut_record}
 use Rattle.set_model.specs.Rows.{row}
 use Rattle.set_model.specs.Stores.{Plan, finished, storing, done as comes_to, reaches, in_doubt, stored}
-use Rattle.node_core.specs.Acting.{Acted, Follows, Runs, Unchanged}
+use Rattle.node_core.specs.Acting.{Acted, AreReopened, Follows, Runs, Unchanged}
 use Rattle.node_core.specs.Coming.{IsPrepared, cut_node, cut_point}
 use Rattle.node_core.specs.Down.{Left, down_node, seen_node}
 use Rattle.node_core.specs.Putting.{IsKeepable, Puts}
@@ -182,14 +182,14 @@ module _ (up up' : Bool) (memory memory' : Node) (left left' : Left) (count' : �
       (acted_restart nodes next number (down_node memory left) (seen_node up' memory' left') j j' c c' done refl follows settles
       (resting_stands up' memory' left' count' j' c' rests) runs)
 
-  -- memory was wanting
+  -- memory ran out
   pub unchanged_come : {T E : Type 0} (result : Result T E) → OnErr result (seen_node up' memory' left' ≡ down_node memory left) → OnErr result (IsResting up' memory' left' count' j' c')
-      → OnErr result (Runs ⊥ j j' c c') → OnErr result (Unchanged (seen_node up memory left) (seen_node up' memory' left') j j' c c')
-  unchanged_come (Ok value) same rests runs = tt
-  unchanged_come (Err error) same rests runs = record {
+      → OnErr result (AreReopened j j' c c') → OnErr result (Unchanged AreReopened (seen_node up memory left) (seen_node up' memory' left') j j' c c')
+  unchanged_come (Ok value) same rests reopened = tt
+  unchanged_come (Err error) same rests reopened = record {
     node = same ∙ (λ i. seen_node (sym down i) memory left);
     stands = resting_stands up' memory' left' count' j' c' rests;
-    runs = runs;
+    disks = reopened;
   }
 
 -- it was up

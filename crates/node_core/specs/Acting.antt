@@ -2,9 +2,12 @@
 use Rattle.std.specs.Prelude.{◌≡◌, ◌⊎◌, ◌≤◌, ℕ, Bool, true, false, not, ◌&&◌, ◌||◌, IsTrue, IsSome, Option}
 use Rattle.rs_io.specs.Fault.{Rose}
 use Rattle.rs_disk.specs.Orders.{Orders, ordered, arm, power_cut}
-use Rattle.rs_disk.specs.State.{State, IsArmed}
+use Rattle.rs_disk.specs.Moments.{EachMoment}
+use Rattle.rs_disk.specs.State.{State, IsArmed, SameButRoom}
+use Rattle.node_journal.specs.Files.{IsOneOf as IsOneJournal}
+use Rattle.checkpoint_store.specs.Files.{IsOneOf as IsOneCheckpoint}
 use Rattle.set_model.specs.declared.command.Command.{Command}
-use Rattle.set_model.specs.declared.command.Command.TheVariants.{Deliver, DeliverLatest, Crash, DiskFail}
+use Rattle.set_model.specs.declared.command.Command.TheVariants.{Deliver, DeliverLatest, Crash, Restart, DiskFail}
 use Rattle.set_model.specs.declared.command.DiskName.{DiskName}
 use Rattle.set_model.specs.declared.command.DiskName.TheVariants as disks
 use Rattle.set_model.specs.declared.reply.Reply.{Reply}
@@ -94,8 +97,27 @@ pub record Took (plan : Plan) (new : Node) (j j' c c' : State) (done : Done) : T
   pub stands : Stands new j' c'
   pub runs : Runs (IsSome done.failed) j j' c c'
 
--- out of memory: the node is as it was
-pub record Unchanged (old new : Node) (j j' c c' : State) : Type 0 where
+-- ---- out of memory
+
+-- two disks as they were, but for their room
+pub record AreSame (j j' c c' : State) : Type 0 where
+  pub journal : SameButRoom j j'
+  pub checkpoints : SameButRoom c c'
+
+-- Two disks that were opened anew, as far as memory went. No orders were given to them, and at each moment a
+-- crash left a list that one before might have left.
+pub record AreReopened (j j' c c' : State) : Type 0 where
+  pub runs : Runs ⊥ j j' c c'
+  pub journal : EachMoment (IsOneJournal j) j j'
+  pub checkpoints : EachMoment (IsOneCheckpoint c) c c'
+
+-- how a command that wasn't done leaves the two disks of its node
+abbrev pub DisksLeft : Command → State → State → State → State → Type 0
+DisksLeft (Restart node) j j' c c' = AreReopened j j' c c'
+DisksLeft _ j j' c c' = AreSame j j' c c'
+
+-- The node is as it was, and its disks are left so.
+pub record Unchanged (Disks : State → State → State → State → Type 0) (old new : Node) (j j' c c' : State) : Type 0 where
   pub node : new ≡ old
   pub stands : Stands new j' c'
-  pub runs : Runs ⊥ j j' c c'
+  pub disks : Disks j j' c c'

@@ -1,14 +1,15 @@
 // A node that is down opens its disks anew, learns what is there of what was in doubt, and comes up with that.
 ghost use Rattle.std.specs.Prelude.{◌≡◌, ◌<◌, ◌≤◌, ◌-◌, ◌^◌, [], None, Some, true, false, IfOk, OnOk, OnErr, IsErrOf, IsSome};
 ghost use Rattle.record_file.specs.Files.{spare};
-ghost use Rattle.node_journal.specs.Files.{IsJournalDisk};
-ghost use Rattle.checkpoint_store.specs.Files.{IsCheckpointDisk};
+ghost use Rattle.rs_disk.specs.Moments.{EachMoment};
+ghost use Rattle.node_journal.specs.Files.{IsJournalDisk, IsOneOf as IsOneJournal};
+ghost use Rattle.checkpoint_store.specs.Files.{IsCheckpointDisk, IsOneOf as IsOneCheckpoint};
 ghost use Rattle.set_model.specs.Disk.{has_more as is_more, recovered, restart, settled_doubt};
 ghost use Rattle.set_model.specs.Limits.{passes_first};
 ghost use Rattle.set_model.specs.Node.{Node};
 ghost use Rattle.set_model.specs.Stores.{storing};
 ghost use Rattle.node_state.specs.WellKept.{IsWellKept};
-ghost use Rattle.node_core.specs.Acting.{Follows, Runs};
+ghost use Rattle.node_core.specs.Acting.{AreReopened, Follows, Runs};
 ghost use Rattle.node_core.specs.Coming.{IsFound, IsPrepared, IsRead, cut_point, cut_records, is_there as is_kept, settled as settled_node};
 ghost use Rattle.node_core.specs.Down.{down_node, left_in, seen_node};
 ghost use Rattle.node_core.specs.Putting.{SHORT};
@@ -73,7 +74,7 @@ pub(crate) fn come_up<D: Disk, R: Threads + Sync>(
         (D.state disks.old.checkpoints) (D.state disks.new.checkpoints)) }
     ensures same { OnErr result (seen_node up.new state.new.node (left_in left.new) ≡ down_node state.old.node (left_in left.old)) }
     ensures left { OnErr result (IsResting up.new state.new.node (left_in left.new) disks.new.count (D.state disks.new.journal.0) (D.state disks.new.checkpoints)) }
-    ensures quiet { OnErr result (Runs ⊥ (D.state disks.old.journal.0) (D.state disks.new.journal.0)
+    ensures reopened { OnErr result (AreReopened (D.state disks.old.journal.0) (D.state disks.new.journal.0)
         (D.state disks.old.checkpoints) (D.state disks.new.checkpoints)) }
 {
     match open_both(disks) {
@@ -96,6 +97,10 @@ fn open_both<D: Disk>(disks: &mut Disks<D>) -> Result<Found, FileError>
         → Stands node (D.state disks.new.journal.0) (D.state disks.new.checkpoints) }
     ensures room { OnOk result (SHORT ≤ spare (D.state disks.new.journal.0) disks.new.journal.1) }
     ensures count { disks.new.count ≡ disks.old.count }
+    ensures journal { EachMoment (IsOneJournal (D.state disks.old.journal.0))
+        (D.state disks.old.journal.0) (D.state disks.new.journal.0) }
+    ensures checkpoints { EachMoment (IsOneCheckpoint (D.state disks.old.checkpoints))
+        (D.state disks.old.checkpoints) (D.state disks.new.checkpoints) }
     ensures runs { Runs (IsErrOf result FileError.Disk) (D.state disks.old.journal.0) (D.state disks.new.journal.0)
         (D.state disks.old.checkpoints) (D.state disks.new.checkpoints) }
 {

@@ -6,7 +6,7 @@ ghost use Rattle.repl_msg.specs.declared.record.Record.{Record as ARecord};
 ghost use Rattle.node_journal.specs.Bounds.{CanBeKept};
 ghost use Rattle.node_journal.specs.Files.{IsAtRest as JournalRests};
 ghost use Rattle.node_journal.specs.Room.{IsShort};
-ghost use Rattle.node_core.specs.Acting.{Arms, Runs};
+ghost use Rattle.node_core.specs.Acting.{AreSame, Arms, Runs};
 ghost use Rattle.node_core.specs.Putting.{CanBePut, IsKeepable, IsShortStore, Puts, SHORT};
 ghost use Rattle.node_core.specs.Resting.{Rests};
 ghost use Rattle.set_model.specs.Node.{Node};
@@ -37,6 +37,9 @@ impl<D: Disk> Disks<D> {
         ensures puts { Puts result state.now.node item.now self.new.count (D.state self.new.journal.0) (D.state self.new.checkpoints) }
         ensures runs { Runs (IsErrOf result FileError.Disk) (D.state self.old.journal.0) (D.state self.new.journal.0)
             (D.state self.old.checkpoints) (D.state self.new.checkpoints) }
+        ensures memory { result ≡ Err FileError.Memory
+            → AreSame (D.state self.old.journal.0) (D.state self.new.journal.0)
+            (D.state self.old.checkpoints) (D.state self.new.checkpoints) }
         ensures room { IsShortStore item.now → SHORT ≤ spare (D.state self.old.journal.0) self.old.journal.1 → result ≢ Err FileError.Memory }
         ensures spare { OnOk result (IsShortStore item.now → spare (D.state self.old.journal.0) self.old.journal.1
             ≤ spare (D.state self.new.journal.0) self.new.journal.1 + SHORT) }
@@ -55,6 +58,9 @@ impl<D: Disk> Disks<D> {
             → IsKeepable node item.now
             → Puts result node (Store.Record item.now) self.new.count (D.state self.new.journal.0) (D.state self.new.checkpoints) }
         ensures runs { Runs (IsErrOf result FileError.Disk) (D.state self.old.journal.0) (D.state self.new.journal.0)
+            (D.state self.old.checkpoints) (D.state self.new.checkpoints) }
+        ensures memory { result ≡ Err FileError.Memory
+            → AreSame (D.state self.old.journal.0) (D.state self.new.journal.0)
             (D.state self.old.checkpoints) (D.state self.new.checkpoints) }
         ensures room { IsShort item.now → SHORT ≤ spare (D.state self.old.journal.0) self.old.journal.1 → result ≢ Err FileError.Memory }
         ensures spare { OnOk result (IsShort item.now → spare (D.state self.old.journal.0) self.old.journal.1
@@ -96,6 +102,8 @@ impl<D: Disk> Disks<D> {
     pub(crate) fn reserve(&mut self) -> Mem<()>
         ensures rests { (node : Node) → Rests node self.old.count (D.state self.old.journal.0) (D.state self.old.checkpoints)
             → Rests node self.new.count (D.state self.new.journal.0) (D.state self.new.checkpoints) }
+        ensures same { AreSame (D.state self.old.journal.0) (D.state self.new.journal.0)
+            (D.state self.old.checkpoints) (D.state self.new.checkpoints) }
         ensures runs { Runs ⊥ (D.state self.old.journal.0) (D.state self.new.journal.0)
             (D.state self.old.checkpoints) (D.state self.new.checkpoints) }
         ensures room { OnOk result (SHORT + SHORT ≤ spare (D.state self.new.journal.0) self.new.journal.1) }

@@ -1,4 +1,5 @@
 ghost use Rattle.std.specs.Prelude.{◌≡◌, ◌<◌, ℕ, [], None, true, false, IfOk, OnErr, IsSome, MatchOption};
+ghost use Rattle.std.specs.Prelude.{◌⊎◌};
 ghost use Rattle.std.specs.FinMap as maps;
 ghost use Rattle.bson_doc.specs.Place.{Place};
 ghost use Rattle.oplog_entry.specs.Docs.{docs};
@@ -15,8 +16,9 @@ ghost use Rattle.set_model.specs.Node.{down, opening_node};
 ghost use Rattle.set_model.specs.Points.{last_point};
 ghost use Rattle.set_model.specs.Reads.{local_documents};
 ghost use Rattle.set_model.specs.Rows.{row};
+ghost use Rattle.node_journal.specs.Files.{IsAtRest as JournalRests};
 ghost use Rattle.node_ledger.specs.Ledger.{IsReadable};
-ghost use Rattle.node_core.specs.Acting.{Acted, Follows, Runs, Took, Unchanged, is_here};
+ghost use Rattle.node_core.specs.Acting.{Acted, AreReopened, AreSame, DisksLeft, Follows, Runs, Took, Unchanged, is_here};
 ghost use Rattle.node_state.specs.Bounds.{IsBounded, IsNumbered, is_own};
 ghost use Rattle.node_core.specs.Down.{down_node, left_in, seen_node};
 ghost use Rattle.node_core.specs.Nodes.{HasFailed, checkpoints_after, journal_after};
@@ -98,7 +100,8 @@ impl<D: Disk> Node<D> {
     /// A node as the set begins, on two empty disks: the journal's, and that of the checkpoints.
     ///
     /// # Errors
-    /// `Memory`, or `Disk` where one of them failed. The disks are handed back in the same order.
+    /// `Memory`, or `Disk` where one of them failed. The disks are handed back in the same order, and on them
+    /// still stands the node as the set begins.
     pub fn open(
         alloc: Global,
         number: u32,
@@ -111,7 +114,12 @@ impl<D: Disk> Node<D> {
         requires journal { IsEmpty (D.state journal).file }
         requires checkpoint { IsEmpty (D.state checkpoint).file }
         ensures node { IfOk result (λ node. node.0 ≡ opening_node config.now number) }
-        ensures stands { IfOk result (λ node. Stands node.0 (D.state node.1) (D.state node.2)) }
+        ensures stands { Stands (opening_node config.now number) (D.state (journal_after result))
+            (D.state (checkpoints_after result)) }
+
+        // The journal is opened first.
+        ensures first { (checkpoints_after result ≡ checkpoint)
+            ⊎ JournalRests (D.state (journal_after result)) [] }
         ensures runs { Runs (HasFailed result) (D.state journal) (D.state (journal_after result))
             (D.state checkpoint) (D.state (checkpoints_after result)) }
     {
@@ -144,7 +152,8 @@ impl<D: Disk> Node<D> {
     /// fails is no error: it has its number in `failed`, and the node is down then and sends nothing.
     ///
     /// # Errors
-    /// Out of memory alone. Then the node is as it was, and its disks keep what they kept.
+    /// Out of memory alone. Then the node is as it was, and so are its files. Only a restart may have opened them
+    /// anew, and then they keep what they kept.
     pub fn act<R: Threads + Sync>(
         &mut self,
         rt: &R,
@@ -158,7 +167,8 @@ impl<D: Disk> Node<D> {
         requires within { is_within command.now ≡ true }
         ensures ok { IfOk result (λ done. Acted (row nodes next done.kept self.old.0 command.now) command.now self.old.0 self.new.0
             (D.state self.old.1) (D.state self.new.1) (D.state self.old.2) (D.state self.new.2) done) }
-        ensures err { OnErr result (Unchanged self.old.0 self.new.0 (D.state self.old.1) (D.state self.new.1) (D.state self.old.2) (D.state self.new.2)) }
+        ensures err { OnErr result (Unchanged (DisksLeft command.now) self.old.0 self.new.0
+            (D.state self.old.1) (D.state self.new.1) (D.state self.old.2) (D.state self.new.2)) }
     {
         match command {
             Command::Crash { pick, .. } => Ok(self.crash(*pick)),
@@ -177,7 +187,7 @@ impl<D: Disk> Node<D> {
     /// no error: it has its number in `failed`, and the node is down then and sends nothing.
     ///
     /// # Errors
-    /// Out of memory alone. Then the node is as it was, and its disks keep what they kept.
+    /// Out of memory alone. Then the node and its files are as they were.
     pub fn take<R: Threads + Sync>(&mut self, rt: &R, next: u64, message: &Message) -> Mem<Done>
         requires bounds { IsBounded self.old.0 }
         requires next { IsNumbered next }
@@ -185,7 +195,8 @@ impl<D: Disk> Node<D> {
         ensures ok { IfOk result (λ done. Took (deliver next self.old.0 message.now) self.new.0
             (D.state self.old.1) (D.state self.new.1) (D.state self.old.2) (D.state self.new.2) done) }
         ensures unkept { IfOk result (λ done. done.kept ≡ false) }
-        ensures err { OnErr result (Unchanged self.old.0 self.new.0 (D.state self.old.1) (D.state self.new.1) (D.state self.old.2) (D.state self.new.2)) }
+        ensures err { OnErr result (Unchanged AreSame self.old.0 self.new.0
+            (D.state self.old.1) (D.state self.new.1) (D.state self.old.2) (D.state self.new.2)) }
     {
         self.state.is_sound();
         if !self.up {
@@ -210,7 +221,8 @@ impl<D: Disk> Node<D> {
         ensures ok { IfOk result (λ done. Took (row nodes next false self.old.0 command.now) self.new.0
             (D.state self.old.1) (D.state self.new.1) (D.state self.old.2) (D.state self.new.2) done) }
         ensures unkept { IfOk result (λ done. done.kept ≡ false) }
-        ensures err { OnErr result (Unchanged self.old.0 self.new.0 (D.state self.old.1) (D.state self.new.1) (D.state self.old.2) (D.state self.new.2)) }
+        ensures err { OnErr result (Unchanged AreSame self.old.0 self.new.0
+            (D.state self.old.1) (D.state self.new.1) (D.state self.old.2) (D.state self.new.2)) }
     {
         if !self.up {
             return Ok(self.act_down(command));
@@ -278,7 +290,8 @@ impl<D: Disk> Node<D> {
         requires bounds { IsBounded self.old.0 }
         ensures ok { (nodes next node : ℕ) → IfOk result (λ done. Acted (row nodes next done.kept self.old.0 (commands.Restart node)) (commands.Restart node) self.old.0 self.new.0
             (D.state self.old.1) (D.state self.new.1) (D.state self.old.2) (D.state self.new.2) done) }
-        ensures err { OnErr result (Unchanged self.old.0 self.new.0 (D.state self.old.1) (D.state self.new.1) (D.state self.old.2) (D.state self.new.2)) }
+        ensures err { OnErr result (Unchanged AreReopened self.old.0 self.new.0
+            (D.state self.old.1) (D.state self.new.1) (D.state self.old.2) (D.state self.new.2)) }
     {
         self.state.is_sound();
         if !self.up {

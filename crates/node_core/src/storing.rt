@@ -6,7 +6,7 @@ ghost use Rattle.set_model.specs.Limits.{is_within};
 ghost use Rattle.set_model.specs.Node.{Node};
 ghost use Rattle.set_model.specs.Rows.{row};
 ghost use Rattle.node_state.specs.Bounds.{IsBounded, IsNumbered, is_own, is_write};
-ghost use Rattle.node_core.specs.Acting.{Runs};
+ghost use Rattle.node_core.specs.Acting.{AreSame, Runs};
 ghost use Rattle.node_core.specs.Putting.{CanBePut, EndsFrom, IsBrief, IsBroken, IsEnd, IsFault, IsLong, Leaves, NeedsRoom, SHORT, plan_of};
 ghost use Rattle.node_state.specs.Ready.{CanBeStored, IsReady, IsReadyTurn};
 ghost use Rattle.node_state.specs.WellKept.{IsWellKept};
@@ -43,6 +43,8 @@ pub(crate) fn carry_out<D: Disk>(state: &mut State, disks: &mut Disks<D>, turn: 
     ensures long { OnErr result (IsLong turn) }
     ensures same { OnErr result (state.new.node ≡ state.old.node) }
     ensures left { OnErr result (Rests state.old.node disks.new.count (D.state disks.new.journal.0) (D.state disks.new.checkpoints)) }
+    ensures unused { OnErr result (AreSame (D.state disks.old.journal.0) (D.state disks.new.journal.0)
+        (D.state disks.old.checkpoints) (D.state disks.new.checkpoints)) }
 {
     match turn {
         Turn::Finished { reply, sent } => Ok(Ended::Said { reply, sent }),
@@ -132,6 +134,8 @@ pub(crate) fn act_own<D: Disk, R: Threads + Sync>(
         (D.state disks.old.checkpoints) (D.state disks.new.checkpoints) }
     ensures same { OnErr result (state.new.node ≡ state.old.node) }
     ensures left { OnErr result (Rests state.old.node disks.new.count (D.state disks.new.journal.0) (D.state disks.new.checkpoints)) }
+    ensures unused { OnErr result (AreSame (D.state disks.old.journal.0) (D.state disks.new.journal.0)
+        (D.state disks.old.checkpoints) (D.state disks.new.checkpoints)) }
 {
     disks.reserve()?;
     let turn = state.start(rt, nodes, next, command)?;
@@ -156,6 +160,8 @@ pub(crate) fn take_in<D: Disk, R: Threads + Sync>(
         (D.state disks.old.checkpoints) (D.state disks.new.checkpoints) }
     ensures same { OnErr result (state.new.node ≡ state.old.node) }
     ensures left { OnErr result (Rests state.old.node disks.new.count (D.state disks.new.journal.0) (D.state disks.new.checkpoints)) }
+    ensures unused { OnErr result (AreSame (D.state disks.old.journal.0) (D.state disks.new.journal.0)
+        (D.state disks.old.checkpoints) (D.state disks.new.checkpoints)) }
 {
     disks.reserve()?;
     let turn = state.take(rt, next, message)?;

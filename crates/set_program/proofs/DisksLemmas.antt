@@ -1,16 +1,15 @@
 -- How a set's disks go on, event by event.
-use Rattle.std.proofs.Common.{ℕ, ◌≡◌, true, List, [], ◌∷◌, ◌++◌, refl, sym, subst, inl, inr}
-use Rattle.std.specs.Prelude.{◌⊎◌, IsSome, fold}
+use Rattle.std.proofs.Common.{ℕ, ◌≡◌, List, [], ◌∷◌, ◌++◌, refl, sym, subst, inl, inr}
+use Rattle.std.specs.Prelude.{IsSome, fold, ⊤}
 use Rattle.rs_disk.specs.State.{State}
 use Rattle.set_model.specs.declared.command.Command.{Command}
 use Rattle.set_model.specs.declared.command.Event.{Event}
 use Rattle.set_model.specs.declared.reply.Reply.{Reply}
-use Rattle.set_model.specs.Limits.{is_for}
 use Rattle.set_model.specs.Run.{Run, Sizes, after, opening, run}
-use Rattle.set_model.specs.World.{World, step, task, touched_node}
-use Rattle.node_core.specs.Acting.{DisksActed, Runs}
+use Rattle.set_model.specs.World.{World, step, task}
+use Rattle.node_core.specs.Acting.{DisksActed}
 use Rattle.set_world.specs.World.{Set}
-use Rattle.set_world.specs.Disks.{AtTouched, IsStep, IsUndone, OneChanged}
+use Rattle.set_world.specs.Disks.{AtTouched, DisksUndone, IsStep, IsUndone, OneChanged}
 use Rattle.set_program.specs.Disks.{DisksPlay, DisksPlayed, DisksRan, DisksStep}
 
 -- an event more is played
@@ -39,29 +38,46 @@ step_played state old new line command reply is sizes first played =
     subst (λ (es : List Event). DisksPlay state (opening new.sizes).world es first new.disks) (sym is.history)
     (subst (λ (s : Sizes). DisksPlay state (opening s).world (old.history ++ is.event ∷ []) first new.disks) (sym sizes) more)
 
--- what was played ran, and no command behind it
-pub played_ran : {D : Type 0} (state : D → State) (set : Set D) (first : List D) → DisksPlayed state first set → DisksRan state first set
-played_ran state set first played = (set.disks, played, inl refl)
+-- what is known of the command that wasn't done
+pub ran_as : {D : Type 0} (state : D → State) (One Two : Type 0) (IsNext IsAlso : ℕ → Command → Type 0) (first : List D) (set : Set D) → (One → Two)
+    → ((line : ℕ) (command : Command) → IsNext line command → IsAlso line command) → DisksRan state One IsNext first set → DisksRan state Two IsAlso first set
+ran_as state One Two IsNext IsAlso first set memory then (inl played) = inl played
+ran_as state One Two IsNext IsAlso first set memory then (inr (out, began)) = inr (
+  memory out,
+  record {
+    last = began.last;
+    played = began.played;
+    line = began.line;
+    command = began.command;
+    next = then began.line began.command began.next;
+    undone = began.undone;
+  },
+)
+
+-- there was none
+pub ran_whole : {D : Type 0} (state : D → State) (OutOfMemory : Type 0) (IsNext : ℕ → Command → Type 0) (first : List D) (set : Set D) → ¬ OutOfMemory → DisksRan state OutOfMemory IsNext first set
+    → DisksPlayed state first set
+ran_whole state OutOfMemory IsNext first set enough (inl played) = played
+ran_whole state OutOfMemory IsNext first set enough (inr (out, began)) = absurd (enough out)
 
 undone_at : {D : Type 0} (state : D → State) (sizes sizes' : Sizes) (history history' : List Event) (command : Command) (old new : List D)
-    → sizes ≡ sizes' → history ≡ history' → is_for sizes.nodes command ≡ true
-    → (new ≡ old) ⊎ OneChanged state (Runs ⊥) (touched_node (run sizes history).world command) old new
-    → (new ≡ old) ⊎ ((c : Command) × (is_for sizes'.nodes c ≡ true) × OneChanged state (Runs ⊥) (touched_node (run sizes' history').world c) old new)
-undone_at state sizes sizes' history history' command old new sizes_are history_is fits (inl same) = inl same
-undone_at state sizes sizes' history history' command old new sizes_are history_is fits (inr one) =
-    inr (
-      command,
-      subst (λ (s : Sizes). is_for s.nodes command ≡ true) sizes_are fits,
-      subst (λ (es : List Event). OneChanged state (Runs ⊥) (touched_node (run sizes' es).world command) old new) history_is
-          (subst (λ (s : Sizes). OneChanged state (Runs ⊥) (touched_node (run s history).world command) old new) sizes_are one),
-    )
+    → sizes ≡ sizes' → history ≡ history' → DisksUndone state (run sizes history).world command old new → DisksUndone state (run sizes' history').world command old new
+undone_at state sizes sizes' history history' command old new sizes_are history_is undone =
+    subst (λ (es : List Event). DisksUndone state (run sizes' es).world command old new) history_is
+    (subst (λ (s : Sizes). DisksUndone state (run s history).world command old new) sizes_are undone)
 
 -- a command wasn't done
-pub undone_ran : {D : Type 0} (state : D → State) (old new : Set D) (command : Command) → is_for old.sizes.nodes command ≡ true → IsUndone state old new command
-    → new.sizes ≡ old.sizes → (first : List D) → DisksPlayed state first old → DisksRan state first new
-undone_ran state old new command fits is sizes first played = (
-  old.disks,
-  subst (λ (es : List Event). DisksPlay state (opening new.sizes).world es first old.disks) (sym is.history)
-      (subst (λ (s : Sizes). DisksPlay state (opening s).world old.history first old.disks) (sym sizes) played),
-  undone_at state old.sizes new.sizes old.history new.history command old.disks new.disks (sym sizes) (sym is.history) fits is.disks,
+pub undone_ran : {D : Type 0} (state : D → State) (old new : Set D) (line : ℕ) (command : Command) (IsNext : ℕ → Command → Type 0) → IsNext line command → IsUndone state old new command
+    → new.sizes ≡ old.sizes → (first : List D) → DisksPlayed state first old → DisksRan state ⊤ IsNext first new
+undone_ran state old new line command IsNext next is sizes first played = inr (
+  tt,
+  record {
+    last = old.disks;
+    played = subst (λ (es : List Event). DisksPlay state (opening new.sizes).world es first old.disks) (sym is.history)
+        (subst (λ (s : Sizes). DisksPlay state (opening s).world old.history first old.disks) (sym sizes) played);
+    line = line;
+    command = command;
+    next = next;
+    undone = undone_at state old.sizes new.sizes old.history new.history command old.disks new.disks (sym sizes) (sym is.history) is.disks;
+  },
 )

@@ -127,7 +127,7 @@ asks_one P words one other apart first second = absurd (apart (sym first ∙ sec
 asks_something : (P : Type 0) (words : List (String Global)) (task : Task) → Asks words task → AsksNothing words → P
 asks_something P words task asks none = absurd (cc (asks, none))
 
--- a set that is run ends with its lines, or for want of memory, or with a fault of the sink
+-- a set that is run ends with its lines, or out of memory, or with a fault of the sink
 ends_before : Stop → Bool
 ends_before Memory = false
 ends_before WriteFault = false

@@ -1,19 +1,20 @@
 -- The disks that a call leaves.
-use Rattle.std.proofs.Common.{ℕ, ◌≡◌, ◌*◌, List, [], Option, Some, Result, Ok, Err, String, refl, subst, sym, ap, inl, inr, ◌∙◌}
-use Rattle.std.specs.Prelude.{◌≢◌, ◌⊎◌, All, Vec, slice_get}
+use Rattle.std.proofs.Common.{ℕ, ◌≡◌, ◌*◌, List, [], ◌∷◌, ◌++◌, Option, Some, Result, Ok, Err, String, refl, subst, sym, ap, inl, inr, ◌∙◌}
+use Rattle.std.specs.Prelude.{◌≢◌, ◌⊎◌, All, Vec, map, slice_get}
 use Rattle.std.specs.declared.alloc.Global.{Global}
 use Rattle.std.proofs.lemmas.List.Elements.{All-get_or}
 use Rattle.std.proofs.lemmas.Option.{get_or_from_slice_get, slice_get_within}
 use Rattle.rs_disk.specs.State.{State}
 use Rattle.record_file.specs.declared.error.FileError.{FileError}
 use Rattle.record_file.specs.declared.error.FileError.TheVariants.{Disk, Memory as NoBytes}
+use Rattle.set_model.specs.declared.command.Command.{Command}
 use Rattle.set_model.specs.declared.command.Event.{Event}
 use Rattle.set_model.specs.Run.{Sizes, opening}
 use Rattle.fault_script.specs.declared.script.Part.{Part}
 use Rattle.fault_script.specs.declared.script.Script.{Script}
-use Rattle.fault_script.specs.Script.{sizes_of}
-use Rattle.set_world.specs.World.{Set}
-use Rattle.set_world.specs.Disks.{Opens, OneRose}
+use Rattle.fault_script.specs.Script.{lines_in, sizes_of}
+use Rattle.set_world.specs.World.{Set, opening_set}
+use Rattle.set_world.specs.Disks.{AllStand, Opens, OneRose}
 use Rattle.set_program.specs.declared.outcome.Left.{Left}
 use Rattle.set_program.specs.declared.outcome.Left.TheVariants.{World, Parts}
 use Rattle.set_program.specs.declared.stop.Stop.{Stop}
@@ -22,32 +23,41 @@ use Rattle.set_program.specs.declared.words.Task.{Task}
 use Rattle.set_program.specs.declared.words.Task.TheVariants.{Run, Chaos}
 use Rattle.set_program.specs.Asking.{OpensScript, RunsScript}
 use Rattle.set_program.specs.Causes.{of_file}
-use Rattle.set_program.specs.Disks.{DisksPlay, DisksPlayed, DisksRan, GoOn}
-use Rattle.set_program.specs.Headline.{Asks, Ends, EndsTask, IsAsked, IsScriptOf, IsUnarmed, LeavesDisks, status_of, status_of_stop}
+use Rattle.set_program.specs.Disks.{DisksPlay, DisksPlayed, DisksRan}
+use Rattle.set_program.specs.Steps.{GoOn, IsNextOf, line_of}
+use Rattle.set_program.specs.Headline.{AreOrdersOf, Asks, ComesNext, Ends, EndsTask, IsAsked, IsScriptOf, IsUnarmed, LeavesDisks, status_of, status_of_stop}
 use Rattle.set_program.specs.Left.{disks_of}
-use Rattle.set_program.proofs.DisksLemmas.{played_ran}
-use Rattle.set_program.proofs.PlayLemmas.{Keeps-same}
+use Rattle.set_program.proofs.DisksLemmas.{ran_as}
+use Rattle.set_program.proofs.PlayLemmas.{Keeps-same, orders_of}
 
 -- ---- a set was opened, and went on
 
 -- the disks that it had ran
-opened_ran : {D : Type 0} (state : D → State) (old new : Set D) (result : Result (Unit {0}) Stop) → old.history ≡ [] → GoOn state old new result → DisksRan state old.disks new
-opened_ran {D} state old new result none goes = ran result goes
+opened_ran : {D : Type 0} (state : D → State) (parts : List Part) (old new : Set D) (result : Result (Unit {0}) Stop) → old.history ≡ [] → GoOn state (lines_in parts) old new (result ≡ Err Memory)
+    → DisksRan state (status_of result ≡ 1) (ComesNext parts new.history) old.disks new
+opened_ran {D} state parts old new result none goes =
+    ran_as state (result ≡ Err Memory) (status_of result ≡ 1) (IsNextOf (lines_in parts) old.history new.history) (ComesNext parts new.history) old.disks new
+    (λ out. ap (λ (r : Result (Unit {0}) Stop). status_of r) out) comes (goes old.disks began)
   where
     began : DisksPlayed state old.disks old
     began = subst (λ (es : List Event). DisksPlay state (opening old.sizes).world es old.disks old.disks) (sym none) refl
 
-    ran : (r : Result (Unit {0}) Stop) → GoOn state old new r → DisksRan state old.disks new
-    ran (Ok done) played = played_ran state new old.disks (played old.disks began)
-    ran (Err stop) played = played old.disks began
+    comes : (line : ℕ) (command : Command) → IsNextOf (lines_in parts) old.history new.history line command → ComesNext parts new.history line command
+    comes line command next =
+        let added : new.history ≡ next.adds.added = next.adds.events ∙ ap (λ (es : List Event). es ++ next.adds.added) none in
+        let lines : map line_of new.history ≡ next.played = ap (map line_of) added ∙ next.adds.lines_are in (
+          next.later,
+          subst (λ (ls : List (ℕ × Command)). AreOrdersOf parts ls)
+              (next.lines_are ∙ ap (λ (ls : List (ℕ × Command)). ls ++ (line, command) ∷ next.later) (sym lines)) (orders_of parts),
+        )
 
-pub set_leaves : {D : Type 0} (state : D → State) (read : Script) (handed : List D) (status : ℕ) (old new : Set D) (result : Result (Unit {0}) Stop)
-    → old.history ≡ [] → old.sizes ≡ sizes_of read → new.sizes ≡ old.sizes → Opens state read.nodes ⊥ handed old.disks → GoOn state old new result
-    → OpensScript state read handed status (World new)
-set_leaves {D} state read handed status old new result none sizes same opens goes = (
+pub set_leaves : {D : Type 0} (state : D → State) (read : Script) (handed : List D) (old new : Set D) (result : Result (Unit {0}) Stop)
+    → old.history ≡ [] → old.sizes ≡ sizes_of read → new.sizes ≡ old.sizes → Opens state read.nodes ⊥ handed old.disks → GoOn state (lines_in read.parts) old new (result ≡ Err Memory)
+    → OpensScript state read handed (status_of result) (World new)
+set_leaves {D} state read handed old new result none sizes same opens goes = (
   old.disks,
   subst (λ (n : ℕ). Opens state n ⊥ handed old.disks) (sym (ap (λ (s : Sizes). s.nodes) (same ∙ sizes))) opens,
-  opened_ran state old new result none goes,
+  opened_ran state read.parts old new result none goes,
 )
 
 -- ---- it couldn't be opened
@@ -62,14 +72,16 @@ with_fault state nodes P Q old new back opens = record {
 }
 
 refuses : {D : Type 0} (state : D → State) (read : Script) (handed : List D) (error : FileError) (events : Vec Event Global) (disks : Vec D Global)
-    → Opens state read.nodes (error ≡ Disk) handed disks.items → OpensScript state read handed (status_of_stop (of_file error)) (Parts events disks)
-refuses state read handed Disk events disks opens = (refl, with_fault state read.nodes (Disk ≡ Disk) (7 ≡ 7) handed disks.items (λ seven. refl) opens)
-refuses state read handed NoBytes events disks opens = (refl, with_fault state read.nodes (NoBytes ≡ Disk) (1 ≡ 7) handed disks.items (λ seven. absurd (cc seven)) opens)
+    → Opens state read.nodes (error ≡ Disk) handed disks.items → AllStand state (opening_set (sizes_of read) disks.items)
+    → OpensScript state read handed (status_of_stop (of_file error)) (Parts events disks)
+refuses state read handed Disk events disks opens stand = (refl, with_fault state read.nodes (Disk ≡ Disk) (7 ≡ 7) handed disks.items (λ seven. refl) opens, stand)
+refuses state read handed NoBytes events disks opens stand = (refl, with_fault state read.nodes (NoBytes ≡ Disk) (1 ≡ 7) handed disks.items (λ seven. absurd (cc seven)) opens, stand)
 
 pub refused_leaves : {D : Type 0} (state : D → State) (read : Script) (handed : List D) (error : FileError) (stop : Stop) (events : Vec Event Global) (disks : Vec D Global)
-    → stop ≡ of_file error → Opens state read.nodes (error ≡ Disk) handed disks.items → OpensScript state read handed (status_of_stop stop) (Parts events disks)
-refused_leaves state read handed error stop events disks is opens =
-    subst (λ (s : Stop). OpensScript state read handed (status_of_stop s) (Parts events disks)) (sym is) (refuses state read handed error events disks opens)
+    → stop ≡ of_file error → Opens state read.nodes (error ≡ Disk) handed disks.items → AllStand state (opening_set (sizes_of read) disks.items)
+    → OpensScript state read handed (status_of_stop stop) (Parts events disks)
+refused_leaves state read handed error stop events disks is opens stand =
+    subst (λ (s : Stop). OpensScript state read handed (status_of_stop s) (Parts events disks)) (sym is) (refuses state read handed error events disks opens stand)
 
 stops : (error : FileError) (ended : Result (Unit {0}) Stop) → ended ≡ Err (of_file error) → (ended ≡ Err Memory) ⊎ (ended ≡ Err DiskFault)
 stops Disk ended is = inr is
@@ -83,8 +95,8 @@ refused_runs task read held error stop events disks is none = (none, Keeps-same 
 
 pub asked_leaves : {D : Type 0} (state : D → State) (words : List (String Global)) (left rest : Option (List ℕ)) (task : Task) (read : Script) (handed : List D) (status : ℕ) (outcome : Left D)
     → Asks words task → IsScriptOf task left rest read → OpensScript state read handed status outcome → LeavesDisks state words left rest handed status outcome
-asked_leaves state words left rest task read handed status (World set) asks is opens = opens
-asked_leaves state words left rest task read handed status (Parts events disks) asks is (one, opens) = inr (one, (read, (task, asks, is), opens))
+asked_leaves state words left rest task read handed status (World set) asks is opens = (read, (task, asks, is), opens)
+asked_leaves state words left rest task read handed status (Parts events disks) asks is (one, opens, stand) = inr (one, (read, (task, asks, is), opens, stand))
 
 -- a set that was opened doesn't end with a fault of a disk
 not_opening : {D : Type 0} (task : Task) (parts : List Part) (old new : Option (List ℕ)) (ended : Result (Unit {0}) Stop) (set : Set D) → EndsTask task parts old new ended set → status_of ended ≢ 7
@@ -104,7 +116,7 @@ when_failed : {D : Type 0} (state : D → State) (words : List (String Global)) 
     → (read : Script) × IsAsked words left rest read × Opens state read.nodes (status_of ended ≡ 7) handed (disks_of outcome)
 when_failed state words left rest old new handed ended (World set) (task, asks, (read, is, sizes, runs)) leaves seven = absurd (not_opening task read.parts old new ended set runs seven)
 when_failed state words left rest old new handed ended (Parts events disks) ends (inl (other, same)) seven = absurd (other seven)
-when_failed state words left rest old new handed ended (Parts events disks) ends (inr (one, opens)) seven = opens
+when_failed state words left rest old new handed ended (Parts events disks) ends (inr (one, (read, asked, opens, stand))) seven = (read, asked, opens)
 
 pub disk_failed : {D : Type 0} (state : D → State) (words : List (String Global)) (left rest old new : Option (List ℕ)) (handed : List D) (ended : Result (Unit {0}) Stop) (outcome : Left D)
     → Ends words left rest old new ended outcome → LeavesDisks state words left rest handed (status_of ended) outcome → status_of ended ≡ 7

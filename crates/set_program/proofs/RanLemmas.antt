@@ -1,6 +1,6 @@
 -- What the disks of a node went through in a whole run: they were opened, then each event did its part, and maybe a command that
 -- wasn't done.
-use Rattle.std.proofs.Common.{◌≡◌, ◌∙◌, ◌<◌, ◌≤◌, ◌+◌, ◌*◌, ◌&&◌, inl, inr, ap, sym, subst, refl, arith, ℕ, zero, suc, Bool, true, nat_lt, Some, IsTrue, IsSome, List, [], ◌∷◌, Option, String, length, slice_get}
+use Rattle.std.proofs.Common.{◌≡◌, ◌∙◌, ◌<◌, ◌≤◌, ◌+◌, ◌*◌, ◌&&◌, inl, inr, ap, sym, subst, refl, arith, ℕ, zero, suc, Bool, true, nat_lt, None, Some, IsTrue, IsSome, List, [], ◌∷◌, Option, String, length, slice_get}
 use Rattle.std.specs.Prelude.{All}
 use Rattle.std.specs.declared.alloc.Global.{Global}
 use Rattle.std.proofs.lemmas.Bool.{cases_Bool, cases_order}
@@ -18,16 +18,17 @@ use Rattle.set_model.specs.Rows.{row}
 use Rattle.set_model.specs.Run.{AreSizes, Run, Sizes, after, opening, run}
 use Rattle.set_model.specs.Safety.{Answers}
 use Rattle.set_model.specs.Stores.{done}
-use Rattle.set_model.specs.World.{World, Step, acts, step, task, touched_node}
-use Rattle.node_core.specs.Acting.{Runs, is_disk_fail}
-use Rattle.set_world.specs.Disks.{IsServed, Opens}
+use Rattle.set_model.specs.World.{World, Step, Task, acts, takes, nothing, step, task, touched_node}
+use Rattle.node_core.specs.Acting.{DisksLeft, Runs, is_disk_fail}
+use Rattle.node_core.proofs.PuttingLemmas.{left_runs, runs_none}
+use Rattle.set_world.specs.Disks.{AtTouched, DisksUndone, IsServed, OneChanged, Opens}
 use Rattle.set_world.specs.World.{Set}
 use Rattle.set_world.proofs.ActingLemmas.{plan_is, step_is}
 use Rattle.set_world.proofs.DisksOpenLemmas.{there_too}
 use Rattle.set_world.proofs.NodesLemmas.{named}
 use Rattle.set_program.specs.Counts.{FailedSoOften, FailuresCount, FaultsAreArmed, FaultsHaveCauses, OfNode, OneRoseOfTwo, OrdersAre, OrdersCount, failures_at}
-use Rattle.set_program.specs.Disks.{DisksRan, DisksUndone}
-use Rattle.set_program.specs.Headline.{IsUnarmed, LeavesDisks}
+use Rattle.set_program.specs.Disks.{DisksPlay, DisksRan}
+use Rattle.set_program.specs.Headline.{ComesNext, IsUnarmed, LeavesDisks}
 use Rattle.set_program.specs.Left.{IfSet}
 use Rattle.set_program.specs.declared.outcome.Left.{Left}
 use Rattle.set_program.specs.declared.outcome.Left.TheVariants.{World as Ran, Parts}
@@ -113,33 +114,52 @@ pub record NodeRan (number : ℕ) (world : World) (events : List Event) (j j' c 
 at_all : {A : Type 0} (xs : List A) (i : ℕ) → i < length xs → (x : A) × (slice_get xs i ≡ Some x)
 at_all xs i within = elim (slice_get_cases xs i).1 [ inl found ↦ (found.0, found.2) | inr past ↦ absurd (omega (arith, within, past.0)) ]
 
-runs_none : (j c : State) → Runs ⊥ j j c c
-runs_none j c = record {
-  fails = record {
-    journal_faults = omega arith;
-    checkpoint_faults = omega arith;
-    cause = λ fault. absurd fault;
-    only_armed = λ fault steady also. absurd fault;
-    journal_steady = λ steady. steady;
-    checkpoint_steady = λ steady. steady;
-  };
-  journal_armed = λ armed. armed;
-  checkpoints_armed = λ armed. armed;
-  journal_orders = refl;
-  checkpoints_orders = refl;
+-- behind the last event no order was given to them
+module _ {D : Type 0} (state : D → State) (command : Command) (last left : List D) (number : ℕ) (j c : State) (has : NodeHas state number last j c) where
+  abbrev pub RunsOn : Type 0
+  RunsOn = (j' : State) × (c' : State) × NodeHas state number left j' c' × Runs ⊥ j j' c c'
+
+  left_alone : left ≡ last → RunsOn
+  left_alone same = (j, c, subst (λ l. NodeHas state number l j c) (sym same) has, runs_none j c)
+
+  by_one : (touched : ℕ) → OneChanged state (DisksLeft command) touched last left → RunsOn
+  by_one touched one = elim (cases_order touched number) [
+    | inl same ↦
+        let here = changed_here state (DisksLeft command) touched number last left j c one has same in
+        (here.0, here.1, here.2, left_runs command j here.0 c here.1 here.3)
+    | inr other ↦ (j, c, unchanged_there state (DisksLeft command) touched number last left j c one has (apart touched number other), runs_none j c)
+  ]
+
+  by_task : (what : Task) → AtTouched what None last left (λ n. OneChanged state (DisksLeft command) n last left) → RunsOn
+  by_task (acts touched) one = by_one touched one
+  by_task (takes message) one = by_one message.to one
+  by_task nothing none = left_alone none.1
+
+  undone_there : (world : World) → DisksUndone state world command last left → RunsOn
+  undone_there world (inl same) = left_alone same
+  undone_there world (inr used) = by_task (task world command) used
+
+-- the events, and what came behind them
+pub record RanTo {D : Type 0} (state : D → State) (opened : List D) (set : Set D) : Type 0 where
+  pub last : List D
+  pub played : DisksPlay state (opening set.sizes).world set.history opened last
+  pub behind : (number : ℕ) (j c : State) → NodeHas state number last j c → (j' : State) × (c' : State) × NodeHas state number set.disks j' c' × Runs ⊥ j j' c c'
+
+ran_to : {D : Type 0} (state : D → State) (OutOfMemory : Type 0) (IsNext : ℕ → Command → Type 0) (opened : List D) (set : Set D) → DisksRan state OutOfMemory IsNext opened set → RanTo state opened set
+ran_to state OutOfMemory IsNext opened set (inl played) = record {
+  last = set.disks;
+  played = played;
+  behind = λ number j c has. (j, c, has, runs_none j c);
+}
+ran_to state OutOfMemory IsNext opened set (inr (out, began)) = record {
+  last = began.last;
+  played = began.played;
+  behind = λ number j c has. undone_there state began.command began.last set.disks number j c has (run set.sizes set.history).world began.undone;
 }
 
-undone_there : {D : Type 0} (state : D → State) (set : Set D) (last : List D) (number : ℕ) (j c : State) → NodeHas state number last j c → DisksUndone state set last
-    → (j' : State) × (c' : State) × NodeHas state number set.disks j' c' × Runs ⊥ j j' c c'
-undone_there state set last number j c has (inl same) = (j, c, subst (λ l. NodeHas state number l j c) (sym same) has, runs_none j c)
-undone_there state set last number j c has (inr (command, for, one)) = elim (cases_order (touched_node (run set.sizes set.history).world command) number) [
-  | inl same ↦ changed_here state (Runs ⊥) (touched_node (run set.sizes set.history).world command) number last set.disks j c one has same
-  | inr other ↦ (j, c, unchanged_there state (Runs ⊥) (touched_node (run set.sizes set.history).world command) number last set.disks j c one has (apart (touched_node (run set.sizes set.history).world command) number other), runs_none j c)
-]
-
-pub node_ran : {D : Type 0} (state : D → State) (handed opened : List D) (set : Set D) → Opens state set.sizes.nodes ⊥ handed opened → DisksRan state opened set → (number : ℕ) → 2 * number + 1 < length handed
+pub node_ran : {D : Type 0} (state : D → State) (handed opened : List D) (set : Set D) → Opens state set.sizes.nodes ⊥ handed opened → RanTo state opened set → (number : ℕ) → 2 * number + 1 < length handed
     → OfNode state handed set.disks number (NodeRan number (opening set.sizes).world set.history)
-node_ran {D} state handed opened set opens (last, played, undone) number within = record {
+node_ran {D} state handed opened set opens ran number within = record {
   journal = journal.0;
   journal' = behind.2.journal;
   checkpoints = checkpoints.0;
@@ -174,12 +194,12 @@ node_ran {D} state handed opened set opens (last, played, undone) number within 
     second : (d : D) × (slice_get opened (2 * number + 1) ≡ Some d)
     second = there_too handed opened (2 * number + 1) checkpoints.0 opens.count checkpoints.1
 
-    events : (j' : State) × (c' : State) × NodeHas state number last j' c' × NodePlay number (opening set.sizes).world set.history (state first.0) j' (state second.0) c'
-    events = node_played state (opening set.sizes).world set.history opened last number (state first.0) (state second.0)
-        (record { journal = first.0; checkpoints = second.0; journal_at = first.1; checkpoints_at = second.1; journal_is = refl; checkpoints_is = refl }) played
+    events : (j' : State) × (c' : State) × NodeHas state number ran.last j' c' × NodePlay number (opening set.sizes).world set.history (state first.0) j' (state second.0) c'
+    events = node_played state (opening set.sizes).world set.history opened ran.last number (state first.0) (state second.0)
+        (record { journal = first.0; checkpoints = second.0; journal_at = first.1; checkpoints_at = second.1; journal_is = refl; checkpoints_is = refl }) ran.played
 
     behind : (j' : State) × (c' : State) × NodeHas state number set.disks j' c' × Runs ⊥ events.0 j' events.1 c'
-    behind = undone_there state set last number events.0 events.1 events.2 undone
+    behind = ran.behind number events.0 events.1 events.2
 
 -- ---- what that tells
 
@@ -231,7 +251,7 @@ module _ (number : ℕ) (sizes : Sizes) (events : List Event) (j j' c c' : State
 -- ---- what a call leaves
 
 module _ {D : Type 0} (state : D → State) (handed : List D) (many : length handed ≡ 100) where
-  ran_of : (opened : List D) (set : Set D) → AreSizes set.sizes → Opens state set.sizes.nodes ⊥ handed opened → DisksRan state opened set → (number : ℕ) → number < set.sizes.nodes
+  ran_of : (opened : List D) (set : Set D) → AreSizes set.sizes → Opens state set.sizes.nodes ⊥ handed opened → RanTo state opened set → (number : ℕ) → number < set.sizes.nodes
       → OfNode state handed set.disks number (NodeRan number (opening set.sizes).world set.history)
   ran_of opened set sizes opens ran number less =
       node_ran state handed opened set opens ran number (let most : set.sizes.nodes ≤ 7 = sizes.most in omega (arith, less, most, many))
@@ -239,26 +259,26 @@ module _ {D : Type 0} (state : D → State) (handed : List D) (many : length han
   module _ (words : List (String Global)) (left rest : Option (List ℕ)) (status : ℕ) where
     pub failures_left : (outcome : Left D) → IfSet outcome (λ set. AreSizes set.sizes) → LeavesDisks state words left rest handed status outcome → IfSet outcome (FailuresCount state handed)
     failures_left (Parts events disks) sizes leaves = tt
-    failures_left (Ran set) sizes (opened, opens, ran) = λ number less.
+    failures_left (Ran set) sizes (read, asked, (opened, opens, ran)) = λ number less.
         of_node state handed set.disks number (NodeRan number (opening set.sizes).world set.history) (FailedSoOften (failures_at number (opening set.sizes).world set.history))
-        (λ j j' c c' node. failures_ran number set.sizes set.history j j' c c' node) (ran_of opened set sizes opens ran number less)
+        (λ j j' c c' node. failures_ran number set.sizes set.history j j' c c' node) (ran_of opened set sizes opens (ran_to state (status ≡ 1) (ComesNext read.parts set.history) opened set ran) number less)
 
     pub orders_left : (outcome : Left D) → IfSet outcome (λ set. AreSizes set.sizes) → LeavesDisks state words left rest handed status outcome → IfSet outcome (OrdersCount state handed)
     orders_left (Parts events disks) sizes leaves = tt
-    orders_left (Ran set) sizes (opened, opens, ran) = λ number less.
+    orders_left (Ran set) sizes (read, asked, (opened, opens, ran)) = λ number less.
         of_node state handed set.disks number (NodeRan number (opening set.sizes).world set.history) (OrdersAre number (opening set.sizes).world set.history)
-        (λ j j' c c' node. orders_ran number set.sizes set.history j j' c c' node) (ran_of opened set sizes opens ran number less)
+        (λ j j' c c' node. orders_ran number set.sizes set.history j j' c c' node) (ran_of opened set sizes opens (ran_to state (status ≡ 1) (ComesNext read.parts set.history) opened set ran) number less)
 
     pub causes_left : (outcome : Left D) → IfSet outcome (λ set. AreSizes set.sizes) → LeavesDisks state words left rest handed status outcome → IfSet outcome (FaultsHaveCauses state handed)
     causes_left (Parts events disks) sizes leaves = tt
-    causes_left (Ran set) sizes (opened, opens, ran) = λ place number event less is.
+    causes_left (Ran set) sizes (read, asked, (opened, opens, ran)) = λ place number event less is.
         of_node state handed set.disks number (NodeRan number (opening set.sizes).world set.history) OneRoseOfTwo
-        (λ j j' c c' node. fault_ran number set.sizes set.history j j' c c' node place event is) (ran_of opened set sizes opens ran number less)
+        (λ j j' c c' node. fault_ran number set.sizes set.history j j' c c' node place event is) (ran_of opened set sizes opens (ran_to state (status ≡ 1) (ComesNext read.parts set.history) opened set ran) number less)
 
     pub armed_left : (outcome : Left D) → IfSet outcome (λ set. AreSizes set.sizes) → IfSet outcome (λ set. IsRun set.sizes set.history) → LeavesDisks state words left rest handed status outcome
         → All (λ (disk : D). IsUnarmed (state disk)) handed → IfSet outcome (λ set. FaultsAreArmed set.sizes set.history)
     armed_left (Parts events disks) sizes is_run leaves unarmed = tt
-    armed_left (Ran set) sizes is_run (opened, opens, ran) unarmed = λ place number event less is.
-        let node = ran_of opened set sizes opens ran number less in
+    armed_left (Ran set) sizes is_run (read, asked, (opened, opens, ran)) unarmed = λ place number event less is.
+        let node = ran_of opened set sizes opens (ran_to state (status ≡ 1) (ComesNext read.parts set.history) opened set ran) number less in
         armed_ran number set.sizes set.history (state node.journal) (state node.journal') (state node.checkpoints) (state node.checkpoints') node.so is_run
         (unarmed_at state handed unarmed (2 * number) node.journal node.journal_was) (unarmed_at state handed unarmed (2 * number + 1) node.checkpoints node.checkpoints_was) place event is

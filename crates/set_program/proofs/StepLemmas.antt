@@ -1,19 +1,18 @@
 -- The lines of a part, played one after another.
-use Rattle.std.proofs.Common.{ℕ, suc, ◌≡◌, ◌+◌, ◌≤◌, Bool, true, List, [], ◌∷◌, ◌++◌, length, length-append, append_assoc, refl, ap, sym, subst, arith, ◌∙◌}
-use Rattle.std.specs.Prelude.{map}
+use Rattle.std.proofs.Common.{ℕ, suc, ◌≡◌, ◌+◌, ◌≤◌, Bool, true, List, [], ◌∷◌, ◌++◌, length, length-append, append_assoc, refl, ap, sym, subst, arith, inl, ◌∙◌}
+use Rattle.std.specs.Prelude.{map, ⊤}
 use Rattle.std.specs.List.{AllPass}
 use Rattle.std.proofs.lemmas.List.{append-nil, map-append, length-map}
 use Rattle.rs_disk.specs.State.{State}
 use Rattle.set_model.specs.declared.command.Command.{Command}
 use Rattle.set_model.specs.declared.command.Event.{Event}
 use Rattle.set_model.specs.declared.reply.Reply.{Reply}
-use Rattle.set_model.specs.Limits.{is_for}
 use Rattle.set_model.specs.Run.{Sizes, run}
 use Rattle.set_model.proofs.RunLemmas.{run-append}
 use Rattle.set_world.specs.World.{Set}
 use Rattle.set_world.specs.Disks.{IsStep, IsUndone}
-use Rattle.set_program.specs.Steps.{Adds, GoesOn, Stepped, SteppedSome, line_of, reply_to}
-use Rattle.set_program.proofs.DisksLemmas.{played_ran, step_played, undone_ran}
+use Rattle.set_program.specs.Steps.{Adds, GoesOn, IsNextOf, Stepped, SteppedSome, line_of, reply_to}
+use Rattle.set_program.proofs.DisksLemmas.{ran_as, step_played, undone_ran}
 
 -- ---- replies
 
@@ -87,6 +86,18 @@ stepped_more state xs ys old mid new before between after first second =
       disks = λ disks played. second.disks disks (first.disks disks played);
     }
 
+-- the line that is next in a part is so in the whole
+pub next_more : (whole xs ys rest : List (ℕ × Command)) (old mid new : List Event) (line : ℕ) (command : Command) → whole ≡ (xs ++ ys) ++ rest → Adds xs old mid → IsNextOf ys mid new line command
+    → IsNextOf whole old new line command
+next_more whole xs ys rest old mid new line command is first next = record {
+  played = xs ++ next.played;
+  later = next.later ++ rest;
+  lines_are = is ∙ ap (λ (ls : List (ℕ × Command)). (xs ++ ls) ++ rest) next.lines_are ∙ append_assoc xs (next.played ++ (line, command) ∷ next.later) rest
+      ∙ ap (λ (ls : List (ℕ × Command)). xs ++ ls) (append_assoc next.played ((line, command) ∷ next.later) rest)
+      ∙ sym (append_assoc xs next.played ((line, command) ∷ next.later ++ rest));
+  adds = adds_more xs next.played old mid new first next.adds;
+}
+
 -- some of the later lines
 some_more : {D : Type 0} (state : D → State) (whole xs ys later : List (ℕ × Command)) (old mid new : Set D) (before between : List (ℕ × Reply))
     → whole ≡ (xs ++ ys) ++ later → Stepped state xs old mid before between → SteppedSome state ys mid new → SteppedSome state whole old new
@@ -97,7 +108,10 @@ some_more state whole xs ys later old mid new before between is first some = rec
   lines_are = is ∙ ap (λ (ls : List (ℕ × Command)). (xs ++ ls) ++ later) some.lines_are ∙ append_assoc xs (some.played ++ some.later) later
       ∙ ap (λ (ls : List (ℕ × Command)). xs ++ ls) (append_assoc some.played some.later later) ∙ sym (append_assoc xs some.played (some.later ++ later));
   adds = adds_more xs some.played old.history mid.history new.history first.adds some.adds;
-  disks = λ disks played. some.disks disks (first.disks disks played);
+  disks = λ disks played.
+      ran_as state ⊤ ⊤ (IsNextOf ys mid.history new.history) (IsNextOf whole old.history new.history) disks new (λ out. out)
+      (λ line command. next_more whole xs ys later old.history mid.history new.history line command is first.adds)
+      (some.disks disks (first.disks disks played));
 }
 
 -- a line is played
@@ -133,19 +147,20 @@ line_untold state line command reply old new is sizes = record {
   later = [];
   lines_are = refl;
   adds = one_added state line command reply old new is;
-  disks = λ first played. played_ran state new first (step_played state old new line command reply is sizes first played);
+  disks = λ first played. inl (step_played state old new line command reply is sizes first played);
 }
 
 -- it isn't played
-pub line_undone : {D : Type 0} (state : D → State) (line : ℕ) (command : Command) (old new : Set D) → is_for old.sizes.nodes command ≡ true → IsUndone state old new command
-    → new.sizes ≡ old.sizes → SteppedSome state ((line, command) ∷ []) old new
-line_undone state line command old new fits is sizes = record {
+pub line_undone : {D : Type 0} (state : D → State) (line : ℕ) (command : Command) (old new : Set D) → IsUndone state old new command → new.sizes ≡ old.sizes
+    → SteppedSome state ((line, command) ∷ []) old new
+line_undone state line command old new is sizes = record {
   sizes = sizes;
   played = [];
   later = (line, command) ∷ [];
   lines_are = refl;
   adds = adds_none old.history new.history is.history;
-  disks = undone_ran state old new command fits is sizes;
+  disks = undone_ran state old new line command (IsNextOf ((line, command) ∷ []) old.history new.history)
+      (record { played = []; later = []; lines_are = refl; adds = adds_none old.history new.history is.history }) is sizes;
 }
 
 -- how long a history is behind some lines

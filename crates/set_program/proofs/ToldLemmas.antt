@@ -1,5 +1,5 @@
 -- A run whose summary is put.
-use Rattle.std.proofs.Common.{ℕ, ◌≡◌, ◌≤◌, List, [], ◌++◌, length, take, Result, Ok, Err, ap, sym, subst, arith, ◌∙◌}
+use Rattle.std.proofs.Common.{ℕ, ◌≡◌, ◌≤◌, List, [], ◌++◌, length, take, Result, Ok, Err, ap, sym, subst, arith, inl, ◌∙◌}
 use Rattle.std.specs.Prelude.{Option, map}
 use Rattle.std.proofs.Math.Seq.{take-append_seam}
 use Rattle.std.proofs.lemmas.List.{append-nil, length-map}
@@ -13,11 +13,9 @@ use Rattle.fault_script.specs.Script.{lines_in}
 use Rattle.set_world.specs.World.{Set}
 use Rattle.set_program.specs.declared.stop.Stop.{Stop}
 use Rattle.set_program.specs.declared.stop.Stop.TheVariants.{Memory, Usage, Script as NoScript, ReadFault, WriteFault, TooLong, DiskFault}
-use Rattle.set_program.specs.Disks.{GoOn}
 use Rattle.set_program.specs.Headline.{EndsTold, GoesSomeWay, summary_put}
 use Rattle.set_program.specs.Plays.{PutsText}
 use Rattle.set_program.specs.Steps.{Adds, Stepped, SteppedSome, line_of}
-use Rattle.set_program.proofs.DisksLemmas.{played_ran}
 use Rattle.set_program.proofs.PlayLemmas.{follows_so, orders_of}
 use Rattle.set_program.proofs.StepLemmas.{longer_by, replies-count}
 
@@ -29,7 +27,7 @@ stepped_some state lines old new before after stepped = record {
   later = [];
   lines_are = sym (append-nil lines);
   adds = stepped.adds;
-  disks = λ first played. played_ran state new first (stepped.disks first played);
+  disks = λ first played. inl (stepped.disks first played);
 }
 
 -- the history is what was added
@@ -63,10 +61,6 @@ module _ {D : Type 0} (state : D → State) (parts : List Part) (old new : Set D
       let all = ap (λ (rs : List (ℕ × Reply)). length rs) replies_are in
       let each = replies-count new.sizes [] new.history in
       omega (arith, longer, before, all, each, few)
-
-  pub goes_on : (result : Result (Unit {0}) Stop) → GoOn state old new result
-  goes_on (Ok done) = stepped.disks
-  goes_on (Err stop) = (stepped_some state (lines_in parts) old new [] after stepped).disks
 
   follows : map line_of new.history ≡ lines_in parts
   follows = ap (map line_of) (added_all (lines_in parts) old.history new.history none stepped.adds) ∙ stepped.adds.lines_are

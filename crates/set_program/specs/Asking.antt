@@ -7,14 +7,15 @@ use Rattle.fault_script.specs.declared.fault.ScriptFault.{ScriptFault}
 use Rattle.fault_script.specs.declared.script.Script.{Script}
 use Rattle.fault_script.specs.Script.{sizes_of}
 use Rattle.transcript.specs.Faults.{fault_text}
-use Rattle.set_world.specs.Disks.{Opens}
+use Rattle.set_world.specs.Disks.{AllStand, Opens}
+use Rattle.set_world.specs.World.{opening_set}
 use Rattle.set_program.specs.declared.outcome.Left.{Left}
 use Rattle.set_program.specs.declared.outcome.Left.TheVariants.{World, Parts}
 use Rattle.set_program.specs.declared.stop.Stop.{Stop}
 use Rattle.set_program.specs.declared.stop.Stop.TheVariants.{Memory, Usage, Script as NoScript, ReadFault, WriteFault, TooLong, DiskFault}
 use Rattle.set_program.specs.declared.words.Task.{Task}
 use Rattle.set_program.specs.Disks.{DisksRan}
-use Rattle.set_program.specs.Headline.{AnyFront, Asks, EndsTask, EndsUnrun, IsFaulty, IsOneOf, IsRead, IsScriptOf, PutsFront, limit}
+use Rattle.set_program.specs.Headline.{AnyFront, Asks, ComesNext, EndsTask, EndsUnrun, IsFaulty, IsOneOf, IsRead, IsScriptOf, PutsFront, limit}
 
 -- the words ask for this task and its script, or nothing is run
 abbrev pub Reads : List (String Global) → Option (List ℕ) → Option (List ℕ) → Option (List ℕ) → Option (List ℕ) → Result (Task × Script) Stop → Type 0
@@ -40,5 +41,9 @@ RunsScript task read old new ended (Parts events disks) =
 
 -- and these disks are left
 abbrev pub OpensScript : {D : Type 0} → (D → State) → Script → List D → ℕ → Left D → Type 0
-OpensScript {D} state read handed status (World set) = (opened : List D) × Opens state set.sizes.nodes ⊥ handed opened × DisksRan state opened set
-OpensScript {D} state read handed status (Parts events disks) = IsOneOf (1 ∷ 7 ∷ []) status × Opens state read.nodes (status ≡ 7) handed disks.items
+OpensScript {D} state read handed status (World set) =
+    (opened : List D) × Opens state set.sizes.nodes ⊥ handed opened
+    × DisksRan state (status ≡ 1) (ComesNext read.parts set.history) opened set
+OpensScript {D} state read handed status (Parts events disks) =
+    IsOneOf (1 ∷ 7 ∷ []) status × Opens state read.nodes (status ≡ 7) handed disks.items
+    × AllStand state (opening_set (sizes_of read) disks.items)

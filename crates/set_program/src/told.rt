@@ -5,9 +5,9 @@ ghost use Rattle.rs_io.specs.Fault.{HasCause};
 ghost use Rattle.fault_script.specs.Script.{is_part_for, lines_in};
 ghost use Rattle.set_model.specs.Run.{run};
 ghost use Rattle.transcript.specs.Summaries.{summary_text};
-ghost use Rattle.set_program.specs.Disks.{GoOn};
 ghost use Rattle.set_program.specs.Headline.{EndsTask, EndsTold, summary_put};
 ghost use Rattle.set_program.specs.Plays.{PutsText};
+ghost use Rattle.set_program.specs.Steps.{GoOn};
 
 use crate::play::play;
 use crate::steps::step_parts;
@@ -38,7 +38,7 @@ pub fn play_task<K: Sink, D: Disk, R: Threads + Sync>(
     requires fits { AllPass (is_part_for world.old.sizes.nodes) parts }
     ensures ends { EndsTask task parts (K.held sink.old) (K.held sink.new) result world.new }
     ensures sizes { world.new.sizes ≡ world.old.sizes }
-    ensures disks { GoOn D.state world.old world.new result }
+    ensures disks { GoOn D.state (lines_in parts) world.old world.new (result ≡ Err Stop.Memory) }
     ensures cause { HasCause (K.faults sink.old) (K.faults sink.new) (IsErrOf result Stop.WriteFault) }
     ensures steady { K.steady sink.old → K.steady sink.new × (result ≢ Err Stop.WriteFault) }
 {
@@ -61,7 +61,7 @@ fn play_told<K: Sink, D: Disk, R: Threads + Sync>(
     requires fits { AllPass (is_part_for world.old.sizes.nodes) parts }
     ensures ends { EndsTold parts (K.held sink.old) (K.held sink.new) result world.new }
     ensures sizes { world.new.sizes ≡ world.old.sizes }
-    ensures disks { GoOn D.state world.old world.new result }
+    ensures disks { GoOn D.state (lines_in parts) world.old world.new (result ≡ Err Stop.Memory) }
     ensures cause { HasCause (K.faults sink.old) (K.faults sink.new) (IsErrOf result Stop.WriteFault) }
     ensures steady { K.steady sink.old → K.steady sink.new × (result ≢ Err Stop.WriteFault) }
 {

@@ -13,15 +13,15 @@ use Rattle.set_model.specs.Node.{Node}
 use Rattle.set_model.specs.Rows.{row}
 use Rattle.set_model.specs.Deliver.{deliver}
 use Rattle.set_model.specs.Stores.{Plan, done}
-use Rattle.set_model.specs.World.{World, Task, acts, takes, nothing, actor, task, touched_node, plan_of, event_plan, with_outcome, by_plan, step}
+use Rattle.set_model.specs.World.{World, Task, acts, takes, nothing, actor, task, plan_of, event_plan, with_outcome, by_plan, step}
 use Rattle.node_core.specs.declared.done.Done.{Done}
-use Rattle.node_core.specs.Acting.{Follows, DisksActed, is_here}
+use Rattle.node_core.specs.Acting.{AreSame, DisksActed, DisksLeft, Follows, is_here}
 use Rattle.rs_disk.specs.State.{State}
 use Rattle.set_world.specs.Acting.{OneOf, DisksSo, ActedSo, TookSo, UnchangedSo}
 use Rattle.set_world.specs.Disks.{AtTouched}
 use Rattle.set_world.specs.World.{Acts, event_of, nodes_in}
-use Rattle.set_world.proofs.DiskLemmas.{disks_of_acted, disks_of_took}
-use Rattle.set_world.proofs.NodesLemmas.{get_in, nodes_set, nodes_long}
+use Rattle.set_world.proofs.DiskLemmas.{disks_of_acted, disks_of_took, undelivered}
+use Rattle.set_world.proofs.NodesLemmas.{get_in, nodes_set, nodes_long, same_nodes}
 
 -- an event's plan, by its task
 pub plan_is : (world : World) (event : Event) (what : Task) (node : Node) → task world event.command ≡ what → slice_get world.nodes (actor what) ≡ Some node
@@ -128,8 +128,25 @@ taken_disks state next messages message command old new (Ok done) is none took =
 pub nobody_disks : {A : Type 0} (world : World) (command : Command) (came : Done) (old : List A) (At : ℕ → Type 0) → task world command ≡ nothing → came.failed ≡ None → AtTouched (task world command) came.failed old old At
 nobody_disks world command came old At is failed = subst (λ t. AtTouched t came.failed old old At) (sym is) (failed, refl)
 
--- at the node that the command touches
-pub undone_there : {D : Type 0} (state : D → State) (world : World) (what : Task) (command : Command) (old new : List (Node × D × D)) (result : Result Done AllocError)
-    → task world command ≡ what → OnErr result (OneOf (actor what) (UnchangedSo state) old new) → OnErr result (OneOf (touched_node world command) (UnchangedSo state) old new)
-undone_there state world what command old new (Ok done) is undone = tt
-undone_there state world what command old new (Err why) is undone = subst (λ n. OneOf n (UnchangedSo state) old new) (sym (ap actor is)) undone
+-- memory ran out
+pub own_undone : {D : Type 0} (state : D → State) (world : World) (number : ℕ) (command : Command) (old new : List (Node × D × D)) (result : Result Done AllocError)
+    → task world command ≡ acts number → OnErr result (OneOf number (UnchangedSo state (DisksLeft command)) old new)
+    → OnErr result (AtTouched (task world command) None old new (λ n. OneOf n (UnchangedSo state (DisksLeft command)) old new))
+own_undone state world number command old new (Ok done) is undone = tt
+own_undone state world number command old new (Err why) is undone =
+    subst (λ t. AtTouched t None old new (λ n. OneOf n (UnchangedSo state (DisksLeft command)) old new)) (sym is) undone
+
+pub taken_undone : {D : Type 0} (state : D → State) (world : World) (message : Message) (command : Command) (old new : List (Node × D × D)) (result : Result Done AllocError)
+    → task world command ≡ takes message → is_here command ≡ false → OnErr result (OneOf message.to (UnchangedSo state AreSame) old new)
+    → OnErr result (AtTouched (task world command) None old new (λ n. OneOf n (UnchangedSo state (DisksLeft command)) old new))
+taken_undone state world message command old new (Ok done) is none undone = tt
+taken_undone state world message command old new (Err why) is none undone =
+    subst (λ t. AtTouched t None old new (λ n. OneOf n (UnchangedSo state (DisksLeft command)) old new)) (sym is)
+    (undelivered state message.to command old new none undone)
+
+-- the nodes are as they were
+pub nodes_still : {D : Type 0} (state : D → State) (Disks : State → State → State → State → Type 0) (what : Task) (nodes new : List (Node × D × D))
+    → AtTouched what None nodes new (λ n. OneOf n (UnchangedSo state Disks) nodes new) → nodes_in new ≡ nodes_in nodes
+nodes_still state Disks (acts number) nodes new one = ap nodes_in one.list ∙ same_nodes nodes number one.before one.after one.there one.so.node
+nodes_still state Disks (takes message) nodes new one = ap nodes_in one.list ∙ same_nodes nodes message.to one.before one.after one.there one.so.node
+nodes_still state Disks nothing nodes new (none, same) = ap nodes_in same

@@ -1,5 +1,5 @@
 -- The disks of nodes, two for each, in order of number.
-use Rattle.std.proofs.Common.{◌≡◌, ◌∙◌, ◌<◌, ◌+◌, ◌*◌, inl, inr, ap, sym, subst, refl, arith, ℕ, zero, suc, false, Option, Some, Result, Ok, Err, length, List, [], ◌∷◌, ◌++◌, slice_get, slice_set, slice_index_or}
+use Rattle.std.proofs.Common.{◌≡◌, ◌∙◌, ◌<◌, ◌+◌, ◌*◌, inl, inr, ap, sym, subst, refl, arith, ℕ, zero, suc, false, Option, None, Some, Result, Ok, Err, length, List, [], ◌∷◌, ◌++◌, slice_get, slice_set, slice_index_or}
 use Rattle.std.specs.Prelude.{IfOk, OnErr, IsSome}
 use Rattle.std.specs.declared.alloc.AllocError.{AllocError}
 use Rattle.std.proofs.lemmas.Option.{slice_get-get_or, same_Some}
@@ -12,10 +12,10 @@ use Rattle.set_model.specs.declared.reply.Reply.{Reply}
 use Rattle.set_model.specs.declared.command.Event.{Event}
 use Rattle.set_model.specs.Node.{Node}
 use Rattle.set_model.specs.Run.{Sizes, run}
-use Rattle.set_model.specs.World.{World, Task, acts, takes, nothing, step, task, touched_node}
+use Rattle.set_model.specs.World.{World, Task, acts, takes, nothing, step, task}
 use Rattle.repl_msg.specs.declared.message.Message.{Message}
 use Rattle.node_core.specs.declared.done.Done.{Done}
-use Rattle.node_core.specs.Acting.{DisksActed, Runs, is_here, orders_after}
+use Rattle.node_core.specs.Acting.{AreSame, DisksActed, DisksLeft, Runs, is_here, orders_after}
 use Rattle.set_world.specs.Acting.{OneOf, DisksSo, ActedSo, TookSo, UnchangedSo, StandsOn, NodesStand}
 use Rattle.set_world.specs.Disks.{OneChanged, AtTouched, IsStep, IsUndone, StandsThere, AllStand}
 use Rattle.set_world.specs.World.{Set, disks_in, nodes_in, event_of}
@@ -66,6 +66,13 @@ all_touched state Changed (acts number) failed old new idle one = one_changed st
 all_touched state Changed (takes message) failed old new idle one = one_changed state Changed message.to old new idle one
 all_touched state Changed nothing failed old new idle (none, same) = (none, ap (λ l. disks_in l ++ idle) same)
 
+-- the same of what is known of it there
+pub touched_so : {A : Type 0} (what : Task) (failed : Option ℕ) (old new : List A) (At Other : ℕ → Type 0) → ((number : ℕ) → At number → Other number) → AtTouched what failed old new At
+    → AtTouched what failed old new Other
+touched_so (acts number) failed old new At Other then one = then number one
+touched_so (takes message) failed old new At Other then one = then message.to one
+touched_so nothing failed old new At Other then none = none
+
 -- ---- one of a list
 
 pub one_of : {A : Type 0} (So : A → A → Type 0) (list : List A) (k : ℕ) (d after : A) → k < length list → So (slice_index_or list k d) after → OneOf k So list (slice_set list k after)
@@ -105,14 +112,15 @@ still_stand state So number old new stands one each n node there =
     set_each (StandsOn state) old number one.after each (stands one.before one.after one.so) n node (ap (λ l. slice_get l n) (sym one.list) ∙ there)
 
 pub stand_acted : {D : Type 0} (state : D → State) (number size next : ℕ) (command : Command) (old new : List (Node × D × D)) (result : Result Done AllocError)
-    → IfOk result (λ done. OneOf number (ActedSo state size next command done) old new) → OnErr result (OneOf number (UnchangedSo state) old new) → NodesStand state old → NodesStand state new
+    → IfOk result (λ done. OneOf number (ActedSo state size next command done) old new) → OnErr result (OneOf number (UnchangedSo state (DisksLeft command)) old new) → NodesStand state old
+    → NodesStand state new
 stand_acted state number size next command old new (Ok done) ok err = still_stand state (ActedSo state size next command done) number old new (λ before after so. so.stands) ok
-stand_acted state number size next command old new (Err why) ok err = still_stand state (UnchangedSo state) number old new (λ before after so. so.stands) err
+stand_acted state number size next command old new (Err why) ok err = still_stand state (UnchangedSo state (DisksLeft command)) number old new (λ before after so. so.stands) err
 
 pub stand_took : {D : Type 0} (state : D → State) (number next : ℕ) (message : Message) (old new : List (Node × D × D)) (result : Result Done AllocError)
-    → IfOk result (λ done. OneOf number (TookSo state next message done) old new) → OnErr result (OneOf number (UnchangedSo state) old new) → NodesStand state old → NodesStand state new
+    → IfOk result (λ done. OneOf number (TookSo state next message done) old new) → OnErr result (OneOf number (UnchangedSo state AreSame) old new) → NodesStand state old → NodesStand state new
 stand_took state number next message old new (Ok done) ok err = still_stand state (TookSo state next message done) number old new (λ before after so. so.stands) ok
-stand_took state number next message old new (Err why) ok err = still_stand state (UnchangedSo state) number old new (λ before after so. so.stands) err
+stand_took state number next message old new (Err why) ok err = still_stand state (UnchangedSo state AreSame) number old new (λ before after so. so.stands) err
 
 -- the node of a number, among those with their disks
 found : {D : Type 0} (nodes : List (Node × D × D)) (k : ℕ) (node : Node) → slice_get (nodes_in nodes) k ≡ Some node → (item : Node × D × D) × (slice_get nodes k ≡ Some item) × (item.0 ≡ node)
@@ -153,6 +161,21 @@ delivered_disks command reply Fault j j' c c' none runs = record {
   checkpoints_orders = runs.checkpoints_orders ∙ sym (checkpoint_quiet command reply c.orders none);
 }
 
+left_delivered : (command : Command) (j j' c c' : State) → is_here command ≡ false → AreSame j j' c c' → DisksLeft command j j' c c'
+left_delivered (commands.Deliver message) j j' c c' none same = same
+left_delivered (commands.DeliverLatest from to) j j' c c' none same = same
+left_delivered command j j' c c' none same = absurd (cc none)
+
+pub undelivered : {D : Type 0} (state : D → State) (number : ℕ) (command : Command) (old new : List (Node × D × D)) → is_here command ≡ false → OneOf number (UnchangedSo state AreSame) old new
+    → OneOf number (UnchangedSo state (DisksLeft command)) old new
+undelivered state number command old new none one =
+    changed_so (UnchangedSo state AreSame) (UnchangedSo state (DisksLeft command)) number old new
+    (λ before after so. record {
+      node = so.node;
+      stands = so.stands;
+      disks = left_delivered command (state before.1) (state after.1) (state before.2) (state after.2) none so.disks;
+    }) one
+
 pub disks_of_acted : {D : Type 0} (state : D → State) (number size next : ℕ) (command : Command) (old new : List (Node × D × D)) (done : Done) → OneOf number (ActedSo state size next command done) old new
     → OneOf number (DisksSo state (DisksActed command done.reply (IsSome done.failed))) old new
 disks_of_acted state number size next command old new done one =
@@ -168,11 +191,14 @@ disks_of_took state number next message command old new done none one =
 
 module _ {D : Type 0} (state : D → State) (sizes : Sizes) (history : List Event) (items new : List (Node × D × D)) (idle : List D) (messages : List Message) (command : Command)
     (is : (run sizes history).world ≡ record { nodes = nodes_in items; messages = messages }) where
-  -- at the node that the command touches
-  touched : (Changed : State → State → State → State → Type 0) → OneOf (touched_node (record { nodes = nodes_in items; messages = messages }) command) (DisksSo state Changed) items new
-      → OneChanged state Changed (touched_node (run sizes history).world command) (disks_in items ++ idle) (disks_in new ++ idle)
-  touched Changed one = one_changed state Changed (touched_node (run sizes history).world command) items new idle
-      (subst (λ w. OneOf (touched_node w command) (DisksSo state Changed) items new) (sym is) one)
+  -- by the node that the command touches
+  touched : (failed : Option ℕ) (Changed : State → State → State → State → Type 0)
+      → AtTouched (task (record { nodes = nodes_in items; messages = messages }) command) failed items new (λ n. OneOf n (DisksSo state Changed) items new)
+      → AtTouched (task (run sizes history).world command) failed (disks_in items ++ idle) (disks_in new ++ idle)
+      (λ n. OneChanged state Changed n (disks_in items ++ idle) (disks_in new ++ idle))
+  touched failed Changed changed =
+      subst (λ w. AtTouched (task w command) failed (disks_in items ++ idle) (disks_in new ++ idle) (λ n. OneChanged state Changed n (disks_in items ++ idle) (disks_in new ++ idle))) (sym is)
+      (all_touched state Changed (task (record { nodes = nodes_in items; messages = messages }) command) failed items new idle changed)
 
   pub is_step : (later : List Event) (line : ℕ) (came : Done) → later ≡ history ++ event_of line command came ∷ [] → came.reply ≡ (step (run sizes history).world (event_of line command came)).reply
       → AtTouched (task (record { nodes = nodes_in items; messages = messages }) command) came.failed items new (λ n. OneOf n (DisksSo state (DisksActed command came.reply (IsSome came.failed))) items new)
@@ -183,17 +209,18 @@ module _ {D : Type 0} (state : D → State) (sizes : Sizes) (history : List Even
     command_is = refl;
     history = more;
     reply_is = reply;
-    disks = subst (λ w. AtTouched (task w command) came.failed (disks_in items ++ idle) (disks_in new ++ idle)
-        (λ n. OneChanged state (DisksActed command came.reply (IsSome came.failed)) n (disks_in items ++ idle) (disks_in new ++ idle))) (sym is)
-        (all_touched state (DisksActed command came.reply (IsSome came.failed)) (task (record { nodes = nodes_in items; messages = messages }) command) came.failed items new idle changed);
+    disks = touched came.failed (DisksActed command came.reply (IsSome came.failed)) changed;
   }
 
-  pub is_undone : (later : List Event) → later ≡ history → OneOf (touched_node (record { nodes = nodes_in items; messages = messages }) command) (UnchangedSo state) items new
+  pub is_undone : (later : List Event) → later ≡ history
+      → AtTouched (task (record { nodes = nodes_in items; messages = messages }) command) None items new (λ n. OneOf n (UnchangedSo state (DisksLeft command)) items new)
       → IsUndone state (record { sizes = sizes; history = history; disks = disks_in items ++ idle }) (record { sizes = sizes; history = later; disks = disks_in new ++ idle }) command
   is_undone later same one = record {
     history = same;
-    disks = inr (touched (Runs ⊥)
-        (changed_so (UnchangedSo state) (DisksSo state (Runs ⊥)) (touched_node (record { nodes = nodes_in items; messages = messages }) command) items new (λ before after so. so.runs) one));
+    disks = inr (touched None (DisksLeft command)
+        (touched_so (task (record { nodes = nodes_in items; messages = messages }) command) None items new (λ n. OneOf n (UnchangedSo state (DisksLeft command)) items new)
+        (λ n. OneOf n (DisksSo state (DisksLeft command)) items new)
+        (λ n. changed_so (UnchangedSo state (DisksLeft command)) (DisksSo state (DisksLeft command)) n items new (λ before after so. so.disks)) one));
   }
 
 -- ---- the same, of the nodes and the messages as a step finds them
@@ -210,7 +237,8 @@ module _ {D : Type 0} (state : D → State) (sizes : Sizes) (history : List Even
       subst (λ (l : List (Node × D × D)). IsStep state (record { sizes = sizes; history = history; disks = disks_in l ++ idle }) (record { sizes = sizes; history = later; disks = disks_in new ++ idle }) line command came.reply) same
       (is_step state sizes history nodes new idle now command world_is later line came more reply changed)
 
-  pub undone : (later : List Event) → later ≡ history → OneOf (touched_node (record { nodes = nodes_in nodes; messages = now }) command) (UnchangedSo state) nodes new
+  pub undone : (later : List Event) → later ≡ history
+      → AtTouched (task (record { nodes = nodes_in nodes; messages = now }) command) None nodes new (λ n. OneOf n (UnchangedSo state (DisksLeft command)) nodes new)
       → IsUndone state (record { sizes = sizes; history = history; disks = disks_in items ++ idle }) (record { sizes = sizes; history = later; disks = disks_in new ++ idle }) command
   undone later still one =
       subst (λ (l : List (Node × D × D)). IsUndone state (record { sizes = sizes; history = history; disks = disks_in l ++ idle }) (record { sizes = sizes; history = later; disks = disks_in new ++ idle }) command) same

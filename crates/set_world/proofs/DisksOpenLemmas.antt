@@ -36,7 +36,7 @@ get_drop zero m xs = ap (λ k. slice_get xs k) (let same : m ≡ zero + m = omeg
 get_drop (suc n) m [] = refl
 get_drop (suc n) m (x ∷ xs) = get_drop n m xs ∙ ap (λ k. slice_get (x ∷ xs) k) (let same : suc (n + m) ≡ suc n + m = omega arith in same)
 
-get_seam : {D : Type 0} (front tail : List D) (m : ℕ) → slice_get (front ++ tail) (length front + m) ≡ slice_get tail m
+pub get_seam : {D : Type 0} (front tail : List D) (m : ℕ) → slice_get (front ++ tail) (length front + m) ≡ slice_get tail m
 get_seam [] tail m = ap (λ k. slice_get tail k) (let same : zero + m ≡ m = omega arith in same)
 get_seam (x ∷ front) tail m = ap (λ k. slice_get (x ∷ front ++ tail) k) (let same : suc (length front) + m ≡ suc (length front + m) = omega arith in same) ∙ get_seam front tail m
 
@@ -46,7 +46,7 @@ there_too (first ∷ xs) [] place x same at = absurd (omega (arith, same))
 there_too (first ∷ xs) (other ∷ ys) zero x same at = (other, refl)
 there_too (first ∷ xs) (other ∷ ys) (suc place) x same at = there_too xs ys place x (omega (arith, same)) at
 
-disks_long : {D : Type 0} (nodes : List (Node × D × D)) → length (disks_in nodes) ≡ 2 * length nodes
+pub disks_long : {D : Type 0} (nodes : List (Node × D × D)) → length (disks_in nodes) ≡ 2 * length nodes
 disks_long [] = refl
 disks_long (node ∷ nodes) = let rest : length (disks_in nodes) ≡ 2 * length nodes = disks_long nodes in omega (arith, rest)
 
@@ -159,8 +159,8 @@ opens_more {D} state number old nodes later node disks rest so_far many two is =
 
 -- a node couldn't be opened
 pub opens_refused : {D : Type 0} (state : D → State) (number nodes : ℕ) (Fault : Type 0) (old : List D) (so_many : List (Node × D × D)) (disks back given : List D) → Opens state number ⊥ old (disks_in so_many ++ disks)
-    → length so_many ≡ number → number < nodes → TwoBack state Fault disks back → given ≡ disks_in so_many ++ back → Opens state nodes Fault old given
-opens_refused {D} state number nodes Fault old so_many disks back given so_far many more two is =
+    → length so_many ≡ number → number < nodes → (node : Node) → TwoBack state node Fault disks back → given ≡ disks_in so_many ++ back → Opens state nodes Fault old given
+opens_refused {D} state number nodes Fault old so_many disks back given so_far many more node two is =
     subst (λ (l : List D). Opens state nodes Fault old l) (sym (is ∙ ap (λ l. disks_in so_many ++ l) two.back))
     (opens_wide state (number + 1) nodes Fault old (disks_in so_many ++ two.journal' ∷ two.checkpoints' ∷ two.rest) (omega (arith, more))
     (opens_next state number Fault old so_many disks two.journal' two.checkpoints' two.rest so_far many two.two))

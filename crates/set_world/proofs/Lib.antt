@@ -1,4 +1,5 @@
 pub mod ActingLemmas
+mod BeginLemmas
 pub mod DiskLemmas
 pub mod DisksOpenLemmas
 pub mod FaultLemmas

@@ -1,5 +1,5 @@
 -- One event more, and what the laws of every run say of the set as it stands.
-use Rattle.std.proofs.Common.{◌≡◌, ◌∙◌, ◌<◌, ◌≤◌, ◌+◌, ◌*◌, ap, sym, subst, refl, arith, length-append, ℕ, zero, suc, true, Some, length, fold, List, [], ◌∷◌, ◌++◌, slice_get}
+use Rattle.std.proofs.Common.{◌≡◌, ◌∙◌, ◌<◌, ◌≤◌, ◌+◌, ◌*◌, ap, sym, subst, refl, arith, length-append, ℕ, zero, suc, true, None, Some, length, fold, List, [], ◌∷◌, ◌++◌, slice_get}
 use Rattle.std.proofs.Math.Seq.{take-length, take-append_seam}
 use Rattle.std.specs.Prelude.{All, Contains, IfSome, slice_index_or}
 use Rattle.repl_msg.specs.declared.message.Message.{Message}
@@ -8,7 +8,7 @@ use Rattle.set_model.specs.declared.command.Event.{Event}
 use Rattle.set_model.specs.Limits.{Fits, AllFit, IsSoundWrite, write_of, is_for}
 use Rattle.set_model.specs.Node.{Node}
 use Rattle.set_model.specs.Run.{Run, Sizes, opening, after, run, world_at}
-use Rattle.set_model.specs.World.{World, Step, step}
+use Rattle.set_model.specs.World.{World, Step, Task, step}
 use Rattle.set_model.proofs.RunLemmas.{run-append}
 use Rattle.safety_laws.specs.Bounds.{NumbersStaySmall, IsSmallNode, IsSmallMessage}
 use Rattle.safety_laws.specs.Laws.{InEveryRun}
@@ -18,9 +18,11 @@ use Rattle.node_state.specs.Bounds.{IsBounded, IsNumbered}
 use Rattle.set_model.specs.Taking.{CanTake}
 use Rattle.rs_disk.specs.State.{State}
 use Rattle.set_world.specs.Acting.{MayAct, OneOf, UnchangedSo}
+use Rattle.set_world.specs.Disks.{AtTouched}
 use Rattle.set_world.specs.Pool.{Pool, IsBetweenNodes}
 use Rattle.set_world.specs.World.{IsReached, IsStanding, Acts, event_of, nodes_in}
-use Rattle.set_world.proofs.NodesLemmas.{node_at, nodes_long, same_nodes}
+use Rattle.set_world.proofs.ActingLemmas.{nodes_still}
+use Rattle.set_world.proofs.NodesLemmas.{node_at, nodes_long}
 
 -- a run goes on by an event that fits
 AllFit-more : (so_far : Run) (front : List Event) (event : Event) → AllFit so_far.world front → Fits (fold after so_far front).world event → AllFit so_far.world (front ++ event ∷ [])
@@ -221,15 +223,16 @@ pub lent_node : {D : Type 0} (sizes : Sizes) (history : List Event) (items : Lis
     → (number : ℕ) (d : Node × D × D) → number < length items → slice_get (run sizes history).world.nodes number ≡ Some (slice_index_or items number d).0
 lent_node sizes history items pool stands number d within = ap (λ (w : World). slice_get w.nodes number) stands.reached.world ∙ node_at items number d within
 
--- ---- a step for which memory was wanting
+-- ---- a step for which memory ran out
 
-pub stands_still : {D : Type 0} (state : D → State) (sizes : Sizes) (history later : List Event) (items nodes new : List (Node × D × D)) (old pool : Pool) (number : ℕ) → IsStanding sizes history (nodes_in items) old → nodes ≡ items
-    → pool.nodes ≡ old.nodes → pool.messages ≡ old.messages → later ≡ history → OneOf number (UnchangedSo state) nodes new → IsStanding sizes later (nodes_in new) pool
-stands_still state sizes history later items nodes new old pool number stands same size messages still one = record {
+pub stands_still : {D : Type 0} (state : D → State) (Disks : State → State → State → State → Type 0) (sizes : Sizes) (history later : List Event) (items nodes new : List (Node × D × D)) (old pool : Pool) (what : Task)
+    → IsStanding sizes history (nodes_in items) old → nodes ≡ items → pool.nodes ≡ old.nodes → pool.messages ≡ old.messages → later ≡ history
+    → AtTouched what None nodes new (λ n. OneOf n (UnchangedSo state Disks) nodes new) → IsStanding sizes later (nodes_in new) pool
+stands_still state Disks sizes history later items nodes new old pool what stands same size messages still undone = record {
   reached = subst (λ l. IsReached sizes l (nodes_in new) pool.messages) (sym still)
       (subst (λ l. IsReached sizes history l pool.messages) (sym here) (subst (λ l. IsReached sizes history (nodes_in items) l) (sym messages) stands.reached));
   size = size ∙ stands.size;
 }
   where
     here : nodes_in new ≡ nodes_in items
-    here = ap nodes_in one.list ∙ same_nodes nodes number one.before one.after one.there one.so.node ∙ ap nodes_in same
+    here = nodes_still state Disks what nodes new undone ∙ ap nodes_in same

@@ -35,9 +35,10 @@ ActedSo state size next command done old new =
 abbrev pub TookSo : {D : Type 0} → (D → State) → ℕ → Message → Done → Node × D × D → Node × D × D → Type 0
 TookSo state next message done old new = Took (deliver next old.0 message) new.0 (state old.1) (state new.1) (state old.2) (state new.2) done
 
--- a node is as it was
-abbrev pub UnchangedSo : {D : Type 0} → (D → State) → Node × D × D → Node × D × D → Type 0
-UnchangedSo state old new = Unchanged old.0 new.0 (state old.1) (state new.1) (state old.2) (state new.2)
+-- a node is as it was, and its disks are left so
+abbrev pub UnchangedSo : {D : Type 0} → (D → State) → (State → State → State → State → Type 0) → Node × D × D → Node × D × D → Type 0
+UnchangedSo state Disks old new =
+    Unchanged Disks old.0 new.0 (state old.1) (state new.1) (state old.2) (state new.2)
 
 -- on its disks stands what the node is
 abbrev pub StandsOn : {D : Type 0} → (D → State) → Node × D × D → Type 0

@@ -2,13 +2,14 @@
 use Rattle.std.specs.Prelude.{◌≡◌, ◌⊎◌, ◌<◌, ◌≤◌, ◌+◌, ◌*◌, ◌++◌, ◌∷◌, [], ℕ, IsSome, IsTrue, List, Option, None, Some, length, drop, slice_get, slice_set}
 use Rattle.rs_io.specs.Fault.{Rose}
 use Rattle.rs_disk.specs.State.{State}
+use Rattle.member_config.specs.declared.config.Config.{Config}
 use Rattle.set_model.specs.declared.command.Command.{Command}
 use Rattle.set_model.specs.declared.command.Event.{Event}
 use Rattle.set_model.specs.declared.reply.Reply.{Reply}
-use Rattle.set_model.specs.Node.{Node}
+use Rattle.set_model.specs.Node.{Node, opening_node}
 use Rattle.set_model.specs.Run.{run}
-use Rattle.set_model.specs.World.{Task, acts, takes, nothing, step, task, touched_node}
-use Rattle.node_core.specs.Acting.{DisksActed, Runs}
+use Rattle.set_model.specs.World.{Task, World, acts, takes, nothing, step, task}
+use Rattle.node_core.specs.Acting.{DisksActed, DisksLeft, Runs}
 use Rattle.node_core.specs.Stands.{Stands}
 use Rattle.set_world.specs.World.{Set}
 
@@ -59,11 +60,17 @@ pub record IsStep {D : Type 0} (state : D → State) (old new : Set D) (line : �
   pub disks : AtTouched (task (run old.sizes old.history).world command) event.failed old.disks new.disks
       (λ number. OneChanged state (DisksActed command reply (IsSome event.failed)) number old.disks new.disks)
 
--- Nothing was done. Where memory ran out, the disks of the node that would have been touched may have been used: no orders
--- were given to them.
+-- A command that wasn't done used at most the disks of the node that it would have touched, and leaves them as
+-- such a command does.
+abbrev pub DisksUndone : {D : Type 0} → (D → State) → World → Command → List D → List D → Type 0
+DisksUndone state world command old new =
+    (new ≡ old)
+    ⊎ AtTouched (task world command) None old new (λ number. OneChanged state (DisksLeft command) number old new)
+
+-- Nothing was done: memory ran out, or the history is full.
 pub record IsUndone {D : Type 0} (state : D → State) (old new : Set D) (command : Command) : Type 0 where
   pub history : new.history ≡ old.history
-  pub disks : (new.disks ≡ old.disks) ⊎ OneChanged state (Runs ⊥) (touched_node (run old.sizes old.history).world command) old.disks new.disks
+  pub disks : DisksUndone state (run old.sizes old.history).world command old.disks new.disks
 
 -- ---- two disks on which a node is opened
 
@@ -74,13 +81,14 @@ pub record TwoRun {D : Type 0} (state : D → State) (Fault : Type 0) (old : Lis
   pub first : old ≡ journal ∷ checkpoints ∷ rest
   pub runs : Runs Fault (state journal) (state journal') (state checkpoints) (state checkpoints')
 
--- they stand in their places again
-pub record TwoBack {D : Type 0} (state : D → State) (Fault : Type 0) (old new : List D) : Type 0 where
+-- They stand in their places again, and on them stands this node.
+pub record TwoBack {D : Type 0} (state : D → State) (node : Node) (Fault : Type 0) (old new : List D) : Type 0 where
   pub journal' : D
   pub checkpoints' : D
   pub rest : List D
   pub back : new ≡ journal' ∷ checkpoints' ∷ rest
   pub two : TwoRun state Fault old journal' checkpoints' rest
+  pub stands : Stands node (state journal') (state checkpoints')
 
 -- ---- the opening of a set
 
@@ -90,6 +98,11 @@ pub record IsServed (old new : State) : Type 0 where
   pub steady : IsTrue old.is_steady → IsTrue new.is_steady
   pub armed : IsTrue new.is_armed → IsTrue old.is_armed
   pub orders : new.orders ≡ old.orders
+
+-- on the disks of each of so many nodes stands what it is as a set with this configuration begins
+abbrev pub AllBegin : {D : Type 0} → (D → State) → Config → ℕ → List D → Type 0
+AllBegin state config count disks =
+    (number : ℕ) → number < count → StandsThere state number (opening_node config number) disks
 
 -- the count of one of the first disks rose
 abbrev pub OneRose : {D : Type 0} → (D → State) → ℕ → List D → List D → Type 0

@@ -17,6 +17,10 @@ pub record Set (D : Type 0) : Type 0 where
   -- those of the nodes, each its journal and then its checkpoints, and then those without a node
   pub disks : List D
 
+-- a set as it begins, on these disks
+abbrev pub opening_set : {D : Type 0} → Sizes → List D → Set D
+opening_set sizes disks = record { sizes = sizes; history = []; disks = disks }
+
 abbrev pub nodes_in : {D : Type 0} → List (Node × D × D) → List Node
 nodes_in nodes = map (λ node. node.0) nodes
 

@@ -1,10 +1,10 @@
-ghost use Rattle.std.specs.Prelude.{◌≡◌, ◌<◌, ◌^◌, ℕ, [], true, false, length, IfOk, IsSome, OnErr, Some, slice_get};
+ghost use Rattle.std.specs.Prelude.{◌≡◌, ◌<◌, ◌^◌, ℕ, [], true, false, length, IfOk, IsSome, OnErr, None, Some, slice_get};
 ghost use Rattle.set_model.specs.Limits.{is_for, is_within};
 ghost use Rattle.set_model.specs.Node.{Node as Standing};
 ghost use Rattle.set_model.specs.Taking.{CanTake};
-ghost use Rattle.set_model.specs.World.{task, touched_node};
+ghost use Rattle.set_model.specs.World.{task};
 ghost use Rattle.node_state.specs.Bounds.{IsBounded, IsNumbered};
-ghost use Rattle.node_core.specs.Acting.{DisksActed, is_here};
+ghost use Rattle.node_core.specs.Acting.{AreSame, DisksActed, DisksLeft, is_here};
 ghost use Rattle.set_world.specs.Acting.{ActedSo, DisksSo, MayAct, NodesStand, OneOf, TookSo, UnchangedSo};
 ghost use Rattle.set_world.specs.Disks.{AtTouched};
 ghost use Rattle.set_world.specs.World.{Acts, nodes_in};
@@ -32,7 +32,9 @@ pub(crate) fn act<D: Disk, R: Threads + Sync>(
     requires command { is_for pool.now.nodes command.now ≡ true }
     ensures ok { IfOk result (λ done. Acts (record { nodes = nodes_in nodes.old; messages = pool.now.messages }) command.now (nodes_in nodes.new) done) }
     ensures disks { IfOk result (λ done. AtTouched (task (record { nodes = nodes_in nodes.old; messages = pool.now.messages }) command.now) done.failed nodes.old nodes.new (λ number. OneOf number (DisksSo D.state (DisksActed command.now done.reply (IsSome done.failed))) nodes.old nodes.new)) }
-    ensures err { OnErr result (OneOf (touched_node (record { nodes = nodes_in nodes.old; messages = pool.now.messages }) command.now) (UnchangedSo D.state) nodes.old nodes.new) }
+    ensures err { OnErr result (AtTouched
+        (task (record { nodes = nodes_in nodes.old; messages = pool.now.messages }) command.now) None nodes.old nodes.new
+        (λ number. OneOf number (UnchangedSo D.state (DisksLeft command.now)) nodes.old nodes.new)) }
     ensures stand { NodesStand D.state nodes.old → NodesStand D.state nodes.new }
     ensures len { length nodes.new ≡ length nodes.old }
 {
@@ -61,7 +63,7 @@ fn act_on<D: Disk, R: Threads + Sync>(
     requires here { is_here command.now ≡ true }
     requires within { is_within command.now ≡ true }
     ensures ok { IfOk result (λ done. OneOf number (ActedSo D.state (length nodes.old) next command.now done) nodes.old nodes.new) }
-    ensures err { OnErr result (OneOf number (UnchangedSo D.state) nodes.old nodes.new) }
+    ensures err { OnErr result (OneOf number (UnchangedSo D.state (DisksLeft command.now)) nodes.old nodes.new) }
     ensures len { length nodes.new ≡ length nodes.old }
 {
     let size = nodes.len() as u32;
@@ -81,7 +83,7 @@ fn take_at<D: Disk, R: Threads + Sync>(
     requires message { (node : Standing) → slice_get (nodes_in nodes.old) message.now.to ≡ Some node → node.up ≡ true → CanTake node message.now }
     ensures ok { IfOk result (λ done. OneOf message.now.to (TookSo D.state next message.now done) nodes.old nodes.new) }
     ensures unkept { IfOk result (λ done. done.kept ≡ false) }
-    ensures err { OnErr result (OneOf message.now.to (UnchangedSo D.state) nodes.old nodes.new) }
+    ensures err { OnErr result (OneOf message.now.to (UnchangedSo D.state AreSame) nodes.old nodes.new) }
     ensures len { length nodes.new ≡ length nodes.old }
 {
     nodes[message.to as usize].take(rt, next, message)

@@ -4,7 +4,7 @@ ghost use Rattle.set_model.specs.Limits.{IsRun, is_for};
 ghost use Rattle.set_model.specs.Run.{AreSizes, run};
 ghost use Rattle.set_world.specs.declared.error.StepError.{StepError as AStepError};
 ghost use Rattle.set_world.specs.Disks.{AllStand, IsStep, IsUndone, Opens};
-ghost use Rattle.set_world.specs.World.{nodes_in};
+ghost use Rattle.set_world.specs.World.{nodes_in, opening_set};
 ghost use Rattle.record_file.specs.declared.error.FileError.TheVariants.{Disk};
 
 use crate::StepError;
@@ -64,8 +64,8 @@ impl<D: Disk> World<D> {
     /// each on the next two disks: its journal, and then its checkpoints.
     ///
     /// # Errors
-    /// `Disk` where a disk of one of the nodes failed, and `Memory` where memory was wanting. Either hands back the disks, each
-    /// in its place, as the nodes that were opened by then have left them.
+    /// `Disk` where a disk of one of the nodes failed, and `Memory` where memory ran out. Either hands back the
+    /// disks, each in its place, and on them still stand the nodes as the set begins.
     #[tactic(auto, using(crate::proofs::OpenLemmas::begins))]
     pub fn open(
         alloc: Global,
@@ -80,6 +80,8 @@ impl<D: Disk> World<D> {
         ensures history { IfOk result (λ world. world.history ≡ []) }
         ensures opened { IfOk result (λ world. Opens D.state nodes ⊥ disks.items world.disks) }
         ensures refused { IfErr result (λ refused. Opens D.state nodes (refused.1 ≡ Disk) disks.items refused.0.items) }
+        ensures handed_back { IfErr result (λ refused. AllStand D.state
+            (opening_set (record { nodes = nodes; members = members }) refused.0.items)) }
     {
         configs_are_lawful();
         let pool = match Pool::new(alloc, nodes) {
@@ -109,8 +111,9 @@ impl<D: Disk> World<D> {
     /// which one did.
     ///
     /// # Errors
-    /// `HistoryFull` where the history has 4,294,967,295 events: nothing is done. `Memory` where memory was wanting: the nodes,
-    /// the messages and the history are as they were, and the disks of the node that would have acted may have been used.
+    /// `HistoryFull` where the history has 4,294,967,295 events: nothing is done. `Memory` where memory ran out: the
+    /// nodes, the messages, the history and the disks' files are as they were. Only a restart may have opened its
+    /// node's disks anew.
     pub fn step<R: Threads + Sync>(
         &mut self,
         rt: &R,
@@ -124,7 +127,7 @@ impl<D: Disk> World<D> {
         ensures err { OnErr result (IsUndone D.state self.old self.new command.now) }
         ensures sizes { self.new.sizes ≡ self.old.sizes }
     {
-        // Before the copy, for which memory may be wanting.
+        // Before the copy, for which memory may run out.
         if self.history.len() >= MOST_EVENTS {
             return Err(StepError::HistoryFull);
         }

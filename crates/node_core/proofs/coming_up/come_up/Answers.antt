@@ -1,9 +1,13 @@
-use Rattle.std.proofs.Common.{◌∙◌, ap, inr, sym, subst, ℕ, Ok, Err}
+use Rattle.std.proofs.Common.{◌∙◌, ap, inr, sym, subst, ℕ, Bool, Ok, Err}
 use Rattle.std.specs.Prelude.{OnErr, Result}
+use Rattle.set_model.specs.Disk.{recovered, settled_doubt}
+use Rattle.set_model.specs.Node.{Node}
+use Rattle.set_model.specs.Stores.{storing}
+use Rattle.node_core.specs.Acting.{Follows}
 use Rattle.node_core.specs.Coming.{IsFound, settled}
-use Rattle.node_core.specs.Down.{down_node, left_in}
+use Rattle.node_core.specs.Down.{down_node, left_in, seen_node}
 use Rattle.node_core.proofs.PuttingLemmas.{runs_then}
-use Rattle.node_core.proofs.ReopeningLemmas.{found_settles, goes_up, lies_on, stands_checkpoints}
+use Rattle.node_core.proofs.ReopeningLemmas.{found_settles, goes_up, lies_on, reopened, stands_checkpoints}
 use Rattle.node_core.proofs.coming_up.come_up.Goals as goal
 
 on_err : {T E : Type 0} (result : Result T E) (P : Type 0) → P → OnErr result P
@@ -31,6 +35,13 @@ returns-in_err-prepared-in-Ok-clause-left g c =
     (g.D.Disk.state c.args.disks.now.checkpoints) (g.D.Disk.state c.open_both.new.disks.checkpoints)
     c.requires.down c.open_both.ensures.count c.requires.lies (c.open_both.ensures.stands node c.requires.lies.stands))
 
+pub returns-in_err-prepared-in-Ok-clause-reopened : goal.returns-in_err-prepared-in-Ok-clause-reopened
+returns-in_err-prepared-in-Ok-clause-reopened g c =
+    on_err c.from_residual.result _
+    (reopened (g.D.Disk.state c.args.disks.now.journal.0) (g.D.Disk.state c.open_both.new.disks.journal.0)
+    (g.D.Disk.state c.args.disks.now.checkpoints) (g.D.Disk.state c.open_both.new.disks.checkpoints)
+    c.in-Ok.ensures.runs c.open_both.ensures.journal c.open_both.ensures.checkpoints)
+
 pub go_up-requires-clause-well : goal.go_up-requires-clause-well
 go_up-requires-clause-well g c =
     let node = down_node c.args.state.now.node (left_in c.args.left.now) in
@@ -51,6 +62,14 @@ go_up-requires-clause-rests g c =
     c.requires.lies c.in-Ok.ensures.read (c.in_ok-prepared-in-Ok.ensures.left ∙ ap (λ (n : ℕ). settled node n c.in-Ok.found) c.open_both.ensures.count)
     c.in_ok-prepared-in-Ok.ensures.prepared.count).1
 
+pub returns-in_ok-prepared-in-Ok-clause-follows : goal.returns-in_ok-prepared-in-Ok-clause-follows
+returns-in_ok-prepared-in-Ok-clause-follows g c =
+    let node = down_node c.args.state.now.node (left_in c.args.left.now) in
+    let prepared = c.in_ok-prepared-in-Ok in
+    subst (λ (n : Node). Follows (storing node (recovered n)) (seen_node c.go_up.new.up c.go_up.new.state.node (left_in c.go_up.new.left)) c.go_up.result)
+    (prepared.ensures.left ∙ ap (λ (b : Bool). settled_doubt node c.args.left.now.doubt b) (sym (c.go_up.ensures.kept ∙ prepared.ensures.kept)))
+    (c.go_up.ensures.follows node)
+
 pub returns-in_ok-prepared-in-Ok-clause-runs : goal.returns-in_ok-prepared-in-Ok-clause-runs
 returns-in_ok-prepared-in-Ok-clause-runs g c =
     runs_then (g.D.Disk.state c.args.disks.now.journal.0) (g.D.Disk.state c.open_both.new.disks.journal.0) (g.D.Disk.state c.go_up.new.disks.journal.0)
@@ -64,6 +83,12 @@ returns-in-Err-Memory-clause-left g c =
     (g.D.Disk.state c.args.disks.now.journal.0) (g.D.Disk.state c.open_both.new.disks.journal.0)
     (g.D.Disk.state c.args.disks.now.checkpoints) (g.D.Disk.state c.open_both.new.disks.checkpoints)
     c.requires.down c.open_both.ensures.count c.requires.lies (c.open_both.ensures.stands node c.requires.lies.stands)
+
+pub returns-in-Err-Memory-clause-reopened : goal.returns-in-Err-Memory-clause-reopened
+returns-in-Err-Memory-clause-reopened g c =
+    reopened (g.D.Disk.state c.args.disks.now.journal.0) (g.D.Disk.state c.open_both.new.disks.journal.0)
+    (g.D.Disk.state c.args.disks.now.checkpoints) (g.D.Disk.state c.open_both.new.disks.checkpoints)
+    c.in-Err-Memory.ensures.runs c.open_both.ensures.journal c.open_both.ensures.checkpoints
 
 pub returns-in-Err-Disk-clause-rests : goal.returns-in-Err-Disk-clause-rests
 returns-in-Err-Disk-clause-rests g c =

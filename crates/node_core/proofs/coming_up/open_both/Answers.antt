@@ -1,9 +1,12 @@
-use Rattle.std.proofs.Common.{◌≡◌, Ok, Err, rules}
+use Rattle.std.proofs.Common.{◌≡◌, ◌∙◌, ap, inr, refl, Ok, Err, rules}
+use Rattle.std.proofs.lemmas.Result.{err_from_is_err_and}
 use Rattle.std.specs.Prelude.{Result}
 use Rattle.record_file.specs.declared.error.FileError.{FileError}
 use Rattle.record_file.specs.declared.error.FileError.TheVariants.{Disk, Memory}
+use Rattle.node_journal.specs.Files.{IsOneOf as IsOneJournal}
 use Rattle.node_core.specs.declared.coming_up.Found.{Found}
-use Rattle.node_core.proofs.ReopeningLemmas.{read_both, runs_opened, stands_both, stands_opened, stands_reserved}
+use Rattle.node_core.proofs.PuttingLemmas.{runs_checkpoints, runs_journal, runs_then}
+use Rattle.node_core.proofs.ReopeningLemmas.{read_both, runs_opened, stands_both, stands_opened, stands_reserved, then_reserved, unopened}
 use Rattle.node_core.proofs.coming_up.open_both.Goals as goal
 
 no_fault : {T : Type 0} (result : Result T FileError) → result ≡ Err Memory → result ≡ Err Disk → ⊥
@@ -16,14 +19,35 @@ read_so found = Ok found
 found_not : (found : Found) → read_so found ≡ Err Disk → ⊥
 found_not found is = cc is
 
+-- the same fault is told on
+abbrev failed_so : {T : Type 0} → FileError → Result T FileError
+failed_so error = Err error
+
+told_on : {S T : Type 0} (result : Result S FileError) (error : FileError) → result ≡ Err error → result ≡ Err Disk → failed_so {T = T} error ≡ Err Disk
+told_on result Disk is fault = refl
+told_on result Memory is fault = absurd (no_fault result is fault)
+
 pub returns-in_err-kept-clause-stands : goal.returns-in_err-kept-clause-stands
 returns-in_err-kept-clause-stands g c = λ node stands.
     stands_opened node (g.D.Disk.state c.args.disks.now.journal.0) (g.D.Disk.state c.reopen.new.self.0) (g.D.Disk.state c.args.disks.now.checkpoints) stands c.reopen.ensures.any_moment
+
+pub returns-in_err-kept-clause-checkpoints : goal.returns-in_err-kept-clause-checkpoints
+returns-in_err-kept-clause-checkpoints g c = unopened (g.D.Disk.state c.args.disks.now.checkpoints) c.requires.checkpoints
 
 pub returns-in_err-stable-clause-stands : goal.returns-in_err-stable-clause-stands
 returns-in_err-stable-clause-stands g c = λ node stands.
     stands_both node (g.D.Disk.state c.args.disks.now.journal.0) (g.D.Disk.state c.reopen.new.self.0) (g.D.Disk.state c.args.disks.now.checkpoints) (g.D.Disk.state c.reopen-2.new.self)
     c.reopen.ensures.any_moment c.reopen-2.ensures.any_moment stands
+
+pub returns-in_err-stable-clause-runs : goal.returns-in_err-stable-clause-runs
+returns-in_err-stable-clause-runs g c =
+    let p = err_from_is_err_and c.from_residual-in_err-stable.result c.from_residual-in_err-stable.ensures.1 in
+    let j = g.D.Disk.state c.args.disks.now.journal.0 in
+    let k = g.D.Disk.state c.args.disks.now.checkpoints in
+    runs_then j (g.D.Disk.state c.reopen.new.self.0) (g.D.Disk.state c.reopen.new.self.0) k k (g.D.Disk.state c.reopen-2.new.self)
+    (λ fault. inr (told_on c.from_residual-in_err-stable.result c.in_err-stable.field-0.0 (p.1 ∙ ap (λ (e : FileError). Err e) p.2) fault))
+    (runs_journal j (g.D.Disk.state c.reopen.new.self.0) k c.reopen.ensures.keeps)
+    (runs_checkpoints (g.D.Disk.state c.reopen.new.self.0) k (g.D.Disk.state c.reopen-2.new.self) c.in_err-stable.ensures.keeps)
 
 pub returns-in_err-reserve-clause-stands : goal.returns-in_err-reserve-clause-stands
 returns-in_err-reserve-clause-stands g c = λ node stands.
@@ -31,6 +55,11 @@ returns-in_err-reserve-clause-stands g c = λ node stands.
     (stands_both node (g.D.Disk.state c.args.disks.now.journal.0) (g.D.Disk.state c.reopen.new.self.0) (g.D.Disk.state c.args.disks.now.checkpoints) (g.D.Disk.state c.reopen-2.new.self)
     c.reopen.ensures.any_moment c.reopen-2.ensures.any_moment stands)
     c.reserve.ensures.same
+
+pub returns-in_err-reserve-clause-journal : goal.returns-in_err-reserve-clause-journal
+returns-in_err-reserve-clause-journal g c =
+    then_reserved (IsOneJournal (g.D.Disk.state c.args.disks.now.journal.0)) (g.D.Disk.state c.args.disks.now.journal.0) (g.D.Disk.state c.reopen.new.self.0) (g.D.Disk.state c.reserve.new.self.0)
+    c.reopen.ensures.any_moment c.reserve.ensures.same
 
 pub returns-in_err-reserve-clause-runs : goal.returns-in_err-reserve-clause-runs
 returns-in_err-reserve-clause-runs g c =
@@ -52,6 +81,11 @@ returns-clause-stands g c = λ node stands.
     (stands_both node (g.D.Disk.state c.args.disks.now.journal.0) (g.D.Disk.state c.reopen.new.self.0) (g.D.Disk.state c.args.disks.now.checkpoints) (g.D.Disk.state c.reopen-2.new.self)
     c.reopen.ensures.any_moment c.reopen-2.ensures.any_moment stands)
     c.reserve.ensures.same
+
+pub returns-clause-journal : goal.returns-clause-journal
+returns-clause-journal g c =
+    then_reserved (IsOneJournal (g.D.Disk.state c.args.disks.now.journal.0)) (g.D.Disk.state c.args.disks.now.journal.0) (g.D.Disk.state c.reopen.new.self.0) (g.D.Disk.state c.reserve.new.self.0)
+    c.reopen.ensures.any_moment c.reserve.ensures.same
 
 pub returns-clause-runs : goal.returns-clause-runs
 returns-clause-runs g c =

@@ -2,9 +2,9 @@ use Rattle.std.proofs.Common.{◌∙◌, false, subst}
 use Rattle.set_model.specs.Node.{Node}
 use Rattle.set_model.specs.Rows.{row}
 use Rattle.node_core.specs.Resting.{Rests}
-use Rattle.node_core.proofs.CarryLemmas.{err_both, long_only}
+use Rattle.node_core.proofs.CarryLemmas.{err_both, err_on, long_only}
 use Rattle.node_core.proofs.DoesLemmas.{MayPut, row_does, turn_kept}
-use Rattle.node_core.proofs.PuttingLemmas.{rests_same}
+use Rattle.node_core.proofs.PuttingLemmas.{rests_same, same_then}
 use Rattle.node_core.proofs.storing.act_own.Goals as goal
 
 pub carry_out-requires-clause-rests : goal.carry_out-requires-clause-rests
@@ -36,3 +36,10 @@ returns-clause-left g c =
     (λ long left. subst (λ (n : Node). Rests n disks.count (g.D.Disk.state disks.journal.0) (g.D.Disk.state disks.checkpoints))
     (c.start.ensures.quiet (long_only c.args.command.now c.in_ok-turn.turn new plan old.records old.stable c.in_ok-turn.ensures.turn
     (row_does c.args.nodes c.args.next old c.args.command.now c.requires.own) long)) left)
+
+pub returns-clause-unused : goal.returns-clause-unused
+returns-clause-unused g c =
+    err_on c.carry_out.result _ _ c.carry_out.ensures.unused
+    (λ later. same_then (g.D.Disk.state c.args.disks.now.journal.0) (g.D.Disk.state c.reserve.new.self.journal.0) (g.D.Disk.state c.carry_out.new.disks.journal.0)
+    (g.D.Disk.state c.args.disks.now.checkpoints) (g.D.Disk.state c.reserve.new.self.checkpoints) (g.D.Disk.state c.carry_out.new.disks.checkpoints)
+    c.reserve.ensures.same later)

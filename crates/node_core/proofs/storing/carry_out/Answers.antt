@@ -69,3 +69,6 @@ returns-in-Err-Disk-clause-runs g c =
     runs_as (g.D.Disk.state c.args.disks.now.journal.0) (g.D.Disk.state c.put.new.self.journal.0)
     (g.D.Disk.state c.args.disks.now.checkpoints) (g.D.Disk.state c.put.new.self.checkpoints)
     (λ broken. ap (λ (e : FileError). Err e) c.in-Err-Disk.field-0-is) c.in-Err-Disk.ensures.runs
+
+pub returns-in-Err-Memory-clause-unused : goal.returns-in-Err-Memory-clause-unused
+returns-in-Err-Memory-clause-unused g c = c.in-Err-Memory.ensures.memory (ap (λ (e : FileError). Err e) c.in-Err-Memory.field-0-is)

@@ -28,3 +28,10 @@ returns-clause-left g c =
     never_err c.carry_out.result _ _ c.carry_out.ensures.long
     (not_long 1 c.in_ok-turn.turn c.take.new.self.node (deliver c.args.next old c.args.message.now) old.records old.stable c.in_ok-turn.ensures.turn
     (deliver_does c.args.next old c.args.message.now))
+
+pub returns-clause-unused : goal.returns-clause-unused
+returns-clause-unused g c =
+    let old = c.args.state.now.node in
+    never_err c.carry_out.result _ _ c.carry_out.ensures.long
+    (not_long 1 c.in_ok-turn.turn c.take.new.self.node (deliver c.args.next old c.args.message.now) old.records old.stable c.in_ok-turn.ensures.turn
+    (deliver_does c.args.next old c.args.message.now))

@@ -16,7 +16,7 @@ returns-in-Ok-clause-runs g c = (c.play_task-ended.ensures.sizes ∙ c.in-Ok.ens
 
 pub returns-in-Ok-clause-disks : goal.returns-in-Ok-clause-disks
 returns-in-Ok-clause-disks g c =
-    set_leaves g.D.Disk.state c.args.script c.args.disks.items 0 c.in-Ok.world c.play_task-ended.new.world c.play_task-ended.result
+    set_leaves g.D.Disk.state c.args.script c.args.disks.items c.in-Ok.world c.play_task-ended.new.world c.play_task-ended.result
     c.in-Ok.ensures.history c.in-Ok.ensures.sizes c.play_task-ended.ensures.sizes c.in-Ok.ensures.opened c.play_task-ended.ensures.disks
 
 pub returns-in-Err-clause-runs : goal.returns-in-Err-clause-runs
@@ -25,4 +25,4 @@ returns-in-Err-clause-runs g c =
 
 pub returns-in-Err-clause-disks : goal.returns-in-Err-clause-disks
 returns-in-Err-clause-disks g c =
-    refused_leaves g.D.Disk.state c.args.script c.args.disks.items c.in-Err.error c.from.result c.new.result c.in-Err.disks c.from.ensures c.in-Err.ensures.refused
+    refused_leaves g.D.Disk.state c.args.script c.args.disks.items c.in-Err.error c.from.result c.new.result c.in-Err.disks c.from.ensures c.in-Err.ensures.refused c.in-Err.ensures.handed_back

@@ -14,4 +14,4 @@ returns-in_ok-push-in-Ok g c =
 
 pub returns-in-Err-Memory : goal.returns-in-Err-Memory
 returns-in-Err-Memory g c =
-    line_undone g.D.Disk.state c.args.line c.args.command c.args.world.now c.take.new.self c.requires.fits c.in-Err-Memory.ensures.err c.in-Err-Memory.ensures.sizes
+    line_undone g.D.Disk.state c.args.line c.args.command c.args.world.now c.take.new.self c.in-Err-Memory.ensures.err c.in-Err-Memory.ensures.sizes

@@ -1,8 +1,8 @@
 use Rattle.std.proofs.Common.{◌≡◌, refl, false, length}
-use Rattle.set_model.specs.World.{World, acts, takes}
+use Rattle.set_model.specs.World.{World}
 use Rattle.node_core.specs.Acting.{is_here}
 use Rattle.set_world.specs.World.{nodes_in}
-use Rattle.set_world.proofs.ActingLemmas.{acts_nothing, nobody_disks, own_acts, own_disks, taken_acts, taken_disks, undone_there}
+use Rattle.set_world.proofs.ActingLemmas.{acts_nothing, nobody_disks, own_acts, own_disks, own_undone, taken_acts, taken_disks, taken_undone}
 use Rattle.set_world.proofs.DiskLemmas.{stand_acted, stand_took}
 use Rattle.set_world.proofs.acting.act.Goals as goal
 
@@ -26,7 +26,7 @@ returns-in-Some-clause-disks g c =
 pub returns-in-Some-clause-err : goal.returns-in-Some-clause-err
 returns-in-Some-clause-err g c =
     let world : World = record { nodes = nodes_in c.args.nodes.now; messages = c.args.pool.now.messages } in
-    undone_there g.D.Disk.state world (acts c.in-Some.number) c.args.command.now c.args.nodes.now c.act_on.new.nodes c.act_on.result (c.in-Some.ensures.some world) c.act_on.ensures.err
+    own_undone g.D.Disk.state world c.in-Some.number c.args.command.now c.args.nodes.now c.act_on.new.nodes c.act_on.result (c.in-Some.ensures.some world) c.act_on.ensures.err
 
 pub returns-in-Some-clause-stand : goal.returns-in-Some-clause-stand
 returns-in-Some-clause-stand g c =
@@ -50,8 +50,8 @@ pub returns-in-Some-delivered-clause-err : goal.returns-in-Some-delivered-clause
 returns-in-Some-delivered-clause-err g c =
     let world : World = record { nodes = nodes_in c.args.nodes.now; messages = c.args.pool.now.messages } in
     let none : is_here c.args.command.now ≡ false = c.in-None.ensures.own in
-    undone_there g.D.Disk.state world (takes c.in-Some-delivered.message.now) c.args.command.now c.args.nodes.now c.take_at.new.nodes c.take_at.result (c.in-Some-delivered.ensures.some world refl none)
-    c.take_at.ensures.err
+    taken_undone g.D.Disk.state world c.in-Some-delivered.message.now c.args.command.now c.args.nodes.now c.take_at.new.nodes c.take_at.result (c.in-Some-delivered.ensures.some world refl none)
+    none c.take_at.ensures.err
 
 pub returns-in-Some-delivered-clause-stand : goal.returns-in-Some-delivered-clause-stand
 returns-in-Some-delivered-clause-stand g c =

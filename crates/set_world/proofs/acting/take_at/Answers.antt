@@ -1,3 +1,4 @@
+use Rattle.node_core.specs.Acting.{AreSame}
 use Rattle.set_world.specs.Acting.{TookSo, UnchangedSo}
 use Rattle.set_world.proofs.DiskLemmas.{done_at, undone_at}
 use Rattle.set_world.proofs.NodesLemmas.{node_at}
@@ -14,4 +15,4 @@ returns-clause-ok g c =
     done_at (TookSo g.D.Disk.state c.args.next c.args.message.now) c.args.nodes.now c.args.message.now.to c.index-nodes-message.result c.take.new.self c.take.result c.requires.known c.take.ensures.ok
 
 pub returns-clause-err : goal.returns-clause-err
-returns-clause-err g c = undone_at (UnchangedSo g.D.Disk.state) c.args.nodes.now c.args.message.now.to c.index-nodes-message.result c.take.new.self c.take.result c.requires.known c.take.ensures.err
+returns-clause-err g c = undone_at (UnchangedSo g.D.Disk.state AreSame) c.args.nodes.now c.args.message.now.to c.index-nodes-message.result c.take.new.self c.take.result c.requires.known c.take.ensures.err

@@ -1,11 +1,13 @@
 use Rattle.std.proofs.Common.{◌≡◌, ◌∙◌, ◌≤◌, ◌+◌, ◌*◌, ◌++◌, [], List, ap, arith, length, refl, rules, subst, sym, vec_len, vec_capacity}
+use Rattle.std.proofs.lemmas.Result.{err_from_is_err_and}
 use Rattle.record_file.specs.declared.error.FileError.TheVariants.{Disk}
 use Rattle.rs_disk.specs.File.{IsEmpty}
 use Rattle.set_model.specs.World.{nodes_from}
 use Rattle.set_world.specs.World.{disks_in, nodes_in}
-use Rattle.set_model.specs.Node.{Node}
+use Rattle.set_model.specs.Node.{Node, opening_node}
 use Rattle.set_world.specs.Acting.{NodesStand}
 use Rattle.set_world.specs.Disks.{Opens}
+use Rattle.set_world.proofs.BeginLemmas.{all_back, all_empty}
 use Rattle.set_world.proofs.DisksOpenLemmas.{more_stand, none_stand, opens_more, opens_none, opens_refused, opens_wide}
 use Rattle.set_world.proofs.OpenLemmas.{nodes_more, all_behind}
 use Rattle.set_world.proofs.opening.open_nodes.Goals as goal
@@ -52,7 +54,22 @@ pub returns-in-Err-clause-refused : goal.returns-in-Err-clause-refused
 returns-in-Err-clause-refused g c =
     let many : length c.loop-number.nodes.items ≡ vec_len c.loop-number.nodes = search rules in
     opens_refused g.D.Disk.state c.loop-number.number c.args.count (c.in-Err.error ≡ Disk) c.args.disks.now.items c.loop-number.nodes.items c.loop-number.disks.items c.open_next.new.disks.items c.give_back.new.disks.items
-    c.loop-number.invariant.7 (many ∙ c.loop-number.invariant.1) c.loop-number-test.true c.in-Err.ensures.back c.give_back.ensures.items
+    c.loop-number.invariant.7 (many ∙ c.loop-number.invariant.1) c.loop-number-test.true (opening_node c.args.config.now c.loop-number.number) c.in-Err.ensures.back c.give_back.ensures.items
+
+pub returns-in_err-nodes-clause-handed_back : goal.returns-in_err-nodes-clause-handed_back
+returns-in_err-nodes-clause-handed_back g c =
+    let many : length c.args.disks.now.items ≡ vec_len c.args.disks.now = search rules in
+    let p = err_from_is_err_and c.from_residual.result c.from_residual.ensures.1 in
+    rw p.1 (all_empty g.D.Disk.state c.args.config.now c.args.count c.args.disks.now.items c.requires.empty (omega (arith, c.requires.enough, many)))
+
+pub returns-in-Err-clause-handed_back : goal.returns-in-Err-clause-handed_back
+returns-in-Err-clause-handed_back g c =
+    let so_far = c.loop-number.invariant in
+    let many : length c.loop-number.nodes.items ≡ vec_len c.loop-number.nodes = search rules in
+    let long : length c.loop-number.disks.items ≡ vec_len c.loop-number.disks = search rules in
+    let left : vec_len c.loop-number.disks + 2 * c.loop-number.number ≡ vec_len c.args.disks.now = so_far.3 in
+    all_back g.D.Disk.state c.args.config.now c.loop-number.number (c.in-Err.error ≡ Disk) c.loop-number.nodes.items c.loop-number.disks.items c.open_next.new.disks.items
+    so_far.0 (many ∙ so_far.1) so_far.6 c.in-Err.ensures.back so_far.5 c.args.count c.give_back.new.disks.items c.give_back.ensures.items (omega (arith, c.requires.enough, left, long))
 
 pub returns-clause-nodes : goal.returns-clause-nodes
 returns-clause-nodes g c =

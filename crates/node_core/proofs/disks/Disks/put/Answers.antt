@@ -1,8 +1,7 @@
 use Rattle.std.proofs.Common.{sym, subst}
-use Rattle.checkpoint_store.proofs.OnceLemmas.{rest_reserved}
 use Rattle.set_model.specs.declared.store.Store.{Store}
 use Rattle.node_core.specs.Putting.{CanBePut, Puts}
-use Rattle.node_core.proofs.PuttingLemmas.{can_save, checkpoint_put}
+use Rattle.node_core.proofs.PuttingLemmas.{can_save, checkpoint_put, same_checkpoints}
 use Rattle.node_core.proofs.disks.Disks.put.Goals as goal
 
 pub save-requires-clause-can : goal.save-requires-clause-can
@@ -22,4 +21,8 @@ returns-in-Checkpoint-clause-puts g c =
     let can = subst (λ (s : Store). CanBePut n s) c.in-Checkpoint.is c.requires.can in
     subst (λ (s : Store). Puts c.save.result n s c.args.self.now.count j k') (sym c.in-Checkpoint.is)
     (checkpoint_put c.save.result n c.in-Checkpoint.at c.args.self.now.count j k k' c.requires.rests can c.store.result.now c.store.ensures.shown
-    c.save.ensures.ok (λ is stable. rest_reserved _ _ stable (c.save.ensures.memory is)) c.save.ensures.any_moment)
+    c.save.ensures.ok c.save.ensures.memory c.save.ensures.any_moment)
+
+pub returns-in-Checkpoint-clause-memory : goal.returns-in-Checkpoint-clause-memory
+returns-in-Checkpoint-clause-memory g c = λ is.
+    same_checkpoints (g.D.Disk.state c.args.self.now.journal.0) (g.D.Disk.state c.args.self.now.checkpoints) (g.D.Disk.state c.save.new.self) (c.save.ensures.memory is)

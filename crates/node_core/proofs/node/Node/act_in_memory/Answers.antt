@@ -3,7 +3,7 @@ use Rattle.set_model.specs.Rows.{row}
 use Rattle.node_state.specs.Bounds.{is_write}
 use Rattle.node_core.specs.Down.{left_in}
 use Rattle.node_core.proofs.EndingLemmas.{took_ended, unchanged}
-use Rattle.node_core.proofs.PuttingLemmas.{runs_none}
+use Rattle.node_core.proofs.PuttingLemmas.{same_none}
 use Rattle.node_core.proofs.WriteLemmas.{took_write, up_rests, write_rests}
 use Rattle.node_core.proofs.node.Node.act_in_memory.Goals as goal
 
@@ -28,7 +28,7 @@ returns-in_err-reply-clause-err g c =
     let j = g.D.Disk.state s.disks.journal.0 in
     let k = g.D.Disk.state s.disks.checkpoints in
     rw (← c.self.view_is) (unchanged c.from_residual.result s.up s.state.node c.write.new.self.node (left_in s.left) s.disks.count j j k k
-    c.if-not-self.false c.in_err-reply.ensures.err (up_rests s.up s.state.node (left_in s.left) s.disks.count j k c.if-not-self.false c.self.invariant) (runs_none j k))
+    c.if-not-self.false c.in_err-reply.ensures.err (up_rests s.up s.state.node (left_in s.left) s.disks.count j k c.if-not-self.false c.self.invariant) (same_none j k))
 
 pub returns-in_err-ended-clause-err : goal.returns-in_err-ended-clause-err
 returns-in_err-ended-clause-err g c =
@@ -37,7 +37,7 @@ returns-in_err-ended-clause-err g c =
     let e = c.in_err-ended.ensures in
     rw (← c.self.view_is) (unchanged c.from_residual-in_err-ended.result s.up s.state.node c.act_own.new.state.node (left_in s.left) disks.count
     (g.D.Disk.state s.disks.journal.0) (g.D.Disk.state disks.journal.0) (g.D.Disk.state s.disks.checkpoints) (g.D.Disk.state disks.checkpoints)
-    c.if-not-self.false e.same e.left e.runs)
+    c.if-not-self.false e.same e.left e.unused)
 
 pub returns-clause-ok : goal.returns-clause-ok
 returns-clause-ok g c =

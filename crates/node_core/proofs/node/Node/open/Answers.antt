@@ -1,7 +1,9 @@
-use Rattle.std.proofs.Common.{[]}
+use Rattle.std.proofs.Common.{[], subst, sym}
 use Rattle.checkpoint_store.specs.Files.{empty_disk}
-use Rattle.node_core.proofs.ActingLemmas.{rests_stand}
-use Rattle.node_core.proofs.OpeningLemmas.{empty_journal, opens_rested}
+use Rattle.set_model.specs.Node.{opening_node}
+use Rattle.node_core.specs.Stands.{Stands}
+use Rattle.node_core.proofs.OpeningLemmas.{empty_journal, empty_stands, opens_rested}
+use Rattle.node_core.proofs.ReopeningLemmas.{stands_both, stands_opened}
 use Rattle.node_core.proofs.node.Node.open.Goals as goal
 
 pub open-requires-3 : goal.open-requires-3
@@ -15,11 +17,27 @@ invariant_of-result g c =
     (c.in-Ok-open.ensures.at_rest [] (empty_journal (g.D.Disk.state c.args.journal) c.requires.journal)) c.requires.checkpoint
     c.in-Ok-open-2.ensures.stable c.in-Ok-open-2.ensures.at_rest
 
+pub returns-in_default-clause-stands : goal.returns-in_default-clause-stands
+returns-in_default-clause-stands g c =
+    empty_stands c.args.config.now c.args.number (g.D.Disk.state c.args.journal) (g.D.Disk.state c.args.checkpoint) c.requires.journal c.requires.checkpoint
+
+pub returns-in-Err-clause-stands : goal.returns-in-Err-clause-stands
+returns-in-Err-clause-stands g c =
+    stands_opened (opening_node c.args.config.now c.args.number) (g.D.Disk.state c.args.journal) (g.D.Disk.state c.in-Err.journal) (g.D.Disk.state c.args.checkpoint)
+    (empty_stands c.args.config.now c.args.number (g.D.Disk.state c.args.journal) (g.D.Disk.state c.args.checkpoint) c.requires.journal c.requires.checkpoint)
+    c.in-Err.ensures.any_moment
+
+pub returns-in-Err-open-clause-stands : goal.returns-in-Err-open-clause-stands
+returns-in-Err-open-clause-stands g c =
+    let node = opening_node c.args.config.now c.args.number in
+    let k = g.D.Disk.state c.in-Err-open.checkpoint in
+    subst (λ (disk : g.row.D.Denot). Stands node (g.D.Disk.state disk) k) (sym c.close.ensures.disk)
+    (stands_both node (g.D.Disk.state c.args.journal) (g.D.Disk.state c.in-Ok-open.journal.0) (g.D.Disk.state c.args.checkpoint) k
+    c.in-Ok-open.ensures.any_moment c.in-Err-open.ensures.any_moment
+    (empty_stands c.args.config.now c.args.number (g.D.Disk.state c.args.journal) (g.D.Disk.state c.args.checkpoint) c.requires.journal c.requires.checkpoint))
+
 pub returns-clause-stands : goal.returns-clause-stands
 returns-clause-stands g c =
-    let j = g.D.Disk.state c.in-Ok-open.journal.0 in
-    let k = g.D.Disk.state c.in-Ok-open-2.checkpoints in
-    rests_stand c.in-Ok.state.node 0 j k
-    (opens_rested c.args.config.now c.args.number c.in-Ok.state.node j (g.D.Disk.state c.args.checkpoint) k c.in-Ok-open-2.field-0-1 c.in-Ok.ensures
-    (c.in-Ok-open.ensures.at_rest [] (empty_journal (g.D.Disk.state c.args.journal) c.requires.journal)) c.requires.checkpoint
-    c.in-Ok-open-2.ensures.stable c.in-Ok-open-2.ensures.at_rest)
+    stands_both (opening_node c.args.config.now c.args.number) (g.D.Disk.state c.args.journal) (g.D.Disk.state c.in-Ok-open.journal.0) (g.D.Disk.state c.args.checkpoint) (g.D.Disk.state c.in-Ok-open-2.checkpoints)
+    c.in-Ok-open.ensures.any_moment c.in-Ok-open-2.ensures.any_moment
+    (empty_stands c.args.config.now c.args.number (g.D.Disk.state c.args.journal) (g.D.Disk.state c.args.checkpoint) c.requires.journal c.requires.checkpoint)

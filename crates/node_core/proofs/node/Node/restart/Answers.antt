@@ -28,7 +28,7 @@ returns-then-not-self-clause-err g c =
     rw (← c.self.view_is)
     (unchanged_come s.up n.up s.state.node n.state.node (left_in s.left) (left_in n.left) n.disks.count
     (g.D.Disk.state s.disks.journal.0) (g.D.Disk.state n.disks.journal.0) (g.D.Disk.state s.disks.checkpoints) (g.D.Disk.state n.disks.checkpoints) down
-    c.come_up.result c.come_up.ensures.same c.come_up.ensures.left c.come_up.ensures.quiet)
+    c.come_up.result c.come_up.ensures.same c.come_up.ensures.left c.come_up.ensures.reopened)
 
 pub returns-clause-ok : goal.returns-clause-ok
 returns-clause-ok g c =

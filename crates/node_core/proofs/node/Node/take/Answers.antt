@@ -10,7 +10,7 @@ returns-in_err-ended-clause-err g c =
     let e = c.in_err-ended.ensures in
     rw (← c.self.view_is) (unchanged c.from_residual.result s.up s.state.node c.take_in.new.state.node (left_in s.left) disks.count
     (g.D.Disk.state s.disks.journal.0) (g.D.Disk.state disks.journal.0) (g.D.Disk.state s.disks.checkpoints) (g.D.Disk.state disks.checkpoints)
-    c.if-not-self.false e.same e.left e.runs)
+    c.if-not-self.false e.same e.left e.unused)
 
 pub returns-clause-ok : goal.returns-clause-ok
 returns-clause-ok g c =

@@ -1,10 +1,13 @@
-use Rattle.std.proofs.Common.{◌≡◌, ◌∙◌, ◌<◌, ◌≤◌, ◌++◌, ◌∷◌, [], true, ap, sym, subst, rules, arith, length, take, drop}
+use Rattle.std.proofs.Common.{◌≡◌, ◌∙◌, ◌<◌, ◌≤◌, ◌++◌, ◌∷◌, [], true, List, ap, refl, sym, subst, rules, arith, length, take, drop}
+use Rattle.std.proofs.lemmas.Result.{err_from_is_err_and}
 use Rattle.set_model.specs.Limits.{is_for}
-use Rattle.set_model.specs.World.{touched_node}
+use Rattle.set_model.specs.Run.{Sizes}
+use Rattle.set_model.specs.World.{task}
+use Rattle.node_core.specs.Acting.{DisksLeft}
 use Rattle.set_world.specs.Acting.{NodesStand}
 use Rattle.set_world.specs.Disks.{IsStep, IsUndone}
 use Rattle.set_world.specs.World.{Set, disks_in, event_of, nodes_in}
-use Rattle.set_world.proofs.DiskLemmas.{stepped, undone}
+use Rattle.set_world.proofs.DiskLemmas.{stepped, undone, untouched}
 use Rattle.set_world.proofs.NodesLemmas.{whole}
 use Rattle.set_world.proofs.WorldLemmas.{GoesOn, acts_now, goes_on, stands_still}
 use Rattle.set_world.proofs.world.World.take.Goals as goal
@@ -56,12 +59,21 @@ invariant_of-self-in-Err g c =
     let same : take c.self.inside.nodes.len (c.act.new.nodes ++ drop (length c.act.new.nodes) c.self.inside.nodes.items) ≡ c.act.new.nodes =
     whole c.act.new.nodes c.self.inside.nodes.items c.self.inside.nodes.len (c.act.ensures.len ∙ ap length c.deref_mut.ensures.value) long in
     rw same (
-      stands_still g.D.Disk.state (record { nodes = c.self.inside.size; members = c.self.inside.members }) c.self.inside.history.items c.reserve.new.self.items c.self.inside.nodes.items
-          c.deref_mut.result.now c.act.new.nodes c.self.inside.pool c.reserve-2.new.self (touched_node (record { nodes = nodes_in c.deref_mut.result.now; messages = c.reserve-2.new.self.messages }) c.args.command)
+      stands_still g.D.Disk.state (DisksLeft c.args.command) (record { nodes = c.self.inside.size; members = c.self.inside.members }) c.self.inside.history.items c.reserve.new.self.items c.self.inside.nodes.items
+          c.deref_mut.result.now c.act.new.nodes c.self.inside.pool c.reserve-2.new.self (task (record { nodes = nodes_in c.deref_mut.result.now; messages = c.reserve-2.new.self.messages }) c.args.command)
           c.self.invariant.0 c.deref_mut.ensures.value c.reserve-2.ensures.nodes c.reserve-2.ensures.messages c.reserve.ensures.items c.in-Err.ensures.err,
       c.self.invariant.1,
       c.act.ensures.stand (subst (λ l. NodesStand g.D.Disk.state l) (sym c.deref_mut.ensures.value) c.self.invariant.2),
     )
+
+pub returns-in_err-reserve-2-clause-err : goal.returns-in_err-reserve-2-clause-err
+returns-in_err-reserve-2-clause-err g c =
+    let sizes : Sizes = record { nodes = c.self.inside.size; members = c.self.inside.members } in
+    let disks : List g.row.D.Denot = disks_in c.self.inside.nodes.items ++ c.self.inside.idle.items in
+    let now : Set g.row.D.Denot = record { sizes = sizes; history = c.reserve.new.self.items; disks = disks } in
+    let p = err_from_is_err_and c.from_residual-in_err-reserve-2.result c.from_residual-in_err-reserve-2.ensures.1 in
+    rw p.1 (subst (λ (s : Set g.row.D.Denot). IsUndone g.D.Disk.state s now c.args.command) c.self.view_is
+    (untouched g.D.Disk.state (record { sizes = sizes; history = c.self.inside.history.items; disks = disks }) now c.args.command c.reserve.ensures.items refl))
 
 pub returns-in-Err-clause-err : goal.returns-in-Err-clause-err
 returns-in-Err-clause-err g c =

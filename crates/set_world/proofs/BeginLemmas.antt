@@ -1,0 +1,148 @@
+-- On the disks of a set that couldn't be opened stands what its nodes are as it begins.
+use Rattle.std.proofs.Common.{◌≡◌, ◌∙◌, ◌<◌, ◌≤◌, ◌+◌, ◌*◌, ◌-◌, inl, inr, ap, sym, subst, refl, arith, ℕ, zero, suc, Some, length, List, [], ◌∷◌, ◌++◌, slice_get}
+use Rattle.std.specs.Prelude.{All}
+use Rattle.std.proofs.lemmas.Bool.{cases_order}
+use Rattle.std.proofs.lemmas.List.Elements.{All-get_or}
+use Rattle.std.proofs.lemmas.Option.{get_or_from_slice_get, same_Some, slice_get_cases}
+use Rattle.rs_disk.specs.File.{IsEmpty}
+use Rattle.rs_disk.specs.State.{State}
+use Rattle.member_config.specs.declared.config.Config.{Config}
+use Rattle.member_config.specs.Config.{first_config}
+use Rattle.set_model.specs.Node.{Node, opening_node}
+use Rattle.set_model.specs.Run.{Sizes}
+use Rattle.set_model.specs.World.{nodes_from}
+use Rattle.node_core.proofs.OpeningLemmas.{empty_stands}
+use Rattle.set_world.specs.Acting.{NodesStand}
+use Rattle.set_world.specs.Disks.{AllBegin, AllStand, StandsThere, TwoBack}
+use Rattle.set_world.specs.World.{disks_in, nodes_in, opening_set}
+use Rattle.set_world.proofs.DiskLemmas.{checkpoints_of, journal_of}
+use Rattle.set_world.proofs.DisksOpenLemmas.{disks_long, get_seam}
+use Rattle.set_world.proofs.NodesLemmas.{get_in}
+use Rattle.set_world.proofs.OpenLemmas.{all_behind}
+
+-- ---- the nodes of a set as it begins
+
+at_begin : (config : Config) (first count n : ℕ) (node : Node) → slice_get (nodes_from config first count) n ≡ Some node → (n < count) × (node ≡ opening_node config (first + n))
+at_begin config first zero n node there = absurd (cc there)
+at_begin config first (suc count) zero node there =
+    (omega arith, sym (same_Some (opening_node config first) node there) ∙ ap (λ k. opening_node config k) (let same : first ≡ first + 0 = omega arith in same))
+at_begin config first (suc count) (suc n) node there =
+    let rest = at_begin config (first + 1) count n node there in
+    let less : n < count = rest.0 in
+    (omega (arith, less), rest.1 ∙ ap (λ k. opening_node config k) (let same : first + 1 + n ≡ first + suc n = omega arith in same))
+
+pub opening_stands : {D : Type 0} (state : D → State) (sizes : Sizes) (config : Config) (disks : List D) → config ≡ first_config sizes.members → AllBegin state config sizes.nodes disks
+    → AllStand state (opening_set sizes disks)
+opening_stands state sizes config disks is each number node there =
+    let at = at_begin (first_config sizes.members) 0 sizes.nodes number node there in
+    let same : opening_node config number ≡ node =
+    ap (λ c. opening_node c number) is ∙ ap (λ k. opening_node (first_config sizes.members) k) (let plain : number ≡ 0 + number = omega arith in plain) ∙ sym at.1 in
+    subst (λ (n : Node). StandsThere state number n disks) same (each number at.0)
+
+-- ---- disks on which nothing stands
+
+abbrev AreEmpty : {D : Type 0} → (D → State) → List D → Type 0
+AreEmpty {D} state disks = All (λ (disk : D). IsEmpty (state disk).file) disks
+
+empty_at : {D : Type 0} (state : D → State) (disks : List D) → AreEmpty state disks → (place : ℕ) → place < length disks → (d : D) × (slice_get disks place ≡ Some d) × IsEmpty (state d).file
+empty_at {D} state disks empty place within = elim (slice_get_cases disks place).1 [
+  | inl found ↦ (
+    found.0,
+    found.2,
+    subst (λ (d : D). IsEmpty (state d).file) (get_or_from_slice_get disks place found.0 found.0 found.2)
+        (All-get_or (λ (d : D). IsEmpty (state d).file) disks place found.0 within empty),
+  )
+  | inr past ↦ absurd (omega (arith, within, past.0))
+]
+
+begins_on : {D : Type 0} (state : D → State) (config : Config) (number k : ℕ) (disks : List D) → AreEmpty state disks → 2 * k + 1 < length disks → StandsThere state k (opening_node config number) disks
+begins_on state config number k disks empty within =
+    let journal = empty_at state disks empty (2 * k) (omega (arith, within)) in
+    let checkpoints = empty_at state disks empty (2 * k + 1) within in
+    record {
+      journal = journal.0;
+      checkpoints = checkpoints.0;
+      journal_at = journal.1;
+      checkpoints_at = checkpoints.1;
+      stands = empty_stands config number (state journal.0) (state checkpoints.0) journal.2 checkpoints.2;
+    }
+
+-- no node was opened yet
+pub all_empty : {D : Type 0} (state : D → State) (config : Config) (count : ℕ) (disks : List D) → AreEmpty state disks → 2 * count ≤ length disks → AllBegin state config count disks
+all_empty state config count disks empty enough number less = begins_on state config number number disks empty (omega (arith, less, enough))
+
+-- ---- disks of which the first nodes were opened
+
+-- behind the disks of so many nodes
+stands_behind : {D : Type 0} (state : D → State) (front tail : List D) (m k : ℕ) (node : Node) → length front ≡ 2 * m → StandsThere state k node tail → StandsThere state (m + k) node (front ++ tail)
+stands_behind state front tail m k node long stands = record {
+  journal = stands.journal;
+  checkpoints = stands.checkpoints;
+  journal_at = ap (λ n. slice_get (front ++ tail) n) (let same : 2 * (m + k) ≡ length front + 2 * k = omega (arith, long) in same) ∙ get_seam front tail (2 * k) ∙ stands.journal_at;
+  checkpoints_at = ap (λ n. slice_get (front ++ tail) n) (let same : 2 * (m + k) + 1 ≡ length front + (2 * k + 1) = omega (arith, long) in same) ∙ get_seam front tail (2 * k + 1)
+      ∙ stands.checkpoints_at;
+  stands = stands.stands;
+}
+
+module _ {D : Type 0} (state : D → State) (config : Config) (number : ℕ) (Fault : Type 0) (so_many : List (Node × D × D)) (disks back : List D)
+    (nodes_are : nodes_in so_many ≡ nodes_from config 0 number) (many : length so_many ≡ number) (stand : NodesStand state so_many)
+    (two : TwoBack state (opening_node config number) Fault disks back) (empty : AreEmpty state disks) where
+  abbrev whole : List D
+  whole = disks_in so_many ++ back
+
+  long : length (disks_in so_many) ≡ 2 * number
+  long = disks_long so_many ∙ ap (λ n. 2 * n) many
+
+  opened : (n : ℕ) → n < number → StandsThere state n (opening_node config n) whole
+  opened n less = elim (slice_get_cases so_many n).1 [
+    | inl found ↦
+        let at = at_begin config 0 number n found.0.0 (ap (λ l. slice_get l n) (sym nodes_are) ∙ get_in so_many n found.0 found.2) in
+        subst (λ (x : Node). StandsThere state n x whole) (at.1 ∙ ap (λ k. opening_node config k) (let plain : 0 + n ≡ n = omega arith in plain)) (record {
+          journal = found.0.1;
+          checkpoints = found.0.2;
+          journal_at = journal_of so_many back n found.0 found.2;
+          checkpoints_at = checkpoints_of so_many back n found.0 found.2;
+          stands = stand n found.0 found.2;
+        })
+    | inr past ↦ absurd (omega (arith, less, many, past.0))
+  ]
+
+  -- the one that couldn't be opened
+  failed : StandsThere state number (opening_node config number) whole
+  failed =
+      subst (λ n. StandsThere state n (opening_node config number) whole) (let plain : number + 0 ≡ number = omega arith in plain)
+      (stands_behind state (disks_in so_many) back number 0 (opening_node config number) long
+      (subst (λ l. StandsThere state 0 (opening_node config number) l) (sym two.back) (record {
+        journal = two.journal';
+        checkpoints = two.checkpoints';
+        journal_at = refl;
+        checkpoints_at = refl;
+        stands = two.stands;
+      })))
+
+  -- those behind it
+  unopened : (k : ℕ) → 2 * k + 1 < length two.rest → StandsThere state (number + (1 + k)) (opening_node config (number + (1 + k))) whole
+  unopened k within =
+      let node = opening_node config (number + (1 + k)) in
+      stands_behind state (disks_in so_many) back number (1 + k) node long
+      (subst (λ l. StandsThere state (1 + k) node l) (sym two.back)
+      (stands_behind state (two.journal' ∷ two.checkpoints' ∷ []) two.rest 1 k node refl
+      (begins_on state config (number + (1 + k)) k two.rest
+      (all_behind (λ (disk : D). IsEmpty (state disk).file) disks two.rest two.two.journal two.two.checkpoints two.two.first empty) within)))
+
+  pub all_back : (count : ℕ) (given : List D) → given ≡ whole → 2 * count ≤ length disks + 2 * number → AllBegin state config count given
+  all_back count given is enough n less = subst (λ l. StandsThere state n (opening_node config n) l) (sym is) (elim (cases_order n number) [
+    | inl same ↦ subst (λ m. StandsThere state m (opening_node config m) whole) (sym same) failed
+    | inr other ↦ elim other [
+      | inl before ↦ opened n before
+      | inr behind ↦ subst (λ m. StandsThere state m (opening_node config m) whole) (sym (place behind)) (unopened (n - (number + 1)) (room behind))
+    ]
+  ])
+    where
+      place : number < n → n ≡ number + (1 + (n - (number + 1)))
+      place behind = omega (arith, behind)
+
+      room : number < n → 2 * (n - (number + 1)) + 1 < length two.rest
+      room behind =
+          let all : length disks ≡ suc (suc (length two.rest)) = ap (λ (l : List D). length l) two.two.first in
+          omega (arith, behind, less, enough, all)
