@@ -19,19 +19,18 @@ use Rattle.doc_update.specs.Check.{names_of, all_names, given, has_twice, replac
 use Rattle.doc_update.specs.Effect.{under, fields_under, present, id_first, stored, written, is_too_large, sets_of, unsets_of, updated, update_prepared, replace_prepared}
 use Rattle.doc_update.specs.Increment.{sums, has_wrong_side, has_overflow}
 use Rattle.doc_update.specs.Ordered.{in_byte_order, as_strings}
-use Rattle.doc_update.specs.Refusal.{Answers}
+use Rattle.doc_update.specs.Refusal.{Answers, Reason, DocTooLarge, ImmutableId, IncType, IncOverflow}
 use Rattle.bson_doc.specs.Same.{same_fields}
 use Rattle.doc_update.specs.Sound.{IsNamed, IsSound}
 use Rattle.doc_update.specs.declared.write.Prepared.{Prepared}
 use Rattle.doc_update.specs.declared.write.Prepared.TheVariants.{Entry, Unchanged}
 use Rattle.doc_update.specs.declared.write.WriteRefusal.{WriteRefusal}
-use Rattle.doc_update.specs.declared.write.WriteRefusal.TheVariants.{DocTooLarge, ImmutableId, IncType, IncOverflow}
 use Rattle.doc_update.proofs.NameRules.{is_among-append, found-names_of, has_twice-append}
 use Rattle.doc_update.proofs.OrderLemmas.{found-in_byte_order, IsDocument-in_byte_order, strings_of-as_strings}
 use Rattle.doc_update.proofs.ApartLemmas.{among_all}
 
 -- what is wanted of an answer holds of the answer
-pub sound-answer : (P : Prepared → Type 0) (result wanted : Result Prepared WriteRefusal) → Answers result wanted → IfOk wanted P → IfOk result P
+pub sound-answer : (P : Prepared → Type 0) (result : Result Prepared WriteRefusal) (wanted : Result Prepared Reason) → Answers result wanted → IfOk wanted P → IfOk result P
 sound-answer P (Ok x) wanted is holds = subst (λ r. IfOk r P) is holds
 sound-answer P (Err e) wanted is holds = tt
 
@@ -83,7 +82,7 @@ replace-named ns id doc before (Some key) (Some v) is named = by_own (key_of v) 
     by_own None named = absurd named
     by_own (Some own) named = by_test (same_key own key) named
 
-pub replace-sound : (ns : List ℕ) (id : Value) (doc before : Fields) (place : Result Place WriteRefusal) → place ≡ replace_checked ns (key_of (tree_of id)) (found (codes "_id") doc) → IsNamed place before → IfOk (replace_prepared ns id doc before) (λ p. IsSound place (Some before) p)
+pub replace-sound : (ns : List ℕ) (id : Value) (doc before : Fields) (place : Result Place Reason) → place ≡ replace_checked ns (key_of (tree_of id)) (found (codes "_id") doc) → IsNamed place before → IfOk (replace_prepared ns id doc before) (λ p. IsSound place (Some before) p)
 replace-sound ns id doc before place is named =
     subst (λ r. IsNamed r before → IfOk (replace_prepared ns id doc before) (λ p. IsSound r (Some before) p)) (sym is)
     (λ named. sound-written _ _ before _ tt (replace-named ns id doc before (key_of (tree_of id)) (found (codes "_id") doc) refl named)) named
@@ -244,7 +243,7 @@ update-prepared P ns id operators before same entry =
       ]
     ]
 
-pub update-sound : (ns : List ℕ) (id : Value) (operators before : Fields) (place : Result Place WriteRefusal) → place ≡ update_checked ns (key_of (tree_of id)) operators → IsNamed place before → IsDocument (under (codes "$unset") operators) → IfOk (update_prepared ns id operators before) (λ p. IsSound place (Some before) p)
+pub update-sound : (ns : List ℕ) (id : Value) (operators before : Fields) (place : Result Place Reason) → place ≡ update_checked ns (key_of (tree_of id)) operators → IsNamed place before → IsDocument (under (codes "$unset") operators) → IfOk (update_prepared ns id operators before) (λ p. IsSound place (Some before) p)
 update-sound ns id operators before place is named unset =
     subst (λ r. IsNamed r before → IfOk (update_prepared ns id operators before) (λ p. IsSound r (Some before) p)) (sym is) (by_key (key_of (tree_of id)) refl) named
   where

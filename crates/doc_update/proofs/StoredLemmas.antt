@@ -24,7 +24,7 @@ use Rattle.doc_update.specs.declared.write.WriteOp.{WriteOp}
 use Rattle.doc_update.specs.declared.write.WriteOp.TheVariants.{Insert, Replace, Update, Delete}
 use Rattle.doc_update.specs.declared.write.Prepared.{Prepared}
 use Rattle.doc_update.specs.declared.write.Prepared.TheVariants.{Entry, Unchanged}
-use Rattle.doc_update.specs.declared.write.WriteRefusal.{WriteRefusal}
+use Rattle.doc_update.specs.Refusal.{Reason}
 use Rattle.doc_update.proofs.ApartLemmas.{IsDocument-under}
 use Rattle.doc_update.proofs.ChangeLemmas.{strings_length, gone-within, id_stays, changed-behind, sets-in}
 use Rattle.doc_update.proofs.LengthLemmas.{length-in, levels-in}
@@ -150,13 +150,13 @@ id_short place doc id stored key =
 
 -- ---- what is stored and logged
 
-logged_is : (op logged : Op) (new after : Option Fields) → ◌≡◌ {A = Result Prepared WriteRefusal} (Ok (Entry op new)) (Ok (Entry logged after)) → op ≡ logged
+logged_is : (op logged : Op) (new after : Option Fields) → ◌≡◌ {A = Result Prepared Reason} (Ok (Entry op new)) (Ok (Entry logged after)) → op ≡ logged
 logged_is op logged new after same = cc
 
 stored-entry : (op : Op) (doc : Fields) (logged : Op) (after : Option Fields) → stored op doc ≡ Ok (Entry logged after) → (op ≡ logged) × (is_too_large doc ≡ false)
 stored-entry op doc logged after does = by_size (is_too_large doc) refl does
   where
-    by_size : (b : Bool) → is_too_large doc ≡ b → cond b (Err WriteRefusal.DocTooLarge) (Ok (Entry op (Some doc))) ≡ Ok (Entry logged after) → (op ≡ logged) × (is_too_large doc ≡ false)
+    by_size : (b : Bool) → is_too_large doc ≡ b → cond b (Err Reason.DocTooLarge) (Ok (Entry op (Some doc))) ≡ Ok (Entry logged after) → (op ≡ logged) × (is_too_large doc ≡ false)
     by_size true is does = cc does
     by_size false is does = (logged_is op logged (Some doc) after does, is)
 
@@ -169,7 +169,7 @@ written-entry op before doc logged after does = by_test (same_fields doc before)
 
 -- ---- an insert
 
-ok_place : (one two : Place) → ◌≡◌ {A = Result Place WriteRefusal} (Ok one) (Ok two) → one ≡ two
+ok_place : (one two : Place) → ◌≡◌ {A = Result Place Reason} (Ok one) (Ok two) → one ≡ two
 ok_place one two same = cc
 
 insert-logged : (ns : List ℕ) (doc : Fields) (own : Option Tree) (place : Place) (logged : Op) (after : Option Fields) → insert_checked ns own ≡ Ok place
@@ -192,7 +192,7 @@ insert-logged ns doc (Some id) place logged after is does = by_key (key_of id) r
 -- ---- a replacement
 
 -- of what comes of a write that names a place
-lawful_of : (place : Place) (before logged_doc : Option Fields) (logged : Op) (found : Result Prepared WriteRefusal) → found ≡ Ok (Entry logged logged_doc) → IfOk found (λ p. IsSound (Ok place) before p)
+lawful_of : (place : Place) (before logged_doc : Option Fields) (logged : Op) (found : Result Prepared Reason) → found ≡ Ok (Entry logged logged_doc) → IfOk found (λ p. IsSound (Ok place) before p)
     → IsLawfulOp logged × (place_of logged ≡ Some place)
 lawful_of place before after logged found is sound = let all : IsSound (Ok place) before (Entry logged after) = subst (λ r. IfOk r (λ p. IsSound (Ok place) before p)) is sound in (all.0, all.1)
 
@@ -247,7 +247,7 @@ update-does : (ns : List ℕ) (id : Value) (operators before : Fields) (logged :
 update-does ns id operators before logged after does = by_tests (has_wrong_side before (under (codes "$inc") operators)) (has_overflow before (under (codes "$inc") operators)) does
   where
     by_tests : (a b : Bool)
-        → cond a (Err WriteRefusal.IncType) (cond b (Err WriteRefusal.IncOverflow) (written (ops.Fields ns id (sets_of operators before) (unsets_of operators before)) before (updated operators before))) ≡ Ok (Entry logged after)
+        → cond a (Err Reason.IncType) (cond b (Err Reason.IncOverflow) (written (ops.Fields ns id (sets_of operators before) (unsets_of operators before)) before (updated operators before))) ≡ Ok (Entry logged after)
         → (ops.Fields ns id (sets_of operators before) (unsets_of operators before) ≡ logged) × (is_too_large (updated operators before) ≡ false)
     by_tests true b does = cc does
     by_tests false true does = cc does

@@ -10,8 +10,7 @@ use Rattle.bson_doc.specs.declared.key.IdKey.{IdKey}
 use Rattle.oplog_entry.specs.Lawful.{is_among}
 use Rattle.doc_update.specs.declared.write.WriteOp.{WriteOp}
 use Rattle.doc_update.specs.declared.write.WriteOp.TheVariants.{Insert, Replace, Update, Delete}
-use Rattle.doc_update.specs.declared.write.WriteRefusal.{WriteRefusal}
-use Rattle.doc_update.specs.declared.write.WriteRefusal.TheVariants.{NoId, BadIdKind, ImmutableId, BadUpdate}
+use Rattle.doc_update.specs.Refusal.{Reason, NoId, BadIdKind, ImmutableId, BadUpdate}
 
 abbrev pub names_of : Fields → List (List ℕ)
 names_of no_fields = []
@@ -74,34 +73,34 @@ abbrev pub names_id : Fields → Bool
 names_id operators = is_among (codes "_id") (all_names operators)
 
 -- the place that a key names, where there is one
-abbrev pub with_key : List ℕ → Option IdKey → Result Place WriteRefusal
+abbrev pub with_key : List ℕ → Option IdKey → Result Place Reason
 with_key ns None = Err BadIdKind
 with_key ns (Some key) = Ok (ns, key)
 
-abbrev pub insert_checked : List ℕ → Option Tree → Result Place WriteRefusal
+abbrev pub insert_checked : List ℕ → Option Tree → Result Place Reason
 insert_checked ns None = Err NoId
 insert_checked ns (Some id) = with_key ns (key_of id)
 
 -- a replacement may have an `_id`, of the same key
-abbrev pub same_id : List ℕ → IdKey → Option IdKey → Result Place WriteRefusal
+abbrev pub same_id : List ℕ → IdKey → Option IdKey → Result Place Reason
 same_id ns key None = Err BadIdKind
 same_id ns key (Some own) = if same_key own key then Ok (ns, key) else Err ImmutableId
 
-abbrev pub replace_checked : List ℕ → Option IdKey → Option Tree → Result Place WriteRefusal
+abbrev pub replace_checked : List ℕ → Option IdKey → Option Tree → Result Place Reason
 replace_checked ns None own = Err BadIdKind
 replace_checked ns (Some key) None = Ok (ns, key)
 replace_checked ns (Some key) (Some own) = same_id ns key (key_of own)
 
-abbrev pub by_rule : List ℕ → IdKey → Bool → Option ℕ → Result Place WriteRefusal
+abbrev pub by_rule : List ℕ → IdKey → Bool → Option ℕ → Result Place Reason
 by_rule ns key id_named (Some rule) = Err (BadUpdate rule)
 by_rule ns key id_named None = if id_named then Err ImmutableId else Ok (ns, key)
 
-abbrev pub update_checked : List ℕ → Option IdKey → Fields → Result Place WriteRefusal
+abbrev pub update_checked : List ℕ → Option IdKey → Fields → Result Place Reason
 update_checked ns None operators = Err BadIdKind
 update_checked ns (Some key) operators = by_rule ns key (names_id operators) (broken_rule operators)
 
 -- the place that a write names, or the first refusal that holds
-abbrev pub checked : WriteOp → Result Place WriteRefusal
+abbrev pub checked : WriteOp → Result Place Reason
 checked (Insert ns doc) = insert_checked ns (found (codes "_id") doc)
 checked (Replace ns id doc) = replace_checked ns (key_of (tree_of id)) (found (codes "_id") doc)
 checked (Update ns id operators) = update_checked ns (key_of (tree_of id)) operators

@@ -15,8 +15,7 @@ use Rattle.doc_update.specs.declared.write.WriteOp.{WriteOp}
 use Rattle.doc_update.specs.declared.write.WriteOp.TheVariants.{Insert, Replace, Update, Delete}
 use Rattle.doc_update.specs.declared.write.Prepared.{Prepared}
 use Rattle.doc_update.specs.declared.write.Prepared.TheVariants.{Entry, NoMatch, Unchanged}
-use Rattle.doc_update.specs.declared.write.WriteRefusal.{WriteRefusal}
-use Rattle.doc_update.specs.declared.write.WriteRefusal.TheVariants.{DuplicateKey, IncType, IncOverflow, DocTooLarge}
+use Rattle.doc_update.specs.Refusal.{Reason, DuplicateKey, IncType, IncOverflow, DocTooLarge}
 
 -- a document with an `_id` in front of the other fields
 abbrev pub id_first : Option Tree → Fields → Fields
@@ -28,11 +27,11 @@ abbrev pub is_too_large : Fields → Bool
 is_too_large doc = nat_lt 262144 (document_length doc) || nat_lt 100 (document_levels doc)
 
 -- an op that leaves a document, unless that is too large
-abbrev pub stored : Op → Fields → Result Prepared WriteRefusal
+abbrev pub stored : Op → Fields → Result Prepared Reason
 stored op after = if is_too_large after then Err DocTooLarge else Ok (Entry op (Some after))
 
 -- nothing is logged where the document stays as it is
-abbrev pub written : Op → Fields → Fields → Result Prepared WriteRefusal
+abbrev pub written : Op → Fields → Fields → Result Prepared Reason
 written op before after = if same_fields after before then Ok Unchanged else stored op after
 
 -- what an operator is given, nothing where it isn't there
@@ -60,26 +59,26 @@ unsets_of operators doc = as_strings (names_of (in_byte_order (present doc (unde
 abbrev pub updated : Fields → Fields → Fields
 updated operators doc = changed doc (sets_of operators doc) (unsets_of operators doc)
 
-abbrev pub update_prepared : List ℕ → Value → Fields → Fields → Result Prepared WriteRefusal
+abbrev pub update_prepared : List ℕ → Value → Fields → Fields → Result Prepared Reason
 update_prepared ns id operators doc =
     if has_wrong_side doc (under (codes "$inc") operators) then Err IncType else
     if has_overflow doc (under (codes "$inc") operators) then Err IncOverflow else
     written (ops.Fields ns id (sets_of operators doc) (unsets_of operators doc)) doc (updated operators doc)
 
 -- the stored document has its `_id` first
-abbrev pub insert_prepared : List ℕ → Fields → Result Prepared WriteRefusal
+abbrev pub insert_prepared : List ℕ → Fields → Result Prepared Reason
 insert_prepared ns doc = stored (ops.Insert ns (id_first (found (codes "_id") doc) doc)) (id_first (found (codes "_id") doc) doc)
 
 -- and a replacement keeps the `_id` that is there
-abbrev pub replace_prepared : List ℕ → Value → Fields → Fields → Result Prepared WriteRefusal
+abbrev pub replace_prepared : List ℕ → Value → Fields → Fields → Result Prepared Reason
 replace_prepared ns id doc before =
     written (ops.Replace ns id (id_first (found (codes "_id") before) doc)) before (id_first (found (codes "_id") before) doc)
 
-abbrev pub delete_prepared : List ℕ → Value → Result Prepared WriteRefusal
+abbrev pub delete_prepared : List ℕ → Value → Result Prepared Reason
 delete_prepared ns id = Ok (Entry (ops.Delete ns id) None)
 
 -- what a write that was checked comes to
-abbrev pub prepared : WriteOp → Option Fields → Result Prepared WriteRefusal
+abbrev pub prepared : WriteOp → Option Fields → Result Prepared Reason
 prepared (Insert ns doc) None = insert_prepared ns doc
 prepared (Insert ns doc) (Some before) = Err DuplicateKey
 prepared (Replace ns id doc) None = Ok NoMatch
@@ -89,10 +88,10 @@ prepared (Update ns id operators) (Some before) = update_prepared ns id operator
 prepared (Delete ns id) None = Ok NoMatch
 prepared (Delete ns id) (Some before) = delete_prepared ns id
 
-abbrev pub unless_refused : {P : Type 0} → Result P WriteRefusal → Result Prepared WriteRefusal → Result Prepared WriteRefusal
+abbrev pub unless_refused : {P : Type 0} → Result P Reason → Result Prepared Reason → Result Prepared Reason
 unless_refused (Err why) outcome = Err why
 unless_refused (Ok place) outcome = outcome
 
 -- what a write comes to: the first refusal that holds, or what is logged and stored, or nothing
-abbrev pub effect : WriteOp → Option Fields → Result Prepared WriteRefusal
+abbrev pub effect : WriteOp → Option Fields → Result Prepared Reason
 effect op before = unless_refused (checked op) (prepared op before)

@@ -13,27 +13,28 @@ use Rattle.doc_update.specs.Increment.{has_wrong_side, has_overflow, sums}
 use Rattle.doc_update.specs.Ordered.{in_byte_order}
 use Rattle.doc_update.specs.declared.write.Prepared.{Prepared}
 use Rattle.doc_update.specs.declared.write.Prepared.TheVariants.{Entry, NoMatch, Unchanged}
+use Rattle.doc_update.specs.Refusal.{Reason}
 use Rattle.doc_update.specs.declared.write.WriteRefusal.{WriteRefusal}
 use Rattle.doc_update.specs.declared.write.WriteRefusal.TheVariants.{IncType, IncOverflow, Memory}
 
 -- the document begins with an `_id` of the key that the write names
-abbrev pub IsNamed : Result Place WriteRefusal → Fields → Type 0
+abbrev pub IsNamed : Result Place Reason → Fields → Type 0
 IsNamed (Ok place) doc = BeginsWithId doc × (id_key doc ≡ Some place.1)
 IsNamed (Err why) doc = ⊥
 
-abbrev pub named_place : Result Place WriteRefusal → Option Place
+abbrev pub named_place : Result Place Reason → Option Place
 named_place (Ok place) = Some place
 named_place (Err why) = None
 
 -- a logged op is lawful, touches the document that the write names, and leaves the document that is given with it
-abbrev pub IsSound : Result Place WriteRefusal → Option Fields → Prepared → Type 0
+abbrev pub IsSound : Result Place Reason → Option Fields → Prepared → Type 0
 IsSound place before (Entry op after) =
     IsLawfulOp op × (place_of op ≡ named_place place) × (after ≡ document_after op before)
 IsSound place before NoMatch = ⊤
 IsSound place before Unchanged = ⊤
 
 -- once it is logged behind entries that leave this document at the place, the document that is given with it is there
-abbrev pub IsStored : Result Place WriteRefusal → Option Fields → Prepared → Type 0
+abbrev pub IsStored : Result Place Reason → Option Fields → Prepared → Type 0
 IsStored (Ok place) before (Entry op after) =
     (log : List entries.Entry) (entry : entries.Entry) → entry.op ≡ op → maps.get (docs log) place ≡ before
     → maps.get (docs (log ++ entry ∷ [])) place ≡ after

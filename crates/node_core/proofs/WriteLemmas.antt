@@ -70,3 +70,8 @@ module _ (nodes next : ℕ) (node new : Node) (command : Command) (answer : Repl
 pub up_rests : (up : Bool) (node : Node) (left : Left) (count : ℕ) (j c : State) → up ≡ true → IsResting up node left count j c → Rests node count j c
 up_rests false node left count j c is_up rests = absurd (not_so is_up)
 up_rests true node left count j c is_up rests = rests
+
+-- a node that is up is seen as it is in memory
+pub seen_up : (up : Bool) (node : Node) (left : Left) → (seen_node up node left).up ≡ true → seen_node up node left ≡ node
+seen_up false node left is_up = absurd (not_so is_up)
+seen_up true node left is_up = refl

@@ -1,5 +1,4 @@
-ghost use Rattle.std.specs.Prelude.{◌≡◌, ◌<◌, ℕ, [], None, true, false, IfOk, OnErr, IsSome, MatchOption};
-ghost use Rattle.std.specs.Prelude.{◌⊎◌};
+ghost use Rattle.std.specs.Prelude.{◌≡◌, ◌⊎◌, ◌<◌, ℕ, [], None, true, false, length, if◌then◌else◌, IfOk, OnErr, IsSome, MatchOption};
 ghost use Rattle.std.specs.FinMap as maps;
 ghost use Rattle.bson_doc.specs.Place.{Place};
 ghost use Rattle.oplog_entry.specs.Docs.{docs};
@@ -317,11 +316,13 @@ impl<D: Disk> Node<D> {
         self.answered(Reply::Armed)
     }
 
-    /// Lends the documents, while the node is up: those that its log leaves, as of each optime that can be read.
+    /// Lends the documents, in 64 shards. Those of a node that is up are what its log leaves, as of each optime that can be read.
     pub fn store(&self) -> &VersionStore
-        requires up { self.now.0.up ≡ true }
-        ensures latest { (place : Place) → latest_of (versions_at result.now place) ≡ maps.get (local_documents self.now.0) place }
-        ensures shown { (place : Place) (at : OpTime) → IsReadable self.now.0 at → shown_at result.now place at ≡ maps.get (docs (log_up_to at self.now.0.log)) place }
+        ensures latest { self.now.0.up ≡ true → (place : Place)
+            → latest_of (versions_at result.now place) ≡ maps.get (local_documents self.now.0) place }
+        ensures shown { self.now.0.up ≡ true → (place : Place) (at : OpTime) → IsReadable self.now.0 at
+            → shown_at result.now place at ≡ maps.get (docs (log_up_to at self.now.0.log)) place }
+        ensures shards { result.now.count ≡ 64 }
     {
         self.state.store()
     }
@@ -343,6 +344,19 @@ impl<D: Disk> Node<D> {
             Some(self.state.points())
         } else {
             None
+        }
+    }
+
+    /// How many entries of its log stand up to its commit point; none of a node that is down.
+    pub fn committed(&mut self) -> u64
+        ensures count { result ≡ (if self.old.0.up
+            then length (log_up_to self.old.0.commit self.old.0.log) else 0) }
+        ensures same { self.new ≡ self.old }
+    {
+        if self.is_up() {
+            self.state.committed()
+        } else {
+            0
         }
     }
 

@@ -205,6 +205,7 @@ kept_batch node store later n kept other some applied =
           (subst (λ vs. HasVersions p node.stable (log_up_to node.applied node.log ++ batch_of n node.applied node.log) vs) (sym (versions_now p))
           (has_more p node.stable (log_up_to node.applied node.log) (batch_of n node.applied node.log) (versions_at store p) (front_order) (late) (versions_applied node store kept other p)));
       holders = λ p. subst (λ h. IsHolder node.writers p h) (sym (ap (λ (past : Past). past.holder) (applied.each p) ∙ holder_after p (past_at store p) (batch_of n node.applied node.log))) (kept.holders p);
+      shards = applied.count ∙ kept.shards;
     }
   where
     front_order : AllPairs StandsBefore (log_up_to node.applied node.log)

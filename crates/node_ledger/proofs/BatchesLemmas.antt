@@ -230,4 +230,5 @@ kept_back node store later point kept other behind within changes =
           (shown_up_to node.role node.applied point node.log (λ _. within) ∙ sym (other_point node.role node.log (log_up_to point node.log) other))
           (has_up_to p node.stable point (shown_log node Local) (versions_at store p) (shown_order node.role node.applied node.log kept.sound.oplog.order) behind (kept.versions p)));
       holders = λ p. subst (λ h. IsHolder node.writers p h) (sym (ap (λ (past : Past). past.holder) (changes.each p))) (kept.holders p);
+      shards = changes.count ∙ kept.shards;
     }

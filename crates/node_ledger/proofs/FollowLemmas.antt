@@ -65,6 +65,7 @@ kept_pruned node store later at kept behind within changes = record {
   versions = λ p. subst (λ (past : Past). HasVersions p at (shown_log node Local) past.versions) (sym (changes.each p))
       (has_pruned p node.stable at (shown_log node Local) (versions_at store p) (shown_order node.role node.applied node.log kept.sound.oplog.order) behind (kept.versions p));
   holders = λ p. subst (λ h. IsHolder node.writers p h) (sym (ap (λ (past : Past). past.holder) (changes.each p))) (kept.holders p);
+  shards = changes.count ∙ kept.shards;
 }
   where
     unstable : (v : ℕ) (by : OpTime) (other : Op) → HasOpen node.writers v by other → IsPending node by other → is_before at by ≡ true
@@ -126,6 +127,7 @@ kept_cut node store kept other is_point =
           ∙ sym (other_point node.role (log_up_to at node.log) (log_up_to at (log_up_to at node.log)) other ∙ up_to-up_to at at node.log (at_most_refl at)))
           (kept.versions p);
       holders = kept.holders;
+      shards = kept.shards;
     }
 
 -- ---- behind every entry

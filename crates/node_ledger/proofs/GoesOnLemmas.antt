@@ -82,6 +82,7 @@ kept_appended node store entries kept other oplog later terms within small =
           ∙ sym (other_point node.role (node.log ++ entries) (log_up_to node.applied (node.log ++ entries)) other))
           (kept.versions p);
       holders = kept.holders;
+      shards = kept.shards;
     }
 
 -- ---- stepping down
@@ -122,9 +123,9 @@ visible_within log slots o order within = elim (visible_shown log slots o within
   | inr some ↦ some_to_last o log order (some_more (λ e. (is_before e o ≡ false) × IsBeforeSlots slots e) (λ e. is_before e o ≡ false) log (λ e both. both.0) some)
 ]
 
-pub kept_stepped : (node : Node) (store later : Store) → IsKept node store → ((p : Place) → versions_at later p ≡ versions_at store p) → ((p : Place) → holder_at later p ≡ None)
+pub kept_stepped : (node : Node) (store later : Store) → IsKept node store → later.count ≡ store.count → ((p : Place) → versions_at later p ≡ versions_at store p) → ((p : Place) → holder_at later p ≡ None)
     → IsKept (stepped_down node) later
-kept_stepped node store later kept versions free = record {
+kept_stepped node store later kept count versions free = record {
   sound = record {
     oplog = kept.sound.oplog;
     entries = kept.sound.entries;
@@ -141,6 +142,7 @@ kept_stepped node store later kept versions free = record {
   versions = λ p. subst (λ vs. HasVersions p node.stable (log_up_to (if_primary node.role (last_point node) node.applied) node.log) vs) (sym (versions p))
       (subst (λ log. HasVersions p node.stable log (versions_at store p)) (whole_shown node.role node.log node.applied (up_to-last node.log kept.sound.oplog.order)) (kept.versions p));
   holders = λ p. subst (λ h. IsHolder (stepped_down node).writers p h) (sym (free p)) (none_held (maps.entries node.writers) p);
+  shards = count ∙ kept.shards;
 }
   where
     closed : (writer : ℕ) → ¬ IsWriting (stepped_down node).writers writer

@@ -101,6 +101,7 @@ kept_logged node store later op place after kept new own free left changes = rec
       (versions_changed node (record { optime = next_optime node; op = op }) store later place _ kept new.role (next_newest node op kept.sound) (next_unstable node kept.sound new.role) own changes
       (ap (λ (doc : Option Fields). versions_at store place ++ record { at = next_optime node; doc = doc } ∷ []) left));
   holders = λ p. subst (λ h. IsHolder node.writers p h) (sym (holders_stay store later place _ changes refl p)) (kept.holders p);
+  shards = changes.count ∙ kept.shards;
 }
 
 -- a no-op touches no document
@@ -114,6 +115,7 @@ kept_noop node store kept new = record {
   versions = as_shown node.role node.stable (with_entry node.log (record { optime = next_optime node; op = Noop })) (log_up_to node.applied (with_entry node.log (record { optime = next_optime node; op = Noop }))) store new.role
       (λ p. has_with_other p node.stable node.log (record { optime = next_optime node; op = Noop }) (versions_at store p) (next_newest node Noop kept.sound).fits (next_unstable node kept.sound new.role) nowhere (whole_versions node store kept new.role p));
   holders = kept.holders;
+  shards = kept.shards;
 }
   where
     touches : (v : ℕ) (by : OpTime) (other : Op) → HasOpen node.writers v by other → place_of Noop ≢ place_of other
@@ -132,6 +134,7 @@ kept_opened node store later writer op place kept new own free closed changes = 
   writers = apart_opened node writer op kept.sound kept.writers new (some_place (place_of op) own) (nobody_open node op place free own);
   versions = λ p. subst (λ vs. HasVersions p node.stable (shown_log node Local) vs) (sym (versions_stay store later place _ changes refl p)) (kept.versions p);
   holders = holders_opened node.writers store later place _ writer (next_optime node) op kept.holders (nobody_holds node.writers place free) (not_writing node.writers writer closed) own refl changes;
+  shards = changes.count ∙ kept.shards;
 }
   where
     some_place : (o : Option Place) → o ≡ Some place → IsSome o
@@ -155,6 +158,7 @@ kept_settled node store between later writer at op place after kept opens own le
           (ap (λ (x : Past). x.versions) first.here ∙ ap (λ (doc : Option Fields). versions_at store place ++ record { at = at; doc = doc } ∷ []) left));
       holders = holders_closed node.writers (insert node.writers writer (Done at)) store later place (held_by (past_at between place) None) writer at op kept.writers.alone kept.holders opens own
           (λ p. ap (λ w. is_held_by w p) (get-with-same node.writers writer (Done at))) (λ w apart. get-with-other node.writers writer w (Done at) apart) refl changes;
+      shards = changes.count ∙ kept.shards;
     }
 
 pub kept_aborted : (node : Node) (store later : Store) (writer : ℕ) (at : OpTime) (op : Op) (place : Place) → IsKept node store → HasOpen node.writers writer at op → place_of op ≡ Some place
@@ -166,15 +170,17 @@ kept_aborted node store later writer at op place kept opens own changes = record
   versions = λ p. subst (λ vs. HasVersions p node.stable (shown_log node Local) vs) (sym (versions_stay store later place _ changes refl p)) (kept.versions p);
   holders = holders_closed node.writers (remove node.writers writer) store later place (held_by (past_at store place) None) writer at op kept.writers.alone kept.holders opens own
       (λ p. ap (λ w. is_held_by w p) (get-without-same node.writers writer)) (λ w apart. get-without-other node.writers writer w apart) refl changes;
+  shards = changes.count ∙ kept.shards;
 }
 
 -- other shards with the same pasts
-pub kept_same : (node : Node) (store later : Store) → IsKept node store → ((p : Place) → past_at later p ≡ past_at store p) → IsKept node later
-kept_same node store later kept same = record {
+pub kept_same : (node : Node) (store later : Store) → IsKept node store → later.count ≡ store.count → ((p : Place) → past_at later p ≡ past_at store p) → IsKept node later
+kept_same node store later kept count same = record {
   sound = kept.sound;
   writers = kept.writers;
   versions = λ p. subst (λ vs. HasVersions p node.stable (shown_log node Local) vs) (sym (ap (λ (x : Past). x.versions) (same p))) (kept.versions p);
   holders = λ p. subst (λ h. IsHolder node.writers p h) (sym (ap (λ (x : Past). x.holder) (same p))) (kept.holders p);
+  shards = count ∙ kept.shards;
 }
 
 -- what a write owes
@@ -219,12 +225,12 @@ new_open node op place role lawful within own small = new_write node op place (d
 
 -- a slot that wasn't opened leaves a ledger as it was, once its writer is put back
 pub kept_put_back : (term : ℕ) (role : Role) (clock : ℕ) (log : List Entry) (reserved again : Reserved) (writers back : Writers) (applied stable : OpTime) (store later : Store)
-    → IsKept (ledger_node term role clock log reserved.slots writers reserved.mark applied stable) store → again ≡ reserved → back ≡ writers → ((p : Place) → past_at later p ≡ past_at store p)
+    → IsKept (ledger_node term role clock log reserved.slots writers reserved.mark applied stable) store → again ≡ reserved → back ≡ writers → later.count ≡ store.count → ((p : Place) → past_at later p ≡ past_at store p)
     → IsKept (ledger_node term role clock log again.slots back again.mark applied stable) later
-kept_put_back term role clock log reserved again writers back applied stable store later kept slots put same =
+kept_put_back term role clock log reserved again writers back applied stable store later kept slots put count same =
     subst (λ (r : Reserved). IsKept (ledger_node term role clock log r.slots back r.mark applied stable) later) (sym slots)
     (subst (λ (w : Writers). IsKept (ledger_node term role clock log reserved.slots w reserved.mark applied stable) later) (sym put)
-    (kept_same (ledger_node term role clock log reserved.slots writers reserved.mark applied stable) store later kept same))
+    (kept_same (ledger_node term role clock log reserved.slots writers reserved.mark applied stable) store later kept count same))
 
 -- and one that was opened
 pub kept_slot_opened : (term : ℕ) (role : Role) (clock : ℕ) (log again : List Entry) (reserved next : Reserved) (writers with_writer : Writers) (applied stable at : OpTime) (store later : Store) (number : ℕ) (writer : Writer) (op : Op) (place : Place)

@@ -52,13 +52,15 @@ pub record StoredSoFar (at : OpTime) (documents rest : List (Place × Fields)) (
   pub versions : (place : Place) → versions_at store place ++ version_as_of at (document_at rest place) ≡ version_as_of at (document_at documents place)
   pub free : (place : Place) → holder_at store place ≡ None
   pub order : IsStrictlySortedBy place_cmp (keys_of rest)
+  pub shards : store.count ≡ 64
 
-pub stored_none : (at : OpTime) (documents rest : List (Place × Fields)) (store : Store) → rest ≡ documents → IsStrictlySortedBy place_cmp (keys_of documents) → ((place : Place) → past_at store place ≡ no_past)
+pub stored_none : (at : OpTime) (documents rest : List (Place × Fields)) (store : Store) → store.count ≡ 64 → rest ≡ documents → IsStrictlySortedBy place_cmp (keys_of documents) → ((place : Place) → past_at store place ≡ no_past)
     → StoredSoFar at documents rest store
-stored_none at documents rest store same order none = record {
+stored_none at documents rest store shards same order none = record {
   versions = λ p. ap (λ (past : Past). past.versions ++ version_as_of at (document_at rest p)) (none p) ∙ ap (λ es. version_as_of at (document_at es p)) same;
   free = λ p. ap (λ (past : Past). past.holder) (none p);
   order = subst (λ (es : List (Place × Fields)). IsStrictlySortedBy place_cmp (keys_of es)) (sym same) order;
+  shards = shards;
 }
 
 -- no later key is the first one
@@ -97,6 +99,7 @@ stored_more at documents rest store later place document so changes = record {
   versions = versions;
   free = λ p. holders_stay store later place (with_version (past_at store place) (record { at = at; doc = Some document })) changes refl p ∙ so.free p;
   order = sorted_rest place document rest so.order;
+  shards = changes.count ∙ so.shards;
 }
   where
     here : versions_at later place ++ version_as_of at (document_at rest place) ≡ version_as_of at (document_at documents place)
@@ -186,9 +189,9 @@ pub applied_whole : (at : OpTime) (log : List Entry) → AllPairs StandsBefore l
 applied_whole at log order reached = ap (λ l. later_of at (last_of l)) (up_to-last log order) ∙ later_reached at (last_of log) reached
 
 pub kept_stored : (store : Store) (term clock : ℕ) (log : List Entry) (at : OpTime) → term < 2 ^ 63 → IsOplog log → All IsWithinEntry log → All (λ (e : Entry). e.optime.term ≤ term) log → AreSmall log
-    → is_before (last_of log) at ≡ false → ((p : Place) → versions_at store p ≡ version_as_of at (maps.get (docs (log_up_to at log)) p)) → ((p : Place) → holder_at store p ≡ None)
+    → is_before (last_of log) at ≡ false → ((p : Place) → versions_at store p ≡ version_as_of at (maps.get (docs (log_up_to at log)) p)) → ((p : Place) → holder_at store p ≡ None) → store.count ≡ 64
     → IsKept (ledger_node term Secondary clock log sets.empty maps.empty (seen_after 0 log) at at) store
-kept_stored store term clock log at fits oplog within terms small reached versions free = record {
+kept_stored store term clock log at fits oplog within terms small reached versions free shards = record {
   sound = record {
     oplog = oplog;
     entries = within;
@@ -203,6 +206,7 @@ kept_stored store term clock log at fits oplog within terms small reached versio
   writers = apart_idle (ledger_node term Secondary clock log sets.empty maps.empty (seen_after 0 log) at at) closed;
   versions = λ p. subst (λ vs. HasVersions p at (log_up_to at log) vs) (sym (versions p)) (has_as_of p at log);
   holders = λ p. subst (λ h. IsHolder maps.empty p h) (sym (free p)) (λ w. ap (λ v. is_held_by v p) (maps.get-empty nat_cmp w));
+  shards = shards;
 }
   where
     closed : (writer : ℕ) → ¬ IsWriting maps.empty writer

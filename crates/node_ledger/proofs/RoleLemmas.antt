@@ -68,6 +68,7 @@ kept_clock node store seconds kept = record {
   };
   versions = kept.versions;
   holders = kept.holders;
+  shards = kept.shards;
 }
 
 pub kept_term : (node : Node) (store : Store) (term : ℕ) → IsKept node store → node.role ≡ Secondary → node.term ≤ term → term < 2 ^ 63 → IsKept (record node { term = term }) store
@@ -88,6 +89,7 @@ kept_term node store term kept role later fits =
       writers = apart_idle (record node { term = term }) idle.writers;
       versions = kept.versions;
       holders = kept.holders;
+      shards = kept.shards;
     }
 
 pub kept_role : (node : Node) (store : Store) (role : Role) → IsKept node store → is_primary node.role ≡ false → is_primary role ≡ false → IsKept (record node { role = role }) store
@@ -108,6 +110,7 @@ kept_role node store role kept was not =
       writers = apart_idle (record node { role = role }) idle.writers;
       versions = λ p. subst (λ log. HasVersions p node.stable log (versions_at store p)) (if_other node.role role node.log (log_up_to node.applied node.log) node.log was not) (kept.versions p);
       holders = kept.holders;
+      shards = kept.shards;
     }
 
 -- a node without slots shows its whole log
@@ -134,12 +137,13 @@ kept_primary node store kept role applied =
       versions = λ p. subst (λ log. HasVersions p node.stable log (versions_at store p))
           (ap (λ r. if_primary r node.log (log_up_to node.applied node.log)) role ∙ ap (λ o. log_up_to o node.log) applied ∙ up_to-last node.log kept.sound.oplog.order) (kept.versions p);
       holders = kept.holders;
+      shards = kept.shards;
     }
 
 -- ---- a ledger as the set begins
 
-pub kept_new : (store : Store) → ((p : Place) → past_at store p ≡ no_past) → IsKept (ledger_node 0 Secondary 0 [] sets.empty maps.empty 0 ZERO ZERO) store
-kept_new store none = record {
+pub kept_new : (store : Store) → store.count ≡ 64 → ((p : Place) → past_at store p ≡ no_past) → IsKept (ledger_node 0 Secondary 0 [] sets.empty maps.empty 0 ZERO ZERO) store
+kept_new store shards none = record {
   sound = record {
     oplog = record { order = λ i j d less within. absurd (omega arith); lawful = λ k d within. absurd (omega arith) };
     entries = λ k d within. absurd (omega arith);
@@ -154,6 +158,7 @@ kept_new store none = record {
   writers = apart_idle (ledger_node 0 Secondary 0 [] sets.empty maps.empty 0 ZERO ZERO) closed;
   versions = λ p. record { base = []; is = ap (λ (past : Past). past.versions) (none p); early = λ k d within. absurd (omega arith); shows = sym (maps.get-empty place_cmp p) };
   holders = λ p. subst (λ h. IsHolder maps.empty p h) (sym (ap (λ (past : Past). past.holder) (none p))) (λ w. ap (λ v. is_held_by v p) (maps.get-empty nat_cmp w));
+  shards = shards;
 }
   where
     closed : (writer : ℕ) → ¬ IsWriting maps.empty writer

@@ -61,9 +61,11 @@ IsHolder writers place holder =
     MatchOption holder ((writer : ℕ) → is_held_by (maps.get writers writer) place ≡ false)
     (λ writer. is_held_by (maps.get writers writer) place ≡ true)
 
--- the documents that are stored have the versions that the log makes, and are held by the writers that hold them
+-- the documents that are stored have the versions that the log makes, are held by the writers that hold them, and are spread
+-- over 64 shards
 pub record IsKept (node : Node) (store : Store) : Type 0 where
   pub sound : IsSound node
   pub writers : AreApart node
   pub versions : (place : Place) → HasVersions place node.stable (shown_log node Local) (versions_at store place)
   pub holders : (place : Place) → IsHolder node.writers place (holder_at store place)
+  pub shards : store.count ≡ 64

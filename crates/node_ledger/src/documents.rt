@@ -22,11 +22,12 @@ use set_model::Role;
 use version_store::{Current, VersionStore};
 
 impl Ledger {
-    /// The documents, as of each optime that can still be read.
+    /// The documents, as of each optime that can still be read, in 64 shards.
     pub fn store(&self) -> &VersionStore
         ensures latest { (place : Place) → latest_of (versions_at result.now place) ≡ maps.get (local_documents self.now.node) place }
         ensures shown { (place : Place) (at : OpTime) → IsReadable self.now.node at
             → shown_at result.now place at ≡ maps.get (docs (log_up_to at self.now.node.log)) place }
+        ensures shards { result.now.count ≡ 64 }
     {
         &self.store
     }

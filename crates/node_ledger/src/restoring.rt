@@ -30,6 +30,7 @@ use version_store::VersionStore;
 fn stored(alloc: Global, documents: BTreeMap<(Text, IdKey), Doc>, at: OpTime) -> Mem<VersionStore>
     ensures versions { IfOk result (λ store. (place : Place) → versions_at store place ≡ version_as_of at (maps.get (documents_of documents.entries) place)) }
     ensures free { IfOk result (λ store. (place : Place) → holder_at store place ≡ None) }
+    ensures count { IfOk result (λ store. store.count ≡ 64) }
 {
     let mut store = VersionStore::new(alloc, SHARDS)?;
     for ((ns, id), document) in documents {

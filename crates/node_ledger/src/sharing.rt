@@ -82,6 +82,15 @@ impl Ledger {
         behind(self.log.settled().up_to(to), after).len()
     }
 
+    /// How many entries stand up to an optime.
+    pub fn count_up_to(&mut self, to: OpTime) -> u64
+        ensures count { result ≡ length (log_up_to to self.old.node.log) }
+        ensures same { self.new ≡ self.old }
+    {
+        self.log.gather_up_to(to);
+        self.log.settled().up_to(to).len() as u64
+    }
+
     /// The optimes of the entries that stand behind an optime, up to another one.
     pub fn optimes_between(&mut self, after: OpTime, to: OpTime) -> Mem<OptimeList>
         ensures list { IfOk result (λ list. list ≡ optimes_of (log_behind after (log_up_to to self.old.node.log))) }

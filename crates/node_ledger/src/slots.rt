@@ -45,6 +45,7 @@ fn hold(
     ensures slot { OnOk result (slots.new ≡ opened_slot slots.old (next_slot slots.old term clock)) }
     ensures held { OnOk result (Changes store.old store.new (ns.now, id.now) (held_by (past_at store.old (ns.now, id.now)) (Some number))) }
     ensures no_slot { OnErr result (slots.new ≡ slots.old) }
+    ensures count { store.new.count ≡ store.old.count }
     ensures not_held { OnErr result ((place : Place) → past_at store.new place ≡ past_at store.old place) }
 {
     match store.hold(ns, id, number) {

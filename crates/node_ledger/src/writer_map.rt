@@ -199,6 +199,7 @@ impl WriterMap {
         requires { (place : Place) → IsHolder self.now place (holder_at store.old place) }
         ensures versions { (place : Place) → versions_at store.new place ≡ versions_at store.old place }
         ensures free { (place : Place) → holder_at store.new place ≡ None }
+        ensures count { store.new.count ≡ store.old.count }
     {
         for (_, held) in &self.writers {
             if let Some((ns, id)) = held.place() {

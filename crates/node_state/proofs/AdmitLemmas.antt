@@ -1,5 +1,5 @@
 -- What a write comes to on a node.
-use Rattle.std.proofs.Common.{◌≡◌, ◌∙◌, ℕ, zero, Bool, true, false, cond, List, [], ◌∷◌, fold, All, Option, None, Some, Result, Ok, Err, IfSome, refl, sym, ap, subst, arith}
+use Rattle.std.proofs.Common.{◌≡◌, ◌∙◌, ℕ, zero, Bool, true, false, cond, List, [], ◌∷◌, fold, All, Option, None, Some, Result, Ok, Err, IfSome, option_map, refl, sym, ap, subst, arith}
 use Rattle.std.specs.Cmp.{eq_by_cmp_equiv}
 use Rattle.std.specs.Ordering.{nat_cmp}
 use Rattle.std.specs.FinMap.{FinMap, get, get-empty, empty}
@@ -16,18 +16,17 @@ use Rattle.oplog_entry.proofs.PlaceLemmas.{is_at-only}
 use Rattle.doc_update.proofs.StoredLemmas.{IsLogged, IsStored, write-logged}
 use Rattle.doc_update.specs.Check.{checked}
 use Rattle.doc_update.specs.Effect.{prepared}
-use Rattle.doc_update.specs.Refusal.{Refuses}
+use Rattle.doc_update.specs.Refusal.{Reason, Refuses, reason_of}
 use Rattle.doc_update.specs.Sound.{IsSound}
 use Rattle.doc_update.specs.declared.write.Prepared.{Prepared}
 use Rattle.doc_update.specs.declared.write.Prepared.TheVariants as made
 use Rattle.doc_update.specs.declared.write.WriteOp.{WriteOp}
 use Rattle.doc_update.specs.declared.write.WriteRefusal.{WriteRefusal}
-use Rattle.doc_update.specs.declared.write.WriteRefusal.TheVariants.{DuplicateKey, NoId, BadIdKind, ImmutableId, IncType, IncOverflow, DocTooLarge, BadUpdate, Memory}
 use Rattle.set_model.specs.declared.reply.Refusal.{Refusal}
 use Rattle.set_model.specs.declared.reply.Refusal.TheVariants.{WriteConflict, WriterOpen}
 use Rattle.set_model.specs.declared.writer.Writer.{Writer}
 use Rattle.set_model.specs.declared.writer.Writer.TheVariants.{Open, Done, Lost}
-use Rattle.set_model.specs.Admitted.{admitted, or_refused}
+use Rattle.set_model.specs.Admitted.{admitted, or_refused, refusal_of}
 use Rattle.set_model.specs.Holds.{holder}
 use Rattle.set_model.specs.Limits.{IsSoundWrite, collection_of, is_collection}
 use Rattle.set_model.specs.Node.{Node}
@@ -49,16 +48,12 @@ admitted-held node op place writer is held = rw (is, held) refl
 pub admitted-free : (node : Node) (op : WriteOp) (place : Place) → checked op ≡ Ok place → holder node place ≡ None → admitted node op ≡ or_refused (prepared op (get (docs node.log) place))
 admitted-free node op place is free = rw (is, free) refl
 
-pub refuses : (why : WriteRefusal) (refusal : Refusal) (wanted : Result Prepared WriteRefusal) → Refuses why wanted → IsRefusal why refusal → or_refused wanted ≡ Err refusal
-refuses DuplicateKey refusal wanted is same = ap or_refused is ∙ ap (λ (r : Refusal). Err r) (sym same)
-refuses NoId refusal wanted is same = ap or_refused is ∙ ap (λ (r : Refusal). Err r) (sym same)
-refuses BadIdKind refusal wanted is same = ap or_refused is ∙ ap (λ (r : Refusal). Err r) (sym same)
-refuses ImmutableId refusal wanted is same = ap or_refused is ∙ ap (λ (r : Refusal). Err r) (sym same)
-refuses IncType refusal wanted is same = ap or_refused is ∙ ap (λ (r : Refusal). Err r) (sym same)
-refuses IncOverflow refusal wanted is same = ap or_refused is ∙ ap (λ (r : Refusal). Err r) (sym same)
-refuses DocTooLarge refusal wanted is same = ap or_refused is ∙ ap (λ (r : Refusal). Err r) (sym same)
-refuses (BadUpdate rule) refusal wanted is same = ap or_refused is ∙ ap (λ (r : Refusal). Err r) (sym same)
-refuses Memory refusal wanted is same = absurd same
+pub refuses : (why : WriteRefusal) (refusal : Refusal) (wanted : Result Prepared Reason) → Refuses why wanted → IsRefusal why refusal → or_refused wanted ≡ Err refusal
+refuses why refusal wanted is same = by_reason (reason_of why) is same
+  where
+    by_reason : (found : Option Reason) → IfSome found (λ reason. wanted ≡ Err reason) → option_map refusal_of found ≡ Some refusal → or_refused wanted ≡ Err refusal
+    by_reason None is none = cc none
+    by_reason (Some reason) is some = let same : refusal_of reason ≡ refusal = cc in ap or_refused is ∙ ap (λ (r : Refusal). Err r) same
 
 -- ---- writers
 

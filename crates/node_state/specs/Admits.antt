@@ -1,5 +1,5 @@
 -- Which writes a node takes.
-use Rattle.std.specs.Prelude.{◌≡◌, ⊤, Result, Ok, Err, None, Some}
+use Rattle.std.specs.Prelude.{◌≡◌, ⊤, Result, Ok, Err, None, Some, option_map}
 use Rattle.std.specs.FinMap as maps
 use Rattle.entry_bytes.specs.Sizes.{IsWithinEntry}
 use Rattle.oplog_entry.specs.Docs.{docs}
@@ -9,7 +9,7 @@ use Rattle.doc_update.specs.declared.write.Prepared.{Prepared}
 use Rattle.doc_update.specs.declared.write.Prepared.TheVariants.{Entry, NoMatch, Unchanged}
 use Rattle.doc_update.specs.declared.write.WriteOp.{WriteOp}
 use Rattle.doc_update.specs.declared.write.WriteRefusal.{WriteRefusal}
-use Rattle.doc_update.specs.declared.write.WriteRefusal.TheVariants.{Memory}
+use Rattle.doc_update.specs.Refusal.{reason_of}
 use Rattle.bson_doc.specs.Place.{Place}
 use Rattle.set_model.specs.declared.reply.Refusal.{Refusal}
 use Rattle.set_model.specs.Admitted.{admitted, refusal_of}
@@ -19,10 +19,9 @@ use Rattle.set_model.specs.Points.{next_optime}
 use Rattle.node_ledger.specs.Versions.{IsSmall}
 use Rattle.node_state.specs.declared.admission.Admission.{Admission}
 
--- a refusal, which out of memory isn't
+-- the refusal for the reason that a write is refused for; out of memory is none
 abbrev pub IsRefusal : WriteRefusal → Refusal → Type 0
-IsRefusal Memory refusal = ⊥
-IsRefusal why refusal = refusal ≡ refusal_of why
+IsRefusal why refusal = option_map refusal_of (reason_of why) ≡ Some refusal
 
 -- An op that is logged is lawful, touches the document at the place, and leaves one that isn't too large. At the node's next
 -- optime its entry fits into a record.

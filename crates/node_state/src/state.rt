@@ -1,4 +1,4 @@
-ghost use Rattle.std.specs.Prelude.{◌≡◌, ◌<◌, [], None, true, false, IfOk, OnErr};
+ghost use Rattle.std.specs.Prelude.{◌≡◌, ◌<◌, [], None, true, false, length, IfOk, OnErr};
 ghost use Rattle.std.specs.FinMap as maps;
 ghost use Rattle.bson_doc.specs.Place.{Place};
 ghost use Rattle.rs_optime.specs.declared.optime.OpTime.{OpTime};
@@ -113,10 +113,11 @@ impl State {
         })
     }
 
-    /// The documents that the log leaves, as of each optime that the store can show.
+    /// The documents that the log leaves, as of each optime that the store can show, in 64 shards.
     pub fn store(&self) -> &VersionStore
         ensures latest { (place : Place) → latest_of (versions_at result.now place) ≡ maps.get (local_documents self.now.node) place }
         ensures shown { (place : Place) (at : OpTime) → IsReadable self.now.node at → shown_at result.now place at ≡ maps.get (docs (log_up_to at self.now.node.log)) place }
+        ensures shards { result.now.count ≡ 64 }
     {
         self.ledger.store()
     }
@@ -284,6 +285,14 @@ impl State {
         ensures { result ≡ (last_point self.now.node, self.now.node.commit) }
     {
         (self.ledger.last(), self.commit)
+    }
+
+    /// How many entries of its log stand up to its commit point.
+    pub fn committed(&mut self) -> u64
+        ensures count { result ≡ length (log_up_to self.old.node.commit self.old.node.log) }
+        ensures same { self.new ≡ self.old }
+    {
+        self.ledger.count_up_to(self.commit)
     }
 
     /// The rollback id: how often the node rolled back or came up again.

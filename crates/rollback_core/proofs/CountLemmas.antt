@@ -12,7 +12,7 @@ use Rattle.oplog_store.specs.Log.{IsOplog, StandsBefore}
 use Rattle.oplog_store.proofs.Keeps.{pairs_head, pairs_tail}
 use Rattle.repl_msg.specs.Logs.{same_optime, has_entry}
 use Rattle.repl_msg.proofs.HasLemmas.{same_is}
-use Rattle.rollback_core.specs.Plan.{is_past, stands_at, IsCountUpTo}
+use Rattle.rollback_core.proofs.Steps.{is_past, stands_at, IsCountUpTo}
 use Rattle.rollback_core.proofs.Greatest.{stands_behind}
 
 tail_oplog : (entry : Entry) (log : List Entry) → IsOplog (entry ∷ log) → IsOplog log

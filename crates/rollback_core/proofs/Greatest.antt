@@ -16,7 +16,7 @@ use Rattle.oplog_store.proofs.LogLemmas.{oplog_filter}
 use Rattle.repl_msg.specs.Logs.{same_optime, has_entry}
 use Rattle.repl_msg.proofs.HasLemmas.{same_is, same_itself, has_filter}
 use Rattle.repl_msg.specs.Rollback.{is_common, common_point}
-use Rattle.rollback_core.specs.Plan.{later_entry}
+use Rattle.rollback_core.proofs.Steps.{later_entry}
 
 -- an entry that passes, or ZERO, and no entry that passes is past it
 pub record IsGreatest (test : OpTime → Bool) (log : List Entry) (point : OpTime) : Type 0 where

@@ -12,7 +12,7 @@ use Rattle.doc_update.specs.Effect.{prepared}
 use Rattle.doc_update.specs.declared.write.Prepared.{Prepared}
 use Rattle.doc_update.specs.declared.write.Prepared.TheVariants as made
 use Rattle.doc_update.specs.declared.write.WriteOp.{WriteOp}
-use Rattle.doc_update.specs.declared.write.WriteRefusal.{WriteRefusal}
+use Rattle.doc_update.specs.Refusal.{Reason}
 use Rattle.oplog_entry.specs.Docs.{docs}
 use Rattle.oplog_entry.specs.Lawful.{IsLawfulOp}
 use Rattle.oplog_entry.specs.Step.{place_of, document_after, is_at}
@@ -163,7 +163,7 @@ pub admitted_ready : (node : Node) (op : WriteOp) (logged : Op) (after : Option 
     → admitted node op ≡ Ok (made.Entry logged after) → IsAdmitted node logged
 admitted_ready node op logged after log stored sound name does = by_place (checked op) refl
   where
-    with_place : (place : Place) → checked op ≡ Ok place → (held : Option ℕ) → holder node place ≡ held → (found : Result Prepared WriteRefusal) → prepared op (maps.get (docs node.log) place) ≡ found
+    with_place : (place : Place) → checked op ≡ Ok place → (held : Option ℕ) → holder node place ≡ held → (found : Result Prepared Reason) → prepared op (maps.get (docs node.log) place) ≡ found
         → unless_held held (or_refused found) ≡ Ok (made.Entry logged after) → IsAdmitted node logged
     with_place place is (Some writer) held found found_is does = cc does
     with_place place is None free (Err why) found_is does = cc does
@@ -191,7 +191,7 @@ admitted_ready node op logged after log stored sound name does = by_place (check
         only : (p : Place) → place_of logged ≡ Some p → p ≡ place
         only p touches = same_Some p place (sym touches ∙ known.at)
 
-    by_place : (found : Result Place WriteRefusal) → checked op ≡ found → IsAdmitted node logged
+    by_place : (found : Result Place Reason) → checked op ≡ found → IsAdmitted node logged
     by_place (Err why) is =
         let refused : admitted node op ≡ Err (refusal_of why) = rw is refl in
         cc (refused, does)

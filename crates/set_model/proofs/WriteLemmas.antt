@@ -12,7 +12,7 @@ use Rattle.doc_update.proofs.StoredLemmas.{IsSoundUpdate}
 use Rattle.doc_update.specs.Check.{checked, with_key, insert_checked, replace_checked, same_id, update_checked, by_rule, broken_rule, names_id}
 use Rattle.doc_update.specs.declared.write.WriteOp.{WriteOp}
 use Rattle.doc_update.specs.declared.write.WriteOp.TheVariants as ops
-use Rattle.doc_update.specs.declared.write.WriteRefusal.{WriteRefusal}
+use Rattle.doc_update.specs.Refusal.{Reason, ImmutableId}
 use Rattle.set_model.specs.Limits.{IsSoundWrite, collection_of, is_collection, is_name_byte}
 
 pub sound_update : (op : WriteOp) → IsSoundWrite op → IsSoundUpdate op
@@ -33,10 +33,10 @@ name_length (first ∷ others) is =
     rest false b c all = cc all
 
 -- the collection of a place that was checked
-first_is : (one two : Place) → ◌≡◌ {A = Result Place WriteRefusal} (Ok one) (Ok two) → one.0 ≡ two.0
+first_is : (one two : Place) → ◌≡◌ {A = Result Place Reason} (Ok one) (Ok two) → one.0 ≡ two.0
 first_is one two same = ap (λ (p : Place). p.0) (whole same)
   where
-    whole : ◌≡◌ {A = Result Place WriteRefusal} (Ok one) (Ok two) → one ≡ two
+    whole : ◌≡◌ {A = Result Place Reason} (Ok one) (Ok two) → one ≡ two
     whole same = cc same
 
 keyed_place : (ns : List ℕ) (key : Option IdKey) (place : Place) → with_key ns key ≡ Ok place → ns ≡ place.0
@@ -52,7 +52,7 @@ replace_place ns None own place is = cc is
 replace_place ns (Some key) None place is = first_is (ns, key) place is
 replace_place ns (Some key) (Some id) place is = by_own (key_of id) is
   where
-    by_test : (b : Bool) → ◌≡◌ {A = Result Place WriteRefusal} (cond b (Ok (ns, key)) (Err WriteRefusal.ImmutableId)) (Ok place) → ns ≡ place.0
+    by_test : (b : Bool) → ◌≡◌ {A = Result Place Reason} (cond b (Ok (ns, key)) (Err ImmutableId)) (Ok place) → ns ≡ place.0
     by_test true is = first_is (ns, key) place is
     by_test false is = cc is
 
@@ -64,7 +64,7 @@ update_place : (ns : List ℕ) (key : Option IdKey) (operators : Fields) (place 
 update_place ns None operators place is = cc is
 update_place ns (Some key) operators place is = by_found (broken_rule operators) is
   where
-    by_test : (b : Bool) → ◌≡◌ {A = Result Place WriteRefusal} (cond b (Err WriteRefusal.ImmutableId) (Ok (ns, key))) (Ok place) → ns ≡ place.0
+    by_test : (b : Bool) → ◌≡◌ {A = Result Place Reason} (cond b (Err ImmutableId) (Ok (ns, key))) (Ok place) → ns ≡ place.0
     by_test true is = cc is
     by_test false is = first_is (ns, key) place is
 

@@ -10,8 +10,8 @@ use Rattle.bson_doc.specs.declared.key.IdKey.{IdKey}
 use Rattle.doc_update.specs.Check.{checked}
 use Rattle.doc_update.specs.declared.write.WriteOp.{WriteOp}
 use Rattle.doc_update.specs.declared.write.WriteOp.TheVariants as ops
-use Rattle.doc_update.specs.declared.write.WriteRefusal.{WriteRefusal}
-use Rattle.doc_update.specs.declared.write.WriteRefusal.TheVariants as why
+use Rattle.doc_update.specs.Refusal as why
+use Rattle.doc_update.specs.Refusal.{Reason}
 use Rattle.doc_update.specs.declared.write.Prepared.{Prepared}
 use Rattle.doc_update.specs.declared.write.Prepared.TheVariants as prepared
 use Rattle.rs_optime.specs.Order.{is_before}
@@ -137,7 +137,7 @@ primary_quiet roles.Draining one two first second = second
 
 -- ---- writes
 
-refused_quiet : (refusal : WriteRefusal) → is_failing (refusal_of refusal) ≡ false
+refused_quiet : (reason : Reason) → is_failing (refusal_of reason) ≡ false
 refused_quiet why.DuplicateKey = refl
 refused_quiet why.NoId = refl
 refused_quiet why.BadIdKind = refl
@@ -146,11 +146,10 @@ refused_quiet why.IncType = refl
 refused_quiet why.IncOverflow = refl
 refused_quiet why.DocTooLarge = refl
 refused_quiet (why.BadUpdate rule) = refl
-refused_quiet why.Memory = refl
 
-effect_quiet : (found : Result Prepared WriteRefusal) → may_fail (or_refused found) ≡ false
+effect_quiet : (found : Result Prepared Reason) → may_fail (or_refused found) ≡ false
 effect_quiet (Ok effect) = refl
-effect_quiet (Err refusal) = refused_quiet refusal
+effect_quiet (Err reason) = refused_quiet reason
 
 held_quiet : (held_by : Option ℕ) (found : Result Prepared Refusal) → may_fail found ≡ false → may_fail (unless_held held_by found) ≡ false
 held_quiet (Some writer) found quiet = refl
@@ -159,8 +158,8 @@ held_quiet None found quiet = quiet
 admitted_quiet : (node : Node) (op : WriteOp) → may_fail (admitted node op) ≡ false
 admitted_quiet node op = go (checked op) refl
   where
-    go : (found : Result Place WriteRefusal) → checked op ≡ found → may_fail (admitted node op) ≡ false
-    go (Err refusal) is = rw is (refused_quiet refusal)
+    go : (found : Result Place Reason) → checked op ≡ found → may_fail (admitted node op) ≡ false
+    go (Err reason) is = rw is (refused_quiet reason)
     go (Ok place) is = rw is (held_quiet (holder node place) _ (effect_quiet _))
 
 written_quiet : (node : Node) (found : Result Prepared Refusal) → may_fail found ≡ false → IsCalm (written node found)

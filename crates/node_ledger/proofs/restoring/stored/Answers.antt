@@ -7,7 +7,7 @@ use Rattle.node_ledger.proofs.restoring.stored.Goals as goal
 
 pub loop-ns-init : goal.loop-ns-init
 loop-ns-init c =
-    stored_none c.args.at c.args.documents.entries c.into_iter-ns-iterator.result c.in_ok-store.store c.into_iter-ns-iterator.ensures.into_iter_gives.0 c.into_iter-ns-iterator.ensures.into_iter_gives.5
+    stored_none c.args.at c.args.documents.entries c.into_iter-ns-iterator.result c.in_ok-store.store c.in_ok-store.ensures.count c.into_iter-ns-iterator.ensures.into_iter_gives.0 c.into_iter-ns-iterator.ensures.into_iter_gives.5
     c.in_ok-store.ensures.empty
 
 pub put-requires : goal.put-requires
@@ -26,3 +26,6 @@ returns-clause-versions c = stored_all c.args.at c.args.documents.entries c.loop
 
 pub returns-clause-free : goal.returns-clause-free
 returns-clause-free c = c.loop-ns.invariant.free
+
+pub returns-clause-count : goal.returns-clause-count
+returns-clause-count c = c.loop-ns.invariant.shards

@@ -1,6 +1,7 @@
-use Rattle.std.proofs.Common.{◌≡◌, ◌∙◌, ◌∷◌, ◌-◌, ap, sym, subst, arith, drop, length, get_or, suc, ◌<◌, List, [], rules}
+use Rattle.std.proofs.Common.{◌≡◌, ◌∙◌, ◌&&◌, if◌then◌else◌, ◌∷◌, ◌-◌, ap, sym, subst, arith, drop, length, get_or, suc, ◌<◌, List, [], rules}
 use Rattle.std.proofs.Math.Seq.{drop-cons}
 use Rattle.std.proofs.lemmas.List.{drop_all}
+use Rattle.rs_optime.specs.Order.{is_before}
 use Rattle.rs_optime.specs.declared.optime.OpTime.{OpTime}
 use Rattle.oplog_entry.specs.Visible.{ZERO, last_of}
 use Rattle.repl_msg.specs.Rollback.{is_common}
@@ -22,10 +23,10 @@ loop-place-preserved c =
     let within : c.loop-place.place - 1 < length c.args.optimes.now = omega arith in
     let front : drop (c.loop-place.place - 1) c.args.optimes.now ≡ get_or c.args.optimes.now (c.loop-place.place - 1) ZERO ∷ drop c.loop-place.place c.args.optimes.now =
     drop-cons c.args.optimes.now (c.loop-place.place - 1) ZERO within ∙ ap (λ n. get_or c.args.optimes.now (c.loop-place.place - 1) ZERO ∷ drop n c.args.optimes.now) next in (
-      c.count_up_to-count.ensures.within,
-      subst (λ (optimes : List OpTime). IsGreatest (is_common c.args.after optimes) c.args.log.now.entries c.later_entry-point.result) (sym front)
+      c.look_up-next.ensures.within,
+      subst (λ (optimes : List OpTime). IsGreatest (is_common c.args.after optimes) c.args.log.now.entries c.later_of-point.result) (sym front)
           (subst (λ point. IsGreatest (is_common c.args.after (get_or c.args.optimes.now (c.loop-place.place - 1) ZERO ∷ drop c.loop-place.place c.args.optimes.now)) c.args.log.now.entries point)
-          (sym c.later_entry-point.ensures)
+          (sym (c.later_of-point.ensures ∙ ap (λ there. if is_before c.loop-place.point (get_or c.args.optimes.now (c.loop-place.place - 1) ZERO) && there then get_or c.args.optimes.now (c.loop-place.place - 1) ZERO else c.loop-place.point) c.look_up-next.ensures.has))
           (one_more c.args.log.now.entries c.args.after (drop c.loop-place.place c.args.optimes.now) c.loop-place.point (get_or c.args.optimes.now (c.loop-place.place - 1) ZERO) c.loop-place.invariant.1)),
     )
 

@@ -1,5 +1,5 @@
 use Rattle.std.proofs.Common.{◌≡◌, ◌≤◌, ◌+◌, ◌-◌, ℕ, false, length}
-use Rattle.rollback_core.specs.Plan.{is_past}
+use Rattle.rollback_core.proofs.Steps.{is_past}
 use Rattle.rollback_core.proofs.point.count_up_to.Given as goal
 
 abbrev pub invariant-loop-count : goal.invariant-loop-count

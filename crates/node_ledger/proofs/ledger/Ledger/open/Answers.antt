@@ -18,7 +18,7 @@ pub invariant_of-self-in-Err : goal.invariant_of-self-in-Err
 invariant_of-self-in-Err c =
     let back = put_back-insert c.self.inside.writers c.args.number c.open.result c.in_ok-old.old c.in_ok-old.ensures.old in
     kept_put_back c.self.inside.term c.self.inside.role c.self.inside.clock c.self.inside.log.entries c.self.inside.slots c.hold.new.slots c.self.inside.writers c.put_back.new.self c.self.inside.applied c.self.inside.stable
-    c.self.inside.store c.hold.new.store c.self.invariant c.in-Err.ensures.no_slot (rw (c.put_back.ensures, c.in_ok-old.ensures.ok) back) c.in-Err.ensures.not_held
+    c.self.inside.store c.hold.new.store c.self.invariant c.in-Err.ensures.no_slot (rw (c.put_back.ensures, c.in_ok-old.ensures.ok) back) c.hold.ensures.count c.in-Err.ensures.not_held
 
 pub returns-in-Err-clause-err : goal.returns-in-Err-clause-err
 returns-in-Err-clause-err c =

@@ -21,7 +21,7 @@ invariant_of-ledger-2 g c =
     ap (λ (s : Reserved). s.mark) c.insert_all.ensures.slots ∙ ap (λ (s : Reserved). seen_after s.mark c.into_entries-entries.result.items) c.new-slots.ensures ∙ ap (λ es. seen_after 0 es) c.into_entries-entries.ensures.entries in
     rw (log, slots, seen, c.new.ensures)
     (kept_stored c.in_ok-stored.field-0 c.args.term c.args.clock c.args.entries c.args.at c.requires.term c.requires.oplog c.requires.within c.requires.terms c.requires.small c.requires.reached
-    (λ p. c.in_ok-stored.ensures.versions p ∙ ap (λ d. version_as_of c.args.at (maps.get d p)) c.requires.documents) c.in_ok-stored.ensures.free)
+    (λ p. c.in_ok-stored.ensures.versions p ∙ ap (λ d. version_as_of c.args.at (maps.get d p)) c.requires.documents) c.in_ok-stored.ensures.free c.in_ok-stored.ensures.count)
 
 pub returns : goal.returns
 returns g c =

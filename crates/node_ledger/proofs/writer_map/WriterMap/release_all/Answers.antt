@@ -13,6 +13,7 @@ loop-held-init c =
       λ place. refl,
       none_or_some c.into_iter-held-iterator.result c.args.self.now c.args.store.now
           (ap (λ (es : List (ℕ × Writer)). from_entries {R = nat_cmp} es) given ∙ c.self.view_is) c.requires,
+      refl,
     )
 
 pub loop-held-preserved-in-Some-place : goal.loop-held-preserved-in-Some-place
@@ -21,4 +22,5 @@ loop-held-preserved-in-Some-place c =
     let has : held_place c.in-Some.held.now ≡ Some own = search rules in (
       λ place. let_versions c.loop-held.store c.release.new.self own c.release.ensures place ∙ c.loop-held.invariant.0 place,
       let_go c.loop-held.store c.release.new.self own c.loop-held.held-iterator c.next.new.self (c.in-Some.field-0-0.now, c.in-Some.held.now) has c.release.ensures (search rules) c.loop-held.invariant.1,
+      c.release.ensures.count ∙ c.loop-held.invariant.2,
     )

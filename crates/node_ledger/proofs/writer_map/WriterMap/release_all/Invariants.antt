@@ -8,3 +8,4 @@ abbrev pub invariant-loop-held : goal.invariant-loop-held
 invariant-loop-held l =
     ((place : Place) → versions_at l.store place ≡ versions_at l.initial.store place)
     × ((place : Place) → (holder_at l.store place ≡ None) ⊎ SomeHeld place l.held-iterator)
+    × (l.store.count ≡ l.initial.store.count)
