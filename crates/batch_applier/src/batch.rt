@@ -14,8 +14,8 @@ use std::alloc::{AllocError, Global};
 use std::thread::Threads;
 use version_store::{Shard, VersionStore};
 
-/// Below so many entries a thread costs more than it saves.
-const FEW: usize = 1000;
+/// How many entries pay for a thread.
+const SHARE: usize = 1000;
 
 /// Applies a batch of at most 5,000 entries to a store, in 1 to 16 workers. A worker claims one shard after
 /// another and applies the entries on its documents, in order, so entries on one document stay in order. Each
@@ -81,18 +81,31 @@ fn apply_to<R: Threads + Sync, G: Gate + Sync>(
     ensures begun { EachOf IsBegun shards.old shards.new entries.now }
 {
     let parts = parted(alloc, entries, count)?;
-    let few = entries.len() < FEW;
-    apply_parts(rt, gate, alloc, workers, few, &parts, shards)
+    apply_parts(rt, gate, alloc, workers, &parts, shards)
 }
 
-/// Applies the parts in workers that claim the shards. One worker, and few entries, take no thread: every worker
-/// passes the gate in the caller then, the first as the last, and the first does all.
+/// How many of the workers save more than their threads cost: each has a thousand entries to do, and as many as
+/// the largest part, which one worker does alone.
+fn worthwhile(workers: u32, parts: &[Part<'_>]) -> u32
+    requires { 0 < workers }
+    ensures { (0 < result) × (result ≤ workers) }
+{
+    let mut all: usize = 0;
+    let mut largest = 0;
+    for part in parts {
+        all = all.saturating_add(part.len());
+        largest = largest.max(part.len());
+    }
+    (all / largest.max(SHARE)).min(workers as usize).max(1) as u32
+}
+
+/// Applies the parts in workers that claim the shards. Those for which no thread pays pass the gate in the caller,
+/// before the others begin.
 fn apply_parts<R: Threads + Sync, G: Gate + Sync>(
     rt: &R,
     gate: &G,
     alloc: Global,
     workers: u32,
-    few: bool,
     parts: &[Part<'_>],
     shards: &mut [Shard],
 ) -> Mem<()>
@@ -101,11 +114,12 @@ fn apply_parts<R: Threads + Sync, G: Gate + Sync>(
     requires ready { AreReady shards.old parts.now }
     ensures { AreApplied result shards.old shards.new parts.now }
 {
-    if workers > 1 && !few {
-        return apply_claimed(rt, gate, alloc, workers, parts, shards);
-    }
-    for other in 2..=workers {
+    let threads = worthwhile(workers, parts);
+    for other in threads + 1..=workers {
         gate.pass(other);
+    }
+    if threads > 1 {
+        return apply_claimed(rt, gate, alloc, threads, parts, shards);
     }
     gate.pass(1);
     apply_in_turn(alloc, parts, shards)

@@ -107,6 +107,12 @@ impl<'a> Part<'a> {
         Ok(self.touches.push(touch)?)
     }
 
+    pub(crate) fn len(&self) -> usize
+        ensures { result ≡ length self.now }
+    {
+        self.touches.len()
+    }
+
     /// Applies the entries to their shard, in order. Where memory runs out, some of them have been applied, from
     /// the first on.
     pub(crate) fn apply(&self, alloc: Global, shard: &mut Shard) -> Mem<()>

@@ -1,28 +1,31 @@
 -- A checkpoint store's disk is a record file's, and what a crash leaves of the one it leaves of the other.
-use Rattle.std.proofs.Common.{◌≡◌, inl, inr, ℕ, List, [], ◌∷◌, ◌++◌, map, refl, sym, ap, subst, ◌∙◌, append-nil}
-use Rattle.std.specs.Prelude.{All, Result, Err, OnOk}
+use Rattle.std.proofs.Common.{◌≡◌, inl, inr, ℕ, List, [], ◌∷◌, ◌++◌, ◌^◌, ◌<◌, length, map, suc, zero, refl, sym, ap, subst, ◌∙◌, arith, append-nil}
+use Rattle.std.specs.Prelude.{All, Result, OnOk, Vec}
+use Rattle.std.specs.declared.alloc.Global.{Global}
 use Rattle.std.specs.FinMap.{entries}
 use Rattle.bson_doc.proofs.BindLemmas.{on_ok}
 use Rattle.rs_disk.specs.File.{contents}
 use Rattle.rs_disk.specs.Images.{read_is_image}
 use Rattle.rs_disk.specs.Moments.{EachMoment, starts, weakens}
-use Rattle.rs_disk.specs.State.{State}
-use Rattle.record_file.specs.Records.{HasRecords}
+use Rattle.rs_disk.specs.State.{State, SameButRoom}
+use Rattle.record_file.specs.Records.{HasRecords, lists}
+use Rattle.record_file.specs.Files.{EndsBy, adding_steps}
+use Rattle.record_file.proofs.ItemLemmas.{same_head, same_tail}
 use Rattle.record_file.specs.Files as files
 use Rattle.record_file.specs.declared.error.FileError.{FileError}
-use Rattle.record_file.specs.declared.error.FileError.TheVariants.{Memory}
 use Rattle.record_file.proofs.ParseLemmas.{one_list}
 use Rattle.rs_optime.specs.declared.optime.OpTime.{OpTime}
 use Rattle.oplog_entry.specs.Docs.{Documents}
 use Rattle.version_store.specs.Store.{Store}
-use Rattle.checkpoint_store.specs.Checkpoint.{last_whole, checkpoint_of, checkpoint}
-use Rattle.checkpoint_store.specs.Files.{HasList, HasCheckpoint, RestsWith, IsAtRest, IsOpen, IsOneOf, IsCheckpointDisk, IsBeforeOrAfter, IsFront, Adds}
-use Rattle.checkpoint_store.specs.Layout.{Record, Saved, record_bytes}
+use Rattle.checkpoint_store.specs.Checkpoint.{last_whole, checkpoint}
+use Rattle.checkpoint_store.specs.Files.{AreSpelled, HasList, HasCheckpoint, RestsWith, IsAtRest, IsOpen, IsOneOf, IsCheckpointDisk, IsBeforeOrAfter}
+use Rattle.checkpoint_store.specs.Layout.{Record, record_bytes}
 use Rattle.checkpoint_store.specs.Shown.{Shows}
 use Rattle.checkpoint_store.specs.Spelled.{IsRecord}
 use Rattle.checkpoint_store.specs.declared.stable.Stable.{Stable}
 use Rattle.checkpoint_store.proofs.CheckpointLemmas.{front_keeps, checkpoint_counts}
-use Rattle.checkpoint_store.proofs.FileLemmas.{rest_leaves}
+use Rattle.checkpoint_store.proofs.FileLemmas.{IsFront, fronts, rest_leaves, rests_still, rests_with}
+use Rattle.checkpoint_store.proofs.SizeLemmas.{record_short}
 use Rattle.checkpoint_store.proofs.OnceLemmas.{rest_has}
 
 pub disk_is : (state : State) → IsCheckpointDisk state → files.IsRecordDisk state
@@ -100,44 +103,34 @@ either_is next before rest image (front, r ∷ others, is, list) = inl (record {
   last = front_keeps rest.records next.at (entries next.documents) front (r ∷ others) is (λ none. cc) ∙ rest.last;
 })
 
-module _ {X : Type 0} (result : Result X FileError) (old new : State) (store : Store) (at : OpTime) (list : List Saved)
-    (same : (documents : Documents) → Shows store at documents → list ≡ entries documents) (adds : Adds result (checkpoint_of at list) old new) where
-  rests_as : (records : List Record) (documents : Documents) → Shows store at documents → RestsWith new (records ++ checkpoint_of at list)
-      → RestsWith new (records ++ checkpoint (record { at = at; documents = documents }))
-  rests_as records documents shows rest = subst (λ (l : List Saved). RestsWith new (records ++ checkpoint_of at l)) (same documents shows) rest
-
+module _ {X : Type 0} (result : Result X FileError) (old new : State) (store : Store) (at : OpTime) (pieces : List (List ℕ))
+    (are : (documents : Documents) → Shows store at documents → AreSpelled (checkpoint (record { at = at; documents = documents })) pieces)
+    (done : OnOk result ((before : List (List ℕ)) → files.IsAtRest old before → files.IsAtRest new (before ++ pieces)))
+    (moments : (before : List (List ℕ)) → files.IsAtRest old before → EachMoment (files.HasFirst before pieces) old new) where
   -- all of the records were added
   pub saved_records : OnOk result ((documents : Documents) → Shows store at documents → (records : List Record) → RestsWith old records
       → RestsWith new (records ++ checkpoint (record { at = at; documents = documents })))
-  saved_records = on_ok result (λ done documents shows records rest. rests_as records documents shows (done records rest)) adds.ok
+  saved_records = on_ok result (λ added documents shows records rest.
+      rests_with (checkpoint (record { at = at; documents = documents })) pieces (are documents shows) new records rest.each (added (map record_bytes records) rest.rests)) done
 
   pub saved : OnOk result ((documents : Documents) → Shows store at documents → (stable : Stable) → IsAtRest old stable → IsAtRest new (record { at = at; documents = documents }))
-  saved = on_ok result (λ done documents shows stable rest. record {
+  saved = on_ok result (λ added documents shows stable rest. record {
     records = rest.records ++ checkpoint (record { at = at; documents = documents });
-    rests = rests_as rest.records documents shows (done rest.records rest.rests);
+    rests = added documents shows rest.records rest.rests;
     last = checkpoint_counts rest.records (record { at = at; documents = documents });
-  }) adds.ok
+  }) saved_records
 
-  pub saved_open : IsOpen old → OnOk result (IsOpen new)
-  saved_open is = on_ok result (λ done. record { records = is.records ++ checkpoint_of at list; rests = done is.records is.rests }) adds.ok
+  pub saved_open : (documents : Documents) → Shows store at documents → IsOpen old → OnOk result (IsOpen new)
+  saved_open documents shows is = on_ok result (λ added. record {
+    records = is.records ++ checkpoint (record { at = at; documents = documents });
+    rests = added documents shows is.records is.rests;
+  }) saved_records
 
-  -- memory was wanting
-  pub kept : result ≡ Err Memory → (stable : Stable) → IsAtRest old stable → IsAtRest new stable
-  kept is stable rest =
-      let short = adds.memory is rest.records rest.rests in record {
-        records = rest.records ++ short.0;
-        rests = short.4;
-        last = front_keeps rest.records at list short.0 short.1 short.2 short.3 ∙ rest.last;
-      }
-
-  pub kept_open : IsOpen old → result ≡ Err Memory → IsOpen new
-  kept_open open_before is =
-      let short = adds.memory is open_before.records open_before.rests in record { records = open_before.records ++ short.0; rests = short.4 }
-
-  pub adds_left : IsOpen old → IsCheckpointDisk new
-  adds_left open_before = record {
+  pub saved_left : (documents : Documents) → Shows store at documents → IsOpen old → IsCheckpointDisk new
+  saved_left documents shows open_before = record {
     leaves = λ image left.
-        let front = (adds.moments open_before.records open_before.rests).now image left in list_has image (open_before.records ++ front.0) front.3;
+        let added = checkpoint (record { at = at; documents = documents }) in
+        let front = (fronts added pieces (are documents shows) old new moments open_before.records open_before.rests).now image left in list_has image (open_before.records ++ front.0) front.3;
   }
 
   pub saves : (documents : Documents) → Shows store at documents → (before : Stable) → IsAtRest old before
@@ -145,4 +138,32 @@ module _ {X : Type 0} (result : Result X FileError) (old new : State) (store : S
   saves documents shows before rest =
       let next : Stable = record { at = at; documents = documents } in
       weakens (IsFront rest.records (checkpoint next)) (IsBeforeOrAfter before next) (either_is next before rest) old new
-      (subst (λ (l : List Saved). EachMoment (IsFront rest.records (checkpoint_of at l)) old new) (same documents shows) (adds.moments rest.records rest.rests))
+      (fronts (checkpoint next) pieces (are documents shows) old new moments rest.records rest.rests)
+
+  pub saved_calls : EndsBy result (adding_steps (length (contents old.file)) pieces) old new → (documents : Documents) → Shows store at documents
+      → EndsBy result (adding_steps (length (contents old.file)) (map record_bytes (checkpoint (record { at = at; documents = documents })))) old new
+  saved_calls ends documents shows =
+      subst (λ (l : List (List ℕ)). EndsBy result (adding_steps (length (contents old.file)) l) old new) (are documents shows).spelled ends
+
+-- only the room has changed
+pub open_still : (old new : State) → SameButRoom old new → IsOpen old → IsOpen new
+open_still old new same is = record { records = is.records; rests = rests_still old new is.records same is.rests }
+
+-- the records are short enough for a record file
+pub records_short : (records : List Record) (pieces : List (Vec ℕ Global)) → AreSpelled records (lists pieces) → All (λ (v : Vec ℕ Global). length v.items < 2 ^ 32) pieces
+records_short records pieces are = each records pieces are.each are.spelled
+  where
+    each : (records : List Record) (pieces : List (Vec ℕ Global)) → All IsRecord records → lists pieces ≡ map record_bytes records → All (λ (v : Vec ℕ Global). length v.items < 2 ^ 32) pieces
+    each records [] lawful same k d within = absurd (omega arith)
+    each [] (p ∷ pieces) lawful same k d within = absurd (omega (arith, ap length same))
+    each (item ∷ records) (p ∷ pieces) lawful same zero d within =
+        omega (arith, ap length (same_head p.items (record_bytes item) (lists pieces) (map record_bytes records) same), record_short item (lawful zero item (omega arith)))
+    each (item ∷ records) (p ∷ pieces) lawful same (suc k) d within =
+        each records pieces (λ j e inside. lawful (suc j) e (omega arith)) (same_tail p.items (record_bytes item) (lists pieces) (map record_bytes records) same) k d (omega (arith, within))
+
+-- the same records, borrowed
+pub are_laid : (store : Store) (at : OpTime) (laid pieces : List (Vec ℕ Global)) → pieces ≡ laid
+    → ((documents : Documents) → Shows store at documents → AreSpelled (checkpoint (record { at = at; documents = documents })) (lists laid))
+    → (documents : Documents) → Shows store at documents → AreSpelled (checkpoint (record { at = at; documents = documents })) (lists pieces)
+are_laid store at laid pieces same are documents shows =
+    subst (λ (l : List (Vec ℕ Global)). AreSpelled (checkpoint (record { at = at; documents = documents })) (lists l)) (sym same) (are documents shows)

@@ -8,3 +8,4 @@ pub mod OnceLemmas
 mod ShownLemmas
 mod SavingLemmas
 mod DiskLemmas
+mod MarkedLemmas

@@ -1,12 +1,13 @@
 -- One record more, and what is known of its bytes.
 use Rattle.std.proofs.Common.{◌≡◌, ℕ, ◌+◌, ◌≤◌, List, [], ◌∷◌, ◌++◌, length, take, map, sym, ap, subst, ◌∙◌, arith}
-use Rattle.std.specs.Prelude.{All, fold}
+use Rattle.std.specs.Prelude.{All}
 use Rattle.std.specs.List.{flat_map}
 use Rattle.std.proofs.lemmas.List.{length-map}
 use Rattle.std.proofs.lemmas.List.Elements.{All-map}
 use Rattle.std.proofs.lemmas.List.Folds.{flat_map-map}
 use Rattle.std.proofs.lemmas.List.Sums.{fold-append}
-use Rattle.checkpoint_store.specs.Checkpoint.{SoFar, nothing_yet, with_record}
+use Rattle.checkpoint_store.specs.Checkpoint.{nothing_yet, with_record}
+use Rattle.checkpoint_store.specs.Marked.{come_to}
 use Rattle.bson_doc.specs.Place.{Place}
 use Rattle.bson_codec.specs.Numbers.{number_bytes}
 use Rattle.checkpoint_store.specs.Layout.{Record, Saved, holds, saved_bytes}
@@ -16,9 +17,6 @@ pub spelled_as : (item : Record) (one other : List ℕ) → other ≡ one → Is
 spelled_as item one other same is = subst (λ (l : List ℕ). IsSpelled item l) (sym same) is
 
 -- what the records come to with one more
-abbrev pub come_to : List Record → SoFar
-come_to records = fold with_record nothing_yet records
-
 pub one_record_more : (records : List Record) (i : ℕ) (item : Record) → take (i + 1) records ≡ take i records ++ item ∷ []
     → with_record (come_to (take i records)) item ≡ come_to (take (i + 1) records)
 one_record_more records i item is = sym (ap come_to is ∙ fold-append with_record nothing_yet (take i records) (item ∷ []))

@@ -6,7 +6,7 @@ use Rattle.std.proofs.lemmas.List.{take_at, drop_at}
 use Rattle.entry_bytes.proofs.OptimeLemmas.{optime_once}
 use Rattle.entry_bytes.specs.Optimes.{optime_bytes}
 use Rattle.rs_disk.specs.File.{LeavesOnly}
-use Rattle.rs_disk.specs.State.{State}
+use Rattle.rs_disk.specs.State.{State, SameButRoom}
 use Rattle.record_file.proofs.ParseLemmas.{one_list}
 use Rattle.record_file.proofs.ItemLemmas.{same_head, same_tail}
 use Rattle.bson_doc.specs.declared.key.IdKey.{IdKey}
@@ -19,7 +19,7 @@ use Rattle.checkpoint_store.specs.Files.{HasCheckpoint, IsAtRest}
 use Rattle.checkpoint_store.specs.Layout.{Saved, Record, begins, holds, ends, sized, saved_bytes, documents_bytes, record_bytes}
 use Rattle.checkpoint_store.specs.Spelled.{IsSaved, AreSaved, IsRecord}
 use Rattle.checkpoint_store.specs.declared.stable.Stable.{Stable}
-use Rattle.checkpoint_store.proofs.FileLemmas.{rest_leaves}
+use Rattle.checkpoint_store.proofs.FileLemmas.{rest_leaves, rests_still}
 use Rattle.checkpoint_store.proofs.PartLemmas.{sized_parts, saved_parts, name_short, document_short, spelled_here}
 
 sized_once : (a b more others : List ℕ) → length a < 2 ^ 32 → length b < 2 ^ 32 → sized a ++ more ≡ sized b ++ others → (a ≡ b) × (more ≡ others)
@@ -93,3 +93,8 @@ checkpoint_once bytes one two a b =
 pub rest_has : (state : State) (stable : Stable) → IsAtRest state stable → LeavesOnly (λ image. HasCheckpoint image stable) state.file
 rest_has state stable rest image left =
     record { records = rest.records; list = rest_leaves state rest.records rest.rests image left; last = rest.last }
+
+-- and where only the room has changed it stays at rest
+pub rest_reserved : (old new : State) (stable : Stable) → SameButRoom old new → IsAtRest old stable → IsAtRest new stable
+rest_reserved old new stable same rest =
+    record { records = rest.records; rests = rests_still old new rest.records same rest.rests; last = rest.last }

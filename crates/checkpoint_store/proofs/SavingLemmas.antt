@@ -1,95 +1,47 @@
--- Some of the records that are to be added, and those that are left.
+-- Some of the records of a checkpoint are laid out, and others are left.
 use Rattle.std.proofs.Common.{◌≡◌, inl, inr, ℕ, ◌+◌, ◌-◌, ◌/◌, ◌<◌, List, [], ◌∷◌, ◌++◌, length, take, drop, map, suc, refl, sym, ap, subst, ◌∙◌, arith, append_assoc, append-nil, length-drop}
-use Rattle.std.specs.Prelude.{◌≢◌, min, Result, Ok, Err}
+use Rattle.std.specs.Prelude.{Vec, min}
 use Rattle.std.specs.Simd.{first_chunks}
+use Rattle.std.specs.declared.alloc.Global.{Global}
 use Rattle.std.proofs.lemmas.Bool.{cases_lt}
-use Rattle.std.proofs.lemmas.List.{take-map, drop-map, take_min, drop_all}
-use Rattle.rs_disk.specs.State.{State, Keeps}
-use Rattle.record_file.specs.declared.error.FileError.{FileError}
+use Rattle.std.proofs.lemmas.List.{take-map, drop-map, take_min, drop_all, map-append}
+use Rattle.std.proofs.lemmas.List.Elements.{All-push}
+use Rattle.record_file.specs.Records.{lists}
+use Rattle.record_file.proofs.ItemLemmas.{pieces_push}
 use Rattle.bson_doc.specs.Place.{Place}
 use Rattle.checkpoint_store.specs.Checkpoint.{pieces}
-use Rattle.checkpoint_store.specs.Files.{Adds}
-use Rattle.checkpoint_store.specs.Layout.{Saved, Record, holds}
-use Rattle.checkpoint_store.specs.Spelled.{PIECE}
-use Rattle.checkpoint_store.proofs.FileLemmas.{none_yet, stops, after, broken}
+use Rattle.checkpoint_store.specs.Files.{AreSpelled}
+use Rattle.checkpoint_store.specs.Layout.{Saved, Record, holds, record_bytes}
+use Rattle.checkpoint_store.specs.Spelled.{PIECE, IsRecord, IsSpelled}
 
-pub record AddedSoFar (whole rest : List Record) (old now : State) : Type 0 where
+pub record LaidSoFar (whole rest : List Record) (laid : List (Vec ℕ Global)) : Type 0 where
   pub done : List Record
   pub is : whole ≡ done ++ rest
-  pub adds : Adds {X = Unit {0}} (Ok tt) done old now
+  pub are : AreSpelled done (lists laid)
 
-pub starts : (whole : List Record) (state : State) → AddedSoFar whole whole state state
-starts whole state = record { done = []; is = refl; adds = none_yet tt state }
-
--- what comes next is added, or it isn't
-pub last : (result : Result (Unit {0}) FileError) (whole rest : List Record) (old now new : State) → AddedSoFar whole rest old now → Adds result rest now new
-    → Adds result whole old new
-last result whole rest old now new so_far adds =
-    subst (λ (l : List Record). Adds result l old new) (sym so_far.is) (after tt result so_far.done rest old now new so_far.adds adds)
-
-pub goes : (result : Result (Unit {0}) FileError) (x : Unit {0}) (next whole rest : List Record) (old now new : State) → result ≡ Ok x → AddedSoFar whole (next ++ rest) old now
-    → Adds result next now new → AddedSoFar whole rest old new
-goes result x next whole rest old now new is so_far adds = record {
-  done = so_far.done ++ next;
-  is = so_far.is ∙ sym (append_assoc so_far.done next rest);
-  adds = after tt (Ok tt) so_far.done next old now new so_far.adds (subst (λ (r : Result (Unit {0}) FileError). Adds r next now new) is adds);
+pub starts : (whole : List Record) (laid : List (Vec ℕ Global)) → laid ≡ [] → LaidSoFar whole whole laid
+starts whole laid none = record {
+  done = [];
+  is = refl;
+  are = record { each = λ k d within. absurd (omega arith); spelled = ap lists none };
 }
 
-pub fails : (answer result : Result (Unit {0}) FileError) (error : FileError) (next whole rest : List Record) (old now new : State) → answer ≡ Err error → result ≡ Err error
-    → AddedSoFar whole (next ++ rest) old now → Adds result next now new → Adds answer whole old new
-fails answer result error next whole rest old now new is was so_far adds =
-    subst (λ (r : Result (Unit {0}) FileError). Adds r whole old new) (sym is)
-    (last (Err error) whole (next ++ rest) old now new so_far
-    (broken error next rest now new (subst (λ (r : Result (Unit {0}) FileError). Adds r next now new) was adds)))
-
--- memory is wanting before what comes next
-pub wants : (answer : Result (Unit {0}) FileError) (error : FileError) (next : Record) (whole rest : List Record) (old now : State) → answer ≡ Err error
-    → AddedSoFar whole (next ∷ rest) old now → Adds answer whole old now
-wants answer error next whole rest old now is so_far =
-    subst (λ (r : Result (Unit {0}) FileError). Adds r whole old now) (sym is)
-    (last (Err error) whole (next ∷ rest) old now now so_far (stops error (next ∷ rest) now some))
-  where
-    some : next ∷ rest ≢ []
-    some is = cc
-
-pub all : (whole : List Record) (old now : State) → AddedSoFar whole [] old now → Adds {X = Unit {0}} (Ok tt) whole old now
-all whole old now so_far =
-    subst (λ (l : List Record). Adds {X = Unit {0}} (Ok tt) l old now) (sym (so_far.is ∙ append-nil so_far.done)) so_far.adds
-
--- ---- what the calls keep of the disk
-
-pub keeps_none : (state : State) → Keeps ⊥ state state
-keeps_none state = record {
-  faults = omega arith;
-  cause = λ none. absurd none;
-  only_armed = λ none. absurd none;
-  steady = λ is. is;
-  armed = λ is. is;
-  orders = refl;
-  room = omega arith;
+-- the next record
+pub goes : (item : Record) (whole rest : List Record) (laid more : List (Vec ℕ Global)) (next : Vec ℕ Global) → IsSpelled item next.items → more ≡ laid ++ next ∷ []
+    → LaidSoFar whole (item ∷ rest) laid → LaidSoFar whole rest more
+goes item whole rest laid more next here pushed so_far = record {
+  done = so_far.done ++ item ∷ [];
+  is = so_far.is ∙ sym (append_assoc so_far.done (item ∷ []) rest);
+  are = record {
+    each = All-push IsRecord so_far.done item so_far.are.each here.lawful;
+    spelled = ap lists pushed ∙ map-append (λ (v : Vec ℕ Global). v.items) laid (next ∷ []) ∙ ap (λ (l : List (List ℕ)). l ++ next.items ∷ []) so_far.are.spelled
+        ∙ pieces_push record_bytes so_far.done item next.items here.spelled;
+  };
 }
 
-pub keeps_then : {Fault : Type 0} (old mid new : State) → Keeps ⊥ old mid → Keeps Fault mid new → Keeps Fault old new
-keeps_then old mid new first second = record {
-  faults = omega (arith, first.faults, second.faults);
-  cause = λ fault. omega (arith, first.faults, second.cause fault);
-  only_armed = λ fault steady. first.armed (second.only_armed fault (first.steady steady));
-  steady = λ steady. second.steady (first.steady steady);
-  armed = λ armed. first.armed (second.armed armed);
-  orders = second.orders ∙ first.orders;
-  room = omega (arith, first.room, second.room);
-}
-
-pub keeps_not : {Fault : Type 0} (old new : State) → ¬ Fault → Keeps Fault old new → Keeps ⊥ old new
-keeps_not old new _ keeps = record {
-  faults = keeps.faults;
-  cause = λ none. absurd none;
-  only_armed = λ none. absurd none;
-  steady = keeps.steady;
-  armed = keeps.armed;
-  orders = keeps.orders;
-  room = keeps.room;
-}
+-- all of them
+pub all : (whole : List Record) (laid : List (Vec ℕ Global)) → LaidSoFar whole [] laid → AreSpelled whole (lists laid)
+all whole laid so_far = subst (λ (l : List Record). AreSpelled l (lists laid)) (sym (so_far.is ∙ append-nil so_far.done)) so_far.are
 
 -- ---- the pieces of some documents
 
@@ -123,12 +75,12 @@ next_piece f rest piece behind n is front back some =
     long f [] = refl
     long f (p ∷ places) = ap suc (long f places)
 
-pub with_next : (f : Place → Saved) (rest piece behind : List Place) (n : ℕ) (whole : List Record) (old now : State) → n ≡ min (length rest) PIECE → piece ≡ take n rest
-    → behind ≡ drop n rest → 0 < length rest → AddedSoFar whole (pieces (map f rest)) old now → AddedSoFar whole (holds (map f piece) ∷ pieces (map f behind)) old now
-with_next f rest piece behind n whole old now is front back some so_far =
-    subst (λ (l : List Record). AddedSoFar whole l old now) (next_piece f rest piece behind n is front back some) so_far
+pub with_next : (f : Place → Saved) (rest piece behind : List Place) (n : ℕ) (whole last : List Record) (laid : List (Vec ℕ Global)) → n ≡ min (length rest) PIECE → piece ≡ take n rest
+    → behind ≡ drop n rest → 0 < length rest → LaidSoFar whole (pieces (map f rest) ++ last) laid → LaidSoFar whole (holds (map f piece) ∷ (pieces (map f behind) ++ last)) laid
+with_next f rest piece behind n whole last laid is front back some so_far =
+    subst (λ (l : List Record). LaidSoFar whole (l ++ last) laid) (next_piece f rest piece behind n is front back some) so_far
 
-pub none_left : (f : Place → Saved) (rest : List Place) (whole : List Record) (old now : State) → length rest ≡ 0 → AddedSoFar whole (pieces (map f rest)) old now
-    → Adds {X = Unit {0}} (Ok tt) whole old now
-none_left f [] whole old now none so_far = all whole old now so_far
-none_left f (p ∷ rest) whole old now none so_far = absurd (omega (arith, none))
+pub none_left : (f : Place → Saved) (rest : List Place) (whole last : List Record) (laid : List (Vec ℕ Global)) → length rest ≡ 0 → LaidSoFar whole (pieces (map f rest) ++ last) laid
+    → LaidSoFar whole last laid
+none_left f [] whole last laid none so_far = so_far
+none_left f (p ∷ rest) whole last laid none so_far = absurd (omega (arith, none))

@@ -1,13 +1,11 @@
 -- A disk with checkpoints, between two calls of a checkpoint store and within them.
-use Rattle.std.specs.Prelude.{◌≡◌, ◌≢◌, ◌⊎◌, ℕ, List, [], ◌++◌, map, length, All, Result, Ok, Err, OnOk}
+use Rattle.std.specs.Prelude.{◌≡◌, ◌⊎◌, ℕ, List, [], map, length, All, Result, Ok, Err}
 use Rattle.std.proofs.Common.{inl, refl, ap, arith}
 use Rattle.rs_disk.specs.File.{IsEmpty, IsImage, LeavesOnly}
-use Rattle.rs_disk.specs.Moments.{EachMoment}
 use Rattle.rs_disk.specs.State.{State}
 use Rattle.record_file.specs.Files.{IsAtRest as FileIsAtRest}
 use Rattle.record_file.specs.Records.{HasRecords}
 use Rattle.record_file.specs.declared.error.FileError.{FileError}
-use Rattle.record_file.specs.declared.error.FileError.TheVariants.{Disk, Memory}
 use Rattle.checkpoint_store.specs.Layout.{Record, record_bytes}
 use Rattle.checkpoint_store.specs.Spelled.{IsRecord}
 use Rattle.checkpoint_store.specs.Checkpoint.{last_whole}
@@ -17,6 +15,11 @@ use Rattle.checkpoint_store.specs.declared.stable.Stable.{Stable}
 pub record HasList (bytes : List ℕ) (records : List Record) : Type 0 where
   pub each : All IsRecord records
   pub has : HasRecords bytes (map record_bytes records)
+
+-- the pieces are the bytes of these records
+pub record AreSpelled (records : List Record) (pieces : List (List ℕ)) : Type 0 where
+  pub each : All IsRecord records
+  pub spelled : pieces ≡ map record_bytes records
 
 -- this is the last whole checkpoint of the file's records
 pub record HasCheckpoint (bytes : List ℕ) (stable : Stable) : Type 0 where
@@ -69,28 +72,7 @@ empty_disk state empty = record {
 abbrev pub IsBeforeOrAfter : Stable → Stable → List ℕ → Type 0
 IsBeforeOrAfter before after image = HasCheckpoint image before ⊎ HasCheckpoint image after
 
--- the records, and behind them the first of those that are added
-abbrev pub IsFront : List Record → List Record → List ℕ → Type 0
-IsFront records added image =
-    (front : List Record) × (rest : List Record) × (added ≡ front ++ rest) × HasList image (records ++ front)
-
--- the file has come to rest with some of the records that are added, and others are missing
-abbrev pub RestsShort : List Record → List Record → State → Type 0
-RestsShort records added state =
-    (front : List Record) × (rest : List Record) × (added ≡ front ++ rest) × (rest ≢ []) × RestsWith state (records ++ front)
-
--- Records are added one behind the other, all of them where there is no error.
-pub record Adds {X : Type 0} (result : Result X FileError) (added : List Record) (old new : State) : Type 0 where
-  pub ok : OnOk result ((records : List Record) → RestsWith old records → RestsWith new (records ++ added))
-  pub memory : result ≡ Err Memory → (records : List Record) → RestsWith old records → RestsShort records added new
-  pub moments : (records : List Record) → RestsWith old records → EachMoment (IsFront records added) old new
-
 -- the disk after an opening
 abbrev pub disk_after : {D A : Type 0} → Result (D × A) (D × FileError) → D
 disk_after (Ok opened) = opened.0
 disk_after (Err refused) = refused.0
-
--- the opening was refused for a fault of the disk
-abbrev pub IsDiskFault : {D A : Type 0} → Result (D × A) (D × FileError) → Type 0
-IsDiskFault (Ok opened) = ⊥
-IsDiskFault (Err refused) = refused.1 ≡ Disk

@@ -1,18 +1,18 @@
-ghost use Rattle.std.specs.Prelude.{◌≡◌, List, ◌++◌, Err, IfErr, IfOk, OnOk, IsErrOf};
+ghost use Rattle.std.specs.Prelude.{◌≡◌, ◌≢◌, List, ◌++◌, Err, IfErr, IfOk, OnOk, IsErrOf, length, map};
 ghost use Rattle.rs_disk.specs.File.{contents};
 ghost use Rattle.rs_disk.specs.Moments.{EachMoment};
-ghost use Rattle.rs_disk.specs.State.{Keeps, IsArmed, IsCut};
-ghost use Rattle.record_file.specs.Files.{OpensBy};
+ghost use Rattle.rs_disk.specs.State.{Keeps, IsArmed, IsCut, SameButRoom};
+ghost use Rattle.record_file.specs.Files.{EndsBy, OpensBy, adding_steps, answer_of};
 ghost use Rattle.oplog_entry.specs.Docs.{Documents};
 ghost use Rattle.checkpoint_store.specs.Checkpoint.{checkpoint};
-ghost use Rattle.checkpoint_store.specs.Files.{HasCheckpoint, IsAtRest, IsBeforeOrAfter, IsCheckpointDisk, IsDiskFault, IsOneOf, IsOpen, RestsWith, disk_after};
-ghost use Rattle.checkpoint_store.specs.Layout.{Record as ARecord};
+ghost use Rattle.checkpoint_store.specs.Files.{HasCheckpoint, IsAtRest, IsBeforeOrAfter, IsCheckpointDisk, IsOneOf, IsOpen, RestsWith, disk_after};
+ghost use Rattle.checkpoint_store.specs.Layout.{Record as ARecord, record_bytes};
 ghost use Rattle.checkpoint_store.specs.Shown.{AllCanBeSaved, Shows};
 ghost use Rattle.checkpoint_store.specs.declared.stable.Stable.{Stable as AStable};
 
 use crate::Stable;
 use crate::fold::stable_of;
-use crate::saving::add_checkpoint;
+use crate::saving::checkpoint_records;
 use record_file::{FileError, RecordFile};
 use rs_disk::Disk;
 use rs_optime::OpTime;
@@ -23,8 +23,8 @@ use version_store::VersionStore;
 /// The checkpoints of a node on one disk. Contracts see it as its disk.
 #[derive(Drop)]
 pub struct Checkpoints<D: Disk> {
+    alloc: Global,
     file: RecordFile<D>,
-    buffer: Vec<u8>,
 }
 
 impl<D: Disk> Model for Checkpoints<D> {
@@ -47,13 +47,15 @@ impl<D: Disk> Checkpoints<D> {
         ensures open { IfOk result (λ opened. IsOpen (D.state opened.0)) }
         ensures handed_back { IfErr result (λ refused. IsCheckpointDisk (D.state refused.0)) }
 
+        ensures calls { OpensBy (answer_of result) (D.state disk) (D.state (disk_after result)) }
+
         // A crash at any moment leaves a checkpoint that a crash before the call might have left.
         ensures any_moment { EachMoment (IsOneOf (D.state disk)) (D.state disk) (D.state (disk_after result)) }
-        ensures keeps { Keeps (IsDiskFault result) (D.state disk) (D.state (disk_after result)) }
+        ensures keeps { Keeps (IsErrOf (answer_of result) FileError.Disk) (D.state disk) (D.state (disk_after result)) }
     {
         let mut checkpoints = Checkpoints {
+            alloc,
             file: RecordFile::unopened(alloc, disk),
-            buffer: Vec::new(alloc),
         };
         match checkpoints.reopen() {
             Ok(stable) => Ok((checkpoints, stable)),
@@ -79,13 +81,13 @@ impl<D: Disk> Checkpoints<D> {
         ensures keeps { Keeps (IsErrOf result FileError.Disk) (D.state self.old) (D.state self.new) }
     {
         let pieces = self.file.reopen()?;
-        Ok(stable_of(*self.buffer.allocator(), &pieces)?)
+        Ok(stable_of(self.alloc, &pieces)?)
     }
 
     /// Saves the documents that a store shows as of an optime. After `Ok` every crash leaves them.
     ///
     /// # Errors
-    /// `Memory` leaves the last whole checkpoint as it was; the front of the new one may stand behind it. After `Disk` the
+    /// `Memory` leaves the file as it was: what a checkpoint takes is taken before its first record is added. After `Disk` the
     /// store has failed, and only `close` is left.
     pub fn save(&mut self, at: OpTime, store: &VersionStore) -> Result<(), FileError>
         requires open { IsOpen (D.state self.old) }
@@ -97,12 +99,15 @@ impl<D: Disk> Checkpoints<D> {
         ensures records { OnOk result ((documents : Documents) → Shows store.now at documents
             → (records : List ARecord) → RestsWith (D.state self.old) records
             → RestsWith (D.state self.new) (records ++ checkpoint (record { at = at; documents = documents }))) }
-        ensures shows { OnOk result ((documents : Documents) × Shows store.now at documents) }
-        ensures memory { result ≡ Err FileError.Memory → (stable : AStable) → IsAtRest (D.state self.old) stable
-            → IsAtRest (D.state self.new) stable }
+        ensures shows { result ≢ Err FileError.Memory → (documents : Documents) × Shows store.now at documents }
+        ensures memory { result ≡ Err FileError.Memory → SameButRoom (D.state self.old) (D.state self.new) }
         ensures open { OnOk result (IsOpen (D.state self.new)) }
         ensures still_open { result ≡ Err FileError.Memory → IsOpen (D.state self.new) }
         ensures left { IsCheckpointDisk (D.state self.new) }
+        ensures calls { (documents : Documents) → Shows store.now at documents → EndsBy result
+            (adding_steps (length (contents (D.state self.old).file))
+            (map record_bytes (checkpoint (record { at = at; documents = documents }))))
+            (D.state self.old) (D.state self.new) }
 
         // A crash at any moment of the call leaves the last whole checkpoint from before it, or the new one.
         ensures any_moment { (documents : Documents) → Shows store.now at documents
@@ -110,8 +115,8 @@ impl<D: Disk> Checkpoints<D> {
             → EachMoment (IsBeforeOrAfter stable (record { at = at; documents = documents })) (D.state self.old) (D.state self.new) }
         ensures keeps { Keeps (IsErrOf result FileError.Disk) (D.state self.old) (D.state self.new) }
     {
-        let places = store.keys_at(at)?;
-        add_checkpoint(&mut self.file, &mut self.buffer, store, at, &places)
+        let records = checkpoint_records(self.alloc, store, at)?;
+        self.file.append_all(&records)
     }
 
     /// Asks the disk to fail at its `call`-th call from now on, with a power cut where there is a pick.
@@ -135,10 +140,7 @@ impl<D: Disk> Checkpoints<D> {
         ensures disk { result ≡ self }
         ensures left { IsOpen (D.state self) → IsCheckpointDisk (D.state result) }
     {
-        let Checkpoints {
-            file,
-            buffer: _buffer,
-        } = self;
+        let Checkpoints { file, .. } = self;
         file.close()
     }
 }

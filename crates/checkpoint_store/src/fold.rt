@@ -10,6 +10,7 @@ ghost use Rattle.checkpoint_store.specs.Layout.{Record as ARecord, Saved, docume
 ghost use Rattle.checkpoint_store.specs.Spelled.{AreSaved, IsOptime, IsRecord, IsSaved, IsSpelled};
 ghost use Rattle.checkpoint_store.specs.Folded.{so_far};
 
+use crate::marked::last_in;
 use crate::numbers::u32_of;
 use crate::reading::{optime_of, saved_of};
 use crate::{DocumentMap, Stable};
@@ -118,8 +119,18 @@ fn add_each(alloc: Global, documents: &mut DocumentMap, count: u32, bytes: &[u8]
     Ok(())
 }
 
-// The last whole checkpoint of the records of these bytes.
+// The last whole checkpoint of the records of these bytes. What stands before it and behind it is not read.
 pub(crate) fn stable_of(alloc: Global, pieces: &[Vec<u8>]) -> Mem<Stable>
+    requires { (records : List ARecord) × All IsRecord records × (lists pieces.now ≡ map record_bytes records) }
+    ensures { IfOk result (λ read. (records : List ARecord) → All IsRecord records
+        → lists pieces.now ≡ map record_bytes records → read ≡ last_whole records) }
+{
+    let last = last_in(pieces);
+    read_all(alloc, &pieces[last.from..last.to])
+}
+
+// What the records of these bytes come to.
+fn read_all(alloc: Global, pieces: &[Vec<u8>]) -> Mem<Stable>
     requires { (records : List ARecord) × All IsRecord records × (lists pieces.now ≡ map record_bytes records) }
     ensures { IfOk result (λ read. (records : List ARecord) → All IsRecord records
         → lists pieces.now ≡ map record_bytes records → read ≡ last_whole records) }

@@ -4,6 +4,7 @@
 
 mod checkpoints;
 mod fold;
+mod marked;
 mod numbers;
 mod reading;
 mod saving;

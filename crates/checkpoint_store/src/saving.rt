@@ -1,62 +1,55 @@
-// The records of a checkpoint, added one behind the other. Only the last of them makes it count.
-ghost use Rattle.std.specs.Prelude.{All, IsSome, IsErrOf, OnOk, map};
-ghost use Rattle.rs_disk.specs.State.{Keeps};
+// The records of a checkpoint: where it begins, its documents in pieces, and where it ends. Only the last makes it count.
+ghost use Rattle.std.specs.Prelude.{All, IfOk, IsSome, OnOk, map};
+ghost use Rattle.record_file.specs.Records.{lists};
+ghost use Rattle.oplog_entry.specs.Docs.{Documents};
 ghost use Rattle.version_store.specs.Store.{shown_at};
-ghost use Rattle.checkpoint_store.specs.Checkpoint.{checkpoint_of, pieces};
-ghost use Rattle.checkpoint_store.specs.Files.{Adds, IsOpen};
-ghost use Rattle.checkpoint_store.specs.Shown.{AllCanBeSaved, saved_at};
+ghost use Rattle.checkpoint_store.specs.Checkpoint.{checkpoint, checkpoint_of};
+ghost use Rattle.checkpoint_store.specs.Files.{AreSpelled};
+ghost use Rattle.checkpoint_store.specs.Shown.{AllCanBeSaved, Shows, saved_at};
 
-use crate::writing::{lay_begin, lay_documents, lay_end};
+use crate::writing::{begin_bytes, documents_bytes, end_bytes};
 use bson_doc::{IdKey, Text};
-use record_file::{FileError, RecordFile};
-use rs_disk::Disk;
-use rs_optime::OpTime;
+use rs_optime::{Mem, OpTime};
+use std::alloc::Global;
 use version_store::VersionStore;
 
 // How many documents a record has at most.
 const PIECE: usize = 1000;
 
-/// Adds the checkpoint of the documents at some places. Each record is laid out in the buffer.
-pub(crate) fn add_checkpoint<D: Disk>(
-    file: &mut RecordFile<D>,
-    buffer: &mut Vec<u8>,
+/// The records of the documents that a store shows as of an optime.
+pub(crate) fn checkpoint_records(
+    alloc: Global,
     store: &VersionStore,
     at: OpTime,
-    places: &[(Text, IdKey)],
-) -> Result<(), FileError>
-    requires open { IsOpen (D.state file.old.0) }
-    requires can { AllCanBeSaved store.now at }
-    requires shown { All (λ place. IsSome (shown_at store.now place at)) places.now }
-    ensures adds { Adds result (checkpoint_of at (map (saved_at store.now at) places.now)) (D.state file.old.0) (D.state file.new.0) }
-    ensures keeps { Keeps (IsErrOf result FileError.Disk) (D.state file.old.0) (D.state file.new.0) }
+) -> Mem<Vec<Vec<u8>>>
+    requires { AllCanBeSaved store.now at }
+    ensures shows { OnOk result ((documents : Documents) × Shows store.now at documents) }
+    ensures records { IfOk result (λ records. (documents : Documents) → Shows store.now at documents
+        → AreSpelled (checkpoint (record { at = at; documents = documents })) (lists records.items)) }
 {
-    lay_begin(buffer, at)?;
-    file.append(buffer)?;
-    add_documents(file, buffer, store, at, places)?;
-    lay_end(buffer)?;
-    file.append(buffer)
+    let places = store.keys_at(at)?;
+    records_of(alloc, store, at, &places)
 }
 
-fn add_documents<D: Disk>(
-    file: &mut RecordFile<D>,
-    buffer: &mut Vec<u8>,
+// The records of the documents at some places.
+fn records_of(
+    alloc: Global,
     store: &VersionStore,
     at: OpTime,
     places: &[(Text, IdKey)],
-) -> Result<(), FileError>
-    requires open { IsOpen (D.state file.old.0) }
+) -> Mem<Vec<Vec<u8>>>
     requires can { AllCanBeSaved store.now at }
     requires shown { All (λ place. IsSome (shown_at store.now place at)) places.now }
-    ensures adds { Adds result (pieces (map (saved_at store.now at) places.now)) (D.state file.old.0) (D.state file.new.0) }
-    ensures open { OnOk result (IsOpen (D.state file.new.0)) }
-    ensures keeps { Keeps (IsErrOf result FileError.Disk) (D.state file.old.0) (D.state file.new.0) }
+    ensures { IfOk result (λ records. AreSpelled (checkpoint_of at (map (saved_at store.now at) places.now)) (lists records.items)) }
 {
+    let mut records = Vec::new(alloc);
+    records.push(begin_bytes(alloc, at)?)?;
     let mut rest = places;
     while !rest.is_empty() {
         let (piece, behind) = rest.split_at(rest.len().min(PIECE));
-        lay_documents(buffer, store, at, piece)?;
-        file.append(buffer)?;
+        records.push(documents_bytes(alloc, store, at, piece)?)?;
         rest = behind;
     }
-    Ok(())
+    records.push(end_bytes(alloc)?)?;
+    Ok(records)
 }

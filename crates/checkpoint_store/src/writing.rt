@@ -1,5 +1,5 @@
 // Records as they are written.
-ghost use Rattle.std.specs.Prelude.{◌≡◌, ◌<◌, ◌≤◌, ◌^◌, ◌++◌, All, IsSome, OnOk, length, map};
+ghost use Rattle.std.specs.Prelude.{◌≡◌, ◌<◌, ◌≤◌, ◌^◌, ◌++◌, All, IfOk, IsSome, OnOk, length, map};
 ghost use Rattle.std.specs.List.{flat_map};
 ghost use Rattle.entry_bytes.specs.Optimes.{optime_bytes};
 ghost use Rattle.version_store.specs.Store.{shown_at};
@@ -11,7 +11,7 @@ use crate::numbers::{put_u32, put_u64};
 use bson_codec::{DOCUMENT, EncodeError, encode};
 use bson_doc::{Doc, IdKey, Text};
 use rs_optime::{Mem, OpTime};
-use std::alloc::AllocError;
+use std::alloc::{AllocError, Global};
 use version_store::VersionStore;
 
 fn put_optime(out: &mut Vec<u8>, at: OpTime) -> Mem<()>
@@ -75,37 +75,40 @@ fn put_each(
     Ok(())
 }
 
-/// Lays out the record that begins a checkpoint, in place of what is there.
-pub(crate) fn lay_begin(out: &mut Vec<u8>, at: OpTime) -> Mem<()>
-    ensures { OnOk result (IsSpelled (begins at) out.new.items) }
+/// The record that begins a checkpoint.
+pub(crate) fn begin_bytes(alloc: Global, at: OpTime) -> Mem<Vec<u8>>
+    ensures { IfOk result (λ bytes. IsSpelled (begins at) bytes.items) }
 {
-    out.clear();
+    let mut out = Vec::new(alloc);
     out.push(1)?;
-    put_optime(out, at)
+    put_optime(&mut out, at)?;
+    Ok(out)
 }
 
-/// Lays out the record of some documents that a store shows.
-pub(crate) fn lay_documents(
-    out: &mut Vec<u8>,
+/// The record of some documents that a store shows.
+pub(crate) fn documents_bytes(
+    alloc: Global,
     store: &VersionStore,
     at: OpTime,
     places: &[(Text, IdKey)],
-) -> Mem<()>
+) -> Mem<Vec<u8>>
     requires can { AllCanBeSaved store.now at }
     requires shown { All (λ place. IsSome (shown_at store.now place at)) places.now }
     requires few { length places.now ≤ PIECE }
-    ensures { OnOk result (IsSpelled (holds (map (saved_at store.now at) places.now)) out.new.items) }
+    ensures { IfOk result (λ bytes. IsSpelled (holds (map (saved_at store.now at) places.now)) bytes.items) }
 {
-    out.clear();
+    let mut out = Vec::new(alloc);
     out.push(2)?;
-    put_u32(out, places.len() as u32)?;
-    put_each(out, store, at, places)
+    put_u32(&mut out, places.len() as u32)?;
+    put_each(&mut out, store, at, places)?;
+    Ok(out)
 }
 
-/// Lays out the record that ends a checkpoint.
-pub(crate) fn lay_end(out: &mut Vec<u8>) -> Mem<()>
-    ensures { OnOk result (IsSpelled ends out.new.items) }
+/// The record that ends a checkpoint.
+pub(crate) fn end_bytes(alloc: Global) -> Mem<Vec<u8>>
+    ensures { IfOk result (λ bytes. IsSpelled ends bytes.items) }
 {
-    out.clear();
-    Ok(out.push(3)?)
+    let mut out = Vec::new(alloc);
+    out.push(3)?;
+    Ok(out)
 }

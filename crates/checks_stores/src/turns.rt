@@ -20,6 +20,8 @@ struct Marks {
 impl Turned for Marks {
     type Entry = u32;
 
+    type Fixed = ();
+
     ghost entries = { λ m. m.marks.items };
 
     ghost fixed = { λ m. [] };

@@ -1,6 +1,6 @@
 -- What a crash leaves in each step of an append.
 use Rattle.std.proofs.Common.{⊎_elim, ◌≡◌, inl, inr, ℕ, ◌+◌, ◌-◌, ◌^◌, ◌<◌, ◌≤◌, List, [], ◌∷◌, ◌++◌, suc, false, length, get_or, drop, refl, sym, ◌∙◌, ap, subst, arith, length-append, length-drop}
-use Rattle.std.specs.Prelude.{◌⊎◌, Result}
+use Rattle.std.specs.Prelude.{◌⊎◌, Result, Ok, Err, OnOk}
 use Rattle.record_file.specs.declared.error.FileError.{FileError}
 use Rattle.std.proofs.lemmas.List.{append_assoc, append-nil, drop_all, take_all, take_at, drop_at, drop_more, get_or_append_left, get_or-append_right, get_or-drop, ext_get_or}
 use Rattle.std.proofs.lemmas.Bool.{cases_eq}
@@ -9,7 +9,7 @@ use Rattle.rs_disk.specs.File.{File, IsImage, LeavesOnly, changed, write, settle
 use Rattle.rs_disk.specs.Images.{length-overwritten}
 use Rattle.rs_disk.specs.Moments.{EachMoment, starts}
 use Rattle.rs_disk.specs.State.{State}
-use Rattle.rs_disk.specs.Steps.{Makes, after_steps}
+use Rattle.rs_disk.specs.Steps.{Step, Makes, after_steps}
 use Rattle.rs_disk.proofs.MomentLemmas.{EachLeaves, settled_leaves, synced_leaves}
 use Rattle.record_file.specs.Records.{AreOpen, HasRecords, body}
 use Rattle.record_file.specs.Files.{IsAtRest, IsOpen, IsBeforeOrAfter, IsRecordDisk, EndsBy, append_steps}
@@ -121,16 +121,25 @@ module _ (records : List (List ℕ)) (front : List ℕ) (opened : AreOpen record
       opens : LeavesOnly P (changed (write (at - 1) (1 ∷ [])) (settled (overwritten at bytes (front ++ 0 ∷ []))))
       opens = subst (λ (l : List ℕ). LeavesOnly P (changed (write (at - 1) (1 ∷ [])) (settled l))) (sym staged) (λ image left. gate_leaves (at - 1) image gate_is left)
 
-      each_leaves : EachLeaves P (append_steps at bytes) (settled (front ++ 0 ∷ []))
+      pub each_leaves : EachLeaves P (append_steps at bytes) (settled (front ++ 0 ∷ []))
       each_leaves =
           let start = settled_leaves P (front ++ 0 ∷ []) (inl (closed_has (front ++ 0 ∷ []) [] refl)) in
           let staged_leaves = synced_leaves P (changed (write at bytes) (settled (front ++ 0 ∷ []))) behind in
           let last = synced_leaves P (changed (write (at - 1) (1 ∷ [])) (settled (overwritten at bytes (front ++ 0 ∷ [])))) opens in
           (start, behind, (behind, behind, (staged_leaves, opens, (opens, opens, last))))
 
+      -- the file then is that of one record more
+      pub file_after : after_steps (append_steps at bytes) (settled (front ++ 0 ∷ [])) ≡ settled ((front ++ 1 ∷ body piece) ++ 0 ∷ [])
+      file_after = ap (λ (l : List ℕ). settled (overwritten (at - 1) (1 ∷ []) l)) staged ∙ ap settled (gate_opened (at - 1) gate_is)
+
       made_rests : (old new : State) → old.file ≡ settled (front ++ 0 ∷ []) → Makes (append_steps at bytes) old new → IsAtRest new (records ++ piece ∷ [])
       made_rests old new file made = at_rest (at - 1) new gate_is
           (made.file ∙ ap (after_steps (append_steps at bytes)) file ∙ ap (λ (l : List ℕ). settled (overwritten (at - 1) (1 ∷ []) l)) staged)
+
+-- all calls were made where there is no error
+pub on_made : {T P : Type 0} (result : Result T FileError) (steps : List Step) (old new : State) → (Makes steps old new → P) → EndsBy result steps old new → OnOk result P
+on_made (Ok x) steps old new follows made = follows made
+on_made (Err e) steps old new follows ends = tt
 
 -- an append to a file at rest
 module _ (records : List (List ℕ)) (piece : List ℕ) (small : length piece < 2 ^ 32) (old : State) (rest : IsAtRest old records) (bytes : List ℕ) (is_tail : bytes ≡ body piece ++ 0 ∷ []) where

@@ -6,3 +6,5 @@ pub mod TurnLemmas
 pub mod ItemLemmas
 pub mod OpenLemmas
 mod StepLemmas
+mod AddingLemmas
+pub mod KeepsLemmas

@@ -1,11 +1,11 @@
 -- A disk with records, between two calls of a record file and within them.
-use Rattle.std.specs.Prelude.{◌≡◌, ◌⊎◌, ℕ, ◌-◌, ◌<◌, ◌≤◌, min, List, [], ◌∷◌, ◌++◌, length, Result, Ok, Err}
+use Rattle.std.specs.Prelude.{◌≡◌, ◌⊎◌, ℕ, ◌+◌, ◌-◌, ◌<◌, ◌≤◌, min, List, [], ◌∷◌, ◌++◌, length, Result, Ok, Err}
 use Rattle.std.proofs.Common.{inl, refl, ap, arith}
 use Rattle.rs_disk.specs.File.{IsEmpty, IsImage, LeavesOnly, write, cut, settled, contents}
 use Rattle.rs_disk.specs.State.{State}
 use Rattle.rs_disk.specs.Steps.{Step, reads, changes, syncs, Makes, MakesFirst, Breaks}
 use Rattle.record_file.specs.Parsed.{IsParsed}
-use Rattle.record_file.specs.Records.{AreOpen, HasRecords}
+use Rattle.record_file.specs.Records.{AreOpen, HasRecords, body}
 use Rattle.record_file.specs.declared.error.FileError.{FileError}
 use Rattle.record_file.specs.declared.error.FileError.TheVariants.{Disk, Memory}
 
@@ -40,6 +40,11 @@ empty_disk state empty = record { leaves = λ image is. ([], inl (omega (arith, 
 abbrev pub IsBeforeOrAfter : List (List ℕ) → List ℕ → List ℕ → Type 0
 IsBeforeOrAfter records piece image = HasRecords image records ⊎ HasRecords image (records ++ piece ∷ [])
 
+-- the records, and behind them the first of those that are added
+abbrev pub HasFirst : List (List ℕ) → List (List ℕ) → List ℕ → Type 0
+HasFirst records added image =
+    (first : List (List ℕ)) × (rest : List (List ℕ)) × (added ≡ first ++ rest) × HasRecords image (records ++ first)
+
 -- how many bytes records may take, with 5 for each, before memory is needed
 abbrev pub spare : State → ℕ → ℕ
 spare state buffer = min (state.room - length (contents state.file)) buffer
@@ -50,7 +55,7 @@ disk_after (Ok opened) = opened.0.0
 disk_after (Err refused) = refused.0
 
 -- what an opening answers, but for the disk that it hands back
-abbrev pub answer_of : {D A : Type 0} → Result ((D × ℕ) × A) (D × FileError) → Result ((D × ℕ) × A) FileError
+abbrev pub answer_of : {D A : Type 0} → Result A (D × FileError) → Result A FileError
 answer_of (Ok opened) = Ok opened
 answer_of (Err refused) = Err refused.1
 
@@ -67,6 +72,11 @@ EndsBy (Err error) steps old new = StopsBy error steps old new
 -- the calls of an append: behind the last gate the record with the next gate, a sync, the last gate itself, a sync
 abbrev pub append_steps : ℕ → List ℕ → List Step
 append_steps at tail = changes (write at tail) ∷ syncs ∷ changes (write (at - 1) (1 ∷ [])) ∷ syncs ∷ []
+
+-- the calls that add these records, one behind the other, to a file of so many bytes
+abbrev pub adding_steps : ℕ → List (List ℕ) → List Step
+adding_steps at [] = []
+adding_steps at (piece ∷ pieces) = append_steps at (body piece ++ 0 ∷ []) ++ adding_steps (at + (length piece + 5)) pieces
 
 -- the calls of an opening of an empty file, and of one with records
 abbrev pub first_steps : List Step

@@ -2,16 +2,16 @@
 //
 // The gate of a new record stands closed and synced before anything behind it is written, and it is opened only
 // after the record is synced. So no checksum is needed: what a crash tears stands behind a closed gate.
-ghost use Rattle.std.specs.Prelude.{◌≡◌, ◌≢◌, ◌+◌, ◌^◌, ◌<◌, ◌≤◌, List, ℕ, [], ◌∷◌, ◌++◌, length, vec_capacity, Err, IfErr, IfOk, OnOk, IsOk, IsErrOf};
+ghost use Rattle.std.specs.Prelude.{◌≡◌, ◌≢◌, ◌+◌, ◌^◌, ◌<◌, ◌≤◌, List, ℕ, [], ◌∷◌, ◌++◌, All, length, Err, IfErr, IfOk, OnOk, IsErrOf};
 ghost use Rattle.rs_disk.specs.File.{contents};
 ghost use Rattle.rs_disk.specs.Moments.{EachMoment};
 ghost use Rattle.rs_disk.specs.State.{Keeps, IsArmed, IsCut, SameButRoom};
-ghost use Rattle.record_file.specs.Files.{IsOpen, IsAtRest, IsBeforeOrAfter, IsOneOf, IsRecordDisk, EndsBy, OpensBy, append_steps, answer_of, disk_after, spare};
+ghost use Rattle.record_file.specs.Files.{IsOpen, IsAtRest, IsBeforeOrAfter, IsOneOf, IsRecordDisk, EndsBy, OpensBy, HasFirst, adding_steps, append_steps, answer_of, disk_after, spare};
 ghost use Rattle.record_file.specs.Records.{HasRecords, body, lists};
 
 use crate::FileError;
+use crate::adding::{add, add_all};
 use crate::opening::prepare;
-use crate::store::store;
 use rs_disk::Disk;
 use std::alloc::{AllocError, Global};
 use std::marker::Model;
@@ -125,9 +125,33 @@ impl<D: Disk> RecordFile<D> {
         ensures room { length piece.now + 5 ≤ spare (D.state self.old.0) self.old.1 → result ≢ Err FileError.Memory }
         ensures spare { OnOk result (spare (D.state self.old.0) self.old.1 ≤ spare (D.state self.new.0) self.new.1 + (length piece.now + 5)) }
     {
-        lay(&mut self.buffer, piece)?;
-        store(&mut self.disk, &self.buffer)?;
-        Ok(())
+        add(&mut self.disk, &mut self.buffer, piece)
+    }
+
+    /// Adds records one behind the other. After `Ok` every crash leaves all of them.
+    ///
+    /// # Errors
+    /// `Memory` leaves the file as it was: what they take is taken before the first of them is added. After `Disk` the file
+    /// has failed, and only `close` is left.
+    pub fn append_all(&mut self, pieces: &[Vec<u8>]) -> Result<(), FileError>
+        requires open { IsOpen (D.state self.old.0) }
+        requires short { All (λ piece. length piece.items < 2 ^ 32) pieces.now }
+
+        ensures ok { OnOk result ((records : List (List ℕ)) → IsAtRest (D.state self.old.0) records
+            → IsAtRest (D.state self.new.0) (records ++ lists pieces.now)) }
+        ensures memory { result ≡ Err FileError.Memory → SameButRoom (D.state self.old.0) (D.state self.new.0) }
+        ensures open { OnOk result (IsOpen (D.state self.new.0)) }
+        ensures still_open { result ≡ Err FileError.Memory → IsOpen (D.state self.new.0) }
+        ensures left { IsRecordDisk (D.state self.new.0) }
+        ensures calls { EndsBy result (adding_steps (length (contents (D.state self.old.0).file)) (lists pieces.now))
+            (D.state self.old.0) (D.state self.new.0) }
+
+        // A crash at any moment of the call leaves the records from before it, with the first of the new ones.
+        ensures any_moment { (records : List (List ℕ)) → IsAtRest (D.state self.old.0) records
+            → EachMoment (HasFirst records (lists pieces.now)) (D.state self.old.0) (D.state self.new.0) }
+        ensures keeps { Keeps (IsErrOf result FileError.Disk) (D.state self.old.0) (D.state self.new.0) }
+    {
+        add_all(&mut self.disk, &mut self.buffer, pieces)
     }
 
     /// Takes the memory for records of so many bytes together, where each counts 5 more than it has. Out of memory leaves the
@@ -172,19 +196,4 @@ impl<D: Disk> RecordFile<D> {
         } = self;
         disk
     }
-}
-
-// Lays out what goes behind a record's gate: its bytes and the next gate.
-fn lay(buffer: &mut Vec<u8>, piece: &[u8]) -> Result<(), AllocError>
-    requires { length piece.now < 2 ^ 32 }
-    ensures laid { OnOk result (buffer.new.items ≡ body piece.now ++ 0 ∷ []) }
-    ensures enough { length piece.now + 5 ≤ vec_capacity buffer.old → IsOk result }
-    ensures longer { vec_capacity buffer.old ≤ vec_capacity buffer.new }
-{
-    buffer.clear();
-    buffer.reserve(piece.len() + 5)?;
-    buffer.extend_from_slice(&(piece.len() as u32).to_le_bytes())?;
-    buffer.extend_from_slice(piece)?;
-    buffer.push(0)?;
-    Ok(())
 }

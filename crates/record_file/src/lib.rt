@@ -1,6 +1,7 @@
 //! An append-only list of byte records on one disk, whole across crashes.
 #![tactic(auto)]
 
+mod adding;
 mod error;
 mod file;
 mod opening;

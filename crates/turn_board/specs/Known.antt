@@ -12,9 +12,9 @@ pub record Begun (T : Type 0) : Type 0 where
   pub points : ℕ
 
 -- the board of a pass, and what it has seen and done there
-pub record Known (E : Type 0) : Type 0 where
+pub record Known (E F : Type 0) : Type 0 where
   pub board : TableId
-  pub view : View E
+  pub view : View E F
 
 -- in its turn a seat has the slot, from which the value was taken
 abbrev pub carried : {T : Type 0} → Stage → List (ℕ × Option T)

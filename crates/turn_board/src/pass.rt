@@ -7,14 +7,14 @@ use std::marker::Model;
 /// The right of one thread to take turns at a board. It has no bytes.
 #[derive(Drop)]
 pub struct Pass<T: Turned> {
-    pub(crate) seat: Seat<Option<T>, View<T::Entry>>,
+    pub(crate) seat: Seat<Option<T>, View<T::Entry, T::Fixed>>,
 }
 
 impl<T: Turned> Model for Pass<T> {
     ghost use Rattle.std.specs.Prelude.{◌≡◌};
     ghost use Rattle.turn_board.specs.Known.{Known, carried};
 
-    ghost Value = { Known T.Entry };
+    ghost Value = { Known T.Entry T.Fixed };
 
     ghost view = { λ p. record { board = p.seat.table_id; view = p.seat.me.0 } };
 

@@ -1,28 +1,19 @@
-use Rattle.std.proofs.Common.{◌≡◌, ◌∙◌, ℕ, length, take, ap, arith}
-use Rattle.std.specs.Prelude.{Vec}
-use Rattle.std.specs.declared.alloc.Global.{Global}
-use Rattle.record_file.proofs.ItemLemmas.{item_at, all_taken}
-use Rattle.checkpoint_store.specs.Checkpoint.{SoFar, with_record}
-use Rattle.checkpoint_store.specs.Layout.{record_bytes}
-use Rattle.checkpoint_store.specs.Spelled.{IsRecord}
-use Rattle.checkpoint_store.proofs.LoopLemmas.{come_to, one_record_more}
+use Rattle.std.proofs.Common.{◌∙◌}
+use Rattle.std.specs.Prelude.{slice_range}
+use Rattle.std.proofs.lemmas.Result.{IfOk-weaker}
+use Rattle.checkpoint_store.proofs.MarkedLemmas.{range_each, range_lists}
 use Rattle.checkpoint_store.proofs.fold.stable_of.Goals as goal
 
-pub with-requires : goal.with-requires
-with-requires c =
-    let found = item_at IsRecord record_bytes c.args.pieces.now c.requires.0 c.loop-piece.piece-index c.piece-item.result c.requires.1 c.requires.2 c.loop-piece-test.true in
-    (found.0, record { lawful = found.1; spelled = c.deref.ensures.value ∙ ap (λ (v : Vec ℕ Global). v.items) c.piece-item.is ∙ found.2 })
-
-pub loop-piece-preserved : goal.loop-piece-preserved
-loop-piece-preserved c = λ records each same.
-    let is = c.deref.ensures.value ∙ ap (λ (v : Vec ℕ Global). v.items) c.piece-item.is in
-    let found = item_at IsRecord record_bytes c.args.pieces.now records c.loop-piece.piece-index c.piece-item.result each same c.loop-piece-test.true in
-    c.in_ok-fold.ensures found.0 (record { lawful = found.1; spelled = is ∙ found.2 })
-    ∙ ap (λ (s : SoFar). with_record s found.0) (c.loop-piece.invariant records each same)
-    ∙ one_record_more records c.loop-piece.piece-index found.0 found.3
+pub read_all-requires : goal.read_all-requires
+read_all-requires c =
+    let from = c.last_in-last.result.from in
+    let to = c.last_in-last.result.to in
+    (slice_range c.requires.0 from to, range_each c.requires.0 from to c.requires.1, range_lists c.args.pieces.now c.requires.0 from to c.requires.2)
 
 pub returns : goal.returns
-returns c = λ records each same.
-    let all : c.loop-piece.piece-index ≡ length c.args.pieces.now = omega (arith, c.loop-piece-test.false, c.loop-piece.auto.piece-index-end) in
-    c.whole.ensures
-    ∙ ap (λ (s : SoFar). s.whole) (c.loop-piece.invariant records each same ∙ ap (λ (n : ℕ). come_to (take n records)) all ∙ ap come_to (all_taken record_bytes c.args.pieces.now records same))
+returns c =
+    let from = c.last_in-last.result.from in
+    let to = c.last_in-last.result.to in
+    IfOk-weaker c.read_all.result _ _
+    (λ read is records each same. is (slice_range records from to) (range_each records from to each) (range_lists c.args.pieces.now records from to same) ∙ c.last_in-last.ensures.last records each same)
+    c.read_all.ensures

@@ -1,4 +1,5 @@
 use Rattle.std.proofs.Common.{sym, subst}
+use Rattle.checkpoint_store.proofs.OnceLemmas.{rest_reserved}
 use Rattle.set_model.specs.declared.store.Store.{Store}
 use Rattle.node_core.specs.Putting.{CanBePut, Puts}
 use Rattle.node_core.proofs.PuttingLemmas.{can_save, checkpoint_put}
@@ -21,4 +22,4 @@ returns-in-Checkpoint-clause-puts g c =
     let can = subst (λ (s : Store). CanBePut n s) c.in-Checkpoint.is c.requires.can in
     subst (λ (s : Store). Puts c.save.result n s c.args.self.now.count j k') (sym c.in-Checkpoint.is)
     (checkpoint_put c.save.result n c.in-Checkpoint.at c.args.self.now.count j k k' c.requires.rests can c.store.result.now c.store.ensures.shown
-    c.save.ensures.ok c.save.ensures.memory c.save.ensures.any_moment)
+    c.save.ensures.ok (λ is stable. rest_reserved _ _ stable (c.save.ensures.memory is)) c.save.ensures.any_moment)

@@ -4,8 +4,8 @@ use Rattle.record_file.specs.Records.{lists}
 use Rattle.checkpoint_store.specs.Folded.{so_far}
 use Rattle.checkpoint_store.specs.Layout.{Record, record_bytes}
 use Rattle.checkpoint_store.specs.Spelled.{IsRecord}
-use Rattle.checkpoint_store.proofs.LoopLemmas.{come_to}
-use Rattle.checkpoint_store.proofs.fold.stable_of.Given as goal
+use Rattle.checkpoint_store.specs.Marked.{come_to}
+use Rattle.checkpoint_store.proofs.fold.read_all.Given as goal
 
 abbrev pub invariant-loop-piece : goal.invariant-loop-piece
 invariant-loop-piece l =
