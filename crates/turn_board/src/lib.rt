@@ -3,11 +3,13 @@
 #![tactic(auto)]
 
 mod board;
+mod pass;
 mod passes;
 mod rule;
 mod turned;
 mod turns;
 mod view;
 
-pub use board::{Board, Pass};
+pub use board::Board;
+pub use pass::Pass;
 pub use turned::Turned;
