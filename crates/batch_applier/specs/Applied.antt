@@ -16,7 +16,8 @@ touches entry place = is_at (place_of entry.op) place
 abbrev pub past_with : Place → Past → Entry → Past
 past_with place past entry =
     if touches entry place
-    then with_version past (record { at = entry.optime; doc = document_after entry.op (latest_of past.versions) })
+    then with_version past
+    (record { at = entry.optime; doc = document_after entry.op (latest_of past.versions) })
     else past
 
 -- the past of a place after entries, applied one after another
@@ -27,7 +28,9 @@ past_after place past entries = fold (past_with place) past entries
 pub record IsBatch (store : Store) (entries : List Entry) : Type 0 where
   pub lawful : All IsLawful entries
   pub rising : AllPairs (λ one two. is_before one.optime two.optime ≡ true) entries
-  pub later : (place : Place) → All (λ version. All (λ entry. is_before version.at entry.optime ≡ true) entries) (versions_at store place)
+  pub later : (place : Place)
+      → All (λ version. All (λ entry. is_before version.at entry.optime ≡ true) entries)
+      (versions_at store place)
 
 -- each place has the past that the entries leave, one after another
 pub record HasApplied (old new : Store) (entries : List Entry) : Type 0 where

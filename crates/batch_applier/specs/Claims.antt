@@ -19,7 +19,12 @@ module _ {T : Type 0} where
   other_parts v = record { live = v.live - 1; ended = 0; drawn = []; taken = None }
 
   abbrev pub joined : View T → View T → View T
-  joined v w = record { live = v.live + w.live; ended = v.ended + w.ended; drawn = v.drawn ++ w.drawn; taken = v.taken }
+  joined v w = record {
+    live = v.live + w.live;
+    ended = v.ended + w.ended;
+    drawn = v.drawn ++ w.drawn;
+    taken = v.taken;
+  }
 
   abbrev pub spent : View T
   spent = record { live = 0; ended = 0; drawn = []; taken = None }
@@ -45,7 +50,8 @@ module _ {T : Type 0} where
 
   -- what is true of a seat after so many claims: a job is out only with a seat that drew its number
   pub record Fits (jobs : List (Option T)) (claims : ℕ) (v : View T) : Type 0 where
-    pub drew : (k : ℕ) (x : T) → v.taken ≡ Some (k, x) → (k < claims) × (get_elem? jobs k ≡ some (Some x)) × (0 < times k v.drawn)
+    pub drew : (k : ℕ) (x : T) → v.taken ≡ Some (k, x)
+        → (k < claims) × (get_elem? jobs k ≡ some (Some x)) × (0 < times k v.drawn)
     pub over : 0 < v.ended → length jobs ≤ claims
     pub idle : v.live ≡ 0 → v.ended ≡ 0 → v.taken ≡ None
 
@@ -60,7 +66,8 @@ module _ {T : Type 0} (done : T → T → Type 0) where
 
   -- a job that nobody claimed is in its slot as it was, and one that was claimed is out with a seat or done
   abbrev pub Stands : ℕ → T → ℕ → List (mathlib.Core.Option.Option (Option T)) → List (View T) → Type 0
-  Stands k x claims homes views = ((claims ≤ k) × (get_elem? homes k ≡ some (some (Some x)))) ⊎ ((k < claims) × (((y : T) × (get_elem? homes k ≡ some (some (Some y))) × done x y) ⊎ IsOut k x views))
+  Stands k x claims homes views = ((claims ≤ k) × (get_elem? homes k ≡ some (some (Some x))))
+      ⊎ ((k < claims) × (((y : T) × (get_elem? homes k ≡ some (some (Some y))) × done x y) ⊎ IsOut k x views))
 
 module _ {T : Type 0} (ready : T → Type 0) where
   -- each slot has a job that is ready
@@ -87,7 +94,8 @@ module _ {T : Type 0} (ready : T → Type 0) (done : T → T → Type 0) where
     pub long : length s.homes ≡ length jobs
     pub few : length jobs ≤ 2 ^ 32
     pub jobs_ready : AreReadyJobs ready jobs
-    pub stand : (k : ℕ) (x : T) → get_elem? jobs k ≡ some (Some x) → Stands done k x (slice_index s.words 0) s.homes s.views
+    pub stand : (k : ℕ) (x : T) → get_elem? jobs k ≡ some (Some x)
+        → Stands done k x (slice_index s.words 0) s.homes s.views
     pub drawn : (n : ℕ) → total (λ v. times n v.drawn) s.views ≡ below n (slice_index s.words 0)
     pub claims : slice_index s.words 0 ≤ length jobs + total (λ v. v.ended) s.views
     pub parts : total (λ v. v.live) s.views + total (λ v. v.ended) s.views ≡ 16
@@ -95,4 +103,6 @@ module _ {T : Type 0} (ready : T → Type 0) (done : T → T → Type 0) where
 
 -- each job was done
 abbrev pub AreDone : {T : Type 0} → (T → T → Type 0) → List (Option T) → List (Option T) → Type 0
-AreDone {T} done before after = (length after ≡ length before) × ((k : ℕ) (x : T) → get_elem? before k ≡ some (Some x) → (y : T) × (get_elem? after k ≡ some (Some y)) × done x y)
+AreDone {T} done before after = (length after ≡ length before)
+    × ((k : ℕ) (x : T) → get_elem? before k ≡ some (Some x)
+    → (y : T) × (get_elem? after k ≡ some (Some y)) × done x y)

@@ -25,13 +25,17 @@ pub record AreParts (entries : List Entry) (count : ℕ) (parts : List (List Ent
 
 -- one entry stands behind those of its shard
 abbrev pub IsAdded : (old new : List (List Entry)) → ℕ → Entry → Type 0
-IsAdded old new count entry = (k : ℕ) (d : List Entry) → k < length old → slice_index_or new k d ≡ slice_index_or old k d ++ part_of (entry ∷ []) count k
+IsAdded old new count entry = (k : ℕ) (d : List Entry) → k < length old
+    → slice_index_or new k d ≡ slice_index_or old k d ++ part_of (entry ∷ []) count k
 
 -- the entries touch documents of the shard, with rising optimes past every version of these
 pub record IsReady (shard : Shard) (entries : List Entry) : Type 0 where
-  pub own : All (λ entry. (place : Place) → place_of entry.op ≡ Some place → BelongsTo shard.number shard.count place) entries
+  pub own : All (λ entry.
+      (place : Place) → place_of entry.op ≡ Some place → BelongsTo shard.number shard.count place) entries
   pub rising : AllPairs (λ one two. is_before one.optime two.optime ≡ true) entries
-  pub later : (place : Place) → BelongsTo shard.number shard.count place → All (λ version. All (λ entry. is_before version.at entry.optime ≡ true) entries) (past_of shard place).versions
+  pub later : (place : Place) → BelongsTo shard.number shard.count place
+      → All (λ version. All (λ entry. is_before version.at entry.optime ≡ true) entries)
+      (past_of shard place).versions
 
 -- each document of the shard has the past that the entries leave, one after another
 pub record IsApplied (old new : Shard) (entries : List Entry) : Type 0 where
@@ -45,22 +49,28 @@ IsBegun old new entries = (done : ℕ) × IsApplied old new (take done entries)
 
 -- each shard is ready for the entries on its documents
 abbrev pub IsEachReady : List Shard → List Entry → Type 0
-IsEachReady shards entries = (k : ℕ) (s : Shard) → k < length shards → IsReady (slice_index_or shards k s) (part_of entries (length shards) k)
+IsEachReady shards entries = (k : ℕ) (s : Shard) → k < length shards
+    → IsReady (slice_index_or shards k s) (part_of entries (length shards) k)
 
 -- each shard has come so far with the entries on its documents
-pub record EachOf (So : Shard → Shard → List Entry → Type 0) (old new : List Shard) (entries : List Entry) : Type 0 where
+pub record EachOf (So : Shard → Shard → List Entry → Type 0) (old new : List Shard)
+    (entries : List Entry) : Type 0 where
   pub long : length new ≡ length old
-  pub each : (k : ℕ) (s : Shard) → k < length old → So (slice_index_or old k s) (slice_index_or new k s) (part_of entries (length old) k)
+  pub each : (k : ℕ) (s : Shard) → k < length old
+      → So (slice_index_or old k s) (slice_index_or new k s) (part_of entries (length old) k)
 
 -- each shard is ready for its part
 pub record AreReady (shards : List Shard) (parts : List (List Entry)) : Type 0 where
   pub long : length parts ≡ length shards
-  pub each : (k : ℕ) (s : Shard) (p : List Entry) → k < length shards → IsReady (slice_index_or shards k s) (slice_index_or parts k p)
+  pub each : (k : ℕ) (s : Shard) (p : List Entry) → k < length shards
+      → IsReady (slice_index_or shards k s) (slice_index_or parts k p)
 
 -- each shard has come so far with its part
-pub record Each (So : Shard → Shard → List Entry → Type 0) (old new : List Shard) (parts : List (List Entry)) : Type 0 where
+pub record Each (So : Shard → Shard → List Entry → Type 0) (old new : List Shard)
+    (parts : List (List Entry)) : Type 0 where
   pub long : length new ≡ length old
-  pub each : (k : ℕ) (s : Shard) (p : List Entry) → k < length old → So (slice_index_or old k s) (slice_index_or new k s) (slice_index_or parts k p)
+  pub each : (k : ℕ) (s : Shard) (p : List Entry) → k < length old
+      → So (slice_index_or old k s) (slice_index_or new k s) (slice_index_or parts k p)
 
 -- all parts are applied to their shards; where memory runs out, of each some entries, from the first on
 abbrev pub AreApplied : {A E : Type 0} → Result A E → (old new : List Shard) → List (List Entry) → Type 0

@@ -18,8 +18,9 @@ use version_store::{Shard, VersionStore};
 const SHARE: usize = 1000;
 
 /// Applies a batch of at most 5,000 entries to a store, in 1 to 16 workers. A worker claims one shard after
-/// another and applies the entries on its documents, in order, so entries on one document stay in order. Each
-/// document then has the versions that the entries leave, one after another. Out of memory leaves each as it was.
+/// another and applies the entries on its documents, in order, so entries on one document stay in order.
+/// Each document then has the versions that the entries leave, one after another. Out of memory leaves each
+/// as it was.
 ///
 /// The entries are lawful, with rising optimes past every version in the store.
 pub fn apply_batch<R: Threads + Sync, G: Gate + Sync>(
@@ -53,7 +54,9 @@ fn put_back(store: &mut VersionStore, shards: Vec<Shard>, first: OpTime, done: M
     requires { AreShards store.old.count shards.items }
     ensures same { result ≡ done }
     ensures ok { OnOk result (store.new ≡ record { count = store.old.count; shards = shards.items }) }
-    ensures err { OnErr result (ChangesEach (record { count = store.old.count; shards = shards.items }) store.new (back_before first)) }
+    ensures err { OnErr result
+        (ChangesEach (record { count = store.old.count; shards = shards.items }) store.new
+        (back_before first)) }
 {
     store.put_shards(shards);
     if done.is_err() {
@@ -84,8 +87,8 @@ fn apply_to<R: Threads + Sync, G: Gate + Sync>(
     apply_parts(rt, gate, alloc, workers, &parts, shards)
 }
 
-/// How many of the workers save more than their threads cost: each has a thousand entries to do, and as many as
-/// the largest part, which one worker does alone.
+/// How many of the workers save more than their threads cost: each has a thousand entries to do, and as many
+/// as the largest part, which one worker does alone.
 fn worthwhile(workers: u32, parts: &[Part<'_>]) -> u32
     requires { 0 < workers }
     ensures { (0 < result) × (result ≤ workers) }
@@ -99,8 +102,8 @@ fn worthwhile(workers: u32, parts: &[Part<'_>]) -> u32
     (all / largest.max(SHARE)).min(workers as usize).max(1) as u32
 }
 
-/// Applies the parts in workers that claim the shards. Those for which no thread pays pass the gate in the caller,
-/// before the others begin.
+/// Applies the parts in workers that claim the shards. Those for which no thread pays pass the gate in the
+/// caller, before the others begin.
 fn apply_parts<R: Threads + Sync, G: Gate + Sync>(
     rt: &R,
     gate: &G,

@@ -60,7 +60,8 @@ const CLAIMS: usize = 0;
 /// Jobs in slots, and one word that counts the claims.
 pub(crate) struct Claims<T: Job> {
     pub(crate) table: Table<Option<T>, View<T>, Snapshot<Vec<Option<T>>>, ClaimRule, Global>,
-    ghost counts: { (table.shared.table_id.words ≡ 1) × (table.shared.table_id.slots ≡ length table.shared.key.value.items) },
+    ghost counts: { (table.shared.table_id.words ≡ 1)
+        × (table.shared.table_id.slots ≡ length table.shared.key.value.items) },
 }
 
 impl<T: Job> Claims<T> {
@@ -72,7 +73,8 @@ impl<T: Job> Claims<T> {
         requires few { length jobs.items ≤ 2 ^ 32 }
         requires ready { AreReadyJobs T.ready jobs.items }
         ensures jobs { IfOk result (λ c. c.0.table.shared.key.value.items ≡ jobs.items) }
-        ensures claimer { IfOk result (λ c. (c.1.table_id ≡ c.0.table.shared.table_id) × (c.1.me ≡ (opened, []))) }
+        ensures claimer { IfOk result (λ c.
+            (c.1.table_id ≡ c.0.table.shared.table_id) × (c.1.me ≡ (opened, []))) }
         ensures err { IfErr result (λ j. j.items ≡ jobs.items) }
     {
         let about = Snapshot::of(&jobs);
@@ -86,8 +88,10 @@ impl<T: Job> Claims<T> {
     pub(crate) fn split(&self, claimer: &mut Claimer<T>) -> Claimer<T>
         requires claimer { (claimer.old.table_id ≡ self.now.table.shared.table_id) × IsFree claimer.old.me }
         requires live { 0 < claimer.old.me.0.live }
-        ensures claimer { (claimer.new.table_id ≡ claimer.old.table_id) × (claimer.new.me ≡ (one_part claimer.old.me.0, [])) }
-        ensures other { (result.table_id ≡ claimer.old.table_id) × (result.me ≡ (other_parts claimer.old.me.0, [])) }
+        ensures claimer { (claimer.new.table_id ≡ claimer.old.table_id)
+            × (claimer.new.me ≡ (one_part claimer.old.me.0, [])) }
+        ensures other { (result.table_id ≡ claimer.old.table_id)
+            × (result.me ≡ (other_parts claimer.old.me.0, [])) }
     {
         self.table.shared.split_seat::<Parts>(claimer)
     }
@@ -96,13 +100,14 @@ impl<T: Job> Claims<T> {
     pub(crate) fn join(&self, claimer: &mut Claimer<T>, other: Claimer<T>)
         requires claimer { (claimer.old.table_id ≡ self.now.table.shared.table_id) × IsFree claimer.old.me }
         requires other { (other.table_id ≡ self.now.table.shared.table_id) × IsFree other.me }
-        ensures { (claimer.new.table_id ≡ claimer.old.table_id) × (claimer.new.me ≡ (joined claimer.old.me.0 other.me.0, [])) }
+        ensures { (claimer.new.table_id ≡ claimer.old.table_id)
+            × (claimer.new.me ≡ (joined claimer.old.me.0 other.me.0, [])) }
     {
         self.table.shared.join_seat::<Absorbs>(claimer, other);
     }
 
-    // Puts back the job that was done, and takes the one of the next number, which it tells. None where no job
-    // is left.
+    // Puts back the job that was done, and takes the one of the next number, which it tells. None where no
+    // job is left.
     #[tactic(auto, using(crate::proofs::ClaimSteps::claims))]
     fn claim(&self, claimer: &mut Claimer<T>) -> Option<usize>
         requires claimer { claimer.old.table_id ≡ self.now.table.shared.table_id }
@@ -126,7 +131,8 @@ impl<T: Job> Claims<T> {
     fn run(&self, claimer: &mut Claimer<T>, place: usize)
         requires claimer { claimer.old.table_id ≡ self.now.table.shared.table_id }
         requires job { HasJob T.ready claimer.old.me place }
-        ensures claimer { (claimer.new.table_id ≡ claimer.old.table_id) × (claimer.new.me.0 ≡ claimer.old.me.0) }
+        ensures claimer { (claimer.new.table_id ≡ claimer.old.table_id)
+            × (claimer.new.me.0 ≡ claimer.old.me.0) }
         ensures done { HasDone T.done claimer.new.me }
     {
         let Some(job) = self.table.shared.exchange(claimer, place, None) else {
@@ -138,9 +144,11 @@ impl<T: Job> Claims<T> {
 
     /// Claims jobs and does them, until none is left.
     pub(crate) fn work(&self, claimer: &mut Claimer<T>)
-        requires { (claimer.old.table_id ≡ self.now.table.shared.table_id) × IsFree claimer.old.me × (0 < claimer.old.me.0.live) }
+        requires { (claimer.old.table_id ≡ self.now.table.shared.table_id) × IsFree claimer.old.me
+            × (0 < claimer.old.me.0.live) }
         ensures same { claimer.new.table_id ≡ claimer.old.table_id }
-        ensures ended { IsFree claimer.new.me × (claimer.new.me.0.live + 1 ≡ claimer.old.me.0.live) × (claimer.new.me.0.ended ≡ claimer.old.me.0.ended + 1) }
+        ensures ended { IsFree claimer.new.me × (claimer.new.me.0.live + 1 ≡ claimer.old.me.0.live)
+            × (claimer.new.me.0.ended ≡ claimer.old.me.0.ended + 1) }
     {
         while let Some(place) = self.claim(claimer) {
             self.run(claimer, place);
@@ -152,7 +160,8 @@ impl<T: Job> Claims<T> {
         requires claimer { (claimer.table_id ≡ self.table.shared.table_id) × IsFree claimer.me }
         requires parts { (claimer.me.0.live + claimer.me.0.ended ≡ 16) × (0 < claimer.me.0.ended) }
         ensures full { IsFull result.words × IsFull result.slots }
-        ensures done { (slots_len result.slots ≡ length self.table.shared.key.value.items) × AreDone T.done self.table.shared.key.value.items (slots_items result.slots) }
+        ensures done { (slots_len result.slots ≡ length self.table.shared.key.value.items)
+            × AreDone T.done self.table.shared.key.value.items (slots_items result.slots) }
     {
         let Claims { table } = self;
         table.close_with(claimer)

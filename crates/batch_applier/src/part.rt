@@ -42,7 +42,8 @@ impl<'a> Touch<'a> {
     /// What an entry touches. None for a no-op.
     fn of(entry: &'a Entry) -> Mem<Option<Self>>
         requires { IsLawful entry.now }
-        ensures { IfOk result (λ touch. MatchOption touch (place_of entry.now.op ≡ None) (λ t. t ≡ entry.now)) }
+        ensures { IfOk result (λ touch.
+            MatchOption touch (place_of entry.now.op ≡ None) (λ t. t ≡ entry.now)) }
     {
         let Some((ns, id)) = entry.touched()? else {
             return Ok(None);
@@ -59,8 +60,11 @@ impl<'a> Touch<'a> {
     }
 
     fn apply(&self, alloc: Global, shard: &mut Shard) -> Mem<()>
-        requires own { (place : Place) → place_of self.now.op ≡ Some place → BelongsTo shard.old.number shard.old.count place }
-        requires later { (place : Place) → place_of self.now.op ≡ Some place → All (λ version. is_before version.at self.now.optime ≡ true) (past_of shard.old place).versions }
+        requires own { (place : Place) → place_of self.now.op ≡ Some place
+            → BelongsTo shard.old.number shard.old.count place }
+        requires later { (place : Place) → place_of self.now.op ≡ Some place
+            → All (λ version. is_before version.at self.now.optime ≡ true)
+            (past_of shard.old place).versions }
         ensures ok { OnOk result (IsApplied shard.old shard.new (self.now ∷ [])) }
         ensures err { OnErr result (shard.new ≡ shard.old) }
     {
@@ -113,8 +117,8 @@ impl<'a> Part<'a> {
         self.touches.len()
     }
 
-    /// Applies the entries to their shard, in order. Where memory runs out, some of them have been applied, from
-    /// the first on.
+    /// Applies the entries to their shard, in order. Where memory runs out, some of them have been applied,
+    /// from the first on.
     pub(crate) fn apply(&self, alloc: Global, shard: &mut Shard) -> Mem<()>
         requires { IsReady shard.old self.now }
         ensures ok { OnOk result (IsApplied shard.old shard.new self.now) }

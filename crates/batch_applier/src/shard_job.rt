@@ -26,7 +26,8 @@ pub(crate) struct ShardJob<'p, 'e> {
 impl<'p, 'e> Job for ShardJob<'p, 'e> {
     ghost ready = { λ job. IsReady job.shard job.part.now };
 
-    ghost done = { λ before after. OnOk after.applied (IsApplied before.shard after.shard before.part.now) × IsBegun before.shard after.shard before.part.now };
+    ghost done = { λ before after. OnOk after.applied (IsApplied before.shard after.shard before.part.now)
+        × IsBegun before.shard after.shard before.part.now };
 
     fn run(self) -> Self {
         let ShardJob {
@@ -98,7 +99,8 @@ fn jobs_of<'p, 'e>(
 
 // Moves each shard out of its slot. Its error is that of some job.
 fn take_back(mut closed: Closed<Option<ShardJob<'_, '_>>, Global>, shards: &mut [Shard]) -> Mem<()>
-    requires full { IsFull closed.slots × (slots_len closed.slots ≡ length shards.old) × (length (slots_items closed.slots) ≡ length shards.old) }
+    requires full { IsFull closed.slots × (slots_len closed.slots ≡ length shards.old)
+        × (length (slots_items closed.slots) ≡ length shards.old) }
     requires jobs { AreAllJobs (slots_items closed.slots) }
     ensures back { AreBack (slots_items closed.entry.slots) shards.new }
     ensures ok { OnOk result (AreAllApplied (slots_items closed.entry.slots)) }

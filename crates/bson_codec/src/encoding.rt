@@ -27,7 +27,7 @@ pub fn encode(alloc: Global, doc: &Doc, bounds: Bounds) -> Result<Vec<u8>, Encod
             EncodeError::TooLarge
         });
     }
-    doc.is_sound();
+    doc.recall_sound();
     let mut bytes = Vec::new(alloc);
     write(alloc, doc, &mut bytes)?;
     Ok(bytes)

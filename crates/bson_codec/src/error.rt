@@ -25,8 +25,9 @@ impl From<AllocError> for EncodeError {
     }
 }
 
-/// The rule that a reading from left to right meets first. Each word is read in this order: an element's kind, its name,
-/// whether the name is new, and its value; and of a string its length, its letters, and its closing zero.
+/// The rule that a reading from left to right meets first. Each word is read in this order: an element's
+/// kind, its name, whether the name is new, and its value; and of a string its length, its letters, and
+/// its closing zero.
 #[derive(Clone, Copy, Debug, PartialEq, Eq, Error)]
 pub enum DecodeError {
     /// The input ends before the document does.

@@ -9,7 +9,8 @@ use crate::DecodeError;
 use bson_doc::Mem;
 use byteorder::{ByteOrder, LittleEndian};
 
-/// Appends a number in four bytes. Out of memory is the one error, and nothing is said of `out` then; so it is of the next three.
+/// Appends a number in four bytes. Out of memory is the one error, and nothing is said of `out` then; so it
+/// is of the next three.
 #[tactic(auto, unfolding(crate::specs::Numbers::number_bytes))]
 pub fn put_u32(out: &mut Vec<u8>, number: u32) -> Mem<()>
     ensures laid { OnOk result (out.new.items ≡ out.old.items ++ number_bytes 4 number) }

@@ -55,8 +55,8 @@ fn read(alloc: Global, bytes: &[u8], bounds: Bounds) -> Result<Doc, DecodeError>
 }
 
 /// The document that the bytes spell (BSON 1.1) within the bounds; else the rule that a reading from
-/// left to right meets first. The outer length is tested before all else: `Short`, `Length`, `TooLarge`, `Short`,
-/// `Trailing`.
+/// left to right meets first. The outer length is tested before all else: `Short`, `Length`,
+/// `TooLarge`, `Short`, `Trailing`.
 pub fn decode(alloc: Global, bytes: &[u8], bounds: Bounds) -> Result<Doc, DecodeError>
     requires { bounds.bytes < 2 ^ 31 }
     // What is read is spelled so, within the bounds.

@@ -24,7 +24,8 @@ abbrev mutual
 
   pub items_length : ℕ → Trees → ℕ
   items_length place no_items = 0
-  items_length place (item value rest) = 2 + length (decimal place) + value_length value + items_length (place + 1) rest
+  items_length place (item value rest) =
+      2 + length (decimal place) + value_length value + items_length (place + 1) rest
 
 abbrev pub document_length : Fields → ℕ
 document_length fields = 5 + fields_length fields

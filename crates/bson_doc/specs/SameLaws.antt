@@ -1,4 +1,5 @@
--- The test whether two values are the same answers true for equal ones, and for no others: so it is an equivalence.
+-- The test whether two values are the same answers true for equal ones, and for no others: so it
+-- is an equivalence.
 use Rattle.std.proofs.Common.{◌≡◌, ◌&&◌, ◌==◌, ℕ, List, Bool, true, false, refl, sym, subst, ap}
 use Rattle.std.proofs.lemmas.Bool.{and_from, and_parts, false≢true}
 use Rattle.std.proofs.lemmas.Slice.Eq.{bytes_eq-Decides}
@@ -68,7 +69,8 @@ mutual
   same_tree-itself (text a) = text-itself a
   same_tree-itself (document a) = same_fields-itself a
   same_tree-itself (array a) = same_items-itself a
-  same_tree-itself (binary s a) = and_from (s == s) (bytes_eq a a) ((unsigned_Decides s s).1 refl) (text-itself a)
+  same_tree-itself (binary s a) =
+      and_from (s == s) (bytes_eq a a) ((unsigned_Decides s s).1 refl) (text-itself a)
   same_tree-itself (object_id a) = text-itself a
   same_tree-itself (boolean a) = truth-itself a
   same_tree-itself (date m) = (signed_Decides m m).1 refl
@@ -82,16 +84,19 @@ mutual
 
   same_items-itself : (a : Trees) → same_items a a ≡ true
   same_items-itself no_items = refl
-  same_items-itself (item v a) = and_from (same_tree v v) (same_items a a) (same_tree-itself v) (same_items-itself a)
+  same_items-itself (item v a) =
+      and_from (same_tree v v) (same_items a a) (same_tree-itself v) (same_items-itself a)
 
 same_tree-decides : (v w : Tree) → Decides (same_tree v w) (v ≡ w)
 same_tree-decides v w = (same_tree-equal v w, λ e. subst (λ x. same_tree v x ≡ true) e (same_tree-itself v))
 
 same_fields-decides : (a b : Fields) → Decides (same_fields a b) (a ≡ b)
-same_fields-decides a b = (same_fields-equal a b, λ e. subst (λ x. same_fields a x ≡ true) e (same_fields-itself a))
+same_fields-decides a b =
+    (same_fields-equal a b, λ e. subst (λ x. same_fields a x ≡ true) e (same_fields-itself a))
 
 same_items-decides : (a b : Trees) → Decides (same_items a b) (a ≡ b)
-same_items-decides a b = (same_items-equal a b, λ e. subst (λ x. same_items a x ≡ true) e (same_items-itself a))
+same_items-decides a b =
+    (same_items-equal a b, λ e. subst (λ x. same_items a x ≡ true) e (same_items-itself a))
 
 pub same_value-laws : IsEquivalence (on tree_of same_tree) × IsPartialEquivalence (on tree_of same_tree)
 same_value-laws =

@@ -9,11 +9,12 @@ use std::alloc::Global;
 use std::collections::BTreeSet;
 use std::marker::Model;
 
-/// A document with at most so many fields is looked through for a name. Names are kept in order only of one with more.
+/// A document with at most so many fields is looked through for a name. Names are kept in order only of
+/// one with more.
 pub const FEW_FIELDS: usize = 16;
 
-/// A document in the making, seen as the fields so far. A name is looked up in O(log n), and a small document takes no
-/// memory but its own.
+/// A document in the making, seen as the fields so far. A name is looked up in O(log n), and a small document
+/// takes no memory but its own.
 #[derive(Drop)]
 pub struct DocBuilder {
     alloc: Global,
@@ -58,8 +59,8 @@ impl DocBuilder {
         }
     }
 
-    /// The document with one field more, under a name that is new and has no zero byte. Room for two is made at first, since
-    /// the last one is for `finish_with`.
+    /// The document with one field more, under a name that is new and has no zero byte. Room for two is made
+    /// at first, since the last one is for `finish_with`.
     pub fn with(self, name: Text, value: Value) -> Mem<Self>
         requires clean { ¬ Contains name 0 }
         requires new { found name self ≡ None }
@@ -96,8 +97,8 @@ impl DocBuilder {
         doc
     }
 
-    /// The document whose last field this is, under a name that is new and has no zero byte. It is inlined, so that the document
-    /// is moved once less.
+    /// The document whose last field this is, under a name that is new and has no zero byte. It is inlined,
+    /// so that the document is moved once less.
     #[inline(always)]
     pub fn finish_with(self, name: Text, value: Value) -> Mem<Doc>
         requires clean { ¬ Contains name 0 }

@@ -85,7 +85,8 @@ impl Eq for Value {
     ghost laws = { same_value-laws.0 };
 }
 
-/// Two documents are equal where they have the same fields in the same order, so where they have the same bytes.
+/// Two documents are equal where they have the same fields in the same order, so where they have
+/// the same bytes.
 impl PartialEq for Doc {
     ghost use Rattle.bson_doc.specs.Same.{same_fields};
     ghost use Rattle.bson_doc.specs.SameLaws.{same_fields-laws};

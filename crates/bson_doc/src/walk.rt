@@ -20,7 +20,8 @@ impl<'a> Iterator for DocIter<'a> {
 
     ghost next_gives = { λ a r b. (b.document ≡ a.document) × MatchOption r (count a.document.now ≤ a.place)
         (λ x. (b.place ≡ a.place + 1)
-        × (fields_from a.place a.document.now ≡ field x.0.now (tree_of x.1.now) (fields_from (a.place + 1) a.document.now))) };
+        × (fields_from a.place a.document.now
+        ≡ field x.0.now (tree_of x.1.now) (fields_from (a.place + 1) a.document.now))) };
 
     fn next(&mut self) -> Option<(&'a str, &'a Value)> {
         if self.place >= self.document.len() {

@@ -1,9 +1,9 @@
 -- A script by chance, from a number.
 --
--- Numbers are drawn from PCG32 (`Lcg64Xsh32` of `rand_pcg`), seeded by that number: each is the remainder of the next word by
--- how many may be drawn. Of each event, counted from 0, a kind of 16 is drawn, then the node A that it happens at, then another
--- node B, and then a last number X where its lines have one. A set of one node has no B, nothing is drawn for it, and A
--- flushes instead.
+-- Numbers are drawn from PCG32 (`Lcg64Xsh32` of `rand_pcg`), seeded by that number: each is the remainder of
+-- the next word by how many may be drawn. Of each event, counted from 0, a kind of 16 is drawn, then the node
+-- A that it happens at, then another node B, and then a last number X where its lines have one. A set of one
+-- node has no B, nothing is drawn for it, and A flushes instead.
 --
 --     0 to 3    insert A t {_id: EVENT, n: 0}
 --     4         update A t X {$inc: {n: 1}}        X is from 0 to EVENT
@@ -88,7 +88,8 @@ with_event events (event, generator) = (events ++ event ∷ [], generator)
 -- so many events, and the generator behind them
 abbrev pub happenings : (nodes seed count : ℕ) → List Happening × Lcg
 happenings nodes seed zero = ([], seeded seed)
-happenings nodes seed (suc event) = with_event (happenings nodes seed event).0 (happening nodes event (happenings nodes seed event).1)
+happenings nodes seed (suc event) =
+    with_event (happenings nodes seed event).0 (happening nodes event (happenings nodes seed event).1)
 
 -- ---- its lines
 
@@ -103,7 +104,8 @@ ask_with word node other = ask word node (codes " n" ++ decimal other)
 -- a node votes for a candidate
 abbrev pub vote_of : (candidate voter : ℕ) → List ℕ
 vote_of candidate voter =
-    if voter == candidate then [] else ask_with (codes "deliver") candidate voter ++ ask_with (codes "deliver") voter candidate
+    if voter == candidate then []
+    else ask_with (codes "deliver") candidate voter ++ ask_with (codes "deliver") voter candidate
 
 -- so many nodes, the first ones, do
 abbrev pub votes_of : (candidate count : ℕ) → List ℕ
@@ -114,7 +116,8 @@ votes_of candidate (suc voter) = votes_of candidate voter ++ vote_of candidate v
 abbrev pub taken_text : (node source : ℕ) → List ℕ
 taken_text node source =
     ask_with (codes "heartbeat") source node ++ ask_with (codes "deliver") source node
-    ++ ask (codes "fetch") node [] ++ ask_with (codes "deliver") node source ++ ask_with (codes "deliver") source node
+    ++ ask (codes "fetch") node [] ++ ask_with (codes "deliver") node source
+    ++ ask_with (codes "deliver") source node
 
 -- it applies and stores what it took, and reports
 abbrev pub told_text : (node source : ℕ) → List ℕ
@@ -123,15 +126,19 @@ told_text node source =
     ++ ask_with (codes "report") node source ++ ask_with (codes "deliver") node source
 
 unfoldable pub text_of : (nodes : ℕ) → Happening → List ℕ
-text_of nodes (Insert node id) = ask (codes "insert") node (codes " t {_id: " ++ decimal id ++ codes ", n: 0}")
-text_of nodes (Update node id) = ask (codes "update") node (codes " t " ++ decimal id ++ codes " {$inc: {n: 1}}")
+text_of nodes (Insert node id) =
+    ask (codes "insert") node (codes " t {_id: " ++ decimal id ++ codes ", n: 0}")
+text_of nodes (Update node id) =
+    ask (codes "update") node (codes " t " ++ decimal id ++ codes " {$inc: {n: 1}}")
 text_of nodes (Delete node id) = ask (codes "delete") node (codes " t " ++ decimal id)
 text_of nodes (Flush node) = ask (codes "flush") node []
 text_of nodes (Pull node source) = taken_text node source ++ told_text node source
 text_of nodes (Election node) =
-    ask (codes "campaign") node [] ++ votes_of node nodes ++ ask (codes "drain") node [] ++ ask (codes "flush") node []
+    ask (codes "campaign") node [] ++ votes_of node nodes ++ ask (codes "drain") node []
+    ++ ask (codes "flush") node []
 text_of nodes (Common node other) =
-    ask_with (codes "common") node other ++ ask_with (codes "deliver") node other ++ ask_with (codes "deliver") other node
+    ask_with (codes "common") node other ++ ask_with (codes "deliver") node other
+    ++ ask_with (codes "deliver") other node
 text_of nodes (Checkpoint node) = ask (codes "checkpoint") node []
 text_of nodes (Restart node) = ask (codes "crash") node [] ++ ask (codes "restart") node []
 text_of nodes (StepDown node) = ask (codes "stepdown") node []

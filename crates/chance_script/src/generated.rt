@@ -9,9 +9,11 @@ use rand_pcg::Pcg32;
 use std::alloc::Global;
 use std::fmt::Write;
 
-/// The bytes that a seed comes to, with so many events in a set of so many nodes. They are a script of that set (`script_laws`).
+/// The bytes that a seed comes to, with so many events in a set of so many nodes. They are a script of
+/// that set (`script_laws`).
 ///
-/// A seed always gives the same script, by PCG32 as the crate `rand_pcg` has it. There are at most 5,000 events and 1 to 7 nodes.
+/// A seed always gives the same script, by PCG32 as the crate `rand_pcg` has it. There are at most 5,000
+/// events and 1 to 7 nodes.
 pub fn generate(alloc: Global, seed: u64, events: u32, nodes: u32) -> Mem<Vec<u8>>
     requires few { events ≤ 5000 }
     requires sizes { 1 ≤ nodes × nodes ≤ 7 }

@@ -138,7 +138,8 @@ fn ask_with(word: &str, node: u32, other: u32, out: &mut String) -> Mem<()>
 
 #[tactic(auto, unfolding(crate::specs::Generated::text_of))]
 fn write_insert(node: u32, id: u32, out: &mut String) -> Mem<()>
-    ensures { OnOk result (string_bytes out.new ≡ string_bytes out.old ++ text_of 0 (Happening.Insert node id)) }
+    ensures { OnOk result
+        (string_bytes out.new ≡ string_bytes out.old ++ text_of 0 (Happening.Insert node id)) }
 {
     write!(out, "insert n{node}")?;
     write!(out, " t {{_id: {id}, n: 0}}\n")
@@ -146,7 +147,8 @@ fn write_insert(node: u32, id: u32, out: &mut String) -> Mem<()>
 
 #[tactic(auto, unfolding(crate::specs::Generated::text_of))]
 fn write_update(node: u32, id: u32, out: &mut String) -> Mem<()>
-    ensures { OnOk result (string_bytes out.new ≡ string_bytes out.old ++ text_of 0 (Happening.Update node id)) }
+    ensures { OnOk result
+        (string_bytes out.new ≡ string_bytes out.old ++ text_of 0 (Happening.Update node id)) }
 {
     write!(out, "update n{node}")?;
     write!(out, " t {id} {{$inc: {{n: 1}}}}\n")
@@ -154,7 +156,8 @@ fn write_update(node: u32, id: u32, out: &mut String) -> Mem<()>
 
 #[tactic(auto, unfolding(crate::specs::Generated::text_of))]
 fn write_delete(node: u32, id: u32, out: &mut String) -> Mem<()>
-    ensures { OnOk result (string_bytes out.new ≡ string_bytes out.old ++ text_of 0 (Happening.Delete node id)) }
+    ensures { OnOk result
+        (string_bytes out.new ≡ string_bytes out.old ++ text_of 0 (Happening.Delete node id)) }
 {
     write!(out, "delete n{node}")?;
     write!(out, " t {id}\n")
@@ -162,7 +165,8 @@ fn write_delete(node: u32, id: u32, out: &mut String) -> Mem<()>
 
 #[tactic(auto, unfolding(crate::specs::Generated::text_of))]
 fn write_clock(node: u32, seconds: u32, out: &mut String) -> Mem<()>
-    ensures { OnOk result (string_bytes out.new ≡ string_bytes out.old ++ text_of 0 (Happening.Clock node seconds)) }
+    ensures { OnOk result
+        (string_bytes out.new ≡ string_bytes out.old ++ text_of 0 (Happening.Clock node seconds)) }
 {
     write!(out, "clock n{node}")?;
     write!(out, " {seconds}\n")
@@ -170,7 +174,8 @@ fn write_clock(node: u32, seconds: u32, out: &mut String) -> Mem<()>
 
 #[tactic(auto, unfolding(crate::specs::Generated::text_of))]
 fn write_pull(node: u32, source: u32, out: &mut String) -> Mem<()>
-    ensures { OnOk result (string_bytes out.new ≡ string_bytes out.old ++ text_of 0 (Happening.Pull node source)) }
+    ensures { OnOk result
+        (string_bytes out.new ≡ string_bytes out.old ++ text_of 0 (Happening.Pull node source)) }
 {
     write_taken(node, source, out)?;
     write_told(node, source, out)
@@ -199,7 +204,8 @@ fn write_told(node: u32, source: u32, out: &mut String) -> Mem<()>
 
 #[tactic(auto, unfolding(crate::specs::Generated::text_of))]
 fn write_common(node: u32, other: u32, out: &mut String) -> Mem<()>
-    ensures { OnOk result (string_bytes out.new ≡ string_bytes out.old ++ text_of 0 (Happening.Common node other)) }
+    ensures { OnOk result
+        (string_bytes out.new ≡ string_bytes out.old ++ text_of 0 (Happening.Common node other)) }
 {
     ask_with("common", node, other, out)?;
     ask_with("deliver", node, other, out)?;
@@ -208,7 +214,8 @@ fn write_common(node: u32, other: u32, out: &mut String) -> Mem<()>
 
 #[tactic(auto, unfolding(crate::specs::Generated::text_of))]
 fn write_restart(node: u32, out: &mut String) -> Mem<()>
-    ensures { OnOk result (string_bytes out.new ≡ string_bytes out.old ++ text_of 0 (Happening.Restart node)) }
+    ensures { OnOk result
+        (string_bytes out.new ≡ string_bytes out.old ++ text_of 0 (Happening.Restart node)) }
 {
     ask("crash", node, "", out)?;
     ask("restart", node, "", out)
@@ -216,7 +223,8 @@ fn write_restart(node: u32, out: &mut String) -> Mem<()>
 
 #[tactic(auto, unfolding(crate::specs::Generated::text_of))]
 fn write_election(nodes: u32, node: u32, out: &mut String) -> Mem<()>
-    ensures { OnOk result (string_bytes out.new ≡ string_bytes out.old ++ text_of nodes (Happening.Election node)) }
+    ensures { OnOk result
+        (string_bytes out.new ≡ string_bytes out.old ++ text_of nodes (Happening.Election node)) }
 {
     ask("campaign", node, "", out)?;
     write_votes(nodes, node, out)?;

@@ -18,7 +18,7 @@ use Rattle.rs_optime.specs.declared.optime.OpTime.{OpTime}
 use Rattle.oplog_entry.specs.Docs.{Documents}
 use Rattle.version_store.specs.Store.{Store}
 use Rattle.checkpoint_store.specs.Checkpoint.{last_whole, checkpoint}
-use Rattle.checkpoint_store.specs.Files.{AreSpelled, HasList, HasCheckpoint, RestsWith, IsAtRest, IsOpen, IsOneOf, IsCheckpointDisk, IsBeforeOrAfter}
+use Rattle.checkpoint_store.specs.Files.{AreSpelled, HasList, HasCheckpoint, IsAtRestWith, IsAtRest, IsOpen, IsOneOf, IsCheckpointDisk, IsBeforeOrAfter}
 use Rattle.checkpoint_store.specs.Layout.{Record, record_bytes}
 use Rattle.checkpoint_store.specs.Shown.{Shows}
 use Rattle.checkpoint_store.specs.Spelled.{IsRecord}
@@ -108,8 +108,8 @@ module _ {X : Type 0} (result : Result X FileError) (old new : State) (store : S
     (done : OnOk result ((before : List (List ℕ)) → files.IsAtRest old before → files.IsAtRest new (before ++ pieces)))
     (moments : (before : List (List ℕ)) → files.IsAtRest old before → EachMoment (files.HasFirst before pieces) old new) where
   -- all of the records were added
-  pub saved_records : OnOk result ((documents : Documents) → Shows store at documents → (records : List Record) → RestsWith old records
-      → RestsWith new (records ++ checkpoint (record { at = at; documents = documents })))
+  pub saved_records : OnOk result ((documents : Documents) → Shows store at documents → (records : List Record) → IsAtRestWith old records
+      → IsAtRestWith new (records ++ checkpoint (record { at = at; documents = documents })))
   saved_records = on_ok result (λ added documents shows records rest.
       rests_with (checkpoint (record { at = at; documents = documents })) pieces (are documents shows) new records rest.each (added (map record_bytes records) rest.rests)) done
 

@@ -11,20 +11,20 @@ use Rattle.record_file.specs.Records.{HasRecords}
 use Rattle.record_file.specs.Files as files
 use Rattle.checkpoint_store.specs.Layout.{Record, record_bytes}
 use Rattle.checkpoint_store.specs.Spelled.{IsRecord}
-use Rattle.checkpoint_store.specs.Files.{AreSpelled, HasList, RestsWith, IsOpen}
+use Rattle.checkpoint_store.specs.Files.{AreSpelled, HasList, IsAtRestWith, IsOpen}
 
 pub open_is : (state : State) → IsOpen state → files.IsOpen state
 open_is state is = record { records = map record_bytes is.records; rests = is.rests.rests }
 
 -- a synced list of records is what every crash leaves
-pub rest_leaves : (state : State) (records : List Record) → RestsWith state records → LeavesOnly (λ image. HasList image records) state.file
+pub rest_leaves : (state : State) (records : List Record) → IsAtRestWith state records → LeavesOnly (λ image. HasList image records) state.file
 rest_leaves state records rest image is = record {
   each = rest.each;
   has = inr (rest.rests.front, [], rest.rests.open_records, only_image (rest.rests.front ++ 0 ∷ []) image (subst (λ (f : File). IsImage f image) rest.rests.file is));
 }
 
 -- only the room has changed
-pub rests_still : (old new : State) (records : List Record) → SameButRoom old new → RestsWith old records → RestsWith new records
+pub rests_still : (old new : State) (records : List Record) → SameButRoom old new → IsAtRestWith old records → IsAtRestWith new records
 rests_still old new records same rest = record {
   each = rest.each;
   rests = record { front = rest.rests.front; open_records = rest.rests.open_records; file = ap (λ (s : State). s.file) same ∙ rest.rests.file };
@@ -36,7 +36,7 @@ IsFront records added image =
     (front : List Record) × (rest : List Record) × (added ≡ front ++ rest) × HasList image (records ++ front)
 
 module _ (added : List Record) (pieces : List (List ℕ)) (are : AreSpelled added pieces) where
-  pub rests_with : (new : State) (records : List Record) → All IsRecord records → files.IsAtRest new (map record_bytes records ++ pieces) → RestsWith new (records ++ added)
+  pub rests_with : (new : State) (records : List Record) → All IsRecord records → files.IsAtRest new (map record_bytes records ++ pieces) → IsAtRestWith new (records ++ added)
   rests_with new records each rests = record {
     each = All-append IsRecord records added each are.each;
     rests = subst (λ (l : List (List ℕ)). files.IsAtRest new l)
@@ -59,6 +59,6 @@ module _ (added : List Record) (pieces : List (List ℕ)) (are : AreSpelled adde
       )
 
   pub fronts : (old new : State) → ((before : List (List ℕ)) → files.IsAtRest old before → EachMoment (files.HasFirst before pieces) old new)
-      → (records : List Record) → RestsWith old records → EachMoment (IsFront records added) old new
+      → (records : List Record) → IsAtRestWith old records → EachMoment (IsFront records added) old new
   fronts old new moments records rest =
       weakens (files.HasFirst (map record_bytes records) pieces) (IsFront records added) (front_is records rest.each) old new (moments (map record_bytes records) rest.rests)

@@ -26,12 +26,15 @@ nothing_yet = record { whole = no_stable; begun = None }
 
 -- a checkpoint that was begun, if one was, with more documents
 abbrev pub with_more : Option Stable → List Saved → Option Stable
-with_more begun more = option_map (λ stable. record { at = stable.at; documents = with_documents stable.documents more }) begun
+with_more begun more =
+    option_map (λ stable. record { at = stable.at; documents = with_documents stable.documents more }) begun
 
 -- with one record more. Only an end makes a checkpoint count
 abbrev pub with_record : SoFar → Record → SoFar
-with_record so_far (begins at) = record { whole = so_far.whole; begun = Some (record { at = at; documents = empty }) }
-with_record so_far (holds documents) = record { whole = so_far.whole; begun = with_more so_far.begun documents }
+with_record so_far (begins at) =
+    record { whole = so_far.whole; begun = Some (record { at = at; documents = empty }) }
+with_record so_far (holds documents) =
+    record { whole = so_far.whole; begun = with_more so_far.begun documents }
 with_record so_far ends = record { whole = unwrap_or so_far.begun so_far.whole; begun = None }
 
 abbrev pub last_whole : List Record → Stable

@@ -28,20 +28,21 @@ pub record HasCheckpoint (bytes : List ℕ) (stable : Stable) : Type 0 where
   pub last : last_whole records ≡ stable
 
 -- the file is these records and nothing else, all of it synced, so that every crash leaves them
-pub record RestsWith (state : State) (records : List Record) : Type 0 where
+pub record IsAtRestWith (state : State) (records : List Record) : Type 0 where
   pub each : All IsRecord records
   pub rests : FileIsAtRest state (map record_bytes records)
 
--- All of the file is synced, and this is its last whole checkpoint. The front of one that was not ended may stand behind it.
+-- All of the file is synced, and this is its last whole checkpoint. The front of one that was not ended may
+-- stand behind it.
 pub record IsAtRest (state : State) (stable : Stable) : Type 0 where
   pub records : List Record
-  pub rests : RestsWith state records
+  pub rests : IsAtRestWith state records
   pub last : last_whole records ≡ stable
 
 -- a checkpoint store that has not failed
 pub record IsOpen (state : State) : Type 0 where
   pub records : List Record
-  pub rests : RestsWith state records
+  pub rests : IsAtRestWith state records
 
 -- a crash may leave this as the last whole checkpoint
 abbrev pub MayHave : State → Stable → Type 0
@@ -62,7 +63,10 @@ empty_disk state empty = record {
     last_whole [],
     record {
       records = [];
-      list = record { each = λ k d within. absurd (omega arith); has = inl (omega (arith, ap length (empty.leaves image is)), refl) };
+      list = record {
+        each = λ k d within. absurd (omega arith);
+        has = inl (omega (arith, ap length (empty.leaves image is)), refl);
+      };
       last = refl;
     },
   );

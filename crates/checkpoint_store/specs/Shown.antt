@@ -24,7 +24,8 @@ pub record CanBeSaved (place : Place) (document : Fields) : Type 0 where
 
 -- and such is each that a read as of an optime shows
 abbrev pub AllCanBeSaved : Store → OpTime → Type 0
-AllCanBeSaved store at = (place : Place) (document : Fields) → shown_at store place at ≡ Some document → CanBeSaved place document
+AllCanBeSaved store at =
+    (place : Place) (document : Fields) → shown_at store place at ≡ Some document → CanBeSaved place document
 
 -- what is shown at a place that shows something
 abbrev pub document_at : Store → OpTime → Place → Fields

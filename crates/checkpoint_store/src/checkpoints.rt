@@ -5,7 +5,7 @@ ghost use Rattle.rs_disk.specs.State.{Keeps, IsArmed, IsCut, SameButRoom};
 ghost use Rattle.record_file.specs.Files.{EndsBy, OpensBy, adding_steps, answer_of};
 ghost use Rattle.oplog_entry.specs.Docs.{Documents};
 ghost use Rattle.checkpoint_store.specs.Checkpoint.{checkpoint};
-ghost use Rattle.checkpoint_store.specs.Files.{HasCheckpoint, IsAtRest, IsBeforeOrAfter, IsCheckpointDisk, IsOneOf, IsOpen, RestsWith, disk_after};
+ghost use Rattle.checkpoint_store.specs.Files.{HasCheckpoint, IsAtRest, IsBeforeOrAfter, IsCheckpointDisk, IsOneOf, IsOpen, IsAtRestWith, disk_after};
 ghost use Rattle.checkpoint_store.specs.Layout.{Record as ARecord, record_bytes};
 ghost use Rattle.checkpoint_store.specs.Shown.{AllCanBeSaved, Shows};
 ghost use Rattle.checkpoint_store.specs.declared.stable.Stable.{Stable as AStable};
@@ -34,11 +34,12 @@ impl<D: Disk> Model for Checkpoints<D> {
 }
 
 impl<D: Disk> Checkpoints<D> {
-    /// Reads the last whole checkpoint of a disk: none as of `OpTime::ZERO` where there is no checkpoint. The disk is
-    /// empty, or a checkpoint store left it.
+    /// Reads the last whole checkpoint of a disk: none as of `OpTime::ZERO` where there is no checkpoint. The
+    /// disk is empty, or a checkpoint store left it.
     ///
     /// # Errors
-    /// `Disk` where the disk failed. Either error hands the disk back, and an opening may be tried again on it.
+    /// `Disk` where the disk failed. Either error hands the disk back, and an opening may be tried
+    /// again on it.
     pub fn open(alloc: Global, disk: D) -> Result<(Checkpoints<D>, Stable), (D, FileError)>
         requires { IsCheckpointDisk (D.state disk) }
 
@@ -50,7 +51,8 @@ impl<D: Disk> Checkpoints<D> {
         ensures calls { OpensBy (answer_of result) (D.state disk) (D.state (disk_after result)) }
 
         // A crash at any moment leaves a checkpoint that a crash before the call might have left.
-        ensures any_moment { EachMoment (IsOneOf (D.state disk)) (D.state disk) (D.state (disk_after result)) }
+        ensures any_moment { EachMoment (IsOneOf (D.state disk)) (D.state disk)
+            (D.state (disk_after result)) }
         ensures keeps { Keeps (IsErrOf (answer_of result) FileError.Disk)
             (D.state disk) (D.state (disk_after result)) }
     {
@@ -88,8 +90,8 @@ impl<D: Disk> Checkpoints<D> {
     /// Saves the documents that a store shows as of an optime. After `Ok` every crash leaves them.
     ///
     /// # Errors
-    /// `Memory` leaves the file as it was: what a checkpoint takes is taken before its first record is added. After
-    /// `Disk` the store has failed, and only `close` is left.
+    /// `Memory` leaves the file as it was: what a checkpoint takes is taken before its first record is added.
+    /// After `Disk` the store has failed, and only `close` is left.
     pub fn save(&mut self, at: OpTime, store: &VersionStore) -> Result<(), FileError>
         requires open { IsOpen (D.state self.old) }
         requires can { AllCanBeSaved store.now at }
@@ -98,8 +100,9 @@ impl<D: Disk> Checkpoints<D> {
             → (stable : AStable) → IsAtRest (D.state self.old) stable
             → IsAtRest (D.state self.new) (record { at = at; documents = documents })) }
         ensures records { OnOk result ((documents : Documents) → Shows store.now at documents
-            → (records : List ARecord) → RestsWith (D.state self.old) records
-            → RestsWith (D.state self.new) (records ++ checkpoint (record { at = at; documents = documents }))) }
+            → (records : List ARecord) → IsAtRestWith (D.state self.old) records
+            → IsAtRestWith (D.state self.new)
+            (records ++ checkpoint (record { at = at; documents = documents }))) }
         ensures shows { result ≢ Err FileError.Memory
             → (documents : Documents) × Shows store.now at documents }
         ensures memory { result ≡ Err FileError.Memory → SameButRoom (D.state self.old) (D.state self.new) }
@@ -114,7 +117,8 @@ impl<D: Disk> Checkpoints<D> {
         // A crash at any moment of the call leaves the last whole checkpoint from before it, or the new one.
         ensures any_moment { (documents : Documents) → Shows store.now at documents
             → (stable : AStable) → IsAtRest (D.state self.old) stable
-            → EachMoment (IsBeforeOrAfter stable (record { at = at; documents = documents })) (D.state self.old) (D.state self.new) }
+            → EachMoment (IsBeforeOrAfter stable (record { at = at; documents = documents }))
+            (D.state self.old) (D.state self.new) }
         ensures keeps { Keeps (IsErrOf result FileError.Disk) (D.state self.old) (D.state self.new) }
     {
         let records = checkpoint_records(self.alloc, store, at)?;

@@ -85,7 +85,8 @@ fn begin(alloc: Global, bytes: &[u8]) -> Stable
 // A checkpoint that was begun, with the documents of these bytes.
 fn more(alloc: Global, begun: Option<Stable>, bytes: &[u8]) -> Mem<Option<Stable>>
     requires { (documents : List Saved) × AreSaved documents × (bytes.now ≡ documents_bytes documents) }
-    ensures { IfOk result (λ after. (documents : List Saved) → AreSaved documents → bytes.now ≡ documents_bytes documents
+    ensures { IfOk result (λ after.
+        (documents : List Saved) → AreSaved documents → bytes.now ≡ documents_bytes documents
         → after ≡ with_more begun documents) }
 {
     let Some(Stable { at, documents }) = begun else {
@@ -121,7 +122,8 @@ fn add_each(alloc: Global, documents: &mut DocumentMap, count: u32, bytes: &[u8]
 
 // The last whole checkpoint of the records of these bytes. What stands before it and behind it is not read.
 pub(crate) fn stable_of(alloc: Global, pieces: &[Vec<u8>]) -> Mem<Stable>
-    requires { (records : List ARecord) × All IsRecord records × (lists pieces.now ≡ map record_bytes records) }
+    requires { (records : List ARecord) × All IsRecord records
+        × (lists pieces.now ≡ map record_bytes records) }
     ensures { IfOk result (λ read. (records : List ARecord) → All IsRecord records
         → lists pieces.now ≡ map record_bytes records → read ≡ last_whole records) }
 {
@@ -131,7 +133,8 @@ pub(crate) fn stable_of(alloc: Global, pieces: &[Vec<u8>]) -> Mem<Stable>
 
 // What the records of these bytes come to.
 fn read_all(alloc: Global, pieces: &[Vec<u8>]) -> Mem<Stable>
-    requires { (records : List ARecord) × All IsRecord records × (lists pieces.now ≡ map record_bytes records) }
+    requires { (records : List ARecord) × All IsRecord records
+        × (lists pieces.now ≡ map record_bytes records) }
     ensures { IfOk result (λ read. (records : List ARecord) → All IsRecord records
         → lists pieces.now ≡ map record_bytes records → read ≡ last_whole records) }
 {

@@ -48,7 +48,8 @@ fn text_of(alloc: Global, bytes: &[u8]) -> Mem<Text>
 
 fn document_of(alloc: Global, bytes: &[u8]) -> Mem<Doc>
     requires { (document : Fields) × IsSound document × IsSpelling 262144 100 document bytes.now }
-    ensures { IfOk result (λ read. (document : Fields) → IsSound document → IsSpelling 262144 100 document bytes.now
+    ensures { IfOk result (λ read.
+        (document : Fields) → IsSound document → IsSpelling 262144 100 document bytes.now
         → read ≡ document) }
 {
     match decode(alloc, bytes, DOCUMENT) {

@@ -1,5 +1,5 @@
-// The records of a checkpoint: where it begins, its documents in pieces, and where it ends. Only the last makes it
-// count.
+// The records of a checkpoint: where it begins, its documents in pieces, and where it ends. Only the last
+// makes it count.
 ghost use Rattle.std.specs.Prelude.{All, IfOk, IsSome, OnOk, map};
 ghost use Rattle.record_file.specs.Records.{lists};
 ghost use Rattle.oplog_entry.specs.Docs.{Documents};

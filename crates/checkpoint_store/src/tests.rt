@@ -1,4 +1,5 @@
-// A copy of the documents as of an optime: memory suffices, and it says what was copied, also when that is gone.
+// A copy of the documents as of an optime: memory suffices, and it says what was copied, also when
+// that is gone.
 use crate::stable::{DocumentMap, Stable};
 use bson_doc::{Doc, IdKey, Text, Value};
 use rs_optime::OpTime;

@@ -36,8 +36,8 @@ fn put_saved(out: &mut Vec<u8>, place: &(Text, IdKey), document: &Doc) -> Mem<()
     ensures laid { OnOk result (out.new.items ≡ out.old.items ++ saved_bytes (place.now, document.now)) }
     ensures fits { OnOk result (IsSaved (place.now, document.now)) }
 {
-    place.0.is_utf8();
-    document.is_sound();
+    place.0.recall_utf8();
+    document.recall_sound();
     put_sized(out, place.0.as_str().as_bytes())?;
     let start = out.len();
     put_u32(out, 0)?;
@@ -50,7 +50,8 @@ fn put_saved(out: &mut Vec<u8>, place: &(Text, IdKey), document: &Doc) -> Mem<()
 fn put_shown(out: &mut Vec<u8>, store: &VersionStore, at: OpTime, place: &(Text, IdKey)) -> Mem<()>
     requires can { AllCanBeSaved store.now at }
     requires shown { IsSome (shown_at store.now place.now at) }
-    ensures laid { OnOk result (out.new.items ≡ out.old.items ++ saved_bytes (saved_at store.now at place.now)) }
+    ensures laid { OnOk result
+        (out.new.items ≡ out.old.items ++ saved_bytes (saved_at store.now at place.now)) }
     ensures fits { OnOk result (IsSaved (saved_at store.now at place.now)) }
 {
     let Some(document) = store.read_at(place.0.as_str(), &place.1, at) else {
@@ -67,7 +68,8 @@ fn put_each(
 ) -> Mem<()>
     requires can { AllCanBeSaved store.now at }
     requires shown { All (λ place. IsSome (shown_at store.now place at)) places.now }
-    ensures laid { OnOk result (out.new.items ≡ out.old.items ++ flat_map (λ place. saved_bytes (saved_at store.now at place)) places.now) }
+    ensures laid { OnOk result (out.new.items
+        ≡ out.old.items ++ flat_map (λ place. saved_bytes (saved_at store.now at place)) places.now) }
     ensures fits { OnOk result (All (λ place. IsSaved (saved_at store.now at place)) places.now) }
 {
     for place in places {

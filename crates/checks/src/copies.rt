@@ -1,5 +1,5 @@
-// Copies of documents, keys, entries, configurations, records and messages: memory suffices for each, and it says what
-// was copied, also when what was copied has changed or is gone.
+// Copies of documents, keys, entries, configurations, records and messages: memory suffices for each, and it
+// says what was copied, also when what was copied has changed or is gone.
 use bson_doc::{Bytes, Doc, IdKey, Items, Text, Value};
 use member_config::{Config, Member, MemberList};
 use oplog_entry::{Entry, Op};

@@ -1,5 +1,5 @@
-//! What no clause says of the crates of bytes, disks and records: memory that suffices, values from outside, and one
-//! fault in mid-stream.
+//! What no clause says of the crates of bytes, disks and records: memory that suffices, values from outside,
+//! and one fault in mid-stream.
 #![tactic(auto)]
 
 #[cfg(test)]

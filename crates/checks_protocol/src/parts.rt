@@ -1,5 +1,5 @@
-// The protocol's parts: texts of configurations, and each call once, with answers worked out by hand from the rules
-// (MongoDB manual, replica set configuration, write concern, read concern).
+// The protocol's parts: texts of configurations, and each call once, with answers worked out by hand from the
+// rules (MongoDB manual, replica set configuration, write concern, read concern).
 ghost use Rattle.std.specs.Prelude.{◌≤◌, IfOk, length};
 
 use commit_point::{Progress, learn};

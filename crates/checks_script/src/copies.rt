@@ -1,5 +1,5 @@
-// Copies of writes, commands, scripts, replies and summaries: memory suffices for each, and it says what was copied,
-// also when that is gone.
+// Copies of writes, commands, scripts, replies and summaries: memory suffices for each, and it says what was
+// copied, also when that is gone.
 use bson_doc::{Doc, Text, Value};
 use doc_text::write_document;
 use doc_update::{Prepared, WriteOp};

@@ -15,7 +15,7 @@ commit n0 w1\nheartbeat n0 n1\ndeliver n0 n1\nfetch n1\ndeliver n1 n0\ndeliver n
 
 /// Whether a document with this `_id` is among those that the set's first node lends.
 fn lends(world: &World<MemDisk>, id: i64) -> bool {
-    world.is_run();
+    world.recall_run();
     let node = world.node(0);
     node.is_up() && node.store().latest("t", &IdKey::Number(id)).is_some()
 }

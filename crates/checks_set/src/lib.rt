@@ -1,5 +1,5 @@
-//! What no clause says of whole sets: that a run succeeds with ample memory, what it puts then, and what the set that is left
-//! lends.
+//! What no clause says of whole sets: that a run succeeds with ample memory, what it puts then, and what the
+//! set that is left lends.
 #![tactic(auto)]
 
 #[cfg(test)]

@@ -6,7 +6,8 @@ use std::alloc::Global;
 use std::test::Fail;
 use std::thread::Threads;
 
-/// How a run ends, and what it put, over a source of these bytes and a sink whose calls of these numbers fail.
+/// How a run ends, and what it put, over a source of these bytes and a sink whose calls of
+/// these numbers fail.
 pub fn ran<R: Threads + Sync>(
     rt: &R,
     alloc: Global,

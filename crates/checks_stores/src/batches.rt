@@ -27,7 +27,8 @@ const MOST: usize = 5000;
 
 // A new document.
 fn insert(alloc: Global, id: i32) -> Result<Op, Fail>
-    ensures { IfOk result (λ op. (ts : ℕ) → IsLawful (record { optime = record { term = 1; ts = ts }; op = op })) }
+    ensures { IfOk result (λ op.
+        (ts : ℕ) → IsLawful (record { optime = record { term = 1; ts = ts }; op = op })) }
 {
     let mut o = Doc::new(alloc);
     o.push(Text::from_str(alloc, "_id")?, Value::Int32(id))?;
@@ -37,7 +38,8 @@ fn insert(alloc: Global, id: i32) -> Result<Op, Fail>
 
 // `n` is set in a document that is there.
 fn update(alloc: Global, id: i32, n: i32) -> Result<Op, Fail>
-    ensures { IfOk result (λ op. (ts : ℕ) → IsLawful (record { optime = record { term = 1; ts = ts }; op = op })) }
+    ensures { IfOk result (λ op.
+        (ts : ℕ) → IsLawful (record { optime = record { term = 1; ts = ts }; op = op })) }
 {
     let mut sets = Doc::new(alloc);
     sets.push(Text::from_str(alloc, "n")?, Value::Int32(n))?;
@@ -53,7 +55,8 @@ fn update(alloc: Global, id: i32, n: i32) -> Result<Op, Fail>
 
 // A new document with its `n`.
 fn insert_with(alloc: Global, id: i32, n: i32) -> Result<Op, Fail>
-    ensures { IfOk result (λ op. (ts : ℕ) → IsLawful (record { optime = record { term = 1; ts = ts }; op = op })) }
+    ensures { IfOk result (λ op.
+        (ts : ℕ) → IsLawful (record { optime = record { term = 1; ts = ts }; op = op })) }
 {
     let mut o = Doc::new(alloc);
     o.push(Text::from_str(alloc, "_id")?, Value::Int32(id))?;
@@ -64,7 +67,8 @@ fn insert_with(alloc: Global, id: i32, n: i32) -> Result<Op, Fail>
 
 // The document is gone.
 fn delete(alloc: Global, id: i32) -> Result<Op, Fail>
-    ensures { IfOk result (λ op. (ts : ℕ) → IsLawful (record { optime = record { term = 1; ts = ts }; op = op })) }
+    ensures { IfOk result (λ op.
+        (ts : ℕ) → IsLawful (record { optime = record { term = 1; ts = ts }; op = op })) }
 {
     let ns = Text::from_str(alloc, "t")?;
     Ok(Op::Delete {
@@ -82,7 +86,8 @@ enum Change {
 }
 
 fn op_of(alloc: Global, change: Change) -> Result<Op, Fail>
-    ensures { IfOk result (λ op. (ts : ℕ) → IsLawful (record { optime = record { term = 1; ts = ts }; op = op })) }
+    ensures { IfOk result (λ op.
+        (ts : ℕ) → IsLawful (record { optime = record { term = 1; ts = ts }; op = op })) }
 {
     match change {
         Change::Insert(id) => insert(alloc, id),
@@ -95,7 +100,9 @@ fn op_of(alloc: Global, change: Change) -> Result<Op, Fail>
 // The changes at rising optimes.
 fn batch(alloc: Global, changes: &[Change]) -> Result<Vec<Entry>, Fail>
     ensures len { IfOk result (λ entries. length entries.items ≡ length changes.now) }
-    ensures each { IfOk result (λ entries. (k : ℕ) (d : Seen) → k < length entries.items → IsLawful (slice_index_or entries.items k d) × ((slice_index_or entries.items k d).optime ≡ record { term = 1; ts = k + 1 })) }
+    ensures each { IfOk result (λ entries. (k : ℕ) (d : Seen) → k < length entries.items
+        → IsLawful (slice_index_or entries.items k d)
+        × ((slice_index_or entries.items k d).optime ≡ record { term = 1; ts = k + 1 })) }
 {
     let mut entries = Vec::new(alloc);
     for place in 0..changes.len() {
@@ -127,7 +134,8 @@ fn applied<R: Threads + Sync, G: Gate + Sync>(
     Ok(store)
 }
 
-// What a read at an optime shows of a document's `n`: none where there is no document, and 0 where it has none.
+// What a read at an optime shows of a document's `n`: none where there is no document, and 0 where
+// it has none.
 fn n_at(store: &VersionStore, id: i64, ts: u64) -> Option<i32> {
     let document = store.read_at("t", &IdKey::Number(id), OpTime { term: 1, ts })?;
     match document.get("n") {

@@ -1,5 +1,5 @@
-//! What no clause says of the crates of documents' versions, slots, batches and turns: memory that suffices, values from
-//! outside, and threads that really run.
+//! What no clause says of the crates of documents' versions, slots, batches and turns: memory that suffices,
+//! values from outside, and threads that really run.
 #![tactic(auto)]
 
 #[cfg(test)]

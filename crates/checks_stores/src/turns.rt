@@ -93,12 +93,16 @@ fn two_callers<R: Threads + Wait + Sync>(rt: &R, alloc: Global) -> Option<(bool,
     let ((one, mut pass), (two, other)) = join(
         rt,
         || -> (bool, Pass<Marks>)
-            requires { IsPassOf (λ m. m.marks.items) (λ m. []) board pass × IsFree pass × (0 < point_count board) }
-            ensures { IsPassOf (λ m. m.marks.items) (λ m. []) board result.1 × IsFree result.1 × ((view result.1).parts ≡ (view pass).parts) }
+            requires { IsPassOf (λ m. m.marks.items) (λ m. []) board pass × IsFree pass
+                × (0 < point_count board) }
+            ensures { IsPassOf (λ m. m.marks.items) (λ m. []) board result.1 × IsFree result.1
+                × ((view result.1).parts ≡ (view pass).parts) }
         { meet(rt, &board, pass, 1, 2) },
         || -> (bool, Pass<Marks>)
-            requires { IsPassOf (λ m. m.marks.items) (λ m. []) board other × IsFree other × (0 < point_count board) }
-            ensures { IsPassOf (λ m. m.marks.items) (λ m. []) board result.1 × IsFree result.1 × ((view result.1).parts ≡ (view other).parts) }
+            requires { IsPassOf (λ m. m.marks.items) (λ m. []) board other × IsFree other
+                × (0 < point_count board) }
+            ensures { IsPassOf (λ m. m.marks.items) (λ m. []) board result.1 × IsFree result.1
+                × ((view result.1).parts ≡ (view other).parts) }
         { meet(rt, &board, other, 2, 1) },
     );
     board.join(&mut pass, other);

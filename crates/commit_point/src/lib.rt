@@ -1,5 +1,5 @@
-//! What members report of themselves, and the commit point that follows (MongoDB's replication architecture guide;
-//! RaftMongo).
+//! What members report of themselves, and the commit point that follows (MongoDB's replication
+//! architecture guide; RaftMongo).
 #![tactic(auto)]
 
 mod point;

@@ -10,8 +10,8 @@ use oplog_entry::{Entry, Op, with_changes};
 use std::alloc::Global;
 use std::collections::BTreeMap;
 
-/// What an op leaves of the document that it touches, where `before` is what stood there. None where the document is
-/// gone, or where there was none to change fields of. A no-op leaves what stood there.
+/// What an op leaves of the document that it touches, where `before` is what stood there. None where the
+/// document is gone, or where there was none to change fields of. A no-op leaves what stood there.
 pub fn document_after(alloc: Global, op: &Op, before: Option<&Doc>) -> Mem<Option<Doc>>
     ensures after { IfOk result (λ after. after ≡ document_after op.now (option_copied before.entry)) }
 
@@ -31,10 +31,12 @@ pub fn document_after(alloc: Global, op: &Op, before: Option<&Doc>) -> Mem<Optio
 /// Applies one entry. Out of memory leaves the documents as they were.
 pub fn apply_entry(alloc: Global, docs: &mut BTreeMap<(Text, IdKey), Doc>, entry: &Entry) -> Mem<()>
     requires { IsLawful entry.now }
-    ensures ok { OnOk result (documents_of docs.new.entries ≡ applied (documents_of docs.old.entries) entry.now) }
+    ensures ok { OnOk result
+        (documents_of docs.new.entries ≡ applied (documents_of docs.old.entries) entry.now) }
 
     // Done twice, it is done once.
-    ensures twice { OnOk result (applied (documents_of docs.new.entries) entry.now ≡ documents_of docs.new.entries) }
+    ensures twice { OnOk result
+        (applied (documents_of docs.new.entries) entry.now ≡ documents_of docs.new.entries) }
     ensures err { OnErr result (docs.new.entries ≡ docs.old.entries) }
 {
     let Some(place) = entry.key()? else {

@@ -20,7 +20,7 @@ use Rattle.doc_text.specs.Fault.{fails}
 use Rattle.doc_text.specs.Marks.{mark_at, spaced_at, closing_at, word_at, opened_at}
 use Rattle.doc_text.specs.Integers.{fits, ranged, digits_at, integer_at, natural_at, long_at, kind_at, number_at}
 use Rattle.doc_text.specs.HexText.{bytes_of, closed_at, hex_fault, binary_hex_at, id_hex_at}
-use Rattle.doc_text.specs.Spelling.{IsSpaces, IsSpaced, IsClosing, SpellsInteger, SpellsNatural, Spells, GoesNoFurther}
+use Rattle.doc_text.specs.Spelling.{IsSpaces, IsSpaced, IsClosing, SpellsInteger, SpellsNatural, Spells, EndsThere}
 use Rattle.doc_text.proofs.Numerals.{run_of_digits}
 use Rattle.std.proofs.Common.{nat_le}
 use Rattle.std.specs.List.{AllPass}
@@ -163,7 +163,7 @@ long_gets text =
 
 -- what is read of a text stands at its front as far as it goes
 abbrev pub StandsAs : ℕ → List ℕ → Tree × List ℕ → Type 0
-StandsAs most input x = (s : List ℕ) × Spells x.0 s × (input ≡ s ++ x.1) × GoesNoFurther x.0 x.1 × (value_levels x.0 ≤ most)
+StandsAs most input x = (s : List ℕ) × Spells x.0 s × (input ≡ s ++ x.1) × EndsThere x.0 x.1 × (value_levels x.0 ≤ most)
 
 kind_gets : (most : ℕ) (input numeral rest : List ℕ) → IntegerRead input (numeral, rest) → Gets (kind_at input numeral rest) (StandsAs most input)
 kind_gets most input numeral [] got =

@@ -8,7 +8,7 @@ use Rattle.doc_text.specs.Integers.{fits, natural_at, long_at}
 use Rattle.doc_text.specs.Strings.{letters_at}
 use Rattle.doc_text.specs.HexText.{binary_hex_at, id_hex_at}
 use Rattle.doc_text.specs.Scalars.{string_at, date_at, first_at, binary_at, id_at, time_at, constant_at, scalar_at}
-use Rattle.doc_text.specs.Spelling.{IsSpaced, IsClosing, SpellsString, SpellsInteger, SpellsNatural, Spells, GoesNoFurther}
+use Rattle.doc_text.specs.Spelling.{IsSpaced, IsClosing, SpellsString, SpellsInteger, SpellsNatural, Spells, EndsThere}
 use Rattle.doc_text.proofs.ReadIsSpelled.{Behind, Opening, StandsAs, HexRead, opened_gets, mark_gets, spaced_gets, closing_gets, word_gets, natural_gets, long_gets, number_gets, binary_hex_gets, id_hex_gets}
 use Rattle.doc_text.proofs.ReadStrings.{LettersRead, letters_gets}
 use Rattle.bson_doc.proofs.BindLemmas.{Gets, bind_gets, cond_gets}
@@ -21,7 +21,7 @@ string_gets most input =
     let spelled : SpellsString false string.0 (34 ∷ got.1) = record { letters = got.0; behind = got.1; spelled = got.2; whole = refl } in
     (34 ∷ got.1, spelled, opened ∙ ap (λ (x : List ℕ). 34 ∷ x) got.3, tt, omega arith)))
 
-constant_gets : (most : ℕ) (word : List ℕ) (value : Tree) (input : List ℕ) → Spells value word → ((rest : List ℕ) → GoesNoFurther value rest) → value_levels value ≤ most → Gets (constant_at word value input) (StandsAs most input)
+constant_gets : (most : ℕ) (word : List ℕ) (value : Tree) (input : List ℕ) → Spells value word → ((rest : List ℕ) → EndsThere value rest) → value_levels value ≤ most → Gets (constant_at word value input) (StandsAs most input)
 unfolding constant_at
 constant_gets most word value input spelled whole shallow =
     bind_gets (word_at word input) _ (λ rest. input ≡ word ++ rest) (StandsAs most input) (word_gets word input) (λ rest got. (word, spelled, got, whole rest, shallow))

@@ -8,7 +8,7 @@ use Rattle.doc_text.specs.declared.fault.Rule.TheVariants.{Unexpected, Number, E
 use Rattle.doc_text.specs.Fault.{Read, error_of}
 use Rattle.doc_text.specs.Values.{value_at, in_text}
 use Rattle.doc_text.specs.Spelling.{Stands}
-use Rattle.doc_text.specs.Refusal.{GoesNowhere, RulesOut}
+use Rattle.doc_text.specs.Refusal.{BeginsNoValue, RulesOut}
 use Rattle.doc_text.proofs.Locality.{IsLocal, read, Alike, Local, front_alike}
 use Rattle.doc_text.proofs.LocalValues.{value_local}
 use Rattle.doc_text.proofs.SpelledIsRead.{stands_answer}
@@ -36,7 +36,7 @@ as_long n xs ys same long = omega (arith, ap length same, length-take n xs, leng
 no_value : (bytes : List ℕ) (at : ℕ) (tree : Tree) (end : ℕ) (fault : Fault) → at ≤ length bytes → Stands bytes at tree end → value_at 100 (drop at bytes) ≡ Err fault → ⊥
 no_value bytes at tree end fault within stands refused = cc (stands_answer bytes at tree end within stands, ap (in_text (length bytes)) refused)
 
-goes_nowhere : (bytes : List ℕ) (at : ℕ) (fault : Fault) → at ≤ length bytes → value_at 100 (drop at bytes) ≡ Err fault → IsLocal fault.rule → GoesNowhere bytes at (length bytes - fault.left)
+goes_nowhere : (bytes : List ℕ) (at : ℕ) (fault : Fault) → at ≤ length bytes → value_at 100 (drop at bytes) ≡ Err fault → IsLocal fault.rule → BeginsNoValue bytes at (length bytes - fault.left)
 goes_nowhere bytes at fault within refused local = λ other tree end inside same stands.
     let n = length bytes - fault.left + 1 - at in
     let small : fault.left ≤ length (drop at bytes) = (rw refused at ((value_local 100).within (drop at bytes))) local in
@@ -47,7 +47,7 @@ goes_nowhere bytes at fault within refused local = λ other tree end inside same
     let reached = as_long (length bytes - fault.left + 1) other bytes same (omega arith) in
     no_value other at tree end too.0 (omega arith) stands too.1
 
-by_rule : (bytes : List ℕ) (at place : ℕ) (rule : Rule) → (IsLocal rule → GoesNowhere bytes at place) → RulesOut bytes at (error_of rule place)
+by_rule : (bytes : List ℕ) (at place : ℕ) (rule : Rule) → (IsLocal rule → BeginsNoValue bytes at place) → RulesOut bytes at (error_of rule place)
 by_rule bytes at place Unexpected nowhere = nowhere tt
 by_rule bytes at place Number nowhere = tt
 by_rule bytes at place Escape nowhere = nowhere tt

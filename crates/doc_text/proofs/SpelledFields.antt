@@ -10,14 +10,14 @@ use Rattle.doc_text.specs.Marks.{begins_with}
 use Rattle.doc_text.specs.Names.{name_at}
 use Rattle.doc_text.specs.Scalars.{scalar_at}
 use Rattle.doc_text.specs.Values.{key_at, field_at, value_at}
-use Rattle.doc_text.specs.Spelling.{SpellsField, Spells, GoesNoFurther}
+use Rattle.doc_text.specs.Spelling.{SpellsField, Spells, EndsThere}
 use Rattle.doc_text.proofs.SpelledMarks.{NoSpace, no_space, spaced_over, spaced_stops, goes_on, goes_no_further}
 use Rattle.doc_text.proofs.SpelledScalars.{constant_read}
 use Rattle.doc_text.proofs.SpelledStrings.{name_over}
 
 -- what spells a value is read as that value
 abbrev pub Reads : ℕ → Tree → Type 0
-Reads most value = (s rest : List ℕ) → Spells value s → GoesNoFurther value rest → value_at most (s ++ rest) ≡ Ok (value, rest)
+Reads most value = (s rest : List ℕ) → Spells value s → EndsThere value rest → value_at most (s ++ rest) ≡ Ok (value, rest)
 
 -- ---- the first byte of what is read
 

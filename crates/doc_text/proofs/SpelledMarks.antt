@@ -8,7 +8,7 @@ use Rattle.bson_doc.specs.Tree.{Tree, null, int32, int64, text, document, array,
 use Rattle.doc_text.specs.Bytes.{is_space}
 use Rattle.doc_text.specs.Class.{behind_spaces}
 use Rattle.doc_text.specs.Marks.{mark_at, spaced_at, closing_at, word_at, opened_at}
-use Rattle.doc_text.specs.Spelling.{IsSpaces, IsSpaced, IsClosing, continues_number, GoesNoFurther}
+use Rattle.doc_text.specs.Spelling.{IsSpaces, IsSpaced, IsClosing, continues_number, EndsThere}
 
 -- a run of a class ends where the class does
 pub run_over : (p : ℕ → Bool) (run rest : List ℕ) → AllByRecursion (λ c. p c ≡ true) run → prefix_len p rest ≡ 0 → prefix_len p (run ++ rest) ≡ length run
@@ -100,7 +100,7 @@ number_stops : (rest : List ℕ) → prefix_len goes_on rest ≡ 0 → continues
 number_stops [] none = refl
 number_stops (c ∷ rest) none = first_stops (goes_on c) (prefix_len goes_on rest) none
 
-pub goes_no_further : (value : Tree) (rest : List ℕ) → prefix_len goes_on rest ≡ 0 → GoesNoFurther value rest
+pub goes_no_further : (value : Tree) (rest : List ℕ) → prefix_len goes_on rest ≡ 0 → EndsThere value rest
 goes_no_further null rest none = tt
 goes_no_further (int32 number) rest none = number_stops rest none
 goes_no_further (int64 number) rest none = tt

@@ -19,12 +19,15 @@ hex_fault (c ∷ rest) = fault_at Hex (c ∷ rest)
 -- Behind the digits, of which there is a right number or not, stands the closing quotation mark.
 abbrev pub closed_at : Bool → List ℕ → List ℕ → Read (List ℕ)
 closed_at right digits [] = Err (hex_fault [])
-closed_at right digits (c ∷ rest) = if c == 34 && right then Ok (bytes_of digits, rest) else Err (hex_fault (c ∷ rest))
+closed_at right digits (c ∷ rest) =
+    if c == 34 && right then Ok (bytes_of digits, rest) else Err (hex_fault (c ∷ rest))
 
 -- an even number of digits
 unfoldable pub binary_hex_at : List ℕ → Read (List ℕ)
-binary_hex_at text = let len = prefix_len is_hex_digit text in closed_at (len % 2 == 0) (take len text) (drop len text)
+binary_hex_at text =
+    let len = prefix_len is_hex_digit text in closed_at (len % 2 == 0) (take len text) (drop len text)
 
 -- 24 digits
 unfoldable pub id_hex_at : List ℕ → Read (List ℕ)
-id_hex_at text = let len = min (prefix_len is_hex_digit text) 24 in closed_at (len == 24) (take len text) (drop len text)
+id_hex_at text =
+    let len = min (prefix_len is_hex_digit text) 24 in closed_at (len == 24) (take len text) (drop len text)

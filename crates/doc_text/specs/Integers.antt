@@ -15,7 +15,9 @@ fits limit (negsuc n) = nat_lt n limit
 
 -- one or more digits
 unfoldable pub digits_at : List ℕ → Read (List ℕ)
-digits_at text = let len = prefix_len is_ascii_digit text in if len == 0 then fails Unexpected text else Ok (take len text, drop len text)
+digits_at text =
+    let len = prefix_len is_ascii_digit text in
+    if len == 0 then fails Unexpected text else Ok (take len text, drop len text)
 
 -- digits with an optional `-`
 unfoldable pub integer_at : List ℕ → Read (List ℕ)
@@ -28,11 +30,14 @@ integer_at (c ∷ rest) = if c == 45 then (do
 unfoldable pub natural_at : ℕ → List ℕ → Read ℕ
 natural_at most text = do
   digits ← digits_at text
-  if nat_le (digits_value 10 digits.0) most then Ok (digits_value 10 digits.0, digits.1) else fails Number text
+  if nat_le (digits_value 10 digits.0) most then Ok (digits_value 10 digits.0, digits.1)
+      else fails Number text
 
 -- the number that a numeral writes, where it is in range; the fault is at the numeral's first byte
 abbrev pub ranged : ℕ → List ℕ → List ℕ → List ℕ → Read ℤ
-ranged limit text numeral rest = if fits limit (signed_digits_value 10 numeral) then Ok (signed_digits_value 10 numeral, rest) else fails Number text
+ranged limit text numeral rest =
+    if fits limit (signed_digits_value 10 numeral) then Ok (signed_digits_value 10 numeral, rest)
+    else fails Number text
 
 -- a number in the range of an int64
 unfoldable pub long_at : List ℕ → Read ℤ

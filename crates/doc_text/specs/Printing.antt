@@ -43,19 +43,23 @@ unfoldable mutual
   printed (int64 number) = signed_decimal number ++ codes "L"
   printed (text bytes) = quoted bytes
   printed (date milliseconds) = codes "Date(" ++ signed_decimal milliseconds ++ codes ")"
-  printed (binary subtype bytes) = codes "Bin(" ++ decimal subtype ++ codes ", \"" ++ encode_lower bytes ++ codes "\")"
+  printed (binary subtype bytes) =
+      codes "Bin(" ++ decimal subtype ++ codes ", \"" ++ encode_lower bytes ++ codes "\")"
   printed (object_id bytes) = codes "Id(\"" ++ encode_lower bytes ++ codes "\")"
-  printed (timestamp ts) = codes "Time(" ++ decimal (ts / 2 ^ 32) ++ codes ", " ++ decimal (ts % 2 ^ 32) ++ codes ")"
+  printed (timestamp ts) =
+      codes "Time(" ++ decimal (ts / 2 ^ 32) ++ codes ", " ++ decimal (ts % 2 ^ 32) ++ codes ")"
   printed (document fields) = codes "{" ++ printed_fields fields ++ codes "}"
   printed (array items) = codes "[" ++ printed_items items ++ codes "]"
 
   pub printed_fields : Fields → List ℕ
   printed_fields no_fields = []
-  printed_fields (field name value others) = printed_name name ++ codes ": " ++ printed value ++ later_fields others
+  printed_fields (field name value others) =
+      printed_name name ++ codes ": " ++ printed value ++ later_fields others
 
   pub later_fields : Fields → List ℕ
   later_fields no_fields = []
-  later_fields (field name value others) = codes ", " ++ printed_name name ++ codes ": " ++ printed value ++ later_fields others
+  later_fields (field name value others) =
+      codes ", " ++ printed_name name ++ codes ": " ++ printed value ++ later_fields others
 
   pub printed_items : Trees → List ℕ
   printed_items no_items = []

@@ -60,14 +60,16 @@ pub record IsCode (in_name : Bool) (a b c d code : ℕ) : Type 0 where
 -- what a written character stands for
 abbrev pub Means : Bool → Letter → List ℕ → Type 0
 Means in_name (itself byte) bytes = (is_plain byte ≡ true) × (bytes ≡ byte ∷ [])
-Means in_name (named letter) bytes = (character : ℕ) × (named_character letter ≡ Some character) × (bytes ≡ encode_utf8 character)
+Means in_name (named letter) bytes =
+    (character : ℕ) × (named_character letter ≡ Some character) × (bytes ≡ encode_utf8 character)
 Means in_name (coded a b c d) bytes = (code : ℕ) × IsCode in_name a b c d code × (bytes ≡ encode_utf8 code)
 
 -- one written character after the other, up to the closing quotation mark
 abbrev pub SpellsLetters : Bool → List Letter → List ℕ → List ℕ → Type 0
 SpellsLetters in_name [] bytes s = (bytes ≡ []) × (s ≡ 34 ∷ [])
 SpellsLetters in_name (letter ∷ letters) bytes s =
-    (one others behind : List ℕ) × Means in_name letter one × SpellsLetters in_name letters others behind × (bytes ≡ one ++ others) × (s ≡ written letter ++ behind)
+    (one others behind : List ℕ) × Means in_name letter one × SpellsLetters in_name letters others behind
+    × (bytes ≡ one ++ others) × (s ≡ written letter ++ behind)
 
 -- a string between quotation marks
 pub record SpellsString (in_name : Bool) (bytes s : List ℕ) : Type 0 where
@@ -85,7 +87,8 @@ SpellsName name s = ((is_bare name ≡ true) × (s ≡ name)) ⊎ SpellsString t
 -- digits with an optional minus sign
 abbrev pub SpellsInteger : ℤ → List ℕ → Type 0
 SpellsInteger z s =
-    (digits : List ℕ) × IsNumeral 10 digits × (((s ≡ digits) × (z ≡ pos (digits_value 10 digits))) ⊎ ((s ≡ 45 ∷ digits) × (z ≡ neg_ℤ (pos (digits_value 10 digits)))))
+    (digits : List ℕ) × IsNumeral 10 digits × (((s ≡ digits) × (z ≡ pos (digits_value 10 digits)))
+    ⊎ ((s ≡ 45 ∷ digits) × (z ≡ neg_ℤ (pos (digits_value 10 digits)))))
 
 -- a number that is at most `most`
 abbrev pub SpellsNatural : ℕ → ℕ → List ℕ → Type 0
@@ -100,7 +103,8 @@ SpellsHex bytes s = (digits : List ℕ) × (decode_of digits ≡ Ok bytes) × (s
 -- `name: value`, with what spells the value
 abbrev pub SpellsField : List ℕ → (List ℕ → Type 0) → List ℕ → Type 0
 SpellsField name SpellsValue s =
-    (front colon back : List ℕ) × SpellsName name front × IsSpaced 58 colon × SpellsValue back × (s ≡ front ++ (colon ++ back))
+    (front colon back : List ℕ) × SpellsName name front × IsSpaced 58 colon × SpellsValue back
+    × (s ≡ front ++ (colon ++ back))
 
 abbrev mutual
   pub Spells : Tree → List ℕ → Type 0
@@ -108,48 +112,61 @@ abbrev mutual
   Spells (boolean true) s = s ≡ codes "true"
   Spells (boolean false) s = s ≡ codes "false"
   Spells (int32 number) s = SpellsInteger number s × (fits (2 ^ 31) number ≡ true)
-  Spells (int64 number) s = (numeral : List ℕ) × SpellsInteger number numeral × (fits (2 ^ 63) number ≡ true) × (s ≡ numeral ++ codes "L")
+  Spells (int64 number) s = (numeral : List ℕ) × SpellsInteger number numeral × (fits (2 ^ 63) number ≡ true)
+      × (s ≡ numeral ++ codes "L")
   Spells (text bytes) s = SpellsString false bytes s
   Spells (date milliseconds) s =
-      (opening numeral closing : List ℕ) × IsSpaced 40 opening × SpellsInteger milliseconds numeral × (fits (2 ^ 63) milliseconds ≡ true) × IsClosing 41 closing
+      (opening numeral closing : List ℕ) × IsSpaced 40 opening × SpellsInteger milliseconds numeral
+      × (fits (2 ^ 63) milliseconds ≡ true) × IsClosing 41 closing
       × (s ≡ codes "Date" ++ (opening ++ (numeral ++ closing)))
   Spells (binary subtype bytes) s =
-      (opening numeral comma digits closing : List ℕ) × IsSpaced 40 opening × SpellsNatural 255 subtype numeral × IsSpaced 44 comma × SpellsHex bytes digits × IsClosing 41 closing
+      (opening numeral comma digits closing : List ℕ) × IsSpaced 40 opening
+      × SpellsNatural 255 subtype numeral × IsSpaced 44 comma × SpellsHex bytes digits × IsClosing 41 closing
       × (s ≡ codes "Bin" ++ (opening ++ (numeral ++ (comma ++ (digits ++ closing)))))
   Spells (object_id bytes) s =
-      (opening digits closing : List ℕ) × IsSpaced 40 opening × SpellsHex bytes digits × (length bytes ≡ 12) × IsClosing 41 closing
+      (opening digits closing : List ℕ) × IsSpaced 40 opening × SpellsHex bytes digits × (length bytes ≡ 12)
+      × IsClosing 41 closing
       × (s ≡ codes "Id" ++ (opening ++ (digits ++ closing)))
   Spells (timestamp ts) s =
-      (seconds increment : ℕ) × (opening first comma second closing : List ℕ) × IsSpaced 40 opening × SpellsNatural 4294967295 seconds first × IsSpaced 44 comma × SpellsNatural 4294967295 increment second × IsClosing 41 closing
-      × (ts ≡ seconds * 2 ^ 32 + increment) × (s ≡ codes "Time" ++ (opening ++ (first ++ (comma ++ (second ++ closing)))))
-  Spells (document fields) s = IsDocument fields × (inside : List ℕ) × SpellsFields fields inside × (s ≡ 123 ∷ inside)
+      (seconds increment : ℕ) × (opening first comma second closing : List ℕ) × IsSpaced 40 opening
+      × SpellsNatural 4294967295 seconds first × IsSpaced 44 comma × SpellsNatural 4294967295 increment second
+      × IsClosing 41 closing
+      × (ts ≡ seconds * 2 ^ 32 + increment)
+      × (s ≡ codes "Time" ++ (opening ++ (first ++ (comma ++ (second ++ closing)))))
+  Spells (document fields) s =
+      IsDocument fields × (inside : List ℕ) × SpellsFields fields inside × (s ≡ 123 ∷ inside)
   Spells (array items) s = (inside : List ℕ) × SpellsItems items inside × (s ≡ 91 ∷ inside)
 
   -- the fields of a document, and the closing brace
   pub SpellsFields : Fields → List ℕ → Type 0
   SpellsFields no_fields s = IsClosing 125 s
   SpellsFields (field name value others) s =
-      (spaces one later : List ℕ) × IsSpaces spaces × SpellsField name (Spells value) one × SpellsLaterFields others later × (s ≡ spaces ++ (one ++ later))
+      (spaces one later : List ℕ) × IsSpaces spaces × SpellsField name (Spells value) one
+      × SpellsLaterFields others later × (s ≡ spaces ++ (one ++ later))
 
   -- the items of an array, and the closing bracket
   pub SpellsItems : Trees → List ℕ → Type 0
   SpellsItems no_items s = IsClosing 93 s
   SpellsItems (item value others) s =
-      (spaces one later : List ℕ) × IsSpaces spaces × Spells value one × SpellsLaterItems others later × (s ≡ spaces ++ (one ++ later))
+      (spaces one later : List ℕ) × IsSpaces spaces × Spells value one × SpellsLaterItems others later
+      × (s ≡ spaces ++ (one ++ later))
 
   -- the fields behind a first one, each behind a comma, and the closing brace
   pub SpellsLaterFields : Fields → List ℕ → Type 0
   SpellsLaterFields no_fields s = IsClosing 125 s
   SpellsLaterFields (field name value others) s =
-      (comma one later : List ℕ) × IsSpaced 44 comma × SpellsField name (Spells value) one × SpellsLaterFields others later × (s ≡ comma ++ (one ++ later))
+      (comma one later : List ℕ) × IsSpaced 44 comma × SpellsField name (Spells value) one
+      × SpellsLaterFields others later × (s ≡ comma ++ (one ++ later))
 
   -- the items behind a first one, each behind a comma, and the closing bracket
   pub SpellsLaterItems : Trees → List ℕ → Type 0
   SpellsLaterItems no_items s = IsClosing 93 s
   SpellsLaterItems (item value others) s =
-      (comma one later : List ℕ) × IsSpaced 44 comma × Spells value one × SpellsLaterItems others later × (s ≡ comma ++ (one ++ later))
+      (comma one later : List ℕ) × IsSpaced 44 comma × Spells value one × SpellsLaterItems others later
+      × (s ≡ comma ++ (one ++ later))
 
--- what a value is: numbers in their kinds' ranges, bytes, and documents with names apart and without a zero byte
+-- what a value is: numbers in their kinds' ranges, bytes, and documents with names apart and without
+-- a zero byte
 abbrev mutual
   pub IsLawful : Tree → Type 0
   IsLawful (int32 number) = fits (2 ^ 31) number ≡ true
@@ -176,16 +193,17 @@ continues_number [] = false
 continues_number (c ∷ rest) = is_ascii_digit c || c == 76
 
 -- A number is read as far as it goes. No other value's text begins another's.
-abbrev pub GoesNoFurther : Tree → List ℕ → Type 0
-GoesNoFurther (int32 number) rest = continues_number rest ≡ false
-GoesNoFurther _ rest = Unit {0}
+abbrev pub EndsThere : Tree → List ℕ → Type 0
+EndsThere (int32 number) rest = continues_number rest ≡ false
+EndsThere _ rest = Unit {0}
 
--- a spelling of a value of at most 100 levels stands at a place of a text as far as it goes, up to another place
+-- a spelling of a value of at most 100 levels stands at a place of a text as far as it goes, up
+-- to another place
 pub record Stands (bytes : List ℕ) (at : ℕ) (tree : Tree) (end : ℕ) : Type 0 where
   pub spelling : List ℕ
   pub rest : List ℕ
   pub spelled : Spells tree spelling
   pub shallow : value_levels tree ≤ 100
   pub parts : drop at bytes ≡ spelling ++ rest
-  pub whole : GoesNoFurther tree rest
+  pub whole : EndsThere tree rest
   pub place : end ≡ at + length spelling

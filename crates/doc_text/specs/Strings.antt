@@ -24,7 +24,9 @@ unicode_at in_name text = do
   if first.0 == 13 && nat_le 8 second.0 then fails Escape first.1 else (do
     third ← hex_digit_at second.1
     fourth ← hex_digit_at third.1
-    if in_name && (((first.0 * 16 + second.0) * 16 + third.0) * 16 + fourth.0 == 0) then fails NameZero third.1 else Ok (((first.0 * 16 + second.0) * 16 + third.0) * 16 + fourth.0, fourth.1))
+    if in_name && (((first.0 * 16 + second.0) * 16 + third.0) * 16 + fourth.0 == 0)
+        then fails NameZero third.1
+        else Ok (((first.0 * 16 + second.0) * 16 + third.0) * 16 + fourth.0, fourth.1))
 
 -- the character that a letter behind a backslash names
 abbrev pub named_character : ℕ → Option ℕ

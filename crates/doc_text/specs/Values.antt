@@ -69,8 +69,10 @@ unfoldable pub value_at : ℕ → List ℕ → Read Tree
 value_at zero text =
     if begins_with 123 text || begins_with 91 text then fails TooDeep text else scalar_at text
 value_at (suc levels) text =
-    if begins_with 123 text then (document_at (value_at levels) text >>= λ fields. Ok (document fields.0, fields.1))
-    else if begins_with 91 text then (array_at (value_at levels) text >>= λ items. Ok (array items.0, items.1))
+    if begins_with 123 text then (document_at (value_at levels) text >>= λ fields.
+    Ok (document fields.0, fields.1))
+    else if begins_with 91 text then (array_at (value_at levels) text >>= λ items.
+    Ok (array items.0, items.1))
     else scalar_at text
 
 -- the value with the place behind it, or the error with its place, in a text of so many bytes

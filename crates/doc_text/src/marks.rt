@@ -19,7 +19,8 @@ pub fn skip(text: &str) -> &str
 /// The text behind an ASCII byte, where it begins with that byte.
 pub fn behind(text: &str, byte: u8) -> Option<&str>
     requires { byte < 128 }
-    ensures { MatchOption result ((rest : List ℕ) → text.now ≢ byte ∷ rest) (λ rest. text.now ≡ byte ∷ rest.now) }
+    ensures { MatchOption result ((rest : List ℕ) → text.now ≢ byte ∷ rest)
+        (λ rest. text.now ≡ byte ∷ rest.now) }
 {
     match text.as_bytes() {
         [first, ..] if *first == byte => Some(skip(text)),
@@ -50,7 +51,8 @@ pub fn spaces(text: &str) -> &str
 #[tactic(auto, using(crate::proofs::Members::not_begun))]
 pub fn end(text: &str, byte: u8) -> Option<&str>
     requires { byte < 128 }
-    ensures gives { MatchOption result (begins_with byte (behind_spaces text.now) ≡ false) (λ rest. behind_spaces text.now ≡ byte ∷ rest.now) }
+    ensures gives { MatchOption result (begins_with byte (behind_spaces text.now) ≡ false)
+        (λ rest. behind_spaces text.now ≡ byte ∷ rest.now) }
     ensures shorter { IfSome result (λ rest. length rest.now < length text.now) }
 {
     behind(spaces(text), byte)

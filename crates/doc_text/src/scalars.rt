@@ -80,7 +80,8 @@ fn time(text: &str) -> Read<'_, Value>
 
 #[tactic(auto, unfolding(crate::specs::Scalars::constant_at))]
 fn null(text: &str) -> Read<'_, Value>
-    ensures gives { Gives (λ x. (tree_of x.0, x.1.now)) result (constant_at (codes "null") tree.null text.now) }
+    ensures gives { Gives (λ x. (tree_of x.0, x.1.now)) result
+        (constant_at (codes "null") tree.null text.now) }
     ensures shorter { IfOk result (λ x. length x.1.now < length text.now) }
 {
     let rest = word(text, b"null")?;
@@ -91,7 +92,8 @@ fn null(text: &str) -> Read<'_, Value>
 fn boolean<'a>(text: &'a str, letters: &[u8], truth: bool) -> Read<'a, Value>
     requires some { 0 < length letters.now }
     requires ascii { IsAscii letters.now }
-    ensures gives { Gives (λ x. (tree_of x.0, x.1.now)) result (constant_at letters.now (tree.boolean truth) text.now) }
+    ensures gives { Gives (λ x. (tree_of x.0, x.1.now)) result
+        (constant_at letters.now (tree.boolean truth) text.now) }
     ensures shorter { IfOk result (λ x. length x.1.now < length text.now) }
 {
     let rest = word(text, letters)?;

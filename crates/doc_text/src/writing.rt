@@ -90,7 +90,8 @@ fn write_int64(number: i64, out: &mut String) -> Mem<()>
 
 #[tactic(auto, unfolding(crate::specs::Printing::printed))]
 fn write_date(milliseconds: i64, out: &mut String) -> Mem<()>
-    ensures written { OnOk result (string_bytes out.new ≡ string_bytes out.old ++ printed (date milliseconds)) }
+    ensures written { OnOk result
+        (string_bytes out.new ≡ string_bytes out.old ++ printed (date milliseconds)) }
     ensures lawful { IsLawful (date milliseconds) }
 {
     write!(out, "Date({milliseconds})")
@@ -98,7 +99,8 @@ fn write_date(milliseconds: i64, out: &mut String) -> Mem<()>
 
 #[tactic(auto, unfolding(crate::specs::Printing::printed))]
 fn write_binary(subtype: u8, bytes: &[u8], out: &mut String) -> Mem<()>
-    ensures written { OnOk result (string_bytes out.new ≡ string_bytes out.old ++ printed (binary subtype bytes.now)) }
+    ensures written { OnOk result
+        (string_bytes out.new ≡ string_bytes out.old ++ printed (binary subtype bytes.now)) }
     ensures lawful { IsLawful (binary subtype bytes.now) }
 {
     let digits = hex::encode(*out.allocator(), bytes)?;
@@ -116,7 +118,8 @@ fn write_id(bytes: [u8; 12], out: &mut String) -> Mem<()>
 
 #[tactic(auto, unfolding(crate::specs::Printing::printed))]
 fn write_timestamp(timestamp: u64, out: &mut String) -> Mem<()>
-    ensures written { OnOk result (string_bytes out.new ≡ string_bytes out.old ++ printed (tree.timestamp timestamp)) }
+    ensures written { OnOk result
+        (string_bytes out.new ≡ string_bytes out.old ++ printed (tree.timestamp timestamp)) }
     ensures lawful { IsLawful (tree.timestamp timestamp) }
 {
     let seconds = timestamp >> 32;
@@ -135,7 +138,8 @@ fn write_separator(place: usize, out: &mut String) -> Mem<()>
 }
 
 fn write_key(name: &str, out: &mut String) -> Mem<()>
-    ensures { OnOk result (string_bytes out.new ≡ string_bytes out.old ++ (printed_name name.now ++ codes ": ")) }
+    ensures { OnOk result
+        (string_bytes out.new ≡ string_bytes out.old ++ (printed_name name.now ++ codes ": ")) }
 {
     write_name(name, out)?;
     out.push_str(": ")
@@ -144,10 +148,11 @@ fn write_key(name: &str, out: &mut String) -> Mem<()>
 #[cycle(write)]
 #[tactic(auto, unfolding(crate::specs::Printing::printed))]
 fn write_fields(fields: &Doc, out: &mut String) -> Mem<()>
-    ensures written { OnOk result (string_bytes out.new ≡ string_bytes out.old ++ printed (document fields.now)) }
+    ensures written { OnOk result
+        (string_bytes out.new ≡ string_bytes out.old ++ printed (document fields.now)) }
     ensures lawful { OnOk result (IsLawful (document fields.now)) }
 {
-    fields.is_sound();
+    fields.recall_sound();
     out.push_str("{")?;
     for place in 0..fields.len() {
         let Some((name, value)) = fields.at(place) else {
@@ -180,7 +185,8 @@ fn write_items(items: &Items, out: &mut String) -> Mem<()>
 #[cycle(write)]
 #[tactic(auto, unfolding(crate::specs::Printing::printed))]
 fn write(value: &Value, out: &mut String) -> Mem<()>
-    ensures written { OnOk result (string_bytes out.new ≡ string_bytes out.old ++ printed (tree_of value.now)) }
+    ensures written { OnOk result
+        (string_bytes out.new ≡ string_bytes out.old ++ printed (tree_of value.now)) }
     ensures lawful { OnOk result (IsLawful (tree_of value.now)) }
 {
     match value {
@@ -199,7 +205,8 @@ fn write(value: &Value, out: &mut String) -> Mem<()>
     }
 }
 
-/// Appends the text of a value in the notation, which is always the same one. Out of memory leaves `out` as it was.
+/// Appends the text of a value in the notation, which is always the same one. Out of memory leaves `out`
+/// as it was.
 pub fn write_value(value: &Value, out: &mut String) -> Mem<()>
     ensures ok { OnOk result (string_bytes out.new ≡ string_bytes out.old ++ printed (tree_of value.now)) }
     ensures err { OnErr result (string_bytes out.new ≡ string_bytes out.old) }
@@ -207,7 +214,8 @@ pub fn write_value(value: &Value, out: &mut String) -> Mem<()>
     // What was written is a spelling of the value, and is read again, whatever stands behind it that
     // doesn't go on with a number.
     ensures spelled { OnOk result (Spells (tree_of value.now) (printed (tree_of value.now))) }
-    ensures again { OnOk result (IsReadAgain (string_bytes out.old) (string_bytes out.new) (tree_of value.now)) }
+    ensures again { OnOk result
+        (IsReadAgain (string_bytes out.old) (string_bytes out.new) (tree_of value.now)) }
 {
     let mut text = String::new(*out.allocator());
     write(value, &mut text)?;
@@ -215,13 +223,17 @@ pub fn write_value(value: &Value, out: &mut String) -> Mem<()>
     Ok(())
 }
 
-/// Appends the text of a document in the notation, which is always the same one. Out of memory leaves `out` as it was.
+/// Appends the text of a document in the notation, which is always the same one. Out of memory leaves `out`
+/// as it was.
 pub fn write_document(document: &Doc, out: &mut String) -> Mem<()>
-    ensures ok { OnOk result (string_bytes out.new ≡ string_bytes out.old ++ printed (tree.document document.now)) }
+    ensures ok { OnOk result
+        (string_bytes out.new ≡ string_bytes out.old ++ printed (tree.document document.now)) }
     ensures err { OnErr result (string_bytes out.new ≡ string_bytes out.old) }
     ensures lawful { OnOk result (IsLawful (tree.document document.now)) }
-    ensures spelled { OnOk result (Spells (tree.document document.now) (printed (tree.document document.now))) }
-    ensures again { OnOk result (IsReadAgain (string_bytes out.old) (string_bytes out.new) (tree.document document.now)) }
+    ensures spelled { OnOk result
+        (Spells (tree.document document.now) (printed (tree.document document.now))) }
+    ensures again { OnOk result
+        (IsReadAgain (string_bytes out.old) (string_bytes out.new) (tree.document document.now)) }
 {
     let mut text = String::new(*out.allocator());
     write_fields(document, &mut text)?;

@@ -17,7 +17,8 @@ names_of no_fields = []
 names_of (field name value rest) = name ∷ names_of rest
 
 abbrev pub is_operator : List ℕ → Bool
-is_operator name = bytes_eq name (codes "$set") || bytes_eq name (codes "$unset") || bytes_eq name (codes "$inc")
+is_operator name =
+    bytes_eq name (codes "$set") || bytes_eq name (codes "$unset") || bytes_eq name (codes "$inc")
 
 abbrev pub all_known : Fields → Bool
 all_known no_fields = true
@@ -59,8 +60,8 @@ abbrev pub has_twice : List (List ℕ) → Bool
 has_twice [] = false
 has_twice (name ∷ names) = is_among name names || has_twice names
 
--- the first rule that an update breaks: 1 an unknown operator, 2 no operator or one that isn't given a document,
--- 3 a bad name, 4 a name twice
+-- the first rule that an update breaks: 1 an unknown operator, 2 no operator or one that isn't given a
+-- document, 3 a bad name, 4 a name twice
 abbrev pub broken_rule : Fields → Option ℕ
 broken_rule operators =
     if not (all_known operators) then Some 1 else

@@ -45,15 +45,18 @@ under operator operators = fields_under (found operator operators)
 -- the fields of these whose name is in a document
 abbrev pub present : Fields → Fields → Fields
 present doc no_fields = no_fields
-present doc (field name value rest) = if is_some (found name doc) then field name null (present doc rest) else present doc rest
+present doc (field name value rest) =
+    if is_some (found name doc) then field name null (present doc rest) else present doc rest
 
 -- what is set: the fields of `$set` and the sums of `$inc`, in byte order of their names
 abbrev pub sets_of : Fields → Fields → Fields
-sets_of operators doc = in_byte_order (join (under (codes "$set") operators) (sums doc (under (codes "$inc") operators)))
+sets_of operators doc =
+    in_byte_order (join (under (codes "$set") operators) (sums doc (under (codes "$inc") operators)))
 
 -- the names of `$unset` that are there, in byte order
 abbrev pub unsets_of : Fields → Fields → Trees
-unsets_of operators doc = as_strings (names_of (in_byte_order (present doc (under (codes "$unset") operators))))
+unsets_of operators doc =
+    as_strings (names_of (in_byte_order (present doc (under (codes "$unset") operators))))
 
 -- the document that an update leaves
 abbrev pub updated : Fields → Fields → Fields
@@ -67,12 +70,14 @@ update_prepared ns id operators doc =
 
 -- the stored document has its `_id` first
 abbrev pub insert_prepared : List ℕ → Fields → Result Prepared Reason
-insert_prepared ns doc = stored (ops.Insert ns (id_first (found (codes "_id") doc) doc)) (id_first (found (codes "_id") doc) doc)
+insert_prepared ns doc =
+    stored (ops.Insert ns (id_first (found (codes "_id") doc) doc)) (id_first (found (codes "_id") doc) doc)
 
 -- and a replacement keeps the `_id` that is there
 abbrev pub replace_prepared : List ℕ → Value → Fields → Fields → Result Prepared Reason
 replace_prepared ns id doc before =
-    written (ops.Replace ns id (id_first (found (codes "_id") before) doc)) before (id_first (found (codes "_id") before) doc)
+    written (ops.Replace ns id (id_first (found (codes "_id") before) doc)) before
+    (id_first (found (codes "_id") before) doc)
 
 abbrev pub delete_prepared : List ℕ → Value → Result Prepared Reason
 delete_prepared ns id = Ok (Entry (ops.Delete ns id) None)

@@ -40,17 +40,20 @@ added (Some old) operand = int64 (sum_of old operand)
 -- some side isn't an integer
 abbrev pub has_wrong_side : Fields → Fields → Bool
 has_wrong_side document no_fields = false
-has_wrong_side document (field name operand rest) = not (can_add (found name document) operand) || has_wrong_side document rest
+has_wrong_side document (field name operand rest) =
+    not (can_add (found name document) operand) || has_wrong_side document rest
 
 -- some sum has no room in 64 bits
 abbrev pub has_overflow : Fields → Fields → Bool
 has_overflow document no_fields = false
-has_overflow document (field name operand rest) = overflows (found name document) operand || has_overflow document rest
+has_overflow document (field name operand rest) =
+    overflows (found name document) operand || has_overflow document rest
 
 -- each name with its sum
 abbrev pub sums : Fields → Fields → Fields
 sums document no_fields = no_fields
-sums document (field name operand rest) = field name (added (found name document) operand) (sums document rest)
+sums document (field name operand rest) =
+    field name (added (found name document) operand) (sums document rest)
 
 -- what adding to one field answers
 abbrev pub IsSum : Option Tree → Tree → Sum → Type 0
@@ -62,7 +65,8 @@ IsSum old operand NoRoom = (can_add old operand ≡ true) × (overflows old oper
 -- what adding the sums of all fields answers, and what then stands with the others
 abbrev pub AddsSums : Fields → Fields → Fields → Fields → Result (Unit {0}) WriteRefusal → Type 0
 AddsSums doc operands before after (Ok done) =
-    (has_wrong_side doc operands ≡ false) × (has_overflow doc operands ≡ false) × (after ≡ placed_all (sums doc operands) before)
+    (has_wrong_side doc operands ≡ false) × (has_overflow doc operands ≡ false)
+    × (after ≡ placed_all (sums doc operands) before)
 AddsSums doc operands before after (Err IncType) = has_wrong_side doc operands ≡ true
 AddsSums doc operands before after (Err IncOverflow) =
     (has_wrong_side doc operands ≡ false) × (has_overflow doc operands ≡ true)

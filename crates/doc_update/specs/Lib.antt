@@ -2,7 +2,7 @@ pub mod Check
 pub mod Effect
 pub mod Entries
 pub mod Increment
-pub mod Lent
+pub mod Borrowed
 pub mod Ordered
 pub mod Refusal
 pub mod Sound

@@ -15,7 +15,8 @@ by_order Greater before here behind = behind
 abbrev pub placed : Fields → List ℕ → Tree → Fields
 placed no_fields name value = field name value no_fields
 placed (field first one rest) name value =
-    by_order (slice_cmp nat_cmp name first) (field name value (field first one rest)) (field first value rest) (field first one (placed rest name value))
+    by_order (slice_cmp nat_cmp name first) (field name value (field first one rest)) (field first value rest)
+    (field first one (placed rest name value))
 
 -- each of these fields in its place among others
 abbrev pub placed_all : Fields → Fields → Fields

@@ -26,14 +26,16 @@ abbrev pub named_place : Result Place Reason → Option Place
 named_place (Ok place) = Some place
 named_place (Err why) = None
 
--- a logged op is lawful, touches the document that the write names, and leaves the document that is given with it
+-- a logged op is lawful, touches the document that the write names, and leaves the document that is
+-- given with it
 abbrev pub IsSound : Result Place Reason → Option Fields → Prepared → Type 0
 IsSound place before (Entry op after) =
     IsLawfulOp op × (place_of op ≡ named_place place) × (after ≡ document_after op before)
 IsSound place before NoMatch = ⊤
 IsSound place before Unchanged = ⊤
 
--- once it is logged behind entries that leave this document at the place, the document that is given with it is there
+-- once it is logged behind entries that leave this document at the place, the document that is given with
+-- it is there
 abbrev pub IsStored : Result Place Reason → Option Fields → Prepared → Type 0
 IsStored (Ok place) before (Entry op after) =
     (log : List entries.Entry) (entry : entries.Entry) → entry.op ≡ op → maps.get (docs log) place ≡ before
@@ -47,7 +49,8 @@ abbrev pub SetsAre : Fields → Fields → Result Fields WriteRefusal → Type 0
 SetsAre operators doc (Ok sets) =
     (has_wrong_side doc (under (codes "$inc") operators) ≡ false)
     × (has_overflow doc (under (codes "$inc") operators) ≡ false)
-    × (sets ≡ in_byte_order (join (under (codes "$set") operators) (sums doc (under (codes "$inc") operators))))
+    × (sets
+    ≡ in_byte_order (join (under (codes "$set") operators) (sums doc (under (codes "$inc") operators))))
 SetsAre operators doc (Err IncType) = has_wrong_side doc (under (codes "$inc") operators) ≡ true
 SetsAre operators doc (Err IncOverflow) =
     (has_wrong_side doc (under (codes "$inc") operators) ≡ false)

@@ -5,10 +5,10 @@ ghost use Rattle.bson_doc.specs.Tree.{found};
 ghost use Rattle.bson_doc.specs.View.{tree_of};
 ghost use Rattle.oplog_entry.specs.Lawful.{is_among};
 ghost use Rattle.doc_update.specs.Check.{all_known, all_documents, all_good, all_names, names_of, broken_rule, checked, is_good, is_operator, has_twice, insert_checked, replace_checked, update_checked, with_key};
-ghost use Rattle.doc_update.specs.Lent.{shown};
+ghost use Rattle.doc_update.specs.Borrowed.{shown};
 ghost use Rattle.doc_update.specs.Refusal.{Answers};
 
-use crate::{LentWrite, WriteOp, WriteRefusal};
+use crate::{BorrowedWrite, WriteOp, WriteRefusal};
 use bson_doc::{Doc, IdKey, Mem, Text, Value};
 use std::alloc::Global;
 use std::collections::BTreeSet;
@@ -111,7 +111,7 @@ fn has_twice(alloc: Global, operators: &Doc) -> Mem<bool>
 fn names_twice(alloc: Global, operators: &Doc) -> Mem<bool>
     ensures { IfOk result (λ twice. twice ≡ has_twice (all_names operators.now)) }
 {
-    operators.is_sound();
+    operators.recall_sound();
     if operators.len() < 2 {
         return Ok(false);
     }
@@ -173,7 +173,8 @@ fn check_insert(ns: &Text, doc: &Doc) -> Result<(Text, IdKey), WriteRefusal>
 }
 
 fn check_replace(ns: &Text, id: &Value, doc: &Doc) -> Result<(Text, IdKey), WriteRefusal>
-    ensures { Answers result (replace_checked ns.now (key_of (tree_of id.now)) (found (codes "_id") doc.now)) }
+    ensures { Answers result
+        (replace_checked ns.now (key_of (tree_of id.now)) (found (codes "_id") doc.now)) }
 {
     let key = IdKey::of(id)?;
     if let Some(own) = doc.get("_id")
@@ -202,22 +203,25 @@ fn check_update(
     Ok((ns.copy()?, key))
 }
 
-/// The collection and the key that a write names, or the first refusal that holds whatever document is there: `NoId`,
-/// `BadIdKind`, `BadUpdate` with the lowest rule that is broken, and `ImmutableId`, in this order.
+/// The collection and the key that a write names, or the first refusal that holds whatever document is there:
+/// `NoId`, `BadIdKind`, `BadUpdate` with the lowest rule that is broken, and `ImmutableId`, in this order.
 pub fn check(alloc: Global, op: &WriteOp) -> Result<(Text, IdKey), WriteRefusal>
     ensures { Answers result (checked op.now) }
 {
-    check_lent(alloc, op.lent())
+    check_borrowed(alloc, op.borrowed())
 }
 
 /// `check` of a write by reference.
-pub fn check_lent(alloc: Global, write: LentWrite<'_>) -> Result<(Text, IdKey), WriteRefusal>
+pub fn check_borrowed(
+    alloc: Global,
+    write: BorrowedWrite<'_>,
+) -> Result<(Text, IdKey), WriteRefusal>
     ensures { Answers result (checked (shown write.entry)) }
 {
     match write {
-        LentWrite::Insert { ns, doc } => check_insert(ns, doc),
-        LentWrite::Replace { ns, id, doc } => check_replace(ns, id, doc),
-        LentWrite::Update { ns, id, operators } => check_update(alloc, ns, id, operators),
-        LentWrite::Delete { ns, id } => place(ns, id),
+        BorrowedWrite::Insert { ns, doc } => check_insert(ns, doc),
+        BorrowedWrite::Replace { ns, id, doc } => check_replace(ns, id, doc),
+        BorrowedWrite::Update { ns, id, operators } => check_update(alloc, ns, id, operators),
+        BorrowedWrite::Delete { ns, id } => place(ns, id),
     }
 }

@@ -1,15 +1,15 @@
-//! Writes to one document: what each makes of the document that stands there, what is logged of it, and why it is
-//! refused (MongoDB manual, update operators).
+//! Writes to one document: what each makes of the document that stands there, what is logged of it, and why
+//! it is refused (MongoDB manual, update operators).
 #![tactic(auto)]
 
+mod borrowed;
 mod checks;
 mod increment;
-mod lent;
 mod ordered;
 mod preparing;
 mod write;
 
-pub use checks::{check, check_lent};
-pub use lent::LentWrite;
-pub use preparing::{prepare, prepare_lent};
+pub use borrowed::BorrowedWrite;
+pub use checks::{check, check_borrowed};
+pub use preparing::{prepare, prepare_borrowed};
 pub use write::{Prepared, WriteOp, WriteRefusal};

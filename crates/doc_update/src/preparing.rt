@@ -7,14 +7,14 @@ ghost use Rattle.oplog_entry.specs.Lawful.{is_among};
 ghost use Rattle.doc_update.specs.Increment.{AddsSums};
 ghost use Rattle.doc_update.specs.Check.{all_names, checked, has_twice};
 ghost use Rattle.doc_update.specs.Effect.{id_first, is_too_large, stored, written, under, present, delete_prepared, insert_prepared, prepared, replace_prepared, update_prepared};
-ghost use Rattle.doc_update.specs.Lent.{shown};
+ghost use Rattle.doc_update.specs.Borrowed.{shown};
 ghost use Rattle.doc_update.specs.Ordered.{placed_all, in_byte_order};
 ghost use Rattle.doc_update.specs.Refusal.{Answers};
 ghost use Rattle.doc_update.specs.Sound.{IsNamed, IsSound, IsStored, SetsAre};
 
 use crate::increment::add_sums;
 use crate::ordered::Ordered;
-use crate::{LentWrite, Prepared, WriteOp, WriteRefusal};
+use crate::{BorrowedWrite, Prepared, WriteOp, WriteRefusal};
 use bson_doc::{DOCUMENT, Doc, Mem, Text, Value};
 use oplog_entry::{FieldIndex, Op, with_changes};
 use std::alloc::Global;
@@ -36,7 +36,7 @@ fn append_other(whole: &mut Doc, name: Text, value: &Value) -> Mem<()>
 fn with_id_first(alloc: Global, id: &Value, doc: &Doc) -> Mem<Doc>
     ensures { IfOk result (λ d. d ≡ field (codes "_id") (tree_of id.now) (without doc.now (codes "_id"))) }
 {
-    doc.is_sound();
+    doc.recall_sound();
     let mut whole = Doc::new(alloc);
     whole.append(Text::from_str(alloc, "_id")?, id.copy()?)?;
     for place in 0..doc.len() {
@@ -189,7 +189,8 @@ fn put_present(
 
 /// The names of `$unset` that are there, in byte order.
 fn unsets_of(alloc: Global, operators: &Doc, document: &FieldIndex<'_>) -> Mem<Ordered>
-    ensures { IfOk result (λ unsets. unsets ≡ in_byte_order (present document.now (under (codes "$unset") operators.now))) }
+    ensures { IfOk result (λ unsets.
+        unsets ≡ in_byte_order (present document.now (under (codes "$unset") operators.now))) }
 {
     let mut unsets = Ordered::new(alloc);
     if let Some(fields) = under(operators, "$unset") {
@@ -248,7 +249,7 @@ fn prepare_update(
     requires { has_twice (all_names operators.now) ≡ false }
     ensures { Answers result (update_prepared ns.now id.now operators.now before.now) }
 {
-    operators.is_sound();
+    operators.recall_sound();
     let document = FieldIndex::new(alloc, before)?;
     let sets = sets_of(alloc, operators, &document)?.document(alloc)?;
     let unsets = unsets_of(alloc, operators, &document)?.names(alloc)?;
@@ -274,7 +275,7 @@ fn prepare_delete(ns: &Text, id: &Value) -> Result<Prepared, WriteRefusal>
 
 fn prepare_checked(
     alloc: Global,
-    write: LentWrite<'_>,
+    write: BorrowedWrite<'_>,
     before: Option<&Doc>,
 ) -> Result<Prepared, WriteRefusal>
     requires checked { IsOk (checked (shown write)) }
@@ -283,23 +284,23 @@ fn prepare_checked(
     ensures sound { IfOk result (λ p. IsSound (checked (shown write.entry)) (option_copied before.entry) p) }
 {
     match (write, before) {
-        (LentWrite::Insert { ns, doc }, None) => prepare_insert(alloc, ns, doc),
-        (LentWrite::Insert { .. }, Some(_)) => Err(WriteRefusal::DuplicateKey),
+        (BorrowedWrite::Insert { ns, doc }, None) => prepare_insert(alloc, ns, doc),
+        (BorrowedWrite::Insert { .. }, Some(_)) => Err(WriteRefusal::DuplicateKey),
         (_, None) => Ok(Prepared::NoMatch),
-        (LentWrite::Replace { ns, id, doc }, Some(before)) => prepare_replace(
+        (BorrowedWrite::Replace { ns, id, doc }, Some(before)) => prepare_replace(
             alloc, ns, id, doc, before,
         ),
-        (LentWrite::Update { ns, id, operators }, Some(before)) => {
-            operators.is_sound();
+        (BorrowedWrite::Update { ns, id, operators }, Some(before)) => {
+            operators.recall_sound();
             prepare_update(alloc, ns, id, operators, before)
         }
-        (LentWrite::Delete { ns, id }, Some(_)) => prepare_delete(ns, id),
+        (BorrowedWrite::Delete { ns, id }, Some(_)) => prepare_delete(ns, id),
     }
 }
 
-/// What a write comes to that `check` let through, where `before` is the document of its key. It is refused as
-/// `DuplicateKey`, `IncType`, `IncOverflow` or `DocTooLarge`, in this order. The op of an entry is lawful, and applied
-/// to `before` it leaves `after`: once it is logged, `after` stands at its place.
+/// What a write comes to that `check` let through, where `before` is the document of its key. It is refused
+/// as `DuplicateKey`, `IncType`, `IncOverflow` or `DocTooLarge`, in this order. The op of an entry is lawful,
+/// and applied to `before` it leaves `after`: once it is logged, `after` stands at its place.
 pub fn prepare(alloc: Global, op: &WriteOp, before: Option<&Doc>) -> Result<Prepared, WriteRefusal>
     requires checked { IsOk (checked op.now) }
     requires own { IfSome (option_copied before) (λ d. IsNamed (checked op.now) d) }
@@ -307,20 +308,21 @@ pub fn prepare(alloc: Global, op: &WriteOp, before: Option<&Doc>) -> Result<Prep
     ensures sound { IfOk result (λ p. IsSound (checked op.now) (option_copied before.entry) p) }
     ensures stored { IfOk result (λ p. IsStored (checked op.now) (option_copied before.entry) p) }
 {
-    prepare_lent(alloc, op.lent(), before)
+    prepare_borrowed(alloc, op.borrowed(), before)
 }
 
 /// `prepare` of a write by reference.
-pub fn prepare_lent(
+pub fn prepare_borrowed(
     alloc: Global,
-    write: LentWrite<'_>,
+    write: BorrowedWrite<'_>,
     before: Option<&Doc>,
 ) -> Result<Prepared, WriteRefusal>
     requires checked { IsOk (checked (shown write)) }
     requires own { IfSome (option_copied before) (λ d. IsNamed (checked (shown write)) d) }
     ensures answer { Answers result (prepared (shown write.entry) (option_copied before.entry)) }
     ensures sound { IfOk result (λ p. IsSound (checked (shown write.entry)) (option_copied before.entry) p) }
-    ensures stored { IfOk result (λ p. IsStored (checked (shown write.entry)) (option_copied before.entry) p) }
+    ensures stored { IfOk result (λ p.
+        IsStored (checked (shown write.entry)) (option_copied before.entry) p) }
 {
     prepare_checked(alloc, write, before)
 }

@@ -6,7 +6,8 @@ use oplog_entry::Op;
 use std::alloc::{AllocError, AllocFailed};
 use thiserror::Error;
 
-/// A write to one document of the collection `ns`. `id` is the value that its `_id` is compared with, as a key.
+/// A write to one document of the collection `ns`. `id` is the value that its `_id` is compared with,
+/// as a key.
 #[derive(Drop)]
 pub enum WriteOp {
     /// `doc` is stored, unless a document with its `_id` is there.
@@ -22,10 +23,10 @@ pub enum WriteOp {
 impl WriteOp {
     /// What the write brings is sound at every level: a fact for callers' proofs, which costs
     /// nothing.
-    pub fn is_sound(&self)
+    pub fn recall_sound(&self)
         ensures { IsSoundWrite self.now }
     {
-        self.lent().is_sound();
+        self.borrowed().recall_sound();
     }
 
     /// The same write once more.
@@ -109,8 +110,8 @@ pub enum WriteRefusal {
     IncOverflow,
     #[error("the document is too large")]
     DocTooLarge,
-    /// 1: an operator is unknown. 2: there is no operator, or one isn't given a document. 3: a name is empty, begins
-    /// with a dollar sign or has a dot. 4: a name stands twice.
+    /// 1: an operator is unknown. 2: there is no operator, or one isn't given a document. 3: a name is empty,
+    /// begins with a dollar sign or has a dot. 4: a name stands twice.
     #[error("the update breaks rule {0}")]
     BadUpdate(u32),
     #[error("out of memory")]

@@ -17,7 +17,8 @@ use Rattle.entry_bytes.specs.declared.error.EntryError.{EntryError}
 -- one part more, unless it is empty
 abbrev pub with_part : Fields → List ℕ → Fields → Fields
 with_part before name no_fields = before
-with_part before name (field first value others) = with_field before name (document (field first value others))
+with_part before name (field first value others) =
+    with_field before name (document (field first value others))
 
 -- the target of an update more, where there is one
 abbrev pub with_target : Fields → Option Fields → Fields
@@ -41,7 +42,8 @@ head_of entry = members_in_front entry.optime entry.op
 
 -- ---- as they are read
 -- these are the op's members
-pub record AreMembersOf (op : Op) (letter collection : List ℕ) (body : Fields) (target : Option Fields) : Type 0 where
+pub record AreMembersOf (op : Op) (letter collection : List ℕ) (body : Fields)
+    (target : Option Fields) : Type 0 where
   pub letter_is : letter_of op ≡ letter
   pub collection_is : collection_of op ≡ collection
   pub body_is : body_of op ≡ body
@@ -60,14 +62,16 @@ ReadsIfLawful op result = Reads (λ read. (read ≡ op) × IsLawfulOp op) (¬ Is
 -- the lawful op that sets these fields and takes out the names of these marks, or there is none
 abbrev pub ReadsFields : List ℕ → Value → Fields → Fields → Result Op EntryError → Type 0
 ReadsFields ns id sets wanted result =
-    Reads (λ op. (unsets : Trees) × (op ≡ SetFields ns id sets unsets) × (marks unsets ≡ wanted) × IsLawfulOp op)
+    Reads (λ op.
+    (unsets : Trees) × (op ≡ SetFields ns id sets unsets) × (marks unsets ≡ wanted) × IsLawfulOp op)
     ((unsets : Trees) → marks unsets ≡ wanted → ¬ IsLawfulOp (SetFields ns id sets unsets)) result
 
 -- the lawful op that changes fields of the document of this `_id`, as the body says, or there is none
 abbrev pub ReadsChange : List ℕ → Value → Fields → Result Op EntryError → Type 0
 ReadsChange ns id body result =
     Reads (λ op. IsLawfulOp op × AreMembersOf op (codes "u") ns body (Some (only_id (tree_of id))))
-    ((sets : Fields) (unsets : Trees) → body ≡ changes sets (marks unsets) → ¬ IsLawfulOp (SetFields ns id sets unsets)) result
+    ((sets : Fields) (unsets : Trees) → body ≡ changes sets (marks unsets)
+    → ¬ IsLawfulOp (SetFields ns id sets unsets)) result
 
 -- the fields of a part that may be there
 abbrev pub given : Option Fields → Fields
@@ -78,7 +82,8 @@ given (Some fields) = fields
 abbrev pub ReadsParts : Fields → Option (Option Fields × Option Fields) → Type 0
 ReadsParts o result =
     MatchOption result
-    ((sets unsets : Fields) → fields_from 1 o ≢ part (codes "$set") sets (part (codes "$unset") unsets no_fields))
+    ((sets unsets : Fields)
+    → fields_from 1 o ≢ part (codes "$set") sets (part (codes "$unset") unsets no_fields))
     (λ p. fields_from 1 o ≡ part (codes "$set") (given p.0) (part (codes "$unset") (given p.1) no_fields))
 
 -- true, under a name that isn't `_id`

@@ -1,5 +1,5 @@
-// The bytes of an entry, appended to others. No document is made of it, but of an update's target and of short
-// bodies.
+// The bytes of an entry, appended to others. No document is made of it, but of an update's target and
+// of short bodies.
 ghost use Rattle.std.specs.Prelude.{◌≡◌, ◌+◌, ◌<◌, ◌≤◌, ◌^◌, ◌++◌, codes, length, OnOk, vec_capacity};
 ghost use Rattle.bson_doc.specs.Length.{document_length, fields_length};
 ghost use Rattle.bson_doc.specs.Sound.{AreSoundFields, IsSound};
@@ -66,12 +66,12 @@ fn put_body(alloc: Global, op: &Op, out: &mut Vec<u8>) -> Mem<()>
 {
     match op {
         Op::Insert { o, .. } | Op::Replace { o, .. } => {
-            o.is_sound();
+            o.recall_sound();
             put_document(alloc, out, "o", o)
         }
         Op::Fields { .. } | Op::Delete { .. } | Op::Noop => {
             let body = body(alloc, op)?;
-            body.is_sound();
+            body.recall_sound();
             put_document(alloc, out, "o", &body)
         }
     }
@@ -88,7 +88,7 @@ fn put_target(alloc: Global, op: &Op, out: &mut Vec<u8>) -> Mem<()>
     let Some(target) = target(alloc, op)? else {
         return Ok(());
     };
-    target.is_sound();
+    target.recall_sound();
     put_document(alloc, out, "o2", &target)
 }
 

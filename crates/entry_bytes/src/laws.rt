@@ -6,5 +6,6 @@ ghost use Rattle.entry_bytes.specs.Layout.{document_of};
 
 /// Two lawful entries that are written as the same document are the same entry.
 pub fn documents_tell_entries()
-    ensures { (one two : Entry) → IsLawful one → IsLawful two → document_of one ≡ document_of two → one ≡ two }
+    ensures { (one two : Entry) → IsLawful one → IsLawful two
+        → document_of one ≡ document_of two → one ≡ two }
 {}

@@ -17,7 +17,8 @@ use std::alloc::Global;
 
 /// The key of a document that begins with its `_id`.
 fn stored_key(o: &Doc) -> Result<IdKey, EntryError>
-    ensures { Reads (λ key. BeginsWithId o.now × (id_key o.now ≡ Some key)) (¬ (BeginsWithId o.now × IsSome (id_key o.now))) result }
+    ensures { Reads (λ key. BeginsWithId o.now × (id_key o.now ≡ Some key))
+        (¬ (BeginsWithId o.now × IsSome (id_key o.now))) result }
 {
     let Some(id) = member(o, 0, "_id") else {
         return Err(EntryError::Shape);
@@ -161,7 +162,7 @@ fn unsets_of(alloc: Global, unsets: &Doc) -> Result<Items, EntryError>
     ensures { Reads (λ names. AreUnsets names × (marks names ≡ unsets.now))
         ((names : Trees) → AreUnsets names → marks names ≢ unsets.now) result }
 {
-    unsets.is_sound();
+    unsets.recall_sound();
     if !are_marks(unsets) {
         return Err(EntryError::Shape);
     }

@@ -8,7 +8,8 @@ use bson_doc::{Doc, Text, Value};
 
 /// The value at a place, where its name is this one.
 pub(crate) fn member<'a>(doc: &'a Doc, place: usize, name: &str) -> Option<&'a Value>
-    ensures { MatchOption result ((value : Tree) (rest : Fields) → fields_from place doc.now ≢ field name.now value rest)
+    ensures { MatchOption result
+        ((value : Tree) (rest : Fields) → fields_from place doc.now ≢ field name.now value rest)
         (λ v. fields_from place doc.now ≡ field name.now (tree_of v.now) (fields_from (place + 1) doc.now)) }
 {
     let (own, value) = doc.at(place)?;
@@ -19,7 +20,8 @@ pub(crate) fn member<'a>(doc: &'a Doc, place: usize, name: &str) -> Option<&'a V
 }
 
 pub(crate) fn timestamp_at(doc: &Doc, place: usize, name: &str) -> Option<u64>
-    ensures { MatchOption result ((ts : ℕ) (rest : Fields) → fields_from place doc.now ≢ field name.now (timestamp ts) rest)
+    ensures { MatchOption result
+        ((ts : ℕ) (rest : Fields) → fields_from place doc.now ≢ field name.now (timestamp ts) rest)
         (λ ts. fields_from place doc.now ≡ field name.now (timestamp ts) (fields_from (place + 1) doc.now)) }
 {
     match member(doc, place, name)? {
@@ -30,7 +32,8 @@ pub(crate) fn timestamp_at(doc: &Doc, place: usize, name: &str) -> Option<u64>
 
 /// The number of an int64 that is not negative.
 pub(crate) fn count_at(doc: &Doc, place: usize, name: &str) -> Option<u64>
-    ensures value { MatchOption result ((n : ℕ) (rest : Fields) → fields_from place doc.now ≢ field name.now (int64 (pos n)) rest)
+    ensures value { MatchOption result
+        ((n : ℕ) (rest : Fields) → fields_from place doc.now ≢ field name.now (int64 (pos n)) rest)
         (λ n. fields_from place doc.now ≡ field name.now (int64 (pos n)) (fields_from (place + 1) doc.now)) }
     ensures fits { IfSome result (λ n. n < 2 ^ 63) }
 {
@@ -41,7 +44,8 @@ pub(crate) fn count_at(doc: &Doc, place: usize, name: &str) -> Option<u64>
 }
 
 pub(crate) fn int32_at(doc: &Doc, place: usize, name: &str) -> Option<i32>
-    ensures { MatchOption result ((n : ℤ) (rest : Fields) → fields_from place doc.now ≢ field name.now (int32 n) rest)
+    ensures { MatchOption result
+        ((n : ℤ) (rest : Fields) → fields_from place doc.now ≢ field name.now (int32 n) rest)
         (λ n. fields_from place doc.now ≡ field name.now (int32 n) (fields_from (place + 1) doc.now)) }
 {
     match member(doc, place, name)? {
@@ -51,7 +55,8 @@ pub(crate) fn int32_at(doc: &Doc, place: usize, name: &str) -> Option<i32>
 }
 
 pub(crate) fn text_at<'a>(doc: &'a Doc, place: usize, name: &str) -> Option<&'a Text>
-    ensures { MatchOption result ((letters : List ℕ) (rest : Fields) → fields_from place doc.now ≢ field name.now (text letters) rest)
+    ensures { MatchOption result
+        ((letters : List ℕ) (rest : Fields) → fields_from place doc.now ≢ field name.now (text letters) rest)
         (λ t. fields_from place doc.now ≡ field name.now (text t.now) (fields_from (place + 1) doc.now)) }
 {
     match member(doc, place, name)? {
@@ -61,7 +66,8 @@ pub(crate) fn text_at<'a>(doc: &'a Doc, place: usize, name: &str) -> Option<&'a 
 }
 
 pub(crate) fn document_at<'a>(doc: &'a Doc, place: usize, name: &str) -> Option<&'a Doc>
-    ensures { MatchOption result ((fields rest : Fields) → fields_from place doc.now ≢ field name.now (document fields) rest)
+    ensures { MatchOption result
+        ((fields rest : Fields) → fields_from place doc.now ≢ field name.now (document fields) rest)
         (λ d. fields_from place doc.now ≡ field name.now (document d.now) (fields_from (place + 1) doc.now)) }
 {
     match member(doc, place, name)? {
@@ -73,7 +79,8 @@ pub(crate) fn document_at<'a>(doc: &'a Doc, place: usize, name: &str) -> Option<
 /// The fields of a part at a place, which is not empty.
 pub(crate) fn part_at<'a>(doc: &'a Doc, place: usize, name: &str) -> Option<&'a Doc>
     ensures { MatchOption result
-        ((first : List ℕ) (value : Tree) (others rest : Fields) → fields_from place doc.now ≢ field name.now (document (field first value others)) rest)
+        ((first : List ℕ) (value : Tree) (others rest : Fields)
+        → fields_from place doc.now ≢ field name.now (document (field first value others)) rest)
         (λ d. fields_from place doc.now ≡ part name.now d.now (fields_from (place + 1) doc.now)) }
 {
     let part = document_at(doc, place, name)?;
@@ -85,7 +92,8 @@ pub(crate) fn part_at<'a>(doc: &'a Doc, place: usize, name: &str) -> Option<&'a 
 
 /// The value of `{_id: value}`.
 pub(crate) fn only_id(doc: &Doc) -> Option<&Value>
-    ensures { MatchOption result ((id : Tree) → doc.now ≢ only_id id) (λ id. doc.now ≡ only_id (tree_of id.now)) }
+    ensures { MatchOption result ((id : Tree) → doc.now ≢ only_id id)
+        (λ id. doc.now ≡ only_id (tree_of id.now)) }
 {
     let id = member(doc, 0, "_id")?;
     if doc.len() != 1 {

@@ -46,7 +46,8 @@ fn target_in(document: &Doc) -> Option<Option<&Doc>>
 
 /// The optime, behind which the version stands.
 fn optime_in(document: &Doc) -> Option<OpTime>
-    ensures { MatchOption result ((optime : OpTime) (rest : Fields) → optime.term < 2 ^ 63 → document.now ≢ stamped optime rest)
+    ensures { MatchOption result
+        ((optime : OpTime) (rest : Fields) → optime.term < 2 ^ 63 → document.now ≢ stamped optime rest)
         (λ optime. (optime.term < 2 ^ 63) × (document.now ≡ stamped optime (fields_from 3 document.now))) }
 {
     let ts = timestamp_at(document, 0, "ts")?;
@@ -59,7 +60,8 @@ fn optime_in(document: &Doc) -> Option<OpTime>
 
 fn members_in(document: &Doc) -> Option<Members<'_>>
     ensures { MatchOption result ((entry : Entry) → IsLawful entry → document_of entry ≢ document.now)
-        (λ m. (m.optime.term < 2 ^ 63) × (document.now ≡ members m.optime m.letter.now m.ns.now m.o.now (option_copied m.target))) }
+        (λ m. (m.optime.term < 2 ^ 63)
+        × (document.now ≡ members m.optime m.letter.now m.ns.now m.o.now (option_copied m.target))) }
 {
     Some(Members {
         optime: optime_in(document)?,
@@ -90,8 +92,8 @@ fn entry_of(alloc: Global, document: &Doc) -> Result<Entry, EntryError>
     })
 }
 
-/// The lawful entry that the bytes spell. `Codec` is the rule by which they are no document within the bounds of an
-/// entry, and `Shape` a document that no lawful entry has.
+/// The lawful entry that the bytes spell. `Codec` is the rule by which they are no document within the bounds
+/// of an entry, and `Shape` a document that no lawful entry has.
 pub fn of_bytes(alloc: Global, bytes: &[u8]) -> Result<Entry, EntryError>
     // What is read is lawful, and spelled so.
     ensures ok { IfOk result (λ e. IsLawful e × IsSound (document_of e)

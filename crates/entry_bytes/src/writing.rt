@@ -24,7 +24,8 @@ fn put(alloc: Global, document: &mut Doc, name: &str, value: Value) -> Mem<()>
 
 /// The string at a place.
 fn name_at(unsets: &Items, place: usize) -> Option<&Text>
-    ensures { MatchOption result ((name : List ℕ) (rest : Trees) → trees_from place unsets.now ≢ item (text name) rest)
+    ensures { MatchOption result
+        ((name : List ℕ) (rest : Trees) → trees_from place unsets.now ≢ item (text name) rest)
         (λ t. trees_from place unsets.now ≡ item (text t.now) (trees_from (place + 1) unsets.now)) }
 {
     match unsets.at(place)? {
@@ -79,8 +80,9 @@ fn only(alloc: Global, name: &str, value: Value) -> Mem<Doc>
     Ok(document)
 }
 
-/// What an op says of its document, the member `o` of its entry: the document that an insert or a replacement stores,
-/// `{$v: 1, $set: {..}, $unset: {..}}` for fields, `{_id: ..}` for a delete, and a message for a no-op.
+/// What an op says of its document, the member `o` of its entry: the document that an insert or a
+/// replacement stores, `{$v: 1, $set: {..}, $unset: {..}}` for fields, `{_id: ..}` for a delete, and a
+/// message for a no-op.
 pub fn body(alloc: Global, op: &Op) -> Mem<Doc>
     requires { IsLawfulOp op.now }
     ensures { IfOk result (λ d. d ≡ body_of op.now) }
@@ -109,7 +111,8 @@ pub(crate) fn target(alloc: Global, op: &Op) -> Mem<Option<Doc>>
     }
 }
 
-/// The member `op` of an entry: `i`, `u` or `d` where it inserts, updates or deletes a document, and else `n`.
+/// The member `op` of an entry: `i`, `u` or `d` where it inserts, updates or deletes a document,
+/// and else `n`.
 pub fn letter(op: &Op) -> &'static str
     ensures { result.now ≡ letter_of op.now }
 {
@@ -177,16 +180,19 @@ fn document(alloc: Global, entry: &Entry) -> Mem<Doc>
     Ok(document)
 }
 
-/// The bytes of a lawful entry, the one spelling of its document. It is `TooDeep` with more levels than the bounds of
-/// an entry have, and else `TooLarge` with more bytes.
+/// The bytes of a lawful entry, the one spelling of its document. It is `TooDeep` with more levels than the
+/// bounds of an entry have, and else `TooLarge` with more bytes.
 pub fn to_bytes(alloc: Global, entry: &Entry) -> Result<Vec<u8>, EncodeError>
     requires { IsLawful entry.now }
-    ensures ok { IfOk result (λ bytes. IsSpelling ENTRY.bytes ENTRY.levels (document_of entry.now) bytes.items) }
+    ensures ok { IfOk result (λ bytes.
+        IsSpelling ENTRY.bytes ENTRY.levels (document_of entry.now) bytes.items) }
     ensures sound { OnOk result (IsSound (document_of entry.now)) }
     // A bound that is passed is told, unless memory runs out before.
-    ensures too_deep { IsErrOf result EncodeError.TooDeep → ENTRY.levels < document_levels (document_of entry.now) }
+    ensures too_deep { IsErrOf result EncodeError.TooDeep
+        → ENTRY.levels < document_levels (document_of entry.now) }
     ensures too_large { IsErrOf result EncodeError.TooLarge
-        → (document_levels (document_of entry.now) ≤ ENTRY.levels) × (ENTRY.bytes < document_length (document_of entry.now)) }
+        → (document_levels (document_of entry.now) ≤ ENTRY.levels)
+        × (ENTRY.bytes < document_length (document_of entry.now)) }
 {
     encode(alloc, &document(alloc, entry)?, ENTRY)
 }

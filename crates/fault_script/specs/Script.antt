@@ -1,12 +1,13 @@
 -- What a script is.
 --
--- Its lines are those of `str::lines`: a line feed ends a line, a carriage return right before it belongs to that end, and
--- the last line may go without. They are counted from 1. There are at most 200,000, of at most 1,048,576 bytes each without
--- the end, and each is UTF-8. Empty lines, and lines whose first byte is `#`, say nothing.
+-- Its lines are those of `str::lines`: a line feed ends a line, a carriage return right before it belongs
+-- to that end, and the last line may go without. They are counted from 1. There are at most 200,000, of at
+-- most 1,048,576 bytes each without the end, and each is UTF-8. Empty lines, and lines whose first byte is
+-- `#`, say nothing.
 --
--- Words are what stands between single spaces, so two spaces have an empty word between them. A line has as many words as
--- its form below has; words in brackets may be left out from the right. A DOC, the ID at the end of a line, and a JSON go on to the
--- line's end, with spaces of their own, and have at least one byte.
+-- Words are what stands between single spaces, so two spaces have an empty word between them. A line has as
+-- many words as its form below has; words in brackets may be left out from the right. A DOC, the ID at the
+-- end of a line, and a JSON go on to the line's end, with spaces of their own, and have at least one byte.
 --
 --     set NODES [MEMBERS]            the first line that says something, and no other
 --     insert N COLL DOC              replace N COLL ID DOC       update N COLL ID DOC      delete N COLL ID
@@ -20,19 +21,22 @@
 --     restart N                      diskfail N DISK CALL [PICK] clock N SECONDS
 --     par                            thread                      end
 --
--- A number is one or more decimal digits. N is `n` and the number of a node of the set, and two nodes on a line differ; W is
--- `w` and a number up to 999; M is `m` and a number of 64 bits. NODES is from 1 to 7, and MEMBERS from 1 to NODES, or NODES
--- where it isn't there. COLL is an ASCII letter and up to 63 letters, digits, `_` and `.`. TARGET is W or TERM/SECONDS/INCREMENT, of
--- 64, 32 and 32 bits. CONCERN is `majority` or 1 to 50; LEVEL is `local` or `majority`; DISK is `journal` or `checkpoint`; WORKERS
--- is 1 to 16, by default 4; PICK is of 64 bits, at `crash` by default 0; CALL is 1 to 1000; SECONDS is below 2^31. ID is a value and DOC a
--- document in the notation of documents; an ID that a DOC follows has one space behind it. JSON is a configuration.
+-- A number is one or more decimal digits. N is `n` and the number of a node of the set, and two nodes on a
+-- line differ; W is `w` and a number up to 999; M is `m` and a number of 64 bits. NODES is from 1 to 7, and
+-- MEMBERS from 1 to NODES, or NODES where it isn't there. COLL is an ASCII letter and up to 63 letters,
+-- digits, `_` and `.`. TARGET is W or TERM/SECONDS/INCREMENT, of 64, 32 and 32 bits. CONCERN is `majority`
+-- or 1 to 50; LEVEL is `local` or `majority`; DISK is `journal` or `checkpoint`; WORKERS is 1 to 16, by
+-- default 4; PICK is of 64 bits, at `crash` by default 0; CALL is 1 to 1000; SECONDS is below 2^31. ID is a
+-- value and DOC a document in the notation of documents; an ID that a DOC follows has one space behind it.
+-- JSON is a configuration.
 --
--- `par` begins a block and `end` ends it. In between each `thread` begins one of at most 16 threads, and the commands behind
--- it are that thread's.
+-- `par` begins a block and `end` ends it. In between each `thread` begins one of at most 16 threads, and the
+-- commands behind it are that thread's.
 --
--- The first faulty line is told, with its first fault in this order: too many lines, too long, not UTF-8, an unknown first word (of
--- the first command: not `set`), the number of words, a first word that may not stand there, and then the words from left to
--- right. Behind the last line, and as its successor, are told that there was no `set`, and that a block is open.
+-- The first faulty line is told, with its first fault in this order: too many lines, too long, not UTF-8, an
+-- unknown first word (of the first command: not `set`), the number of words, a first word that may not stand
+-- there, and then the words from left to right. Behind the last line, and as its successor, are told that
+-- there was no `set`, and that a block is open.
 use Rattle.std.specs.Prelude.{ℕ, ◌≡◌, ◌+◌, Bool, nat_lt, List, [], ◌∷◌, ◌++◌, length, Option, None, Some, Result, Ok, Err, if◌then◌else◌}
 use Rattle.std.specs.List.{list_all, flat_map}
 use Rattle.std.specs.Str.Lines.{lines}
@@ -89,23 +93,27 @@ begin_block reading (Some threads) = Err NestedPar
 
 abbrev pub begin_thread : Reading → Option (List Thread) → Result Reading ScriptRule
 begin_thread reading None = Err StrayLine
-begin_thread reading (Some threads) = if nat_lt (length threads) 16 then Ok (with_block reading (threads ++ [] ∷ [])) else Err TooManyThreads
+begin_thread reading (Some threads) =
+    if nat_lt (length threads) 16 then Ok (with_block reading (threads ++ [] ∷ [])) else Err TooManyThreads
 
 abbrev pub end_block : Reading → Option (List Thread) → Result Reading ScriptRule
 end_block reading None = Err StrayLine
 end_block reading (Some threads) = Ok (with_part reading (parts.Par threads))
 
 -- a command outside a block is a part, and one inside it belongs to the last thread
-abbrev pub add_command : ℕ → Reading → Option (List Thread) → Result Command ScriptRule → Result Reading ScriptRule
+abbrev pub add_command : ℕ → Reading → Option (List Thread) → Result Command ScriptRule
+    → Result Reading ScriptRule
 add_command number reading None read = read >>= λ command. Ok (with_part reading (parts.Line number command))
 add_command number reading (Some []) read = Err StrayLine
-add_command number reading (Some (thread ∷ threads)) read = read >>= λ command. Ok (with_block reading (in_last (thread ∷ threads) (number, command)))
+add_command number reading (Some (thread ∷ threads)) read =
+    read >>= λ command. Ok (with_block reading (in_last (thread ∷ threads) (number, command)))
 
 abbrev pub with_keyword : ℕ → ℕ → Reading → Keyword × Left → Result Reading ScriptRule
 with_keyword nodes number reading (keywords.Par, left) = begin_block reading reading.block
 with_keyword nodes number reading (keywords.Thread, left) = begin_thread reading reading.block
 with_keyword nodes number reading (keywords.End, left) = end_block reading reading.block
-with_keyword nodes number reading (keywords.Command verb, left) = add_command number reading reading.block (words_at nodes verb left)
+with_keyword nodes number reading (keywords.Command verb, left) =
+    add_command number reading reading.block (words_at nodes verb left)
 
 -- in a set of so many nodes
 unfoldable pub with_command : ℕ → ℕ → Reading → List ℕ → Result Reading ScriptRule
@@ -131,21 +139,25 @@ with_line number reading line = do
 abbrev pub faulty : {A : Type 0} → ℕ → ScriptRule → Result A ScriptFault
 faulty number rule = Err (record { line = number; rule = rule })
 
--- behind the last line there has been a `set` line, and no block is open; this is the number of the line after it
+-- behind the last line there has been a `set` line, and no block is open; this is the number of the
+-- line after it
 abbrev pub whole : ℕ → Reading → Option SetLine → Option (List Thread) → Result Script ScriptFault
 whole number reading None block = faulty number NoSetLine
 whole number reading (Some set) (Some threads) = faulty number OpenPar
-whole number reading (Some set) None = Ok (record { nodes = set.nodes; voters = set.members; members = set.members; parts = reading.parts })
+whole number reading (Some set) None =
+    Ok (record { nodes = set.nodes; voters = set.members; members = set.members; parts = reading.parts })
 
 -- the later lines, where this one has no fault
-abbrev pub and_then : {A : Type 0} → ℕ → Result Reading ScriptRule → (Reading → Result A ScriptFault) → Result A ScriptFault
+abbrev pub and_then : {A : Type 0} → ℕ → Result Reading ScriptRule → (Reading → Result A ScriptFault)
+    → Result A ScriptFault
 and_then number (Err rule) later = faulty number rule
 and_then number (Ok reading) later = later reading
 
 -- the script behind these lines, the first of which has this number, or the first faulty one with its rule
 abbrev pub script_from : ℕ → Reading → List (List ℕ) → Result Script ScriptFault
 script_from number reading [] = whole number reading reading.set reading.block
-script_from number reading (line ∷ later) = and_then number (with_line number reading line) (λ next. script_from (number + 1) next later)
+script_from number reading (line ∷ later) =
+    and_then number (with_line number reading line) (λ next. script_from (number + 1) next later)
 
 -- the script that these bytes are, or the first faulty line with its rule
 unfoldable pub script : List ℕ → Result Script ScriptFault

@@ -45,8 +45,8 @@ fn without_return(line: &[u8]) -> &[u8]
     }
 }
 
-/// The text of a line. `TooManyLines`: its number is above 200,000. `LineTooLong`: it has more than 1,048,576 bytes.
-/// `NotUtf8`: it is no UTF-8.
+/// The text of a line. `TooManyLines`: its number is above 200,000. `LineTooLong`: it has more than 1,048,576
+/// bytes. `NotUtf8`: it is no UTF-8.
 #[tactic(auto, unfolding(crate::specs::Lines::text_of))]
 pub fn text_of(number: u32, line: &[u8]) -> Result<&str, ScriptRule>
     ensures { Reads (λ text. text.now) result (text_of number line.now) }

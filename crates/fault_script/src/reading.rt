@@ -131,7 +131,8 @@ impl Reading {
         verb: Verb,
         left: Left<'_>,
     ) -> Result<(), LineError>
-        ensures { Gives (λ _. self.new) result (add_command number self.old self.old.block (words_at nodes verb (option_copied left.entry))) }
+        ensures { Gives (λ _. self.new) result
+            (add_command number self.old self.old.block (words_at nodes verb (option_copied left.entry))) }
     {
         let Some(threads) = &mut self.block else {
             let command = command(alloc, nodes, verb, left)?;
@@ -146,8 +147,8 @@ impl Reading {
         Ok(())
     }
 
-    /// The script, once all its lines are added; `number` is one more than that of the last. A fault at `number` where there was
-    /// no `set` line, or a block is still open.
+    /// The script, once all its lines are added; `number` is one more than that of the last. A fault at
+    /// `number` where there was no `set` line, or a block is still open.
     pub fn finish(self, number: u32) -> Result<Script, ScriptFault>
         ensures { result ≡ whole number self self.set self.block }
     {

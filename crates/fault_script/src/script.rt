@@ -128,7 +128,8 @@ impl Parts {
     }
 }
 
-/// What is left of the parts of a script. They lie last first, so that what they took is given back while they are taken out.
+/// What is left of the parts of a script. They lie last first, so that what they took is given back while
+/// they are taken out.
 #[derive(Drop)]
 pub struct Rest {
     parts: Vec<Part>,
@@ -150,7 +151,8 @@ impl Model for Rest {
 impl Rest {
     /// Takes out the next part.
     pub fn next(&mut self) -> Option<Part>
-        ensures { MatchOption result ((self.old ≡ []) × (self.new ≡ [])) (λ part. self.old ≡ part ∷ self.new) }
+        ensures { MatchOption result ((self.old ≡ []) × (self.new ≡ []))
+            (λ part. self.old ≡ part ∷ self.new) }
     {
         let part = self.parts.pop()?;
         if self.parts.len() % MOST_SPARE == 0 {

@@ -40,11 +40,13 @@ majority config = most_of (length (voters config))
 
 -- those who voted, with one more where it is a voter that hasn't voted yet
 abbrev pub with_vote : List ℕ → List ℕ → ℕ → List ℕ
-with_vote voters voted from = if is_among from voters && not (is_among from voted) then from ∷ voted else voted
+with_vote voters voted from =
+    if is_among from voters && not (is_among from voted) then from ∷ voted else voted
 
 -- at most one number votes in just one of the two: then any two of their majorities meet
 abbrev pub is_one_voter_apart : Config → Config → Bool
-is_one_voter_apart one other = nat_le (length (outside (voters one) (voters other)) + length (outside (voters other) (voters one))) 1
+is_one_voter_apart one other =
+    nat_le (length (outside (voters one) (voters other)) + length (outside (voters other) (voters one))) 1
 
 -- no two members have one number
 abbrev pub HasDistinctNumbers : Config → Type 0

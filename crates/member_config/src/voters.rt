@@ -49,7 +49,8 @@ impl Config {
         members.any(|member| member.number == number && member.priority > 0)
     }
 
-    /// Whether the voters of the two configurations differ by one at most: at most one number votes in only one of them.
+    /// Whether the voters of the two configurations differ by one at most: at most one number votes in only
+    /// one of them.
     pub fn one_voter_apart(&self, other: &Config) -> bool
         ensures { result ≡ votes.is_one_voter_apart self.now other.now }
     {

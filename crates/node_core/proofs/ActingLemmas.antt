@@ -18,22 +18,22 @@ use Rattle.node_core.proofs.PuttingLemmas.{runs_as, runs_none}
 use Rattle.set_model.specs.Limits.{is_restart, passes_first, is_in_doubt}
 use Rattle.set_model.specs.Node.{Node}
 use Rattle.set_model.specs.Stores.{Plan, finished, done as comes_to, reaches, if_up}
-use Rattle.node_core.specs.Acting.{Acted, AreSame, DisksLeft, Follows, Runs, Took, Unchanged, is_here, orders_after}
+use Rattle.node_core.specs.Acting.{Acted, AreSame, DisksLeft, Follows, RunsWithoutOrders, Took, Unchanged, is_here, orders_after}
 use Rattle.node_state.specs.Bounds.{is_own}
-use Rattle.node_core.specs.Down.{Left, down_node, seen_node}
-use Rattle.node_core.specs.Resting.{IsResting, Rests}
+use Rattle.node_core.specs.Down.{DownState, down_node, seen_node}
+use Rattle.node_core.specs.OnDisks.{IsOnDisks, UpOnDisks}
 use Rattle.node_core.specs.Stands.{Stands, documents_at}
 use Rattle.node_core.specs.declared.done.Done.{Done}
 
 -- ---- what stands on the disks
 
-pub rests_stand : (node : Node) (count : ℕ) (j c : State) → Rests node count j c → Stands node j c
+pub rests_stand : (node : Node) (count : ℕ) (j c : State) → UpOnDisks node count j c → Stands node j c
 rests_stand node count j c rests = record {
   records = λ image left. inl (rest_only j node.records rests.records image left);
   documents = λ image left. inl (rest_has c (documents_at node node.stable) rests.documents image left);
 }
 
-pub resting_stands : (up : Bool) (node : Node) (left : Left) (count : ℕ) (j c : State) → IsResting up node left count j c → Stands (seen_node up node left) j c
+pub resting_stands : (up : Bool) (node : Node) (left : DownState) (count : ℕ) (j c : State) → IsOnDisks up node left count j c → Stands (seen_node up node left) j c
 resting_stands true node left count j c rests = rests_stand node count j c rests
 resting_stands false node left count j c lies = lies.stands
 
@@ -114,7 +114,7 @@ answered_follows plan node answer done is reply sent failed = record {
 pub unfailed : (failed : Option ℕ) → failed ≡ None → ¬ IsSome failed
 unfailed failed none some = own_not (subst (λ (f : Option ℕ). IsSome f) none some)
 
-pub answered_runs : (j c : State) (done : Done) → done.failed ≡ None → Runs (IsSome done.failed) j j c c
+pub answered_runs : (j c : State) (done : Done) → done.failed ≡ None → RunsWithoutOrders (IsSome done.failed) j j c c
 answered_runs j c done failed = runs_as j j c c (unfailed done.failed failed) (runs_none j c)
 
 -- a node that is down
@@ -132,9 +132,9 @@ down_row nodes next node (Restart n) own not down = absurd (own_not own)
 down_row nodes next node (DiskFail n disk call pick) own not down = absurd (own_not own)
 down_row nodes next node _ own not down = while_down node _ down
 
-module _ (node : Node) (left : Left) (count : ℕ) (j c : State) (done : Done) (failed : done.failed ≡ None) (sent : done.sent.items ≡ []) where
+module _ (node : Node) (left : DownState) (count : ℕ) (j c : State) (done : Done) (failed : done.failed ≡ None) (sent : done.sent.items ≡ []) where
   -- it answers that it is down
-  pub took_down : (up : Bool) → IsResting up node left count j c → (nodes next : ℕ) (command : Command) → is_own command ≡ true
+  pub took_down : (up : Bool) → IsOnDisks up node left count j c → (nodes next : ℕ) (command : Command) → is_own command ≡ true
       → ((n seconds : ℕ) → command ≡ Clock n seconds → ⊥) → (seen_node up node left).up ≡ false → done.reply ≡ reply.Refused NodeDown
       → Took (row nodes next false (seen_node up node left) command) (seen_node up node left) j j c c done
   took_down up resting nodes next command own not down answer =
@@ -146,7 +146,7 @@ module _ (node : Node) (left : Left) (count : ℕ) (j c : State) (done : Done) (
       }
 
   -- only its clock is set
-  pub took_clock : (up : Bool) → IsResting up node left count j c → node.up ≡ true → (seen_node up node left).up ≡ false → (nodes next : ℕ) (command : Command) (n seconds : ℕ)
+  pub took_clock : (up : Bool) → IsOnDisks up node left count j c → node.up ≡ true → (seen_node up node left).up ≡ false → (nodes next : ℕ) (command : Command) (n seconds : ℕ)
       → command ≡ Clock n seconds → done.reply ≡ reply.Clock seconds
       → Took (row nodes next false (seen_node up node left) command) (seen_node up node (record left { clock = seconds })) j j c c done
   took_clock true resting is_up down nodes next command n seconds is answer = absurd (own_not (sym down ∙ is_up))

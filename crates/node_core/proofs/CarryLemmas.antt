@@ -14,18 +14,18 @@ use Rattle.set_model.specs.declared.store.Store.{Store}
 use Rattle.set_model.specs.declared.store.Store.TheVariants as stores
 use Rattle.node_state.specs.Bounds.{is_long}
 use Rattle.node_state.specs.Ready.{IsReady}
-use Rattle.node_state.specs.Standing.{Standing}
-use Rattle.node_state.specs.declared.turn.Then.TheVariants as thens
+use Rattle.node_state.specs.StateView.{StateView}
+use Rattle.node_state.specs.declared.turn.Continuation.TheVariants as continuations
 use Rattle.set_model.specs.Node.{Node}
 use Rattle.set_model.specs.Stores.{Plan, finished, storing, stored, in_doubt, store_count}
-use Rattle.node_core.specs.Putting.{EndsFrom, IsBrief, IsBroken, IsEnd, IsLong, IsShortStore, IsShortDoubt, Leaves, NeedsRoom, SHORT, plan_of}
-use Rattle.node_core.specs.Resting.{Rests, IsWellKeptWith}
+use Rattle.node_core.specs.Putting.{EndsFrom, StoresFewShort, IsStoreFailed, IsEnd, BeginsUnreserved, IsShortStore, IsShortDoubt, LeavesOnDisks, NeedsRoom, SHORT, plan_of}
+use Rattle.node_core.specs.OnDisks.{UpOnDisks, IsWellKeptWith}
 use Rattle.node_core.specs.Stands.{Stands}
 use Rattle.node_state.specs.Turns.{Means, rest_of}
 use Rattle.node_state.specs.WellKept.{IsWellKept}
 use Rattle.node_core.specs.declared.storing.Ended.{Ended}
-use Rattle.node_core.specs.declared.storing.Ended.TheVariants.{Said, Broken}
-use Rattle.node_state.specs.declared.turn.Then.{Then}
+use Rattle.node_core.specs.declared.storing.Ended.TheVariants.{WithReply, StoreFailed}
+use Rattle.node_state.specs.declared.turn.Continuation.{Continuation}
 use Rattle.node_state.specs.declared.turn.Turn.{Turn}
 use Rattle.node_state.specs.declared.turn.Turn.TheVariants.{Finished, Storing}
 use Rattle.node_core.proofs.DoesLemmas.{Does, MayPut, rest_does, turn_kept, turn_stores}
@@ -38,26 +38,26 @@ means_plan (Storing item then) node plan means = means
 
 -- one store more before it
 pub ends_later : (first : ℕ) (broken : Node) (rest : Plan) (node : Node) (ended : Ended) → EndsFrom (first + 1) rest node ended → EndsFrom first (storing broken rest) node ended
-ends_later first broken rest node (Said answer sent) ends = ends
-ends_later first broken rest node (Broken item number) (later, is, comes, reached) =
+ends_later first broken rest node (WithReply answer sent) ends = ends
+ends_later first broken rest node (StoreFailed item number) (later, is, comes, reached) =
     (suc later, omega (arith, is), comes, lt-ltb (suc later) (store_count rest + 1) (omega (arith, ltb-true later (store_count rest) reached)))
 
 -- the store itself failed
-pub ends_here : (first : ℕ) (item : Store) (then : Then) (node : Node) → EndsFrom first (plan_of (Storing item then) node) node (Broken item first)
+pub ends_here : (first : ℕ) (item : Store) (then : Continuation) (node : Node) → EndsFrom first (plan_of (Storing item then) node) node (StoreFailed item first)
 ends_here first item then node = (0, omega arith, refl, lt-ltb 0 (store_count (rest_of then (stored node item)) + 1) (omega arith))
 
-pub leaves_whole : (ended : Ended) (node : Node) (count : ℕ) (j c : State) → ¬ IsBroken ended → Rests node count j c → Leaves ended node count j c
-leaves_whole (Said answer sent) node count j c whole rests = rests
-leaves_whole (Broken item number) node count j c whole rests = absurd (whole tt)
+pub leaves_whole : (ended : Ended) (node : Node) (count : ℕ) (j c : State) → ¬ IsStoreFailed ended → UpOnDisks node count j c → LeavesOnDisks ended node count j c
+leaves_whole (WithReply answer sent) node count j c whole rests = rests
+leaves_whole (StoreFailed item number) node count j c whole rests = absurd (whole tt)
 
 pub leaves_broken : (item : Store) (number : ℕ) (node : Node) (count : ℕ) (j c : State) → count ≡ length node.records → Stands (in_doubt node item) j c → IsWellKept node.records node.stable → IsWellKeptWith node item
-    → Leaves (Broken item number) node count j c
+    → LeavesOnDisks (StoreFailed item number) node count j c
 leaves_broken item number node count j c counted stands well with_it =
     record { counted = counted; stands = stands; well = well; doubtful = with_it }
 
 -- ---- how a turn goes on once its store stands
 
-module _ (item : Store) (then : Then) (old new : Node) (next : Turn) (means : Means next new (rest_of then (stored old item))) where
+module _ (item : Store) (then : Continuation) (old new : Node) (next : Turn) (means : Means next new (rest_of then (stored old item))) where
   -- the plan of the turn, by the plan of what is left of it
   pub goes_on : (first : ℕ) (final : Node) (ended : Ended) → EndsFrom (first + 1) (plan_of next new) final ended → EndsFrom first (plan_of (Storing item then) old) final ended
   goes_on first final ended ends =
@@ -69,14 +69,14 @@ module _ (item : Store) (then : Then) (old new : Node) (next : Turn) (means : Me
       turn_kept IsShortStore 1 next new (rest_of then (stored old item)) (stored old item).records (stored old item).stable means (rest_does then (stored old item))
 
   -- the disks as they then are
-  pub rests_on : (count : ℕ) (j c : State) → Rests (stored old item) count j c → Rests new count j c
+  pub rests_on : (count : ℕ) (j c : State) → UpOnDisks (stored old item) count j c → UpOnDisks new count j c
   rests_on count j c rests = rests_same (stored old item) new count j c kept_so.0 kept_so.1 rests
 
   -- at most one short store is left
-  pub brief_on : IsBrief 1 (plan_of next new)
+  pub brief_on : StoresFewShort 1 (plan_of next new)
   brief_on = brief next new (rest_of then (stored old item)) (stored old item).records (stored old item).stable means (rest_does then (stored old item))
     where
-      ends : (plan : Plan) (r : List Record) (s : OpTime) → Does IsShortStore 0 r s plan → IsBrief 0 plan
+      ends : (plan : Plan) (r : List Record) (s : OpTime) → Does IsShortStore 0 r s plan → StoresFewShort 0 plan
       ends (finished outcome) r s does = tt
       ends (storing broken rest) r s does = absurd does
 
@@ -84,18 +84,18 @@ module _ (item : Store) (then : Then) (old new : Node) (next : Turn) (means : Me
       doubt None is = absurd is
       doubt (Some x) is = is
 
-      all : (plan : Plan) (r : List Record) (s : OpTime) → Does IsShortStore 1 r s plan → IsBrief 1 plan
+      all : (plan : Plan) (r : List Record) (s : OpTime) → Does IsShortStore 1 r s plan → StoresFewShort 1 plan
       all (finished outcome) r s does = tt
       all (storing broken rest) r s does = (doubt broken.doubt does.2, ends rest _ _ does.3)
 
-      brief : (turn : Turn) (node : Node) (plan : Plan) (r : List Record) (s : OpTime) → Means turn node plan → Does IsShortStore 1 r s plan → IsBrief 1 (plan_of turn node)
-      brief turn node plan r s means does = subst (λ (p : Plan). IsBrief 1 p) (means_plan turn node plan means) (all plan r s does)
+      brief : (turn : Turn) (node : Node) (plan : Plan) (r : List Record) (s : OpTime) → Means turn node plan → Does IsShortStore 1 r s plan → StoresFewShort 1 (plan_of turn node)
+      brief turn node plan r s means does = subst (λ (p : Plan). StoresFewShort 1 p) (means_plan turn node plan means) (all plan r s does)
 
   -- and none after that one
-  pub ends_on : IsBrief 1 (plan_of (Storing item then) old) → IsEnd next
-  ends_on brief = go next (subst (λ (p : Plan). IsBrief 0 p) (means_plan next new (rest_of then (stored old item)) means) brief.1)
+  pub ends_on : StoresFewShort 1 (plan_of (Storing item then) old) → IsEnd next
+  ends_on brief = go next (subst (λ (p : Plan). StoresFewShort 0 p) (means_plan next new (rest_of then (stored old item)) means) brief.1)
     where
-      go : (turn : Turn) → IsBrief 0 (plan_of turn new) → IsEnd turn
+      go : (turn : Turn) → StoresFewShort 0 (plan_of turn new) → IsEnd turn
       go (Finished answer sent) none = tt
       go (Storing more behind) none = none
 
@@ -123,42 +123,42 @@ entries_not_vote list point vote is = cc
 checkpoint_not_record : (at : OpTime) (item : Record) → stores.Checkpoint at ≡ stores.Record item → ⊥
 checkpoint_not_record at item is = cc
 
-module _ (standing : Standing) (next : Turn) (node new : Node) (room left : ℕ) (enough : SHORT + SHORT ≤ room) where
+module _ (standing : StateView) (next : Turn) (node new : Node) (room left : ℕ) (enough : SHORT + SHORT ≤ room) where
   short_room : room ≤ left + SHORT → NeedsRoom next left
   short_room spare = enough_room next left (omega (arith, enough, spare))
 
-  ends_by : (item : Store) (then : Then) → IsFinished (rest_of then (stored node item)) → Means next new (rest_of then (stored node item)) → NeedsRoom next left
+  ends_by : (item : Store) (then : Continuation) → IsFinished (rest_of then (stored node item)) → Means next new (rest_of then (stored node item)) → NeedsRoom next left
   ends_by item then is means = ended_room next left (finished_ends next new (rest_of then (stored node item)) is means)
 
   -- a long store is the only one of its turn
-  entries_room : (list : List Entry) (point : OpTime) (then : Then) → IsReady (stores.Record (records.Entries list point)) then standing
+  entries_room : (list : List Entry) (point : OpTime) (then : Continuation) → IsReady (stores.Record (records.Entries list point)) then standing
       → Means next new (rest_of then (stored node (stores.Record (records.Entries list point)))) → NeedsRoom next left
-  entries_room list point (thens.Flush count at) ready means = ends_by (stores.Record (records.Entries list point)) (thens.Flush count at) tt means
-  entries_room list point (thens.Campaign n tally sent) ready means = ends_by (stores.Record (records.Entries list point)) (thens.Campaign n tally sent) tt means
-  entries_room list point (thens.Drain config) ready means = ends_by (stores.Record (records.Entries list point)) (thens.Drain config) tt means
-  entries_room list point (thens.Checkpoint at) ready means = ends_by (stores.Record (records.Entries list point)) (thens.Checkpoint at) tt means
-  entries_room list point (thens.Reconfig config) ready means = ends_by (stores.Record (records.Entries list point)) (thens.Reconfig config) tt means
-  entries_room list point (thens.VoteInTerm n from ask why sent) ready means = ends_by (stores.Record (records.Entries list point)) (thens.VoteInTerm n from ask why sent) tt means
-  entries_room list point (thens.VoteGiven n from ask why sent) ready means = ends_by (stores.Record (records.Entries list point)) (thens.VoteGiven n from ask why sent) tt means
-  entries_room list point (thens.TookTerm term told) ready means = absurd (entries_not_vote list point _ ready.item_is)
-  entries_room list point (thens.Installed config hearing) ready means = ends_by (stores.Record (records.Entries list point)) (thens.Installed config hearing) tt means
-  entries_room list point (thens.Cut at removed lost) ready means = ends_by (stores.Record (records.Entries list point)) (thens.Cut at removed lost) tt means
+  entries_room list point (continuations.Flush count at) ready means = ends_by (stores.Record (records.Entries list point)) (continuations.Flush count at) tt means
+  entries_room list point (continuations.Campaign n tally sent) ready means = ends_by (stores.Record (records.Entries list point)) (continuations.Campaign n tally sent) tt means
+  entries_room list point (continuations.Drain config) ready means = ends_by (stores.Record (records.Entries list point)) (continuations.Drain config) tt means
+  entries_room list point (continuations.Checkpoint at) ready means = ends_by (stores.Record (records.Entries list point)) (continuations.Checkpoint at) tt means
+  entries_room list point (continuations.Reconfig config) ready means = ends_by (stores.Record (records.Entries list point)) (continuations.Reconfig config) tt means
+  entries_room list point (continuations.VoteInTerm n from ask why sent) ready means = ends_by (stores.Record (records.Entries list point)) (continuations.VoteInTerm n from ask why sent) tt means
+  entries_room list point (continuations.VoteGiven n from ask why sent) ready means = ends_by (stores.Record (records.Entries list point)) (continuations.VoteGiven n from ask why sent) tt means
+  entries_room list point (continuations.TookTerm term told) ready means = absurd (entries_not_vote list point _ ready.item_is)
+  entries_room list point (continuations.Installed config hearing) ready means = ends_by (stores.Record (records.Entries list point)) (continuations.Installed config hearing) tt means
+  entries_room list point (continuations.Cut at removed lost) ready means = ends_by (stores.Record (records.Entries list point)) (continuations.Cut at removed lost) tt means
 
-  checkpoint_room : (at : OpTime) (then : Then) → IsReady (stores.Checkpoint at) then standing
+  checkpoint_room : (at : OpTime) (then : Continuation) → IsReady (stores.Checkpoint at) then standing
       → Means next new (rest_of then (stored node (stores.Checkpoint at))) → NeedsRoom next left
-  checkpoint_room at (thens.Flush count point) ready means = ends_by (stores.Checkpoint at) (thens.Flush count point) tt means
-  checkpoint_room at (thens.Campaign n tally sent) ready means = ends_by (stores.Checkpoint at) (thens.Campaign n tally sent) tt means
-  checkpoint_room at (thens.Drain config) ready means = ends_by (stores.Checkpoint at) (thens.Drain config) tt means
-  checkpoint_room at (thens.Checkpoint o) ready means = ends_by (stores.Checkpoint at) (thens.Checkpoint o) tt means
-  checkpoint_room at (thens.Reconfig config) ready means = ends_by (stores.Checkpoint at) (thens.Reconfig config) tt means
-  checkpoint_room at (thens.VoteInTerm n from ask why sent) ready means = ends_by (stores.Checkpoint at) (thens.VoteInTerm n from ask why sent) tt means
-  checkpoint_room at (thens.VoteGiven n from ask why sent) ready means = ends_by (stores.Checkpoint at) (thens.VoteGiven n from ask why sent) tt means
-  checkpoint_room at (thens.TookTerm term told) ready means = absurd (checkpoint_not_record at _ ready.item_is)
-  checkpoint_room at (thens.Installed config hearing) ready means = ends_by (stores.Checkpoint at) (thens.Installed config hearing) tt means
-  checkpoint_room at (thens.Cut o removed lost) ready means = ends_by (stores.Checkpoint at) (thens.Cut o removed lost) tt means
+  checkpoint_room at (continuations.Flush count point) ready means = ends_by (stores.Checkpoint at) (continuations.Flush count point) tt means
+  checkpoint_room at (continuations.Campaign n tally sent) ready means = ends_by (stores.Checkpoint at) (continuations.Campaign n tally sent) tt means
+  checkpoint_room at (continuations.Drain config) ready means = ends_by (stores.Checkpoint at) (continuations.Drain config) tt means
+  checkpoint_room at (continuations.Checkpoint o) ready means = ends_by (stores.Checkpoint at) (continuations.Checkpoint o) tt means
+  checkpoint_room at (continuations.Reconfig config) ready means = ends_by (stores.Checkpoint at) (continuations.Reconfig config) tt means
+  checkpoint_room at (continuations.VoteInTerm n from ask why sent) ready means = ends_by (stores.Checkpoint at) (continuations.VoteInTerm n from ask why sent) tt means
+  checkpoint_room at (continuations.VoteGiven n from ask why sent) ready means = ends_by (stores.Checkpoint at) (continuations.VoteGiven n from ask why sent) tt means
+  checkpoint_room at (continuations.TookTerm term told) ready means = absurd (checkpoint_not_record at _ ready.item_is)
+  checkpoint_room at (continuations.Installed config hearing) ready means = ends_by (stores.Checkpoint at) (continuations.Installed config hearing) tt means
+  checkpoint_room at (continuations.Cut o removed lost) ready means = ends_by (stores.Checkpoint at) (continuations.Cut o removed lost) tt means
 
   -- there is room for what is left of a turn
-  pub room_on : (item : Store) (then : Then) → IsReady item then standing → (IsShortStore item → room ≤ left + SHORT)
+  pub room_on : (item : Store) (then : Continuation) → IsReady item then standing → (IsShortStore item → room ≤ left + SHORT)
       → Means next new (rest_of then (stored node item)) → NeedsRoom next left
   room_on (stores.Record (records.Vote vote)) then ready spare means = short_room (spare tt)
   room_on (stores.Record (records.Config config)) then ready spare means = short_room (spare tt)
@@ -169,12 +169,12 @@ module _ (standing : Standing) (next : Turn) (node new : Node) (room left : ℕ)
 -- ---- turns that never want memory
 
 -- a turn whose stores are short doesn't begin with a long one
-pub not_long : (m : ℕ) (turn : Turn) (new : Node) (plan : Plan) (r : List Record) (s : OpTime) → Means turn new plan → Does IsShortStore (suc m) r s plan → ¬ IsLong turn
+pub not_long : (m : ℕ) (turn : Turn) (new : Node) (plan : Plan) (r : List Record) (s : OpTime) → Means turn new plan → Does IsShortStore (suc m) r s plan → ¬ BeginsUnreserved turn
 not_long m (Finished answer sent) new plan r s means does long = long
 not_long m (Storing item then) new plan r s means does long = long (turn_stores IsShortStore m item then new plan r s means does)
 
 -- only a long command begins with a long store
-pub long_only : (command : Command) (turn : Turn) (new : Node) (plan : Plan) (r : List Record) (s : OpTime) → Means turn new plan → Does (MayPut command) 1 r s plan → IsLong turn
+pub long_only : (command : Command) (turn : Turn) (new : Node) (plan : Plan) (r : List Record) (s : OpTime) → Means turn new plan → Does (MayPut command) 1 r s plan → BeginsUnreserved turn
     → is_long command ≡ true
 long_only command (Finished answer sent) new plan r s means does long = absurd long
 long_only command (Storing item then) new plan r s means does long =

@@ -24,7 +24,7 @@ use Rattle.node_state.proofs.EntryLemmas.{last_most}
 use Rattle.node_state.proofs.RestartLemmas.{no_further}
 use Rattle.node_state.proofs.WellKeptLemmas.{read_recovered, read_whole, well_recovered}
 use Rattle.node_core.specs.Coming.{IsFound, IsPrepared, cut_point, cut_records}
-use Rattle.node_core.specs.Down.{Left, down_node}
+use Rattle.node_core.specs.Down.{DownState, down_node}
 use Rattle.node_core.specs.declared.coming_up.Found.{Found}
 use Rattle.node_core.specs.declared.coming_up.Prepared.{Prepared}
 
@@ -94,7 +94,7 @@ module _ (node : Node) (found : Found) (is : IsFound node found) (cut : Option O
   last_is : found.kept.point ≡ last_of (kept (cut_records cut node.records)).entries
   last_is = last_read (cut_records cut node.records) node.stable found.kept with_it.well (with_it.read found.kept is.kept_is)
 
-pub prepared_so : (found : Found) (memory : Node) (left : Left) (prepared : Prepared) → IsFound (down_node memory left) found
+pub prepared_so : (found : Found) (memory : Node) (left : DownState) (prepared : Prepared) → IsFound (down_node memory left) found
     → prepared.count ≡ found.kept.count → prepared.cut ≡ cut_point found.kept → prepared.last ≡ found.kept.point
     → (number : ℕ) (first : Config) (items : List Record) → number ≡ memory.number → first ≡ memory.first → items ≡ cut_records prepared.cut left.records
     → prepared.state.node ≡ come_back (coming first number items found.stable.at left.rollback left.clock) (kept items)

@@ -47,14 +47,14 @@ use Rattle.set_model.specs.Write.{write, written}
 use Rattle.set_model.specs.Writers.{begin, begun, unless_open, with_open, commit, abort}
 use Rattle.node_state.specs.Bounds.{is_own}
 use Rattle.node_core.specs.Putting.{IsShortStore}
-use Rattle.node_state.specs.Told.{told_plan, heard_then}
+use Rattle.node_state.specs.MessageContinuation.{message_plan, heard_outcome}
 use Rattle.node_state.specs.Turns.{Means, rest_of}
 use Rattle.node_state.specs.declared.turn.Answer.{Answer}
-use Rattle.node_state.specs.declared.turn.Hearing.{Hearing}
-use Rattle.node_state.specs.declared.turn.Then.{Then}
-use Rattle.node_state.specs.declared.turn.Then.TheVariants as thens
-use Rattle.node_state.specs.declared.turn.Told.{Told}
-use Rattle.node_state.specs.declared.turn.Told.TheVariants as tolds
+use Rattle.node_state.specs.declared.turn.HeardBeat.{HeardBeat}
+use Rattle.node_state.specs.declared.turn.Continuation.{Continuation}
+use Rattle.node_state.specs.declared.turn.Continuation.TheVariants as continuations
+use Rattle.node_state.specs.declared.turn.MessageContinuation.{MessageContinuation}
+use Rattle.node_state.specs.declared.turn.MessageContinuation.TheVariants as message_continuations
 use Rattle.node_state.specs.declared.turn.Turn.{Turn}
 use Rattle.node_state.specs.declared.turn.Turn.TheVariants.{Finished, Storing}
 
@@ -109,18 +109,18 @@ turn_kept P (suc m) (Storing item behind) new plan r s means does =
     let d = subst (λ (p : Plan). Does P (suc m) r s p) means does in (d.0, d.1)
 
 -- what it stores
-pub turn_stores : (P : Store → Type 0) (m : ℕ) (item : Store) (behind : Then) (new : Node) (plan : Plan) (r : List Record) (s : OpTime)
+pub turn_stores : (P : Store → Type 0) (m : ℕ) (item : Store) (behind : Continuation) (new : Node) (plan : Plan) (r : List Record) (s : OpTime)
     → Means (Storing item behind) new plan → Does P (suc m) r s plan → P item
 turn_stores P m item behind new plan r s means does = (subst (λ (p : Plan). Does P (suc m) r s p) means does).2
 
 -- ---- how a row goes on
 
 answered_kept : (answer : Option Answer) (node : Node) (r : List Record) (s : OpTime) → (node.records ≡ r) → (node.stable ≡ s)
-    → IsKept r s (Rattle.node_state.specs.Told.answered answer node)
+    → IsKept r s (Rattle.node_state.specs.MessageContinuation.answered answer node)
 answered_kept None node r s one other = (one, other)
 answered_kept (Some answer) node r s one other = (one, other)
 
-heard_kept : (hearing : Hearing) (node : Node) → IsKept node.records node.stable (heard_then hearing node)
+heard_kept : (hearing : HeardBeat) (node : Node) → IsKept node.records node.stable (heard_outcome hearing node)
 heard_kept hearing node = answered_kept hearing.answer _ node.records node.stable refl refl
 
 pub entries_kept : (node : Node) (from : ℕ) (fetched : FetchReply) → IsKept node.records node.stable (entries_told node from fetched)
@@ -128,25 +128,25 @@ entries_kept node from fetched =
     kept_if node.records node.stable (not (is_secondary node.role)) _ _ (refl, refl)
     (kept_if node.records node.stable (not (fetching.continues (last_point node) fetched)) _ _ (refl, refl) (refl, refl))
 
-told_does : (told : Told) (node : Node) → Does IsShortStore 1 node.records node.stable (told_plan told node)
-told_does (tolds.Answered next sent) node = (refl, refl)
-told_does (tolds.Fetched from fetched) node = entries_kept node from fetched
-told_does (tolds.Heard None kept hearing) node = heard_kept hearing _
-told_does (tolds.Heard (Some config) kept hearing) node = (refl, refl, tt, heard_kept hearing _)
-told_does (tolds.RolledBack point removed lost) node = (refl, refl, tt, (refl, refl))
-told_does (tolds.Ignored why) node = (refl, refl)
+told_does : (told : MessageContinuation) (node : Node) → Does IsShortStore 1 node.records node.stable (message_plan told node)
+told_does (message_continuations.Answered next sent) node = (refl, refl)
+told_does (message_continuations.Fetched from fetched) node = entries_kept node from fetched
+told_does (message_continuations.Heard None kept hearing) node = heard_kept hearing _
+told_does (message_continuations.Heard (Some config) kept hearing) node = (refl, refl, tt, heard_kept hearing _)
+told_does (message_continuations.RolledBack point removed lost) node = (refl, refl, tt, (refl, refl))
+told_does (message_continuations.Ignored why) node = (refl, refl)
 
-pub rest_does : (behind : Then) (node : Node) → Does IsShortStore 1 node.records node.stable (rest_of behind node)
-rest_does (thens.Campaign next tally sent) node = kept_if node.records node.stable (is_elected (candidate node)) _ _ (refl, refl) (refl, refl)
-rest_does (thens.Drain config) node = (refl, refl)
-rest_does (thens.Flush count point) node = (refl, refl)
-rest_does (thens.Checkpoint at) node = (refl, refl)
-rest_does (thens.Reconfig config) node = (refl, refl)
-rest_does (thens.VoteInTerm next from ask why sent) node = (refl, refl)
-rest_does (thens.VoteGiven next from ask why sent) node = (refl, refl)
-rest_does (thens.TookTerm term told) node = told_does told _
-rest_does (thens.Installed config hearing) node = heard_kept hearing _
-rest_does (thens.Cut point removed lost) node = (refl, refl)
+pub rest_does : (behind : Continuation) (node : Node) → Does IsShortStore 1 node.records node.stable (rest_of behind node)
+rest_does (continuations.Campaign next tally sent) node = kept_if node.records node.stable (is_elected (candidate node)) _ _ (refl, refl) (refl, refl)
+rest_does (continuations.Drain config) node = (refl, refl)
+rest_does (continuations.Flush count point) node = (refl, refl)
+rest_does (continuations.Checkpoint at) node = (refl, refl)
+rest_does (continuations.Reconfig config) node = (refl, refl)
+rest_does (continuations.VoteInTerm next from ask why sent) node = (refl, refl)
+rest_does (continuations.VoteGiven next from ask why sent) node = (refl, refl)
+rest_does (continuations.TookTerm term told) node = told_does told _
+rest_does (continuations.Installed config hearing) node = heard_kept hearing _
+rest_does (continuations.Cut point removed lost) node = (refl, refl)
 
 -- ---- rows
 

@@ -3,13 +3,13 @@ use Rattle.std.proofs.Common.{◌≡◌, inl, ap, sym, subst, refl, ℕ, List, [
 use Rattle.rs_disk.specs.File.{IsEmpty, contents}
 use Rattle.rs_disk.specs.State.{State}
 use Rattle.member_config.specs.declared.config.Config.{Config}
-use Rattle.node_journal.specs.Files.{HasJournal, IsAtRest as JournalRests}
+use Rattle.node_journal.specs.Files.{HasJournal, IsAtRest as JournalAtRest}
 use Rattle.checkpoint_store.specs.Checkpoint.{no_stable}
-use Rattle.checkpoint_store.specs.Files.{HasCheckpoint, IsAtRest as CheckpointRests}
+use Rattle.checkpoint_store.specs.Files.{HasCheckpoint, IsAtRest as CheckpointsAtRest}
 use Rattle.checkpoint_store.specs.declared.stable.Stable.{Stable}
 use Rattle.checkpoint_store.proofs.OnceLemmas.{checkpoint_once}
 use Rattle.set_model.specs.Node.{Node, opening_node}
-use Rattle.node_core.specs.Resting.{Rests}
+use Rattle.node_core.specs.OnDisks.{UpOnDisks}
 use Rattle.node_core.specs.Stands.{Stands}
 
 -- no bytes are no records
@@ -37,11 +37,11 @@ empty_stands config number j c first second = record {
   documents = λ image left. inl (no_checkpoint image (second.leaves image left));
 }
 
-pub opens_rested : (config : Config) (number : ℕ) (node : Node) (j c c' : State) (stable : Stable) → node ≡ opening_node config number → JournalRests j [] → IsEmpty c.file
-    → HasCheckpoint (contents c.file) stable → CheckpointRests c' stable → Rests node 0 j c'
+pub opens_rested : (config : Config) (number : ℕ) (node : Node) (j c c' : State) (stable : Stable) → node ≡ opening_node config number → JournalAtRest j [] → IsEmpty c.file
+    → HasCheckpoint (contents c.file) stable → CheckpointsAtRest c' stable → UpOnDisks node 0 j c'
 opens_rested config number node j c c' stable is records empty has documents =
-    subst (λ (n : Node). Rests n 0 j c') (sym is) (record {
+    subst (λ (n : Node). UpOnDisks n 0 j c') (sym is) (record {
       counted = refl;
       records = records;
-      documents = subst (λ (s : Stable). CheckpointRests c' s) (checkpoint_once (contents c.file) stable no_stable has (empty_checkpoint c empty)) documents;
+      documents = subst (λ (s : Stable). CheckpointsAtRest c' s) (checkpoint_once (contents c.file) stable no_stable has (empty_checkpoint c empty)) documents;
     })

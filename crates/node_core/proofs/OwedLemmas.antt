@@ -14,7 +14,7 @@ use Rattle.node_state.specs.Ready.{CanBeStored}
 use Rattle.node_state.specs.WellKept.{StoresWell}
 use Rattle.node_state.proofs.VoterLemmas.{few_members}
 use Rattle.node_core.specs.Putting.{CanBePut}
-use Rattle.node_core.specs.Resting.{IsWellKeptWith}
+use Rattle.node_core.specs.OnDisks.{IsWellKeptWith}
 use Rattle.node_core.proofs.SavableLemmas.{savable}
 
 -- ---- what a journal takes

@@ -6,7 +6,7 @@ use Rattle.rs_disk.specs.File.{File, LeavesOnly}
 use Rattle.rs_disk.specs.State.{State, IsArmed, IsCut}
 use Rattle.node_journal.specs.Files.{HasJournal}
 use Rattle.node_journal.proofs.DiskLemmas.{rest_only, rest_stays}
-use Rattle.checkpoint_store.specs.Files.{HasCheckpoint, IsAtRest as CheckpointRests}
+use Rattle.checkpoint_store.specs.Files.{HasCheckpoint, IsAtRest as CheckpointsAtRest}
 use Rattle.checkpoint_store.specs.declared.stable.Stable.{Stable}
 use Rattle.checkpoint_store.proofs.OnceLemmas.{rest_has}
 use Rattle.set_model.specs.declared.command.Command.TheVariants.{Crash, DiskFail}
@@ -22,8 +22,8 @@ use Rattle.set_model.specs.Rows.{row}
 use Rattle.set_model.specs.Stores.{finished}
 use Rattle.node_state.specs.WellKept.{IsWellKept}
 use Rattle.node_core.specs.Acting.{Acted, Arms, ArmedBefore, DisksActed, Fails, orders_after}
-use Rattle.node_core.specs.Down.{Left, down_node, seen_node}
-use Rattle.node_core.specs.Resting.{IsResting, Lies, Rests}
+use Rattle.node_core.specs.Down.{DownState, down_node, seen_node}
+use Rattle.node_core.specs.OnDisks.{IsOnDisks, DownOnDisks, UpOnDisks}
 use Rattle.node_core.specs.Stands.{HasDocumentsOf, HasRecordsOf, Stands, documents_at}
 use Rattle.node_core.specs.declared.done.Done.{Done}
 use Rattle.node_core.proofs.ActingLemmas.{answered_follows, resting_stands, unfailed, unkept}
@@ -60,22 +60,22 @@ same_armed old new same is = subst (λ (b : Bool). IsTrue b) same is
 up_not : false ≡ true → ⊥
 up_not h = cc
 
-module _ (pick : ℕ) (node : Node) (left : Left) (j j' c c' : State) (one : IsCut pick j j') (two : IsCut pick c c')
+module _ (pick : ℕ) (node : Node) (left : DownState) (j j' c c' : State) (one : IsCut pick j j') (two : IsCut pick c c')
     (is : down_node node left ≡ record (down node) { doubt = None }) where
-  cut_stands : (count : ℕ) → Rests node count j c → Stands (record (down node) { doubt = None }) j' c'
+  cut_stands : (count : ℕ) → UpOnDisks node count j c → Stands (record (down node) { doubt = None }) j' c'
   cut_stands count rests = record {
     records = λ image leaves. inl (cut_leaves (λ (bytes : List ℕ). HasJournal bytes node.records) pick j j' one (rest_only j node.records rests.records) image leaves);
     documents = λ image leaves. inl (cut_leaves (λ (bytes : List ℕ). HasCheckpoint bytes (documents_at node node.stable)) pick c c' two (rest_has c (documents_at node node.stable) rests.documents) image leaves);
   }
 
   -- how its disks then are
-  pub cut_lies : (up : Bool) (before : Left) (count later : ℕ) → up ≡ true → IsResting up node before count j c → later ≡ count → IsWellKept node.records node.stable
-      → IsResting false node left later j' c'
+  pub cut_lies : (up : Bool) (before : DownState) (count later : ℕ) → up ≡ true → IsOnDisks up node before count j c → later ≡ count → IsWellKept node.records node.stable
+      → IsOnDisks false node left later j' c'
   cut_lies true before count later is_up rests same well =
-      subst (λ (n : Node). Lies n later j' c') (sym is) (record { counted = same ∙ rests.counted; stands = cut_stands count rests; well = well; doubtful = tt })
+      subst (λ (n : Node). DownOnDisks n later j' c') (sym is) (record { counted = same ∙ rests.counted; stands = cut_stands count rests; well = well; doubtful = tt })
   cut_lies false before count later is_up lies same well = absurd (up_not is_up)
 
-  pub acted_crash : (up : Bool) (before : Left) (count : ℕ) → up ≡ true → IsResting up node before count j c → (nodes next number : ℕ) (done : Done) → node.up ≡ true → node.doubt ≡ None
+  pub acted_crash : (up : Bool) (before : DownState) (count : ℕ) → up ≡ true → IsOnDisks up node before count j c → (nodes next number : ℕ) (done : Done) → node.up ≡ true → node.doubt ≡ None
       → done.reply ≡ reply.Down → done.sent.items ≡ [] → done.failed ≡ None → done.kept ≡ false
       → Acted (row nodes next false (seen_node up node before) (Crash number pick)) (Crash number pick) (seen_node up node before) (down_node node left) j j' c c' done
   acted_crash false before count is_up lies nodes next number done up settled answer sent failed kept = absurd (up_not is_up)
@@ -105,7 +105,7 @@ arms_files : (disk : DiskName) (call : ℕ) (pick : Option ℕ) (j j' c c' : Sta
 arms_files disks.Journal call pick j j' c c' arms = (ap (λ (s : State). s.file) arms.0, ap (λ (s : State). s.file) arms.1)
 arms_files disks.Checkpoint call pick j j' c c' arms = (ap (λ (s : State). s.file) arms.0, ap (λ (s : State). s.file) arms.1)
 
-documents_stay : (old new : State) (stable : Stable) → new.file ≡ old.file → CheckpointRests old stable → CheckpointRests new stable
+documents_stay : (old new : State) (stable : Stable) → new.file ≡ old.file → CheckpointsAtRest old stable → CheckpointsAtRest new stable
 documents_stay old new stable same rests = record {
   records = rests.records;
   rests = record {
@@ -121,8 +121,8 @@ stands_still node j j' c c' one two stands = record {
   documents = subst (λ (file : File). LeavesOnly (HasDocumentsOf node) file) (sym two) stands.documents;
 }
 
-module _ (disk : DiskName) (call : ℕ) (pick : Option ℕ) (node : Node) (left : Left) (count : ℕ) (j j' c c' : State) (arms : Arms disk call pick j j' c c') where
-  pub armed_rests : (up : Bool) (later : ℕ) → later ≡ count → IsResting up node left count j c → IsResting up node left later j' c'
+module _ (disk : DiskName) (call : ℕ) (pick : Option ℕ) (node : Node) (left : DownState) (count : ℕ) (j j' c c' : State) (arms : Arms disk call pick j j' c c') where
+  pub armed_rests : (up : Bool) (later : ℕ) → later ≡ count → IsOnDisks up node left count j c → IsOnDisks up node left later j' c'
   armed_rests true later same rests =
       let files = arms_files disk call pick j j' c c' arms in
       record {
@@ -134,7 +134,7 @@ module _ (disk : DiskName) (call : ℕ) (pick : Option ℕ) (node : Node) (left 
       let files = arms_files disk call pick j j' c c' arms in
       record { counted = same ∙ lies.counted; stands = stands_still (down_node node left) j j' c c' files.0 files.1 lies.stands; well = lies.well; doubtful = lies.doubtful }
 
-  pub acted_fail : (up : Bool) → IsResting up node left count j c → (nodes next number : ℕ) (done : Done) → done.reply ≡ reply.Armed → done.sent.items ≡ [] → done.failed ≡ None → done.kept ≡ false
+  pub acted_fail : (up : Bool) → IsOnDisks up node left count j c → (nodes next number : ℕ) (done : Done) → done.reply ≡ reply.Armed → done.sent.items ≡ [] → done.failed ≡ None → done.kept ≡ false
       → Acted (row nodes next false (seen_node up node left) (DiskFail number disk call pick)) (DiskFail number disk call pick) (seen_node up node left) (seen_node up node left) j j' c c' done
   acted_fail up resting nodes next number done answer sent failed kept = record {
     follows = answered_follows (row nodes next false seen (DiskFail number disk call pick)) seen reply.Armed done refl answer sent failed;

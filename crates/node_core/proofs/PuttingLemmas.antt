@@ -18,9 +18,9 @@ use Rattle.node_journal.specs.Layout.{record_bytes}
 use Rattle.node_journal.specs.Room.{IsShort}
 use Rattle.node_journal.proofs.SizeLemmas.{vote_size, config_size, optime_size}
 use Rattle.version_store.specs.Store.{Store as Documented, shown_at}
-use Rattle.node_journal.specs.Files.{IsAtRest as JournalRests, IsBeforeOrAfter}
+use Rattle.node_journal.specs.Files.{IsAtRest as JournalAtRest, IsBeforeOrAfter}
 use Rattle.node_journal.proofs.DiskLemmas.{rest_only, rest_reserved}
-use Rattle.checkpoint_store.specs.Files.{IsAtRest as CheckpointRests, IsBeforeOrAfter as IsOldOrNew}
+use Rattle.checkpoint_store.specs.Files.{IsAtRest as CheckpointsAtRest, IsBeforeOrAfter as IsOldOrNew}
 use Rattle.checkpoint_store.specs.Shown.{AllCanBeSaved, Shows}
 use Rattle.checkpoint_store.specs.declared.stable.Stable.{Stable}
 use Rattle.checkpoint_store.proofs.OnceLemmas.{rest_has, rest_reserved as documents_reserved}
@@ -30,14 +30,14 @@ use Rattle.set_model.specs.declared.store.Store.TheVariants as stores
 use Rattle.set_model.specs.Node.{Node}
 use Rattle.set_model.specs.Stores.{stored, in_doubt}
 use Rattle.node_ledger.specs.Ledger.{IsReadable}
-use Rattle.node_core.specs.Acting.{AreSame, DisksLeft, Runs}
+use Rattle.node_core.specs.Acting.{AreSame, DisksLeft, RunsWithoutOrders}
 use Rattle.node_core.specs.Putting.{IsKeepable, IsSavable, Puts}
-use Rattle.node_core.specs.Resting.{Rests}
+use Rattle.node_core.specs.OnDisks.{UpOnDisks}
 use Rattle.node_core.specs.Stands.{Stands, documents_at}
 
 -- ---- no orders
 
-pub runs_none : (j c : State) → Runs ⊥ j j c c
+pub runs_none : (j c : State) → RunsWithoutOrders ⊥ j j c c
 runs_none j c = record {
   fails = record {
     journal_faults = omega arith;
@@ -53,7 +53,7 @@ runs_none j c = record {
   checkpoints_orders = refl;
 }
 
-pub runs_journal : {Fault : Type 0} (j j' c : State) → Keeps Fault j j' → Runs Fault j j' c c
+pub runs_journal : {Fault : Type 0} (j j' c : State) → Keeps Fault j j' → RunsWithoutOrders Fault j j' c c
 runs_journal j j' c keeps = record {
   fails = record {
     journal_faults = keeps.faults;
@@ -69,7 +69,7 @@ runs_journal j j' c keeps = record {
   checkpoints_orders = refl;
 }
 
-pub runs_checkpoints : {Fault : Type 0} (j c c' : State) → Keeps Fault c c' → Runs Fault j j c c'
+pub runs_checkpoints : {Fault : Type 0} (j c c' : State) → Keeps Fault c c' → RunsWithoutOrders Fault j j c c'
 runs_checkpoints j c c' keeps = record {
   fails = record {
     journal_faults = omega arith;
@@ -103,12 +103,12 @@ pub same_then : (j0 j1 j2 c0 c1 c2 : State) → AreSame j0 j1 c0 c1 → AreSame 
 same_then j0 j1 j2 c0 c1 c2 first second =
     record { journal = room_then j0 j1 j2 first.journal second.journal; checkpoints = room_then c0 c1 c2 first.checkpoints second.checkpoints }
 
-pub runs_same : (j j' c c' : State) → AreSame j j' c c' → Runs ⊥ j j' c c'
+pub runs_same : (j j' c c' : State) → AreSame j j' c c' → RunsWithoutOrders ⊥ j j' c c'
 runs_same j j' c c' same =
-    subst (λ (s : State). Runs ⊥ j s c c') (sym same.journal)
-    (subst (λ (s : State). Runs ⊥ j (record j { room = j'.room }) c s) (sym same.checkpoints) (at_rooms j c j'.room c'.room))
+    subst (λ (s : State). RunsWithoutOrders ⊥ j s c c') (sym same.journal)
+    (subst (λ (s : State). RunsWithoutOrders ⊥ j (record j { room = j'.room }) c s) (sym same.checkpoints) (at_rooms j c j'.room c'.room))
   where
-    at_rooms : (j c : State) (one two : ℕ) → Runs ⊥ j (record j { room = one }) c (record c { room = two })
+    at_rooms : (j c : State) (one two : ℕ) → RunsWithoutOrders ⊥ j (record j { room = one }) c (record c { room = two })
     at_rooms j c one two = record {
       fails = record {
         journal_faults = omega arith;
@@ -125,16 +125,16 @@ runs_same j j' c c' same =
     }
 
 -- a reservation
-pub runs_reserved : (j j' c : State) → SameButRoom j j' → Runs ⊥ j j' c c
+pub runs_reserved : (j j' c : State) → SameButRoom j j' → RunsWithoutOrders ⊥ j j' c c
 runs_reserved j j' c same = runs_same j j' c c (same_journal j j' c same)
 
 -- a command that wasn't done
-pub left_runs : (command : Command) (j j' c c' : State) → DisksLeft command j j' c c' → Runs ⊥ j j' c c'
+pub left_runs : (command : Command) (j j' c c' : State) → DisksLeft command j j' c c' → RunsWithoutOrders ⊥ j j' c c'
 left_runs (Restart node) j j' c c' left = left.runs
 left_runs _ j j' c c' left = runs_same j j' c c' left
 
 -- one run after another: a fault is one of the first or of the second
-pub runs_then : {F G H : Type 0} (j0 j1 j2 c0 c1 c2 : State) → (H → F ⊎ G) → Runs F j0 j1 c0 c1 → Runs G j1 j2 c1 c2 → Runs H j0 j2 c0 c2
+pub runs_then : {F G H : Type 0} (j0 j1 j2 c0 c1 c2 : State) → (H → F ⊎ G) → RunsWithoutOrders F j0 j1 c0 c1 → RunsWithoutOrders G j1 j2 c1 c2 → RunsWithoutOrders H j0 j2 c0 c2
 runs_then j0 j1 j2 c0 c1 c2 from first second = record {
   fails = record {
     journal_faults = omega (arith, first.fails.journal_faults, second.fails.journal_faults);
@@ -158,7 +158,7 @@ runs_then j0 j1 j2 c0 c1 c2 from first second = record {
 }
 
 -- fewer faults
-pub runs_as : {F H : Type 0} (j j' c c' : State) → (H → F) → Runs F j j' c c' → Runs H j j' c c'
+pub runs_as : {F H : Type 0} (j j' c c' : State) → (H → F) → RunsWithoutOrders F j j' c c' → RunsWithoutOrders H j j' c c'
 runs_as j j' c c' from runs = record {
   fails = record {
     journal_faults = runs.fails.journal_faults;
@@ -176,11 +176,11 @@ runs_as j j' c c' from runs = record {
 
 -- ---- a node with the same records rests as well
 
-pub rests_same : (node new : Node) (count : ℕ) (j c : State) → new.records ≡ node.records → new.stable ≡ node.stable → Rests node count j c → Rests new count j c
+pub rests_same : (node new : Node) (count : ℕ) (j c : State) → new.records ≡ node.records → new.stable ≡ node.stable → UpOnDisks node count j c → UpOnDisks new count j c
 rests_same node new count j c records stable rests = record {
   counted = rests.counted ∙ ap (λ (l : List Record). length l) (sym records);
-  records = subst (λ (l : List Record). JournalRests j l) (sym records) rests.records;
-  documents = subst (λ (s : Stable). CheckpointRests c s) same rests.documents;
+  records = subst (λ (l : List Record). JournalAtRest j l) (sym records) rests.records;
+  documents = subst (λ (s : Stable). CheckpointsAtRest c s) same rests.documents;
 }
   where
     same : documents_at node node.stable ≡ documents_at new new.stable
@@ -188,7 +188,7 @@ rests_same node new count j c records stable rests = record {
 
 -- ---- and so does one whose disks are as they were
 
-pub rests_left : (node : Node) (count : ℕ) (j j' c c' : State) → AreSame j j' c c' → Rests node count j c → Rests node count j' c'
+pub rests_left : (node : Node) (count : ℕ) (j j' c c' : State) → AreSame j j' c c' → UpOnDisks node count j c → UpOnDisks node count j' c'
 rests_left node count j j' c c' same rests = record {
   counted = rests.counted;
   records = rest_reserved j j' node.records same.journal rests.records;
@@ -197,22 +197,22 @@ rests_left node count j j' c c' same rests = record {
 
 -- ---- a record
 
-module _ (node : Node) (item : Record) (count : ℕ) (j j' c : State) (rests : Rests node count j c) where
+module _ (node : Node) (item : Record) (count : ℕ) (j j' c : State) (rests : UpOnDisks node count j c) where
   -- it is added
-  pub added : IsKeepable node item → ((records : List Record) → JournalRests j records → JournalRests j' (records ++ item ∷ []))
-      → Rests (stored node (stores.Record item)) (count + 1) j' c
+  pub added : IsKeepable node item → ((records : List Record) → JournalAtRest j records → JournalAtRest j' (records ++ item ∷ []))
+      → UpOnDisks (stored node (stores.Record item)) (count + 1) j' c
   added can ok = record {
     counted = omega (arith, rests.counted, length-append node.records (item ∷ []));
     records = ok node.records rests.records;
-    documents = subst (λ (s : Stable). CheckpointRests c s) (sym can.same) rests.documents;
+    documents = subst (λ (s : Stable). CheckpointsAtRest c s) (sym can.same) rests.documents;
   }
 
   -- memory ran out
-  pub reserved : SameButRoom j j' → Rests node count j' c
+  pub reserved : SameButRoom j j' → UpOnDisks node count j' c
   reserved same = rests_left node count j j' c c (same_journal j j' c same) rests
 
   -- it is in doubt
-  pub doubted : ((records : List Record) → JournalRests j records → EachMoment (IsBeforeOrAfter records item) j j')
+  pub doubted : ((records : List Record) → JournalAtRest j records → EachMoment (IsBeforeOrAfter records item) j j')
       → Stands (in_doubt node (stores.Record item)) j' c
   doubted moments = record {
     records = λ image left. ⊎_elim inl (λ after. inr (item, refl, after)) ((moments node.records rests.records).now image left);
@@ -221,7 +221,7 @@ module _ (node : Node) (item : Record) (count : ℕ) (j j' c : State) (rests : R
 
 -- ---- a checkpoint
 
-module _ (node : Node) (at : OpTime) (count : ℕ) (j c c' : State) (rests : Rests node count j c) (can : IsSavable node at) (store : Documented)
+module _ (node : Node) (at : OpTime) (count : ℕ) (j c c' : State) (rests : UpOnDisks node count j c) (can : IsSavable node at) (store : Documented)
     (shown : (place : Place) (o : OpTime) → IsReadable node o → shown_at store place o ≡ get (docs (log_up_to o node.log)) place) where
   pub can_save : AllCanBeSaved store at
   can_save place document is = can.each place document (sym (shown place at can.readable) ∙ is)
@@ -233,18 +233,18 @@ module _ (node : Node) (at : OpTime) (count : ℕ) (j c c' : State) (rests : Res
   shows : Shows store at found
   shows place = ap (λ (m : Documents). get m place) (sym can.kept_so) ∙ sym (shown place at can.readable)
 
-  pub saved : ((documents : Documents) → Shows store at documents → (stable : Stable) → CheckpointRests c stable → CheckpointRests c' (record { at = at; documents = documents }))
-      → Rests (stored node (stores.Checkpoint at)) count j c'
+  pub saved : ((documents : Documents) → Shows store at documents → (stable : Stable) → CheckpointsAtRest c stable → CheckpointsAtRest c' (record { at = at; documents = documents }))
+      → UpOnDisks (stored node (stores.Checkpoint at)) count j c'
   saved ok = record {
     counted = rests.counted;
     records = rests.records;
     documents = ok found shows (documents_at node node.stable) rests.documents;
   }
 
-  pub unsaved : SameButRoom c c' → Rests node count j c'
+  pub unsaved : SameButRoom c c' → UpOnDisks node count j c'
   unsaved same = rests_left node count j j c c' (same_checkpoints j c c' same) rests
 
-  pub half_saved : ((documents : Documents) → Shows store at documents → (stable : Stable) → CheckpointRests c stable
+  pub half_saved : ((documents : Documents) → Shows store at documents → (stable : Stable) → CheckpointsAtRest c stable
       → EachMoment (IsOldOrNew stable (record { at = at; documents = documents })) c c')
       → Stands (in_doubt node (stores.Checkpoint at)) j c'
   half_saved moments = record {
@@ -272,9 +272,9 @@ short_size (records.Config config) short can = omega (arith, config_size config,
 short_size (records.Entries list point) short can = absurd short
 short_size (records.Cut at) short can = omega (arith, optime_size at)
 
-module _ (node : Node) (item : Record) (count : ℕ) (j j' c : State) (rests : Rests node count j c)
-    (moments : (records : List Record) → JournalRests j records → EachMoment (IsBeforeOrAfter records item) j j') where
-  pub record_put : IsKeepable node item → ((records : List Record) → JournalRests j records → JournalRests j' (records ++ item ∷ []))
+module _ (node : Node) (item : Record) (count : ℕ) (j j' c : State) (rests : UpOnDisks node count j c)
+    (moments : (records : List Record) → JournalAtRest j records → EachMoment (IsBeforeOrAfter records item) j j') where
+  pub record_put : IsKeepable node item → ((records : List Record) → JournalAtRest j records → JournalAtRest j' (records ++ item ∷ []))
       → Puts (Ok tt) node (stores.Record item) (count + 1) j' c
   record_put can ok = record {
     ok = added node item count j j' c rests can ok;
@@ -292,11 +292,11 @@ module _ (node : Node) (item : Record) (count : ℕ) (j j' c : State) (rests : R
   }
 
 -- a checkpoint, by what its saving says
-pub checkpoint_put : (result : Result (Unit {0}) FileError) (node : Node) (at : OpTime) (count : ℕ) (j c c' : State) (rests : Rests node count j c) (can : IsSavable node at)
+pub checkpoint_put : (result : Result (Unit {0}) FileError) (node : Node) (at : OpTime) (count : ℕ) (j c c' : State) (rests : UpOnDisks node count j c) (can : IsSavable node at)
     (store : Documented) (shown : (place : Place) (o : OpTime) → IsReadable node o → shown_at store place o ≡ get (docs (log_up_to o node.log)) place)
-    → OnOk result ((documents : Documents) → Shows store at documents → (stable : Stable) → CheckpointRests c stable → CheckpointRests c' (record { at = at; documents = documents }))
+    → OnOk result ((documents : Documents) → Shows store at documents → (stable : Stable) → CheckpointsAtRest c stable → CheckpointsAtRest c' (record { at = at; documents = documents }))
     → RanOut result (SameButRoom c c')
-    → ((documents : Documents) → Shows store at documents → (stable : Stable) → CheckpointRests c stable
+    → ((documents : Documents) → Shows store at documents → (stable : Stable) → CheckpointsAtRest c stable
     → EachMoment (IsOldOrNew stable (record { at = at; documents = documents })) c c')
     → Puts result node (stores.Checkpoint at) count j c'
 checkpoint_put (Ok tt) node at count j c c' rests can store shown ok memory moments = record {

@@ -12,10 +12,10 @@ use Rattle.repl_msg.specs.Kept.{kept}
 use Rattle.repl_msg.specs.declared.record.Kept.{Kept}
 use Rattle.repl_msg.specs.declared.record.Record.{Record}
 use Rattle.repl_msg.proofs.HasLemmas.{same_is, same_itself}
-use Rattle.node_journal.specs.Files.{HasJournal, IsAtRest as JournalRests, IsOneOf as IsOneJournal}
+use Rattle.node_journal.specs.Files.{HasJournal, IsAtRest as JournalAtRest, IsOneOf as IsOneJournal}
 use Rattle.node_journal.proofs.ApartLemmas.{one_journal}
 use Rattle.node_journal.proofs.DiskLemmas.{kept_count, rest_reserved}
-use Rattle.checkpoint_store.specs.Files.{HasCheckpoint, IsAtRest as CheckpointRests, IsCheckpointDisk, IsOneOf as IsOneCheckpoint}
+use Rattle.checkpoint_store.specs.Files.{HasCheckpoint, IsAtRest as CheckpointsAtRest, IsCheckpointDisk, IsOneOf as IsOneCheckpoint}
 use Rattle.checkpoint_store.specs.declared.stable.Stable.{Stable}
 use Rattle.checkpoint_store.proofs.OnceLemmas.{checkpoint_once}
 use Rattle.set_model.specs.declared.store.Store.{Store}
@@ -23,10 +23,10 @@ use Rattle.set_model.specs.declared.store.Store.TheVariants as stores
 use Rattle.set_model.specs.Disk.{settled_doubt}
 use Rattle.set_model.specs.Node.{Node}
 use Rattle.set_model.specs.Stores.{stored}
-use Rattle.node_core.specs.Acting.{AreReopened, Runs}
+use Rattle.node_core.specs.Acting.{AreReopened, RunsWithoutOrders}
 use Rattle.node_core.specs.Coming.{IsFound, IsRead, is_there, settled}
-use Rattle.node_core.specs.Down.{Left, down_node}
-use Rattle.node_core.specs.Resting.{IsResting, IsWellKeptWith, Lies, Rests}
+use Rattle.node_core.specs.Down.{DownState, down_node}
+use Rattle.node_core.specs.OnDisks.{IsOnDisks, IsWellKeptWith, DownOnDisks, UpOnDisks}
 use Rattle.node_core.specs.Stands.{HasDocumentsOf, HasRecordsOf, Stands, documents_at}
 use Rattle.node_core.specs.declared.coming_up.Found.{Found}
 use Rattle.node_state.specs.WellKept.{IsWellKept}
@@ -75,17 +75,17 @@ pub then_reserved : (P : List ℕ → Type 0) (old mid new : State) → EachMome
 then_reserved P old mid new moments same =
     subst (λ (s : State). EachMoment P old s) (sym same) (record { since = moments.since; passed = moments.passed; left = moments.left; now = moments.now })
 
-pub reopened : {Fault : Type 0} (j j' c c' : State) → Runs Fault j j' c c' → EachMoment (IsOneJournal j) j j' → EachMoment (IsOneCheckpoint c) c c' → AreReopened j j' c c'
+pub reopened : {Fault : Type 0} (j j' c c' : State) → RunsWithoutOrders Fault j j' c c' → EachMoment (IsOneJournal j) j j' → EachMoment (IsOneCheckpoint c) c c' → AreReopened j j' c c'
 reopened j j' c c' runs journal checkpoints = record { runs = runs_as j j' c c' (λ none. absurd none) runs; journal = journal; checkpoints = checkpoints }
 
 -- both were read, and memory for a record was taken
 pub read_both : (found : Found) (j j1 j2 c c' : State) → SameButRoom j1 j2 → ((items : List Record) → HasJournal (contents j.file) items → found.kept ≡ kept items)
-    → ((items : List Record) → HasJournal (contents j.file) items → JournalRests j1 items) → HasCheckpoint (contents c.file) found.stable → CheckpointRests c' found.stable → IsRead found j j2 c c'
+    → ((items : List Record) → HasJournal (contents j.file) items → JournalAtRest j1 items) → HasCheckpoint (contents c.file) found.stable → CheckpointsAtRest c' found.stable → IsRead found j j2 c c'
 read_both found j j1 j2 c c' same kept rests stable checkpoints =
     record { kept_is = kept; journal = λ items has. rest_reserved j1 j2 items same (rests items has); stable_is = stable; checkpoints = checkpoints }
 
 -- no fault came of it
-pub runs_opened : {F G : Type 0} (H : Type 0) (j j1 j2 c c' : State) → (H → ⊥) → Keeps F j j1 → Keeps G c c' → SameButRoom j1 j2 → Runs H j j2 c c'
+pub runs_opened : {F G : Type 0} (H : Type 0) (j j1 j2 c c' : State) → (H → ⊥) → Keeps F j j1 → Keeps G c c' → SameButRoom j1 j2 → RunsWithoutOrders H j j2 c c'
 runs_opened {F} {G} H j j1 j2 c c' none journal checkpoints same =
     runs_then {F = ⊥} {G = ⊥} {H = H} j j1 j2 c c' c' (λ fault. absurd (none fault))
     (runs_then {F = F} {G = G} {H = ⊥} j j1 j1 c c c' (λ fault. absurd fault) (runs_journal j j1 c journal) (runs_checkpoints j1 c c' checkpoints))
@@ -114,10 +114,10 @@ no_more n m same = grind arith
 one_more : (n m : ℕ) → n + 1 ≡ m → nat_lt n m ≡ true
 one_more n m same = grind arith
 
-module _ (node : Node) (count : ℕ) (j j' c c' : State) (found : Found) (lies : Lies node count j c) (read : IsRead found j j' c c') where
+module _ (node : Node) (count : ℕ) (j j' c c' : State) (found : Found) (lies : DownOnDisks node count j c) (read : IsRead found j j' c c') where
   -- this is what the node keeps
   abbrev Settles : Node → Type 0
-  Settles n = IsFound n found × Rests n found.kept.count j' c'
+  Settles n = IsFound n found × UpOnDisks n found.kept.count j' c'
 
   counted_so : (items : List Record) → HasJournal (contents j.file) items → found.kept.count ≡ length items
   counted_so items has = ap (λ (k : Kept). k.count) (read.kept_is items has) ∙ kept_count items
@@ -128,7 +128,7 @@ module _ (node : Node) (count : ℕ) (j j' c c' : State) (found : Found) (lies :
     record {
       counted = counted_so n.records has;
       records = read.journal n.records has;
-      documents = subst (λ (s : Stable). CheckpointRests c' s) stable read.checkpoints;
+      documents = subst (λ (s : Stable). CheckpointsAtRest c' s) stable read.checkpoints;
     },
   )
 
@@ -192,7 +192,7 @@ module _ (node : Node) (count : ℕ) (j j' c c' : State) (found : Found) (lies :
           lies.well
 
   -- by what was found the node is settled
-  pub found_settles : IsFound (settled node count found) found × Rests (settled node count found) found.kept.count j' c'
+  pub found_settles : IsFound (settled node count found) found × UpOnDisks (settled node count found) found.kept.count j' c'
   found_settles = go node.doubt refl
     where
       go : (d : Option Store) → node.doubt ≡ d → Settles (settled_doubt node d (is_there d count found))
@@ -205,16 +205,16 @@ module _ (node : Node) (count : ℕ) (j j' c c' : State) (found : Found) (lies :
 -- ---- a node that comes up, or stays as it was
 
 -- it is ready for that
-pub goes_up : (old new : Node) (count more : ℕ) (found : Found) (j j' c c' : State) → Lies old count j c → IsRead found j j' c c' → new ≡ settled old count found
-    → more ≡ length new.records → IsWellKept new.records new.stable × Rests new more j' c'
+pub goes_up : (old new : Node) (count more : ℕ) (found : Found) (j j' c c' : State) → DownOnDisks old count j c → IsRead found j j' c c' → new ≡ settled old count found
+    → more ≡ length new.records → IsWellKept new.records new.stable × UpOnDisks new more j' c'
 goes_up old new count more found j j' c c' lies read is counted =
     let both = found_settles old count j j' c c' found lies read in
-    subst (λ (n : Node). more ≡ length n.records → IsWellKept n.records n.stable × Rests n more j' c') (sym is)
+    subst (λ (n : Node). more ≡ length n.records → IsWellKept n.records n.stable × UpOnDisks n more j' c') (sym is)
     (λ long. (both.0.well, record { counted = long; records = both.1.records; documents = both.1.documents })) counted
 
 -- it still lies there
-pub lies_on : (up : Bool) (node : Node) (left : Left) (count more : ℕ) (j j' c c' : State) → up ≡ false → more ≡ count → Lies (down_node node left) count j c
-    → Stands (down_node node left) j' c' → IsResting up node left more j' c'
+pub lies_on : (up : Bool) (node : Node) (left : DownState) (count more : ℕ) (j j' c c' : State) → up ≡ false → more ≡ count → DownOnDisks (down_node node left) count j c
+    → Stands (down_node node left) j' c' → IsOnDisks up node left more j' c'
 lies_on up node left count more j j' c c' down same lies stands =
-    subst (λ (b : Bool). IsResting b node left more j' c') (sym down)
+    subst (λ (b : Bool). IsOnDisks b node left more j' c') (sym down)
     (record { counted = same ∙ lies.counted; stands = stands; well = lies.well; doubtful = lies.doubtful })

@@ -20,11 +20,11 @@ use Rattle.set_model.specs.Outcome.{refused}
 use Rattle.set_model.specs.Rollback.{cut_record}
 use Rattle.set_model.specs.Rows.{row}
 use Rattle.set_model.specs.Stores.{Plan, finished, storing, done as comes_to, reaches, in_doubt, stored}
-use Rattle.node_core.specs.Acting.{Acted, AreReopened, Follows, Runs, Unchanged}
+use Rattle.node_core.specs.Acting.{Acted, AreReopened, Follows, RunsWithoutOrders, Unchanged}
 use Rattle.node_core.specs.Coming.{IsPrepared, cut_node, cut_point}
-use Rattle.node_core.specs.Down.{Left, down_node, seen_node}
+use Rattle.node_core.specs.Down.{DownState, down_node, seen_node}
 use Rattle.node_core.specs.Putting.{IsKeepable, Puts}
-use Rattle.node_core.specs.Resting.{IsResting, IsWellKeptWith, Rests}
+use Rattle.node_core.specs.OnDisks.{IsOnDisks, IsWellKeptWith, UpOnDisks}
 use Rattle.node_core.specs.Stands.{Stands}
 use Rattle.node_core.specs.declared.coming_up.Prepared.{Prepared}
 use Rattle.node_core.specs.declared.done.Done.{Done}
@@ -51,7 +51,7 @@ module _ (node : Node) (prepared : Prepared) (is : IsPrepared node prepared) whe
     reached = ap (λ (f : Option ℕ). reaches (storing broken (recovered node)) f) failed;
   }
 
-  pub up_rests : (new : Node) (count : ℕ) (j c : State) → new ≡ prepared.state.node → Rests (cut_node prepared.cut node) count j c → Rests new count j c
+  pub up_rests : (new : Node) (count : ℕ) (j c : State) → new ≡ prepared.state.node → UpOnDisks (cut_node prepared.cut node) count j c → UpOnDisks new count j c
   up_rests new count j c new_is rests =
       rests_same (cut_node prepared.cut node) new count j c (ap (λ (n : Node). n.records) (new_is ∙ is.state)) (ap (λ (n : Node). n.stable) (new_is ∙ is.state)) rests
 
@@ -90,12 +90,12 @@ module _ (node : Node) (at : OpTime) (is : Some at ≡ cut_point (kept node.reco
   }
 
 -- with the cut
-pub cut_up : (node : Node) (prepared : Prepared) (at : OpTime) (up : Bool) (new : Node) (left : Left) (count : ℕ) (j c : State) → IsPrepared node prepared → prepared.cut ≡ Some at → up ≡ true
-    → new ≡ prepared.state.node → Rests (stored node (stores.Record (records.Cut at))) count j c → IsResting up new left count j c
+pub cut_up : (node : Node) (prepared : Prepared) (at : OpTime) (up : Bool) (new : Node) (left : DownState) (count : ℕ) (j c : State) → IsPrepared node prepared → prepared.cut ≡ Some at → up ≡ true
+    → new ≡ prepared.state.node → UpOnDisks (stored node (stores.Record (records.Cut at))) count j c → IsOnDisks up new left count j c
 cut_up node prepared at up new left count j c is cut_is up_is new_is rests =
-    subst (λ (b : Bool). IsResting b new left count j c) (sym up_is)
+    subst (λ (b : Bool). IsOnDisks b new left count j c) (sym up_is)
     (up_rests node prepared is new count j c new_is
-    (subst (λ (o : Option OpTime). Rests (cut_node o node) count j c) (sym cut_is)
+    (subst (λ (o : Option OpTime). UpOnDisks (cut_node o node) count j c) (sym cut_is)
     (rests_same (stored node (stores.Record (records.Cut at))) (cut_node (Some at) node) count j c refl refl rests)))
 
 -- whether it is there is in doubt
@@ -106,7 +106,7 @@ stands_doubted : (node : Node) (item : Store) (error : FileError) (count : ℕ) 
 stands_doubted node item Disk count j c whole puts = puts.broken refl
 stands_doubted node item Memory count j c whole puts = absurd (whole refl)
 
-module _ (up : Bool) (memory : Node) (left doubting : Left) (at : OpTime) (down : up ≡ false) (doubt : doubting ≡ record left { doubt = Some (stores.Record (records.Cut at)) })
+module _ (up : Bool) (memory : Node) (left doubting : DownState) (at : OpTime) (down : up ≡ false) (doubt : doubting ≡ record left { doubt = Some (stores.Record (records.Cut at)) })
     (is : Some at ≡ cut_point (kept left.records)) (well : IsWellKept left.records left.stable) where
   pub doubted_follows : (broken : Node) (done : Done) → done.reply ≡ reply.Refused DiskFailed → done.sent.items ≡ [] → done.failed ≡ Some 1
       → Follows (storing broken (recovered (down_node memory left))) (seen_node up memory doubting) done
@@ -116,9 +116,9 @@ module _ (up : Bool) (memory : Node) (left doubting : Left) (at : OpTime) (down 
       (cut_follows (down_node memory left) at is well broken done answer sent failed)
 
   pub doubted_lies : (error : FileError) (count : ℕ) (j c : State) → (failed_by error ≡ Err Memory → ⊥)
-      → Puts (failed_by error) (down_node memory left) (stores.Record (records.Cut at)) count j c → IsResting up memory doubting count j c
+      → Puts (failed_by error) (down_node memory left) (stores.Record (records.Cut at)) count j c → IsOnDisks up memory doubting count j c
   doubted_lies error count j c whole puts =
-      subst (λ (k : Bool × Left). IsResting k.0 memory k.1 count j c) (λ i. (sym down i, sym doubt i)) (record {
+      subst (λ (k : Bool × DownState). IsOnDisks k.0 memory k.1 count j c) (λ i. (sym down i, sym doubt i)) (record {
         counted = puts.uncounted;
         stands = stands_doubted (down_node memory left) (stores.Record (records.Cut at)) error count j c whole puts;
         well = well;
@@ -128,7 +128,7 @@ module _ (up : Bool) (memory : Node) (left doubting : Left) (at : OpTime) (down 
 -- ---- the row
 
 pub acted_restart : (nodes next number : ℕ) (old new : Node) (j j' c c' : State) (done : Done) → old.up ≡ false → Follows (restart old done.kept) new done
-    → (done.kept ≡ true → IsSome old.doubt × (passes_first done.failed ≡ true)) → Stands new j' c' → Runs (IsSome done.failed) j j' c c'
+    → (done.kept ≡ true → IsSome old.doubt × (passes_first done.failed ≡ true)) → Stands new j' c' → RunsWithoutOrders (IsSome done.failed) j j' c c'
     → Acted (row nodes next done.kept old (Restart number)) (Restart number) old new j j' c c' done
 acted_restart nodes next number old new j j' c c' done down follows settles stands runs = record {
   follows = follows;
@@ -167,13 +167,13 @@ acted_not_down nodes next number old j c done up answer sent failed kept stands 
   };
 }
 
-module _ (up up' : Bool) (memory memory' : Node) (left left' : Left) (count' : ℕ) (j j' c c' : State) (down : up ≡ false) where
+module _ (up up' : Bool) (memory memory' : Node) (left left' : DownState) (count' : ℕ) (j j' c c' : State) (down : up ≡ false) where
   -- it was done
   pub acted_come : {E : Type 0} (result : Result Done E)
       → IfOk result (λ done. Follows (restart (down_node memory left) done.kept) (seen_node up' memory' left') done)
       → IfOk result (λ done. done.kept ≡ true → (IsSome left.doubt × (passes_first done.failed ≡ true)))
-      → IfOk result (λ done. IsResting up' memory' left' count' j' c')
-      → IfOk result (λ done. Runs (IsSome done.failed) j j' c c')
+      → IfOk result (λ done. IsOnDisks up' memory' left' count' j' c')
+      → IfOk result (λ done. RunsWithoutOrders (IsSome done.failed) j j' c c')
       → (nodes next number : ℕ)
       → IfOk result (λ done. Acted (row nodes next done.kept (seen_node up memory left) (Restart number)) (Restart number) (seen_node up memory left) (seen_node up' memory' left') j j' c c' done)
   acted_come (Err error) follows settles rests runs nodes next number = tt
@@ -183,7 +183,7 @@ module _ (up up' : Bool) (memory memory' : Node) (left left' : Left) (count' : �
       (resting_stands up' memory' left' count' j' c' rests) runs)
 
   -- memory ran out
-  pub unchanged_come : {T E : Type 0} (result : Result T E) → OnErr result (seen_node up' memory' left' ≡ down_node memory left) → OnErr result (IsResting up' memory' left' count' j' c')
+  pub unchanged_come : {T E : Type 0} (result : Result T E) → OnErr result (seen_node up' memory' left' ≡ down_node memory left) → OnErr result (IsOnDisks up' memory' left' count' j' c')
       → OnErr result (AreReopened j j' c c') → OnErr result (Unchanged AreReopened (seen_node up memory left) (seen_node up' memory' left') j j' c c')
   unchanged_come (Ok value) same rests reopened = tt
   unchanged_come (Err error) same rests reopened = record {
@@ -193,7 +193,7 @@ module _ (up up' : Bool) (memory memory' : Node) (left left' : Left) (count' : �
   }
 
 -- it was up
-pub acted_up : (up : Bool) (memory : Node) (left : Left) (count : ℕ) (j c : State) (done : Done) → up ≡ true → memory.up ≡ true → IsResting up memory left count j c
+pub acted_up : (up : Bool) (memory : Node) (left : DownState) (count : ℕ) (j c : State) (done : Done) → up ≡ true → memory.up ≡ true → IsOnDisks up memory left count j c
     → done.reply ≡ reply.Refused NotDown → done.sent.items ≡ [] → done.failed ≡ None → done.kept ≡ false → (nodes next number : ℕ)
     → Acted (row nodes next done.kept (seen_node up memory left) (Restart number)) (Restart number) (seen_node up memory left) (seen_node up memory left) j j c c done
 acted_up up memory left count j c done is memory_up rests answer sent failed kept nodes next number =

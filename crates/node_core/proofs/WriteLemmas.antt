@@ -12,8 +12,8 @@ use Rattle.std.specs.Prelude.{None}
 use Rattle.node_state.specs.Bounds.{is_own, is_write}
 use Rattle.node_state.specs.Plain.{plain_row}
 use Rattle.node_core.specs.Acting.{Took}
-use Rattle.node_core.specs.Down.{Left, seen_node}
-use Rattle.node_core.specs.Resting.{IsResting, Rests}
+use Rattle.node_core.specs.Down.{DownState, seen_node}
+use Rattle.node_core.specs.OnDisks.{IsOnDisks, UpOnDisks}
 use Rattle.node_core.specs.declared.done.Done.{Done}
 use Rattle.node_core.proofs.ActingLemmas.{answered_follows, answered_runs, rests_stand}
 use Rattle.node_core.proofs.DoesLemmas.{Does, MayPut, row_does}
@@ -50,14 +50,14 @@ module _ (nodes next : ℕ) (node new : Node) (command : Command) (answer : Repl
   kept : (new.records ≡ node.records) × (new.stable ≡ node.stable)
   kept = subst (λ (p : Plan). Does (MayPut command) 1 node.records node.stable p) its_row (row_does nodes next node command (write_own command write))
 
-  rests_on : (count : ℕ) (j c : State) → Rests node count j c → Rests new count j c
+  rests_on : (count : ℕ) (j c : State) → UpOnDisks node count j c → UpOnDisks new count j c
   rests_on count j c rests = rests_same node new count j c kept.0 kept.1 rests
 
-  pub write_rests : (up : Bool) (left : Left) (count : ℕ) (j c : State) → up ≡ true → IsResting up node left count j c → IsResting up new left count j c
+  pub write_rests : (up : Bool) (left : DownState) (count : ℕ) (j c : State) → up ≡ true → IsOnDisks up node left count j c → IsOnDisks up new left count j c
   write_rests false left count j c is_up rests = absurd (not_so is_up)
   write_rests true left count j c is_up rests = rests_on count j c rests
 
-  pub took_write : (up : Bool) (left : Left) (count : ℕ) (j c : State) (done : Done) → up ≡ true → IsResting up node left count j c
+  pub took_write : (up : Bool) (left : DownState) (count : ℕ) (j c : State) (done : Done) → up ≡ true → IsOnDisks up node left count j c
       → done.reply ≡ answer → done.sent.items ≡ [] → done.failed ≡ None
       → Took (row nodes next false (seen_node up node left) command) (seen_node up new left) j j c c done
   took_write false left count j c done is_up rests reply sent failed = absurd (not_so is_up)
@@ -67,11 +67,11 @@ module _ (nodes next : ℕ) (node new : Node) (command : Command) (answer : Repl
     runs = answered_runs j c done failed;
   }
 
-pub up_rests : (up : Bool) (node : Node) (left : Left) (count : ℕ) (j c : State) → up ≡ true → IsResting up node left count j c → Rests node count j c
+pub up_rests : (up : Bool) (node : Node) (left : DownState) (count : ℕ) (j c : State) → up ≡ true → IsOnDisks up node left count j c → UpOnDisks node count j c
 up_rests false node left count j c is_up rests = absurd (not_so is_up)
 up_rests true node left count j c is_up rests = rests
 
 -- a node that is up is seen as it is in memory
-pub seen_up : (up : Bool) (node : Node) (left : Left) → (seen_node up node left).up ≡ true → seen_node up node left ≡ node
+pub seen_up : (up : Bool) (node : Node) (left : DownState) → (seen_node up node left).up ≡ true → seen_node up node left ≡ node
 seen_up false node left is_up = absurd (not_so is_up)
 seen_up true node left is_up = refl

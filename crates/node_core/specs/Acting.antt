@@ -1,6 +1,6 @@
 -- What a command or a message does to a node and to its disks.
 use Rattle.std.specs.Prelude.{◌≡◌, ◌⊎◌, ◌≤◌, ℕ, Bool, true, false, not, ◌&&◌, ◌||◌, IsTrue, IsSome, Option}
-use Rattle.rs_io.specs.Fault.{Rose}
+use Rattle.rs_io.specs.Fault.{CountRose}
 use Rattle.rs_disk.specs.Orders.{Orders, ordered, arm, power_cut}
 use Rattle.rs_disk.specs.Moments.{EachMoment}
 use Rattle.rs_disk.specs.State.{State, IsArmed, SameButRoom}
@@ -26,7 +26,8 @@ is_here _ = true
 
 -- what was answered is the plan, up to the store that failed, if one did
 pub record Follows (plan : Plan) (node : Node) (done : Done) : Type 0 where
-  pub outcome : Rattle.set_model.specs.Stores.done plan done.failed ≡ record { reply = done.reply; node = node; sent = done.sent.items }
+  pub outcome : Rattle.set_model.specs.Stores.done plan done.failed
+      ≡ record { reply = done.reply; node = node; sent = done.sent.items }
   pub reached : reaches plan done.failed ≡ true
 
 -- a restart that gets past its first store settles what is in doubt, and nothing else does
@@ -34,13 +35,15 @@ abbrev pub MaySettle : Node → Command → Done → Type 0
 MaySettle node command done =
     (not done.kept || (is_restart command && passes_first done.failed && is_in_doubt node)) ≡ true
 
--- Faults of two disks: their counts never fall. A store fails only where one of them rose, and on steady disks only where one
--- was armed.
+-- Faults of two disks: their counts never fall. A store fails only where one of them rose, and on steady
+-- disks only where one was armed.
 pub record Fails (Fault : Type 0) (journal journal' checkpoints checkpoints' : State) : Type 0 where
   pub journal_faults : journal.faults ≤ journal'.faults
   pub checkpoint_faults : checkpoints.faults ≤ checkpoints'.faults
-  pub cause : Fault → Rose journal.faults journal'.faults ⊎ Rose checkpoints.faults checkpoints'.faults
-  pub only_armed : Fault → IsTrue journal.is_steady → IsTrue checkpoints.is_steady → IsTrue journal.is_armed ⊎ IsTrue checkpoints.is_armed
+  pub cause : Fault
+      → CountRose journal.faults journal'.faults ⊎ CountRose checkpoints.faults checkpoints'.faults
+  pub only_armed : Fault → IsTrue journal.is_steady → IsTrue checkpoints.is_steady
+      → IsTrue journal.is_armed ⊎ IsTrue checkpoints.is_armed
   pub journal_steady : IsTrue journal.is_steady → IsTrue journal'.is_steady
   pub checkpoint_steady : IsTrue checkpoints.is_steady → IsTrue checkpoints'.is_steady
 
@@ -56,8 +59,10 @@ is_disk_fail _ = false
 -- the orders that a command gives to one of the disks: a crash that is answered so cuts the power of both
 abbrev pub orders_after : DiskName → Command → Reply → Orders → Orders
 orders_after name (Crash node pick) reply.Down orders = ordered (power_cut pick) orders
-orders_after disks.Journal (DiskFail node disks.Journal call pick) reply.Armed orders = ordered (arm call pick) orders
-orders_after disks.Checkpoint (DiskFail node disks.Checkpoint call pick) reply.Armed orders = ordered (arm call pick) orders
+orders_after disks.Journal (DiskFail node disks.Journal call pick) reply.Armed orders =
+    ordered (arm call pick) orders
+orders_after disks.Checkpoint (DiskFail node disks.Checkpoint call pick) reply.Armed orders =
+    ordered (arm call pick) orders
 orders_after name command answer orders = orders
 
 -- one of two disks was asked to fail, and the other is as it was
@@ -65,8 +70,8 @@ abbrev pub Arms : DiskName → ℕ → Option ℕ → State → State → State 
 Arms disks.Journal call pick j j' c c' = IsArmed call pick j j' × (c' ≡ c)
 Arms disks.Checkpoint call pick j j' c c' = (j' ≡ j) × IsArmed call pick c c'
 
--- The two disks of a node, across a command with this reply: a fault comes only where one of their counts rose, only a
--- `diskfail` arms them, and only a crash and a `diskfail` give them orders.
+-- The two disks of a node, across a command with this reply: a fault comes only where one of their counts
+-- rose, only a `diskfail` arms them, and only a crash and a `diskfail` give them orders.
 pub record DisksActed (command : Command) (reply : Reply) (Fault : Type 0) (j j' c c' : State) : Type 0 where
   pub fails : Fails Fault j j' c c'
   pub journal_armed : is_disk_fail command ≡ false → ArmedBefore j j'
@@ -75,7 +80,7 @@ pub record DisksActed (command : Command) (reply : Reply) (Fault : Type 0) (j j'
   pub checkpoints_orders : c'.orders ≡ orders_after disks.Checkpoint command reply c.orders
 
 -- Disks to which no orders were given, and none of which was armed. A fault comes only where one failed.
-pub record Runs (Fault : Type 0) (j j' c c' : State) : Type 0 where
+pub record RunsWithoutOrders (Fault : Type 0) (j j' c c' : State) : Type 0 where
   pub fails : Fails Fault j j' c c'
   pub journal_armed : ArmedBefore j j'
   pub checkpoints_armed : ArmedBefore c c'
@@ -85,7 +90,8 @@ pub record Runs (Fault : Type 0) (j j' c c' : State) : Type 0 where
 -- ---- what a call of a node comes to
 
 -- A command was done at a node with these two disks, which had been such before.
-pub record Acted (plan : Plan) (command : Command) (old new : Node) (j j' c c' : State) (done : Done) : Type 0 where
+pub record Acted (plan : Plan) (command : Command) (old new : Node) (j j' c c' : State)
+    (done : Done) : Type 0 where
   pub follows : Follows plan new done
   pub settles : MaySettle old command done
   pub stands : Stands new j' c'
@@ -95,7 +101,7 @@ pub record Acted (plan : Plan) (command : Command) (old new : Node) (j j' c c' :
 pub record Took (plan : Plan) (new : Node) (j j' c c' : State) (done : Done) : Type 0 where
   pub follows : Follows plan new done
   pub stands : Stands new j' c'
-  pub runs : Runs (IsSome done.failed) j j' c c'
+  pub runs : RunsWithoutOrders (IsSome done.failed) j j' c c'
 
 -- ---- out of memory
 
@@ -107,7 +113,7 @@ pub record AreSame (j j' c c' : State) : Type 0 where
 -- Two disks that were opened anew, as far as memory went. No orders were given to them, and at each moment a
 -- crash left a list that one before might have left.
 pub record AreReopened (j j' c c' : State) : Type 0 where
-  pub runs : Runs ⊥ j j' c c'
+  pub runs : RunsWithoutOrders ⊥ j j' c c'
   pub journal : EachMoment (IsOneJournal j) j j'
   pub checkpoints : EachMoment (IsOneCheckpoint c) c c'
 
@@ -117,7 +123,8 @@ DisksLeft (Restart node) j j' c c' = AreReopened j j' c c'
 DisksLeft _ j j' c c' = AreSame j j' c c'
 
 -- The node is as it was, and its disks are left so.
-pub record Unchanged (Disks : State → State → State → State → Type 0) (old new : Node) (j j' c c' : State) : Type 0 where
+pub record Unchanged (Disks : State → State → State → State → Type 0) (old new : Node)
+    (j j' c c' : State) : Type 0 where
   pub node : new ≡ old
   pub stands : Stands new j' c'
   pub disks : Disks j j' c c'

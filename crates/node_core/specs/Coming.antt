@@ -1,5 +1,5 @@
--- How a node comes up with what its disks have (MongoDB's replication architecture guide: recovery from the last stable
--- checkpoint, and truncating the oplog behind the point up to which it is whole).
+-- How a node comes up with what its disks have (MongoDB's replication architecture guide: recovery from the
+-- last stable checkpoint, and truncating the oplog behind the point up to which it is whole).
 use Rattle.std.specs.Prelude.{◌≡◌, ℕ, ◌++◌, Bool, false, nat_lt, List, [], ◌∷◌, length, Option, None, Some, if◌then◌else◌}
 use Rattle.rs_disk.specs.File.{contents}
 use Rattle.rs_disk.specs.State.{State}
@@ -10,8 +10,8 @@ use Rattle.repl_msg.specs.Kept.{kept}
 use Rattle.repl_msg.specs.declared.record.Kept.{Kept}
 use Rattle.repl_msg.specs.declared.record.Record.{Record}
 use Rattle.repl_msg.specs.declared.record.Record.TheVariants as records
-use Rattle.node_journal.specs.Files.{HasJournal, IsAtRest as JournalRests}
-use Rattle.checkpoint_store.specs.Files.{HasCheckpoint, IsAtRest as CheckpointRests}
+use Rattle.node_journal.specs.Files.{HasJournal, IsAtRest as JournalAtRest}
+use Rattle.checkpoint_store.specs.Files.{HasCheckpoint, IsAtRest as CheckpointsAtRest}
 use Rattle.set_model.specs.declared.store.Store.{Store}
 use Rattle.set_model.specs.declared.store.Store.TheVariants as stores
 use Rattle.set_model.specs.Disk.{come_back, has_more, settled_doubt}
@@ -26,12 +26,12 @@ use Rattle.node_state.specs.WellKept.{IsWellKept}
 -- both disks were read, and what was read of them stands there now
 pub record IsRead (found : Found) (j j' c c' : State) : Type 0 where
   pub kept_is : (items : List Record) → HasJournal (contents j.file) items → found.kept ≡ kept items
-  pub journal : (items : List Record) → HasJournal (contents j.file) items → JournalRests j' items
+  pub journal : (items : List Record) → HasJournal (contents j.file) items → JournalAtRest j' items
   pub stable_is : HasCheckpoint (contents c.file) found.stable
-  pub checkpoints : CheckpointRests c' found.stable
+  pub checkpoints : CheckpointsAtRest c' found.stable
 
--- Whether what was in doubt is there, beside so many records: the journal has one more, or the last checkpoint is the one
--- that was being saved.
+-- Whether what was in doubt is there, beside so many records: the journal has one more, or the last
+-- checkpoint is the one that was being saved.
 abbrev pub is_there : Option Store → ℕ → Found → Bool
 is_there None count found = false
 is_there (Some (stores.Record item)) count found = nat_lt count found.kept.count
@@ -66,5 +66,6 @@ cut_node point node = record node { records = cut_records point node.records }
 pub record IsPrepared (node : Node) (prepared : Prepared) : Type 0 where
   pub count : prepared.count ≡ length node.records
   pub cut : prepared.cut ≡ cut_point (kept node.records)
-  pub state : prepared.state.node ≡ come_back (cut_node prepared.cut node) (kept (cut_records prepared.cut node.records))
+  pub state : prepared.state.node
+      ≡ come_back (cut_node prepared.cut node) (kept (cut_records prepared.cut node.records))
   pub last : prepared.last ≡ last_of (kept (cut_records prepared.cut node.records)).entries

@@ -4,11 +4,11 @@ use Rattle.rs_optime.specs.declared.optime.OpTime.{OpTime}
 use Rattle.repl_msg.specs.declared.record.Record.{Record}
 use Rattle.set_model.specs.declared.store.Store.{Store}
 use Rattle.set_model.specs.Node.{Node, opening_node}
-use Rattle.node_core.specs.declared.node.Left.{Left as InMemory}
+use Rattle.node_core.specs.declared.node.DownState.{DownState as InMemory}
 
--- what is left of a node that is down: beside its disks the clock, how often it rolled back or restarted, and what was being
--- stored as a disk failed
-pub record Left : Type 0 where
+-- what is left of a node that is down: beside its disks the clock, how often it rolled back or restarted, and
+-- what was being stored as a disk failed
+pub record DownState : Type 0 where
   pub clock : ℕ
   pub stable : OpTime
   pub rollback : ℕ
@@ -16,12 +16,18 @@ pub record Left : Type 0 where
   pub doubt : Option Store
 
 -- as the code has it
-abbrev pub left_in : InMemory → Left
-left_in left =
-    record { clock = left.clock; stable = left.stable; rollback = left.rollback; records = left.records.list; doubt = left.doubt }
+abbrev pub down_state : InMemory → DownState
+down_state left =
+    record {
+      clock = left.clock;
+      stable = left.stable;
+      rollback = left.rollback;
+      records = left.records.list;
+      doubt = left.doubt;
+    }
 
 -- the node that was this one while it was up
-abbrev pub down_node : Node → Left → Node
+abbrev pub down_node : Node → DownState → Node
 down_node node left =
     record (opening_node node.first node.number) {
       up = false;
@@ -32,6 +38,6 @@ down_node node left =
       clock = left.clock;
     }
 
-abbrev pub seen_node : Bool → Node → Left → Node
+abbrev pub seen_node : Bool → Node → DownState → Node
 seen_node true node left = node
 seen_node false node left = down_node node left

@@ -3,5 +3,5 @@ pub mod Coming
 pub mod Down
 pub mod Nodes
 pub mod Putting
-pub mod Resting
+pub mod OnDisks
 pub mod Stands

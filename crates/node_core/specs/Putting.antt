@@ -21,13 +21,13 @@ use Rattle.set_model.specs.Outcome.{refused}
 use Rattle.set_model.specs.Stores.{Plan, finished, storing, done, reaches, in_doubt, stored}
 use Rattle.set_model.specs.declared.reply.Refusal.TheVariants.{DiskFailed}
 use Rattle.node_ledger.specs.Ledger.{IsReadable}
-use Rattle.node_core.specs.Resting.{Rests, Lies}
+use Rattle.node_core.specs.OnDisks.{UpOnDisks, DownOnDisks}
 use Rattle.node_core.specs.Stands.{Stands, documents_at}
 use Rattle.node_state.specs.Turns.{rest_of}
 use Rattle.node_state.specs.declared.turn.Turn.{Turn}
 use Rattle.node_state.specs.declared.turn.Turn.TheVariants.{Finished, Storing}
 use Rattle.node_core.specs.declared.storing.Ended.{Ended}
-use Rattle.node_core.specs.declared.storing.Ended.TheVariants.{Said, Broken}
+use Rattle.node_core.specs.declared.storing.Ended.TheVariants.{WithReply, StoreFailed}
 
 -- ---- what can be put there
 
@@ -40,7 +40,8 @@ pub record IsKeepable (node : Node) (item : Record) : Type 0 where
 pub record IsSavable (node : Node) (at : OpTime) : Type 0 where
   pub readable : IsReadable node at
   pub kept_so : docs (log_up_to at node.log) ≡ docs (log_up_to at (kept node.records).entries)
-  pub each : (place : Place) (document : Fields) → get (docs (log_up_to at node.log)) place ≡ Some document → CanBeSaved place document
+  pub each : (place : Place) (document : Fields) → get (docs (log_up_to at node.log)) place ≡ Some document
+      → CanBeSaved place document
 
 abbrev pub CanBePut : Node → Store → Type 0
 CanBePut node (stores.Record item) = IsKeepable node item
@@ -58,9 +59,10 @@ SHORT = 473
 -- ---- what comes of it
 
 -- it stands there, or nothing has changed, or it is in doubt
-pub record Puts (result : Result (Unit {0}) FileError) (node : Node) (item : Store) (count : ℕ) (journal checkpoints : State) : Type 0 where
-  pub ok : OnOk result (Rests (stored node item) count journal checkpoints)
-  pub memory : result ≡ Err Memory → Rests node count journal checkpoints
+pub record Puts (result : Result (Unit {0}) FileError) (node : Node) (item : Store) (count : ℕ)
+    (journal checkpoints : State) : Type 0 where
+  pub ok : OnOk result (UpOnDisks (stored node item) count journal checkpoints)
+  pub memory : result ≡ Err Memory → UpOnDisks node count journal checkpoints
   pub broken : result ≡ Err Disk → Stands (in_doubt node item) journal checkpoints
   pub uncounted : OnErr result (count ≡ length node.records)
 
@@ -82,28 +84,33 @@ NeedsRoom (Finished answer sent) room = ⊤
 NeedsRoom (Storing item then) room = SHORT ≤ room
 
 -- it begins with a store for which no memory is reserved
-abbrev pub IsLong : Turn → Type 0
-IsLong (Finished answer sent) = ⊥
-IsLong (Storing item then) = ¬ IsShortStore item
+abbrev pub BeginsUnreserved : Turn → Type 0
+BeginsUnreserved (Finished answer sent) = ⊥
+BeginsUnreserved (Storing item then) = ¬ IsShortStore item
 
--- What a plan comes to at the node: all of it, or up to the store that failed. The stores are counted from here on.
+-- What a plan comes to at the node: all of it, or up to the store that failed. The stores are counted
+-- from here on.
 abbrev pub EndsFrom : ℕ → Plan → Node → Ended → Type 0
-EndsFrom first plan node (Said answer sent) = done plan None ≡ record { reply = answer; node = node; sent = sent.items }
-EndsFrom first plan node (Broken item number) =
-    (later : ℕ) × (number ≡ first + later) × (done plan (Some later) ≡ refused DiskFailed (in_doubt node item)) × (reaches plan (Some later) ≡ true)
+EndsFrom first plan node (WithReply answer sent) =
+    done plan None ≡ record { reply = answer; node = node; sent = sent.items }
+EndsFrom first plan node (StoreFailed item number) =
+    (later : ℕ) × (number ≡ first + later)
+    × (done plan (Some later) ≡ refused DiskFailed (in_doubt node item)) × (reaches plan (Some later) ≡ true)
 
 -- how the disks then are
-abbrev pub Leaves : Ended → Node → ℕ → State → State → Type 0
-Leaves (Said answer sent) node count journal checkpoints = Rests node count journal checkpoints
-Leaves (Broken item number) node count journal checkpoints = Lies (in_doubt node item) count journal checkpoints
+abbrev pub LeavesOnDisks : Ended → Node → ℕ → State → State → Type 0
+LeavesOnDisks (WithReply answer sent) node count journal checkpoints =
+    UpOnDisks node count journal checkpoints
+LeavesOnDisks (StoreFailed item number) node count journal checkpoints =
+    DownOnDisks (in_doubt node item) count journal checkpoints
 
-abbrev pub IsBroken : Ended → Type 0
-IsBroken (Said answer sent) = ⊥
-IsBroken (Broken item number) = ⊤
+abbrev pub IsStoreFailed : Ended → Type 0
+IsStoreFailed (WithReply answer sent) = ⊥
+IsStoreFailed (StoreFailed item number) = ⊤
 
 -- a store failed
 abbrev pub IsFault : {E : Type 0} → Result Ended E → Type 0
-IsFault (Ok ended) = IsBroken ended
+IsFault (Ok ended) = IsStoreFailed ended
 IsFault (Err error) = ⊥
 
 abbrev pub IsShortDoubt : Option Store → Type 0
@@ -111,7 +118,7 @@ IsShortDoubt None = ⊥
 IsShortDoubt (Some item) = IsShortStore item
 
 -- a plan that stores at most so many records, each of them short
-abbrev pub IsBrief : ℕ → Plan → Type 0
-IsBrief most (finished outcome) = ⊤
-IsBrief zero (storing broken rest) = ⊥
-IsBrief (suc most) (storing broken rest) = IsShortDoubt broken.doubt × IsBrief most rest
+abbrev pub StoresFewShort : ℕ → Plan → Type 0
+StoresFewShort most (finished outcome) = ⊤
+StoresFewShort zero (storing broken rest) = ⊥
+StoresFewShort (suc most) (storing broken rest) = IsShortDoubt broken.doubt × StoresFewShort most rest

@@ -17,7 +17,8 @@ use Rattle.checkpoint_store.specs.declared.stable.Stable.{Stable}
 abbrev pub HasRecordsOf : Node → List ℕ → Type 0
 HasRecordsOf node image =
     HasJournal image node.records
-    ⊎ ((item : Record) × (node.doubt ≡ Some (stores.Record item)) × HasJournal image (node.records ++ item ∷ []))
+    ⊎ ((item : Record) × (node.doubt ≡ Some (stores.Record item))
+    × HasJournal image (node.records ++ item ∷ []))
 
 -- the documents at an optime, as the node's records keep its log
 abbrev pub documents_at : Node → OpTime → Stable
@@ -27,10 +28,11 @@ documents_at node at = record { at = at; documents = docs (log_up_to at (kept no
 abbrev pub HasDocumentsOf : Node → List ℕ → Type 0
 HasDocumentsOf node image =
     HasCheckpoint image (documents_at node node.stable)
-    ⊎ ((at : OpTime) × (node.doubt ≡ Some (stores.Checkpoint at)) × HasCheckpoint image (documents_at node at))
+    ⊎ ((at : OpTime) × (node.doubt ≡ Some (stores.Checkpoint at))
+    × HasCheckpoint image (documents_at node at))
 
--- A crash now leaves the node's records on the one disk and its documents on the other. So does no crash, since a disk as it
--- reads is among what a crash may leave.
+-- A crash now leaves the node's records on the one disk and its documents on the other. So does no crash,
+-- since a disk as it reads is among what a crash may leave.
 pub record Stands (node : Node) (journal checkpoints : State) : Type 0 where
   pub records : LeavesOnly (HasRecordsOf node) journal.file
   pub documents : LeavesOnly (HasDocumentsOf node) checkpoints.file

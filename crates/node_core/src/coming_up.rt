@@ -1,4 +1,5 @@
-// A node that is down opens its disks anew, learns what is there of what was in doubt, and comes up with that.
+// A node that is down opens its disks anew, learns what is there of what was in doubt, and comes
+// up with that.
 ghost use Rattle.std.specs.Prelude.{◌≡◌, ◌<◌, ◌≤◌, ◌-◌, ◌^◌, [], None, Some, true, false, IfOk, OnOk, OnErr, IsErrOf, IsSome};
 ghost use Rattle.record_file.specs.Files.{spare};
 ghost use Rattle.rs_disk.specs.Moments.{EachMoment};
@@ -9,16 +10,16 @@ ghost use Rattle.set_model.specs.Limits.{passes_first};
 ghost use Rattle.set_model.specs.Node.{Node};
 ghost use Rattle.set_model.specs.Stores.{storing};
 ghost use Rattle.node_state.specs.WellKept.{IsWellKept};
-ghost use Rattle.node_core.specs.Acting.{AreReopened, Follows, Runs};
+ghost use Rattle.node_core.specs.Acting.{AreReopened, Follows, RunsWithoutOrders};
 ghost use Rattle.node_core.specs.Coming.{IsFound, IsPrepared, IsRead, cut_point, cut_records, is_there as is_kept, settled as settled_node};
-ghost use Rattle.node_core.specs.Down.{down_node, left_in, seen_node};
+ghost use Rattle.node_core.specs.Down.{down_node, down_state, seen_node};
 ghost use Rattle.node_core.specs.Putting.{SHORT};
-ghost use Rattle.node_core.specs.Resting.{IsResting, Lies, Rests};
+ghost use Rattle.node_core.specs.OnDisks.{IsOnDisks, DownOnDisks, UpOnDisks};
 ghost use Rattle.node_core.specs.Stands.{Stands};
 
 use crate::Done;
 use crate::disks::Disks;
-use crate::node::Left;
+use crate::node::DownState;
 use bson_doc::Mem;
 use checkpoint_store::Stable;
 use node_state::{Coming, State};
@@ -44,7 +45,7 @@ pub(crate) struct Prepared {
     /// The node in memory, as it comes up.
     pub(crate) state: State,
     /// What it kept while it was down, with what was in doubt where that is there.
-    pub(crate) left: Left,
+    pub(crate) left: DownState,
     /// What was in doubt is there.
     pub(crate) kept: bool,
     /// How many records its journal has.
@@ -55,25 +56,33 @@ pub(crate) struct Prepared {
     pub(crate) last: OpTime,
 }
 
-/// Opens the disks of a node that is down, and comes up with what is there. Out of memory leaves the node as it was.
+/// Opens the disks of a node that is down, and comes up with what is there. Out of memory leaves the node
+/// as it was.
 pub(crate) fn come_up<D: Disk, R: Threads + Sync>(
     alloc: Global,
     rt: &R,
     state: &mut State,
     disks: &mut Disks<D>,
     up: &mut bool,
-    left: &mut Left,
+    left: &mut DownState,
 ) -> Mem<Done>
     requires down { up.old ≡ false }
     requires rollback { left.old.rollback < 2 ^ 64 - 1 }
-    requires lies { Lies (down_node state.old.node (left_in left.old)) disks.old.count (D.state disks.old.journal.0) (D.state disks.old.checkpoints) }
-    ensures follows { IfOk result (λ done. Follows (restart (down_node state.old.node (left_in left.old)) done.kept) (seen_node up.new state.new.node (left_in left.new)) done) }
-    ensures settles { IfOk result (λ done. done.kept ≡ true → (IsSome left.old.doubt × (passes_first done.failed ≡ true))) }
-    ensures rests { IfOk result (λ done. IsResting up.new state.new.node (left_in left.new) disks.new.count (D.state disks.new.journal.0) (D.state disks.new.checkpoints)) }
-    ensures runs { IfOk result (λ done. Runs (IsSome done.failed) (D.state disks.old.journal.0) (D.state disks.new.journal.0)
-        (D.state disks.old.checkpoints) (D.state disks.new.checkpoints)) }
-    ensures same { OnErr result (seen_node up.new state.new.node (left_in left.new) ≡ down_node state.old.node (left_in left.old)) }
-    ensures left { OnErr result (IsResting up.new state.new.node (left_in left.new) disks.new.count (D.state disks.new.journal.0) (D.state disks.new.checkpoints)) }
+    requires lies { DownOnDisks (down_node state.old.node (down_state left.old)) disks.old.count
+        (D.state disks.old.journal.0) (D.state disks.old.checkpoints) }
+    ensures follows { IfOk result (λ done.
+        Follows (restart (down_node state.old.node (down_state left.old)) done.kept)
+        (seen_node up.new state.new.node (down_state left.new)) done) }
+    ensures settles { IfOk result (λ done.
+        done.kept ≡ true → (IsSome left.old.doubt × (passes_first done.failed ≡ true))) }
+    ensures rests { IfOk result (λ done. IsOnDisks up.new state.new.node (down_state left.new) disks.new.count
+        (D.state disks.new.journal.0) (D.state disks.new.checkpoints)) }
+    ensures runs { IfOk result (λ done. RunsWithoutOrders (IsSome done.failed) (D.state disks.old.journal.0)
+        (D.state disks.new.journal.0) (D.state disks.old.checkpoints) (D.state disks.new.checkpoints)) }
+    ensures same { OnErr result (seen_node up.new state.new.node (down_state left.new)
+        ≡ down_node state.old.node (down_state left.old)) }
+    ensures left { OnErr result (IsOnDisks up.new state.new.node (down_state left.new) disks.new.count
+        (D.state disks.new.journal.0) (D.state disks.new.checkpoints)) }
     ensures reopened { OnErr result (AreReopened (D.state disks.old.journal.0) (D.state disks.new.journal.0)
         (D.state disks.old.checkpoints) (D.state disks.new.checkpoints)) }
 {
@@ -91,8 +100,8 @@ pub(crate) fn come_up<D: Disk, R: Threads + Sync>(
 fn open_both<D: Disk>(disks: &mut Disks<D>) -> Result<Found, FileError>
     requires journal { IsJournalDisk (D.state disks.old.journal.0) }
     requires checkpoints { IsCheckpointDisk (D.state disks.old.checkpoints) }
-    ensures read { IfOk result (λ found. IsRead found (D.state disks.old.journal.0) (D.state disks.new.journal.0)
-        (D.state disks.old.checkpoints) (D.state disks.new.checkpoints)) }
+    ensures read { IfOk result (λ found. IsRead found (D.state disks.old.journal.0)
+        (D.state disks.new.journal.0) (D.state disks.old.checkpoints) (D.state disks.new.checkpoints)) }
     ensures stands { (node : Node) → Stands node (D.state disks.old.journal.0) (D.state disks.old.checkpoints)
         → Stands node (D.state disks.new.journal.0) (D.state disks.new.checkpoints) }
     ensures room { OnOk result (SHORT ≤ spare (D.state disks.new.journal.0) disks.new.journal.1) }
@@ -101,8 +110,8 @@ fn open_both<D: Disk>(disks: &mut Disks<D>) -> Result<Found, FileError>
         (D.state disks.old.journal.0) (D.state disks.new.journal.0) }
     ensures checkpoints { EachMoment (IsOneCheckpoint (D.state disks.old.checkpoints))
         (D.state disks.old.checkpoints) (D.state disks.new.checkpoints) }
-    ensures runs { Runs (IsErrOf result FileError.Disk) (D.state disks.old.journal.0) (D.state disks.new.journal.0)
-        (D.state disks.old.checkpoints) (D.state disks.new.checkpoints) }
+    ensures runs { RunsWithoutOrders (IsErrOf result FileError.Disk) (D.state disks.old.journal.0)
+        (D.state disks.new.journal.0) (D.state disks.old.checkpoints) (D.state disks.new.checkpoints) }
 {
     let kept = disks.journal.reopen()?;
     let stable = disks.checkpoints.reopen()?;
@@ -115,15 +124,18 @@ fn prepare<R: Threads + Sync>(
     alloc: Global,
     rt: &R,
     state: &State,
-    left: &Left,
+    left: &DownState,
     count: u64,
     found: Found,
 ) -> Mem<Prepared>
     requires rollback { left.now.rollback < 2 ^ 64 - 1 }
-    requires found { IsFound (settled_node (down_node state.now.node (left_in left.now)) count found) found }
+    requires found { IsFound (settled_node (down_node state.now.node (down_state left.now)) count found)
+        found }
     ensures kept { IfOk result (λ prepared. prepared.kept ≡ is_kept left.now.doubt count found) }
-    ensures left { IfOk result (λ prepared. down_node state.now.node (left_in prepared.left) ≡ settled_node (down_node state.now.node (left_in left.now)) count found) }
-    ensures prepared { IfOk result (λ prepared. IsPrepared (down_node state.now.node (left_in prepared.left)) prepared) }
+    ensures left { IfOk result (λ prepared. down_node state.now.node (down_state prepared.left)
+        ≡ settled_node (down_node state.now.node (down_state left.now)) count found) }
+    ensures prepared { IfOk result (λ prepared.
+        IsPrepared (down_node state.now.node (down_state prepared.left)) prepared) }
 {
     let there = is_there(&left.doubt, count, &found);
     restore(alloc, rt, state, settled(left, there), there, found)
@@ -141,8 +153,9 @@ fn is_there(doubt: &Option<Store>, count: u64, found: &Found) -> bool
 }
 
 // What is left of the node once that is known.
-fn settled(left: &Left, there: bool) -> Left
-    ensures settled { (node : Node) → down_node node (left_in result) ≡ settled_doubt (down_node node (left_in left.now)) left.now.doubt there }
+fn settled(left: &DownState, there: bool) -> DownState
+    ensures settled { (node : Node) → down_node node (down_state result)
+        ≡ settled_doubt (down_node node (down_state left.now)) left.now.doubt there }
     ensures rollback { result.rollback ≡ left.now.rollback }
 {
     if !there {
@@ -156,10 +169,11 @@ fn settled(left: &Left, there: bool) -> Left
 }
 
 // The same with other documents and records, and nothing in doubt.
-fn undoubted(left: &Left, stable: OpTime, records: Records) -> Left
-    ensures { left_in result ≡ record (left_in left.now) { stable = stable; records = records.list; doubt = None } }
+fn undoubted(left: &DownState, stable: OpTime, records: Records) -> DownState
+    ensures { down_state result
+        ≡ record (down_state left.now) { stable = stable; records = records.list; doubt = None } }
 {
-    Left {
+    DownState {
         clock: left.clock,
         stable,
         rollback: left.rollback,
@@ -173,17 +187,18 @@ fn restore<R: Threads + Sync>(
     alloc: Global,
     rt: &R,
     state: &State,
-    left: Left,
+    left: DownState,
     kept: bool,
     found: Found,
 ) -> Mem<Prepared>
     requires rollback { left.rollback < 2 ^ 64 - 1 }
-    requires found { IsFound (down_node state.now.node (left_in left)) found }
+    requires found { IsFound (down_node state.now.node (down_state left)) found }
     ensures kept { IfOk result (λ prepared. prepared.kept ≡ kept) }
-    ensures left { IfOk result (λ prepared. left_in prepared.left ≡ left_in left) }
-    ensures prepared { IfOk result (λ prepared. IsPrepared (down_node state.now.node (left_in left)) prepared) }
+    ensures left { IfOk result (λ prepared. down_state prepared.left ≡ down_state left) }
+    ensures prepared { IfOk result (λ prepared.
+        IsPrepared (down_node state.now.node (down_state left)) prepared) }
 {
-    state.is_sound();
+    state.recall_sound();
     let Found { kept: read, stable } = found;
     let Stable { at, documents } = stable;
     let count = read.count;
@@ -244,20 +259,24 @@ fn go_up<D: Disk>(
     state: &mut State,
     disks: &mut Disks<D>,
     up: &mut bool,
-    left: &mut Left,
+    left: &mut DownState,
     prepared: Prepared,
 ) -> Done
     requires down { up.old ≡ false }
-    requires prepared { IsPrepared (down_node state.old.node (left_in prepared.left)) prepared }
+    requires prepared { IsPrepared (down_node state.old.node (down_state prepared.left)) prepared }
     requires well { IsWellKept prepared.left.records.list prepared.left.stable }
-    requires rests { Rests (down_node state.old.node (left_in prepared.left)) prepared.count (D.state disks.old.journal.0) (D.state disks.old.checkpoints) }
+    requires rests { UpOnDisks (down_node state.old.node (down_state prepared.left)) prepared.count
+        (D.state disks.old.journal.0) (D.state disks.old.checkpoints) }
     requires room { SHORT ≤ spare (D.state disks.old.journal.0) disks.old.journal.1 }
-    ensures follows { (broken : Node) → Follows (storing broken (recovered (down_node state.old.node (left_in prepared.left)))) (seen_node up.new state.new.node (left_in left.new)) result }
-    ensures rests { IsResting up.new state.new.node (left_in left.new) disks.new.count (D.state disks.new.journal.0) (D.state disks.new.checkpoints) }
+    ensures follows { (broken : Node)
+        → Follows (storing broken (recovered (down_node state.old.node (down_state prepared.left))))
+        (seen_node up.new state.new.node (down_state left.new)) result }
+    ensures rests { IsOnDisks up.new state.new.node (down_state left.new) disks.new.count
+        (D.state disks.new.journal.0) (D.state disks.new.checkpoints) }
     ensures kept { result.kept ≡ prepared.kept }
     ensures passes { passes_first result.failed ≡ true }
-    ensures runs { Runs (IsSome result.failed) (D.state disks.old.journal.0) (D.state disks.new.journal.0)
-        (D.state disks.old.checkpoints) (D.state disks.new.checkpoints) }
+    ensures runs { RunsWithoutOrders (IsSome result.failed) (D.state disks.old.journal.0)
+        (D.state disks.new.journal.0) (D.state disks.old.checkpoints) (D.state disks.new.checkpoints) }
 {
     disks.count = prepared.count;
     let Some(at) = prepared.cut else {
@@ -270,8 +289,9 @@ fn go_up<D: Disk>(
 }
 
 // The cut may be there or not. The opening before it is numbered 0.
-fn cut_failed(alloc: Global, left: &mut Left, prepared: Prepared, at: OpTime) -> Done
-    ensures left { left_in left.new ≡ record (left_in prepared.left) { doubt = Some (Store.Record (Record.Cut at)) } }
+fn cut_failed(alloc: Global, left: &mut DownState, prepared: Prepared, at: OpTime) -> Done
+    ensures left { down_state left.new
+        ≡ record (down_state prepared.left) { doubt = Some (Store.Record (Record.Cut at)) } }
     ensures reply { result.reply ≡ Reply.Refused Refusal.DiskFailed }
     ensures sent { result.sent.items ≡ [] }
     ensures failed { result.failed ≡ Some 1 }
@@ -287,8 +307,8 @@ fn cut_failed(alloc: Global, left: &mut Left, prepared: Prepared, at: OpTime) ->
 }
 
 // What is left of the node where a cut may be there or not.
-fn doubting(left: Left, at: OpTime) -> Left
-    ensures { left_in result ≡ record (left_in left) { doubt = Some (Store.Record (Record.Cut at)) } }
+fn doubting(left: DownState, at: OpTime) -> DownState
+    ensures { down_state result ≡ record (down_state left) { doubt = Some (Store.Record (Record.Cut at)) } }
 {
     let mut left = left;
     left.doubt = Some(Store::Record(Record::Cut(at)));

@@ -4,11 +4,11 @@ ghost use Rattle.rs_disk.specs.State.{IsCut};
 ghost use Rattle.record_file.specs.Files.{spare};
 ghost use Rattle.repl_msg.specs.declared.record.Record.{Record as ARecord};
 ghost use Rattle.node_journal.specs.Bounds.{CanBeKept};
-ghost use Rattle.node_journal.specs.Files.{IsAtRest as JournalRests};
+ghost use Rattle.node_journal.specs.Files.{IsAtRest as JournalAtRest};
 ghost use Rattle.node_journal.specs.Room.{IsShort};
-ghost use Rattle.node_core.specs.Acting.{AreSame, Arms, Runs};
+ghost use Rattle.node_core.specs.Acting.{AreSame, Arms, RunsWithoutOrders};
 ghost use Rattle.node_core.specs.Putting.{CanBePut, IsKeepable, IsShortStore, Puts, SHORT};
-ghost use Rattle.node_core.specs.Resting.{Rests};
+ghost use Rattle.node_core.specs.OnDisks.{UpOnDisks};
 ghost use Rattle.set_model.specs.Node.{Node};
 
 use bson_doc::Mem;
@@ -32,16 +32,20 @@ pub(crate) struct Disks<D: Disk> {
 impl<D: Disk> Disks<D> {
     /// Puts this on its disk, for the node of this state.
     pub(crate) fn put(&mut self, item: &Store, state: &State) -> Result<(), FileError>
-        requires rests { Rests state.now.node self.old.count (D.state self.old.journal.0) (D.state self.old.checkpoints) }
+        requires rests { UpOnDisks state.now.node self.old.count (D.state self.old.journal.0)
+            (D.state self.old.checkpoints) }
         requires can { CanBePut state.now.node item.now }
-        ensures puts { Puts result state.now.node item.now self.new.count (D.state self.new.journal.0) (D.state self.new.checkpoints) }
-        ensures runs { Runs (IsErrOf result FileError.Disk) (D.state self.old.journal.0) (D.state self.new.journal.0)
-            (D.state self.old.checkpoints) (D.state self.new.checkpoints) }
+        ensures puts { Puts result state.now.node item.now self.new.count (D.state self.new.journal.0)
+            (D.state self.new.checkpoints) }
+        ensures runs { RunsWithoutOrders (IsErrOf result FileError.Disk) (D.state self.old.journal.0)
+            (D.state self.new.journal.0) (D.state self.old.checkpoints) (D.state self.new.checkpoints) }
         ensures memory { result ≡ Err FileError.Memory
             → AreSame (D.state self.old.journal.0) (D.state self.new.journal.0)
             (D.state self.old.checkpoints) (D.state self.new.checkpoints) }
-        ensures room { IsShortStore item.now → SHORT ≤ spare (D.state self.old.journal.0) self.old.journal.1 → result ≢ Err FileError.Memory }
-        ensures spare { OnOk result (IsShortStore item.now → spare (D.state self.old.journal.0) self.old.journal.1
+        ensures room { IsShortStore item.now → SHORT ≤ spare (D.state self.old.journal.0) self.old.journal.1
+            → result ≢ Err FileError.Memory }
+        ensures spare { OnOk result
+            (IsShortStore item.now → spare (D.state self.old.journal.0) self.old.journal.1
             ≤ spare (D.state self.new.journal.0) self.new.journal.1 + SHORT) }
     {
         match item {
@@ -52,21 +56,25 @@ impl<D: Disk> Disks<D> {
 
     /// Adds a record to the journal.
     pub(crate) fn add(&mut self, item: &Record) -> Result<(), FileError>
-        requires rests { (items : List ARecord) × JournalRests (D.state self.old.journal.0) items × (self.old.count ≡ length items) }
+        requires rests { (items : List ARecord) × JournalAtRest (D.state self.old.journal.0) items
+            × (self.old.count ≡ length items) }
         requires bounds { CanBeKept item.now }
-        ensures puts { (node : Node) → Rests node self.old.count (D.state self.old.journal.0) (D.state self.old.checkpoints)
+        ensures puts { (node : Node)
+            → UpOnDisks node self.old.count (D.state self.old.journal.0) (D.state self.old.checkpoints)
             → IsKeepable node item.now
-            → Puts result node (Store.Record item.now) self.new.count (D.state self.new.journal.0) (D.state self.new.checkpoints) }
-        ensures runs { Runs (IsErrOf result FileError.Disk) (D.state self.old.journal.0) (D.state self.new.journal.0)
-            (D.state self.old.checkpoints) (D.state self.new.checkpoints) }
+            → Puts result node (Store.Record item.now) self.new.count (D.state self.new.journal.0)
+            (D.state self.new.checkpoints) }
+        ensures runs { RunsWithoutOrders (IsErrOf result FileError.Disk) (D.state self.old.journal.0)
+            (D.state self.new.journal.0) (D.state self.old.checkpoints) (D.state self.new.checkpoints) }
         ensures memory { result ≡ Err FileError.Memory
             → AreSame (D.state self.old.journal.0) (D.state self.new.journal.0)
             (D.state self.old.checkpoints) (D.state self.new.checkpoints) }
-        ensures room { IsShort item.now → SHORT ≤ spare (D.state self.old.journal.0) self.old.journal.1 → result ≢ Err FileError.Memory }
+        ensures room { IsShort item.now → SHORT ≤ spare (D.state self.old.journal.0) self.old.journal.1
+            → result ≢ Err FileError.Memory }
         ensures spare { OnOk result (IsShort item.now → spare (D.state self.old.journal.0) self.old.journal.1
             ≤ spare (D.state self.new.journal.0) self.new.journal.1 + SHORT) }
     {
-        self.journal.count_fits();
+        self.journal.recall_count_fits();
         match self.journal.add(item) {
             Ok(()) => {
                 self.count += 1;
@@ -76,7 +84,8 @@ impl<D: Disk> Disks<D> {
         }
     }
 
-    /// One of them is asked to fail at its `call`-th call from now on, with a power cut where there is a pick.
+    /// One of them is asked to fail at its `call`-th call from now on, with a power cut where there
+    /// is a pick.
     pub(crate) fn arm(&mut self, disk: DiskName, call: u32, pick: Option<u64>)
         ensures armed { Arms disk call pick (D.state self.old.journal.0) (D.state self.new.journal.0)
             (D.state self.old.checkpoints) (D.state self.new.checkpoints) }
@@ -100,11 +109,12 @@ impl<D: Disk> Disks<D> {
 
     /// Takes the memory for two short records.
     pub(crate) fn reserve(&mut self) -> Mem<()>
-        ensures rests { (node : Node) → Rests node self.old.count (D.state self.old.journal.0) (D.state self.old.checkpoints)
-            → Rests node self.new.count (D.state self.new.journal.0) (D.state self.new.checkpoints) }
+        ensures rests { (node : Node)
+            → UpOnDisks node self.old.count (D.state self.old.journal.0) (D.state self.old.checkpoints)
+            → UpOnDisks node self.new.count (D.state self.new.journal.0) (D.state self.new.checkpoints) }
         ensures same { AreSame (D.state self.old.journal.0) (D.state self.new.journal.0)
             (D.state self.old.checkpoints) (D.state self.new.checkpoints) }
-        ensures runs { Runs ⊥ (D.state self.old.journal.0) (D.state self.new.journal.0)
+        ensures runs { RunsWithoutOrders ⊥ (D.state self.old.journal.0) (D.state self.new.journal.0)
             (D.state self.old.checkpoints) (D.state self.new.checkpoints) }
         ensures room { OnOk result (SHORT + SHORT ≤ spare (D.state self.new.journal.0) self.new.journal.1) }
     {

@@ -15,14 +15,14 @@ ghost use Rattle.set_model.specs.Node.{down, opening_node};
 ghost use Rattle.set_model.specs.Points.{last_point};
 ghost use Rattle.set_model.specs.Reads.{local_documents};
 ghost use Rattle.set_model.specs.Rows.{row};
-ghost use Rattle.node_journal.specs.Files.{IsAtRest as JournalRests};
+ghost use Rattle.node_journal.specs.Files.{IsAtRest as JournalAtRest};
 ghost use Rattle.node_ledger.specs.Ledger.{IsReadable};
-ghost use Rattle.node_core.specs.Acting.{Acted, AreReopened, AreSame, DisksLeft, Follows, Runs, Took, Unchanged, is_here};
+ghost use Rattle.node_core.specs.Acting.{Acted, AreReopened, AreSame, DisksLeft, Follows, RunsWithoutOrders, Took, Unchanged, is_here};
 ghost use Rattle.node_state.specs.Bounds.{IsBounded, IsNumbered, is_own};
-ghost use Rattle.node_core.specs.Down.{down_node, left_in, seen_node};
+ghost use Rattle.node_core.specs.Down.{down_node, down_state, seen_node};
 ghost use Rattle.node_core.specs.Nodes.{HasFailed, checkpoints_after, journal_after};
-ghost use Rattle.node_core.specs.Putting.{EndsFrom, IsBroken, Leaves};
-ghost use Rattle.node_core.specs.Resting.{IsResting};
+ghost use Rattle.node_core.specs.Putting.{EndsFrom, IsStoreFailed, LeavesOnDisks};
+ghost use Rattle.node_core.specs.OnDisks.{IsOnDisks};
 ghost use Rattle.node_core.specs.Stands.{Stands};
 ghost use Rattle.rs_disk.specs.State.{State as OnDisk};
 ghost use Rattle.set_model.specs.Stores.{Plan};
@@ -50,7 +50,7 @@ use version_store::VersionStore;
 
 /// What is left of a node that is down, beside its disks.
 #[derive(Drop)]
-pub(crate) struct Left {
+pub(crate) struct DownState {
     pub(crate) clock: u32,
     pub(crate) stable: OpTime,
     pub(crate) rollback: u64,
@@ -68,7 +68,7 @@ pub struct Node<D: Disk> {
     pub(crate) disks: Disks<D>,
     pub(crate) up: bool,
     /// What it knows while it is down.
-    pub(crate) left: Left,
+    pub(crate) left: DownState,
 }
 
 impl<D: Disk> Model for Node<D> {
@@ -85,14 +85,30 @@ impl<D: Disk> Model for Node<D> {
 
     ghost Value = { Seen × D × D };
 
-    ghost coded = { Prim.hlevel (codes, fields_code, optime_code, key.the_row.coded, entry.the_row.coded, config_row.the_row.coded, record_kept.the_row.coded, store_row.the_row.coded, writers_code, slots_code, progress_code, known_code, tally_code) };
+    ghost coded = { Prim.hlevel (
+      codes,
+      fields_code,
+      optime_code,
+      key.the_row.coded,
+      entry.the_row.coded,
+      config_row.the_row.coded,
+      record_kept.the_row.coded,
+      store_row.the_row.coded,
+      writers_code,
+      slots_code,
+      progress_code,
+      known_code,
+      tally_code,
+    ) };
 
-    ghost use Rattle.node_core.specs.Down.{left_in, seen_node};
-    ghost use Rattle.node_core.specs.Resting.{IsResting};
+    ghost use Rattle.node_core.specs.Down.{down_state, seen_node};
+    ghost use Rattle.node_core.specs.OnDisks.{IsOnDisks};
 
-    ghost view = { λ n. (seen_node n.up n.state.node (left_in n.left), n.disks.journal.0, n.disks.checkpoints) };
+    ghost view = { λ n.
+        (seen_node n.up n.state.node (down_state n.left), n.disks.journal.0, n.disks.checkpoints) };
 
-    ghost invariant = { λ n. IsResting n.up n.state.node (left_in n.left) n.disks.count (D.state n.disks.journal.0) (D.state n.disks.checkpoints) };
+    ghost invariant = { λ n. IsOnDisks n.up n.state.node (down_state n.left) n.disks.count
+        (D.state n.disks.journal.0) (D.state n.disks.checkpoints) };
 }
 
 impl<D: Disk> Node<D> {
@@ -118,8 +134,8 @@ impl<D: Disk> Node<D> {
 
         // The journal is opened first.
         ensures first { (checkpoints_after result ≡ checkpoint)
-            ⊎ JournalRests (D.state (journal_after result)) [] }
-        ensures runs { Runs (HasFailed result) (D.state journal) (D.state (journal_after result))
+            ⊎ JournalAtRest (D.state (journal_after result)) [] }
+        ensures runs { RunsWithoutOrders (HasFailed result) (D.state journal) (D.state (journal_after result))
             (D.state checkpoint) (D.state (checkpoints_after result)) }
     {
         let Ok(state) = State::open(alloc, number, config) else {
@@ -147,12 +163,13 @@ impl<D: Disk> Node<D> {
         })
     }
 
-    /// Does what a command asks of this node, in a set of so many nodes, where the next message gets this number. A store that
-    /// fails is no error: it has its number in `failed`, and the node is down then and sends nothing.
+    /// Does what a command asks of this node, in a set of so many nodes, where the next message gets this
+    /// number. A store that fails is no error: it has its number in `failed`, and the node is down then
+    /// and sends nothing.
     ///
     /// # Errors
-    /// Out of memory alone. Then the node is as it was, and so are its files. Only a restart may have opened them
-    /// anew, and then they keep what they kept.
+    /// Out of memory alone. Then the node is as it was, and so are its files. Only a restart may have opened
+    /// them anew, and then they keep what they kept.
     pub fn act<R: Threads + Sync>(
         &mut self,
         rt: &R,
@@ -164,7 +181,8 @@ impl<D: Disk> Node<D> {
         requires next { IsNumbered next }
         requires here { is_here command.now ≡ true }
         requires within { is_within command.now ≡ true }
-        ensures ok { IfOk result (λ done. Acted (row nodes next done.kept self.old.0 command.now) command.now self.old.0 self.new.0
+        ensures ok { IfOk result (λ done.
+            Acted (row nodes next done.kept self.old.0 command.now) command.now self.old.0 self.new.0
             (D.state self.old.1) (D.state self.new.1) (D.state self.old.2) (D.state self.new.2) done) }
         ensures err { OnErr result (Unchanged (DisksLeft command.now) self.old.0 self.new.0
             (D.state self.old.1) (D.state self.new.1) (D.state self.old.2) (D.state self.new.2)) }
@@ -182,8 +200,9 @@ impl<D: Disk> Node<D> {
         }
     }
 
-    /// Takes a message of the set, where the next message gets this number. A node that is down refuses it. A store that fails is
-    /// no error: it has its number in `failed`, and the node is down then and sends nothing.
+    /// Takes a message of the set, where the next message gets this number. A node that is down
+    /// refuses it. A store that fails is no error: it has its number in `failed`, and the node is down
+    /// then and sends nothing.
     ///
     /// # Errors
     /// Out of memory alone. Then the node and its files are as they were.
@@ -197,7 +216,7 @@ impl<D: Disk> Node<D> {
         ensures err { OnErr result (Unchanged AreSame self.old.0 self.new.0
             (D.state self.old.1) (D.state self.new.1) (D.state self.old.2) (D.state self.new.2)) }
     {
-        self.state.is_sound();
+        self.state.recall_sound();
         if !self.up {
             return Ok(self.answered(Reply::Refused(Refusal::NodeDown)));
         }
@@ -242,7 +261,7 @@ impl<D: Disk> Node<D> {
             (D.state self.old.1) (D.state self.new.1) (D.state self.old.2) (D.state self.new.2) result }
         ensures unkept { result.kept ≡ false }
     {
-        self.state.is_sound();
+        self.state.recall_sound();
         match command {
             Command::Clock { seconds, .. } => {
                 self.left.clock = *seconds;
@@ -269,12 +288,14 @@ impl<D: Disk> Node<D> {
 
     // The power of both disks is cut, with the node's.
     fn crash(&mut self, pick: u64) -> Done
-        ensures ok { (nodes next node : ℕ) → Acted (row nodes next false self.old.0 (commands.Crash node pick)) (commands.Crash node pick) self.old.0 self.new.0
-            (D.state self.old.1) (D.state self.new.1) (D.state self.old.2) (D.state self.new.2) result }
+        ensures ok { (nodes next node : ℕ)
+            → Acted (row nodes next false self.old.0 (commands.Crash node pick))
+            (commands.Crash node pick) self.old.0 self.new.0 (D.state self.old.1) (D.state self.new.1)
+            (D.state self.old.2) (D.state self.new.2) result }
         ensures unkept { result.kept ≡ false }
     {
-        self.state.is_sound();
-        self.state.is_well_kept();
+        self.state.recall_sound();
+        self.state.recall_well_kept();
         if !self.up {
             return self.answered(Reply::Refused(Refusal::NodeDown));
         }
@@ -287,12 +308,14 @@ impl<D: Disk> Node<D> {
     // A node that is down opens its disks anew, and comes up with what is there.
     fn restart<R: Threads + Sync>(&mut self, rt: &R) -> Mem<Done>
         requires bounds { IsBounded self.old.0 }
-        ensures ok { (nodes next node : ℕ) → IfOk result (λ done. Acted (row nodes next done.kept self.old.0 (commands.Restart node)) (commands.Restart node) self.old.0 self.new.0
-            (D.state self.old.1) (D.state self.new.1) (D.state self.old.2) (D.state self.new.2) done) }
+        ensures ok { (nodes next node : ℕ) → IfOk result (λ done.
+            Acted (row nodes next done.kept self.old.0 (commands.Restart node))
+            (commands.Restart node) self.old.0 self.new.0 (D.state self.old.1) (D.state self.new.1)
+            (D.state self.old.2) (D.state self.new.2) done) }
         ensures err { OnErr result (Unchanged AreReopened self.old.0 self.new.0
             (D.state self.old.1) (D.state self.new.1) (D.state self.old.2) (D.state self.new.2)) }
     {
-        self.state.is_sound();
+        self.state.recall_sound();
         if !self.up {
             return come_up(
                 self.alloc,
@@ -308,15 +331,18 @@ impl<D: Disk> Node<D> {
 
     // One of the disks is told to fail.
     fn disk_fail(&mut self, disk: DiskName, call: u32, pick: Option<u64>) -> Done
-        ensures ok { (nodes next node : ℕ) → Acted (row nodes next false self.old.0 (commands.DiskFail node disk call pick)) (commands.DiskFail node disk call pick) self.old.0 self.new.0
-            (D.state self.old.1) (D.state self.new.1) (D.state self.old.2) (D.state self.new.2) result }
+        ensures ok { (nodes next node : ℕ)
+            → Acted (row nodes next false self.old.0 (commands.DiskFail node disk call pick))
+            (commands.DiskFail node disk call pick) self.old.0 self.new.0 (D.state self.old.1)
+            (D.state self.new.1) (D.state self.old.2) (D.state self.new.2) result }
         ensures unkept { result.kept ≡ false }
     {
         self.disks.arm(disk, call, pick);
         self.answered(Reply::Armed)
     }
 
-    /// Lends the documents, in 64 shards. Those of a node that is up are what its log leaves, as of each optime that can be read.
+    /// Lends the documents, in 64 shards. Those of a node that is up are what its log leaves, as of each
+    /// optime that can be read.
     pub fn store(&self) -> &VersionStore
         ensures latest { self.now.0.up ≡ true → (place : Place)
             → latest_of (versions_at result.now place) ≡ maps.get (local_documents self.now.0) place }
@@ -331,7 +357,7 @@ impl<D: Disk> Node<D> {
     pub fn is_up(&self) -> bool
         ensures { result ≡ self.now.0.up }
     {
-        self.state.is_sound();
+        self.state.recall_sound();
         self.up
     }
 
@@ -380,22 +406,24 @@ impl<D: Disk> Node<D> {
 }
 
 // What was done by how a turn ended. A node of which a store failed is down from there on.
-fn told(alloc: Global, state: &State, up: &mut bool, left: &mut Left, ended: Ended) -> Done
+fn told(alloc: Global, state: &State, up: &mut bool, left: &mut DownState, ended: Ended) -> Done
     requires { up.old ≡ true }
-    ensures follows { (plan : Plan) → EndsFrom 0 plan state.now.node ended → Follows plan (seen_node up.new state.now.node (left_in left.new)) result }
-    ensures rests { (count : ℕ) (journal checkpoints : OnDisk) → Leaves ended state.now.node count journal checkpoints
-        → IsResting up.new state.now.node (left_in left.new) count journal checkpoints }
-    ensures failed { IsSome result.failed → IsBroken ended }
+    ensures follows { (plan : Plan) → EndsFrom 0 plan state.now.node ended
+        → Follows plan (seen_node up.new state.now.node (down_state left.new)) result }
+    ensures rests { (count : ℕ) (journal checkpoints : OnDisk)
+        → LeavesOnDisks ended state.now.node count journal checkpoints
+        → IsOnDisks up.new state.now.node (down_state left.new) count journal checkpoints }
+    ensures failed { IsSome result.failed → IsStoreFailed ended }
     ensures unkept { result.kept ≡ false }
 {
     match ended {
-        Ended::Said { reply, sent } => Done {
+        Ended::WithReply { reply, sent } => Done {
             reply,
             sent,
             failed: None,
             kept: false,
         },
-        Ended::Broken { item, number } => {
+        Ended::StoreFailed { item, number } => {
             *up = false;
             *left = left_of(state, Some(item));
             Done {
@@ -409,10 +437,10 @@ fn told(alloc: Global, state: &State, up: &mut bool, left: &mut Left, ended: End
 }
 
 // What is left of a node that goes down, with what was being stored as a disk failed.
-fn left_of(state: &State, doubt: Option<Store>) -> Left
-    ensures { down_node state.now.node (left_in result) ≡ record (down state.now.node) { doubt = doubt } }
+fn left_of(state: &State, doubt: Option<Store>) -> DownState
+    ensures { down_node state.now.node (down_state result) ≡ record (down state.now.node) { doubt = doubt } }
 {
-    Left {
+    DownState {
         clock: state.clock(),
         stable: state.stable(),
         rollback: state.rollback(),

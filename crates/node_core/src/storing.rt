@@ -6,16 +6,16 @@ ghost use Rattle.set_model.specs.Limits.{is_within};
 ghost use Rattle.set_model.specs.Node.{Node};
 ghost use Rattle.set_model.specs.Rows.{row};
 ghost use Rattle.node_state.specs.Bounds.{IsBounded, IsNumbered, is_own, is_write};
-ghost use Rattle.node_core.specs.Acting.{AreSame, Runs};
-ghost use Rattle.node_core.specs.Putting.{CanBePut, EndsFrom, IsBrief, IsBroken, IsEnd, IsFault, IsLong, Leaves, NeedsRoom, SHORT, plan_of};
+ghost use Rattle.node_core.specs.Acting.{AreSame, RunsWithoutOrders};
+ghost use Rattle.node_core.specs.Putting.{CanBePut, EndsFrom, StoresFewShort, IsStoreFailed, IsEnd, IsFault, BeginsUnreserved, LeavesOnDisks, NeedsRoom, SHORT, plan_of};
 ghost use Rattle.node_state.specs.Ready.{CanBeStored, IsReady, IsReadyTurn};
 ghost use Rattle.node_state.specs.WellKept.{IsWellKept};
-ghost use Rattle.node_core.specs.Resting.{IsWellKeptWith, Rests};
+ghost use Rattle.node_core.specs.OnDisks.{IsWellKeptWith, UpOnDisks};
 ghost use Rattle.set_model.specs.Taking.{CanTake};
 
 use crate::disks::Disks;
 use bson_doc::Mem;
-use node_state::{State, Then, Turn};
+use node_state::{Continuation, State, Turn};
 use record_file::FileError;
 use repl_msg::Message;
 use rs_disk::Disk;
@@ -26,37 +26,40 @@ use std::thread::Threads;
 /// How a turn ended: it has its reply, or this store failed.
 #[derive(Drop)]
 pub(crate) enum Ended {
-    Said { reply: Reply, sent: Vec<Message> },
-    Broken { item: Store, number: u32 },
+    WithReply { reply: Reply, sent: Vec<Message> },
+    StoreFailed { item: Store, number: u32 },
 }
 
-/// Carries a turn out. It may run out of memory only where it stores one large record or checkpoint, and then nothing has
-/// changed.
+/// Carries a turn out. It may run out of memory only where it stores one large record or checkpoint, and then
+/// nothing has changed.
 pub(crate) fn carry_out<D: Disk>(state: &mut State, disks: &mut Disks<D>, turn: Turn) -> Mem<Ended>
-    requires rests { Rests state.old.node disks.old.count (D.state disks.old.journal.0) (D.state disks.old.checkpoints) }
+    requires rests { UpOnDisks state.old.node disks.old.count (D.state disks.old.journal.0)
+        (D.state disks.old.checkpoints) }
     requires ready { IsReadyTurn turn state.old }
     requires room { SHORT + SHORT ≤ spare (D.state disks.old.journal.0) disks.old.journal.1 }
     ensures ends { IfOk result (λ ended. EndsFrom 0 (plan_of turn state.old.node) state.new.node ended) }
-    ensures leaves { IfOk result (λ ended. Leaves ended state.new.node disks.new.count (D.state disks.new.journal.0) (D.state disks.new.checkpoints)) }
-    ensures runs { Runs (IsFault result) (D.state disks.old.journal.0) (D.state disks.new.journal.0)
-        (D.state disks.old.checkpoints) (D.state disks.new.checkpoints) }
-    ensures long { OnErr result (IsLong turn) }
+    ensures leaves { IfOk result (λ ended. LeavesOnDisks ended state.new.node disks.new.count
+        (D.state disks.new.journal.0) (D.state disks.new.checkpoints)) }
+    ensures runs { RunsWithoutOrders (IsFault result) (D.state disks.old.journal.0)
+        (D.state disks.new.journal.0) (D.state disks.old.checkpoints) (D.state disks.new.checkpoints) }
+    ensures long { OnErr result (BeginsUnreserved turn) }
     ensures same { OnErr result (state.new.node ≡ state.old.node) }
-    ensures left { OnErr result (Rests state.old.node disks.new.count (D.state disks.new.journal.0) (D.state disks.new.checkpoints)) }
+    ensures left { OnErr result (UpOnDisks state.old.node disks.new.count (D.state disks.new.journal.0)
+        (D.state disks.new.checkpoints)) }
     ensures unused { OnErr result (AreSame (D.state disks.old.journal.0) (D.state disks.new.journal.0)
         (D.state disks.old.checkpoints) (D.state disks.new.checkpoints)) }
 {
     match turn {
-        Turn::Finished { reply, sent } => Ok(Ended::Said { reply, sent }),
+        Turn::Finished { reply, sent } => Ok(Ended::WithReply { reply, sent }),
         Turn::Storing { item, then } => {
-            can_store(state, &item, &then);
+            recall_can_store(state, &item, &then);
             match disks.put(&item, state) {
                 Ok(()) => {
                     let next = state.go_on(&item, then);
                     Ok(carry_on(state, disks, next))
                 }
                 Err(FileError::Memory) => Err(AllocError),
-                Err(FileError::Disk) => Ok(Ended::Broken { item, number: 0 }),
+                Err(FileError::Disk) => Ok(Ended::StoreFailed { item, number: 0 }),
             }
         }
     }
@@ -64,56 +67,60 @@ pub(crate) fn carry_out<D: Disk>(state: &mut State, disks: &mut Disks<D>, turn: 
 
 // What is left of a turn after its first store: at most one short record.
 fn carry_on<D: Disk>(state: &mut State, disks: &mut Disks<D>, turn: Turn) -> Ended
-    requires rests { Rests state.old.node disks.old.count (D.state disks.old.journal.0) (D.state disks.old.checkpoints) }
+    requires rests { UpOnDisks state.old.node disks.old.count (D.state disks.old.journal.0)
+        (D.state disks.old.checkpoints) }
     requires ready { IsReadyTurn turn state.old }
-    requires brief { IsBrief 1 (plan_of turn state.old.node) }
+    requires brief { StoresFewShort 1 (plan_of turn state.old.node) }
     requires room { NeedsRoom turn (spare (D.state disks.old.journal.0) disks.old.journal.1) }
     ensures ends { EndsFrom 1 (plan_of turn state.old.node) state.new.node result }
-    ensures leaves { Leaves result state.new.node disks.new.count (D.state disks.new.journal.0) (D.state disks.new.checkpoints) }
-    ensures runs { Runs (IsBroken result) (D.state disks.old.journal.0) (D.state disks.new.journal.0)
-        (D.state disks.old.checkpoints) (D.state disks.new.checkpoints) }
+    ensures leaves { LeavesOnDisks result state.new.node disks.new.count (D.state disks.new.journal.0)
+        (D.state disks.new.checkpoints) }
+    ensures runs { RunsWithoutOrders (IsStoreFailed result) (D.state disks.old.journal.0)
+        (D.state disks.new.journal.0) (D.state disks.old.checkpoints) (D.state disks.new.checkpoints) }
 {
     match turn {
-        Turn::Finished { reply, sent } => Ended::Said { reply, sent },
+        Turn::Finished { reply, sent } => Ended::WithReply { reply, sent },
         Turn::Storing { item, then } => {
-            can_store(state, &item, &then);
+            recall_can_store(state, &item, &then);
             match disks.put(&item, state) {
                 Ok(()) => {
                     let last = state.go_on(&item, then);
                     said(last)
                 }
                 Err(FileError::Memory) => unreachable!(),
-                Err(FileError::Disk) => Ended::Broken { item, number: 1 },
+                Err(FileError::Disk) => Ended::StoreFailed { item, number: 1 },
             }
         }
     }
 }
 
-// What a turn stores can be put on the disks, and the node can come back whether it is there or not. It only reads.
-fn can_store(state: &State, item: &Store, then: &Then)
+// What a turn stores can be put on the disks, and the node can come back whether it is there or not.
+// It only reads.
+fn recall_can_store(state: &State, item: &Store, then: &Continuation)
     requires ready { IsReady item.now then.now state.now }
     requires stored { CanBeStored item.now }
     ensures can { CanBePut state.now.node item.now }
     ensures well { IsWellKept state.now.node.records state.now.node.stable }
     ensures doubtful { IsWellKeptWith state.now.node item.now }
 {
-    state.is_sound();
-    state.is_well_kept();
-    state.stores_well(item, then);
+    state.recall_sound();
+    state.recall_well_kept();
+    state.recall_stores_well(item, then);
 }
 
 fn said(turn: Turn) -> Ended
     requires { IsEnd turn }
     ensures ends { (first : ℕ) (node : Node) → EndsFrom first (plan_of turn node) node result }
-    ensures whole { ¬ IsBroken result }
+    ensures whole { ¬ IsStoreFailed result }
 {
     match turn {
-        Turn::Finished { reply, sent } => Ended::Said { reply, sent },
+        Turn::Finished { reply, sent } => Ended::WithReply { reply, sent },
         Turn::Storing { .. } => unreachable!(),
     }
 }
 
-/// Does what a command asks, in memory and on the disks. Out of memory is the one error, and then all is as it was.
+/// Does what a command asks, in memory and on the disks. Out of memory is the one error, and then all is
+/// as it was.
 pub(crate) fn act_own<D: Disk, R: Threads + Sync>(
     state: &mut State,
     disks: &mut Disks<D>,
@@ -122,18 +129,22 @@ pub(crate) fn act_own<D: Disk, R: Threads + Sync>(
     next: u64,
     command: &Command,
 ) -> Mem<Ended>
-    requires rests { Rests state.old.node disks.old.count (D.state disks.old.journal.0) (D.state disks.old.checkpoints) }
+    requires rests { UpOnDisks state.old.node disks.old.count (D.state disks.old.journal.0)
+        (D.state disks.old.checkpoints) }
     requires bounds { IsBounded state.old.node }
     requires next { IsNumbered next }
     requires own { is_own command.now ≡ true }
     requires turn { is_write command.now ≡ false }
     requires within { is_within command.now ≡ true }
-    ensures ends { IfOk result (λ ended. EndsFrom 0 (row nodes next false state.old.node command.now) state.new.node ended) }
-    ensures leaves { IfOk result (λ ended. Leaves ended state.new.node disks.new.count (D.state disks.new.journal.0) (D.state disks.new.checkpoints)) }
-    ensures runs { Runs (IsFault result) (D.state disks.old.journal.0) (D.state disks.new.journal.0)
-        (D.state disks.old.checkpoints) (D.state disks.new.checkpoints) }
+    ensures ends { IfOk result (λ ended.
+        EndsFrom 0 (row nodes next false state.old.node command.now) state.new.node ended) }
+    ensures leaves { IfOk result (λ ended. LeavesOnDisks ended state.new.node disks.new.count
+        (D.state disks.new.journal.0) (D.state disks.new.checkpoints)) }
+    ensures runs { RunsWithoutOrders (IsFault result) (D.state disks.old.journal.0)
+        (D.state disks.new.journal.0) (D.state disks.old.checkpoints) (D.state disks.new.checkpoints) }
     ensures same { OnErr result (state.new.node ≡ state.old.node) }
-    ensures left { OnErr result (Rests state.old.node disks.new.count (D.state disks.new.journal.0) (D.state disks.new.checkpoints)) }
+    ensures left { OnErr result (UpOnDisks state.old.node disks.new.count (D.state disks.new.journal.0)
+        (D.state disks.new.checkpoints)) }
     ensures unused { OnErr result (AreSame (D.state disks.old.journal.0) (D.state disks.new.journal.0)
         (D.state disks.old.checkpoints) (D.state disks.new.checkpoints)) }
 {
@@ -150,16 +161,20 @@ pub(crate) fn take_in<D: Disk, R: Threads + Sync>(
     next: u64,
     message: &Message,
 ) -> Mem<Ended>
-    requires rests { Rests state.old.node disks.old.count (D.state disks.old.journal.0) (D.state disks.old.checkpoints) }
+    requires rests { UpOnDisks state.old.node disks.old.count (D.state disks.old.journal.0)
+        (D.state disks.old.checkpoints) }
     requires bounds { IsBounded state.old.node }
     requires next { IsNumbered next }
     requires message { CanTake state.old.node message.now }
-    ensures ends { IfOk result (λ ended. EndsFrom 0 (deliver next state.old.node message.now) state.new.node ended) }
-    ensures leaves { IfOk result (λ ended. Leaves ended state.new.node disks.new.count (D.state disks.new.journal.0) (D.state disks.new.checkpoints)) }
-    ensures runs { Runs (IsFault result) (D.state disks.old.journal.0) (D.state disks.new.journal.0)
-        (D.state disks.old.checkpoints) (D.state disks.new.checkpoints) }
+    ensures ends { IfOk result (λ ended.
+        EndsFrom 0 (deliver next state.old.node message.now) state.new.node ended) }
+    ensures leaves { IfOk result (λ ended. LeavesOnDisks ended state.new.node disks.new.count
+        (D.state disks.new.journal.0) (D.state disks.new.checkpoints)) }
+    ensures runs { RunsWithoutOrders (IsFault result) (D.state disks.old.journal.0)
+        (D.state disks.new.journal.0) (D.state disks.old.checkpoints) (D.state disks.new.checkpoints) }
     ensures same { OnErr result (state.new.node ≡ state.old.node) }
-    ensures left { OnErr result (Rests state.old.node disks.new.count (D.state disks.new.journal.0) (D.state disks.new.checkpoints)) }
+    ensures left { OnErr result (UpOnDisks state.old.node disks.new.count (D.state disks.new.journal.0)
+        (D.state disks.new.checkpoints)) }
     ensures unused { OnErr result (AreSame (D.state disks.old.journal.0) (D.state disks.new.journal.0)
         (D.state disks.old.checkpoints) (D.state disks.new.checkpoints)) }
 {

@@ -39,7 +39,13 @@ pub record IsJournalDisk (state : State) : Type 0 where
 -- an empty disk is one
 pub empty_disk : (state : State) → IsEmpty state.file → IsJournalDisk state
 empty_disk state empty = record {
-  leaves = λ image is. ([], record { each = λ k d within. absurd (omega arith); has = inl (omega (arith, ap length (empty.leaves image is)), refl) });
+  leaves = λ image is. (
+    [],
+    record {
+      each = λ k d within. absurd (omega arith);
+      has = inl (omega (arith, ap length (empty.leaves image is)), refl);
+    },
+  );
 }
 
 -- the records before a record was added, or those with the new one

@@ -39,21 +39,26 @@ impl<D: Disk> Journal<D> {
     /// Reads what the journal on a disk keeps. The disk is empty, or a journal left it.
     ///
     /// # Errors
-    /// `Disk` where the disk failed. Either error hands the disk back, and an opening may be tried again on it.
+    /// `Disk` where the disk failed. Either error hands the disk back, and an opening may be tried
+    /// again on it.
     pub fn open(alloc: Global, disk: D) -> Result<(Journal<D>, Kept), (D, FileError)>
         requires { IsJournalDisk (D.state disk) }
 
-        ensures kept { IfOk result (λ opened. (records : List ARecord) → HasJournal (contents (D.state disk).file) records
+        ensures kept { IfOk result (λ opened.
+            (records : List ARecord) → HasJournal (contents (D.state disk).file) records
             → opened.1 ≡ kept records) }
-        ensures at_rest { IfOk result (λ opened. (records : List ARecord) → HasJournal (contents (D.state disk).file) records
+        ensures at_rest { IfOk result (λ opened.
+            (records : List ARecord) → HasJournal (contents (D.state disk).file) records
             → IsAtRest (D.state opened.0.0) records) }
         ensures open { IfOk result (λ opened. IsOpen (D.state opened.0.0)) }
         ensures handed_back { IfErr result (λ refused. IsJournalDisk (D.state refused.0)) }
         ensures calls { OpensBy (answer_of result) (D.state disk) (D.state (disk_after result)) }
 
         // A crash at any moment leaves records that a crash before the call might have left.
-        ensures any_moment { EachMoment (IsOneOf (D.state disk)) (D.state disk) (D.state (disk_after result)) }
-        ensures keeps { Keeps (IsErrOf (answer_of result) FileError.Disk) (D.state disk) (D.state (disk_after result)) }
+        ensures any_moment { EachMoment (IsOneOf (D.state disk)) (D.state disk)
+            (D.state (disk_after result)) }
+        ensures keeps { Keeps (IsErrOf (answer_of result) FileError.Disk) (D.state disk)
+            (D.state (disk_after result)) }
     {
         let mut journal = Journal {
             file: RecordFile::unopened(alloc, disk),
@@ -72,16 +77,19 @@ impl<D: Disk> Journal<D> {
     pub fn reopen(&mut self) -> Result<Kept, FileError>
         requires { IsJournalDisk (D.state self.old.0) }
 
-        ensures kept { IfOk result (λ read. (records : List ARecord) → HasJournal (contents (D.state self.old.0).file) records
+        ensures kept { IfOk result (λ read.
+            (records : List ARecord) → HasJournal (contents (D.state self.old.0).file) records
             → read ≡ kept records) }
-        ensures at_rest { OnOk result ((records : List ARecord) → HasJournal (contents (D.state self.old.0).file) records
+        ensures at_rest { OnOk result
+            ((records : List ARecord) → HasJournal (contents (D.state self.old.0).file) records
             → IsAtRest (D.state self.new.0) records) }
         ensures open { OnOk result (IsOpen (D.state self.new.0)) }
         ensures left { IsJournalDisk (D.state self.new.0) }
         ensures calls { OpensBy result (D.state self.old.0) (D.state self.new.0) }
 
         // A crash at any moment leaves records that a crash before the call might have left.
-        ensures any_moment { EachMoment (IsOneOf (D.state self.old.0)) (D.state self.old.0) (D.state self.new.0) }
+        ensures any_moment { EachMoment (IsOneOf (D.state self.old.0)) (D.state self.old.0)
+            (D.state self.new.0) }
         ensures keeps { Keeps (IsErrOf result FileError.Disk) (D.state self.old.0) (D.state self.new.0) }
         ensures room { self.new.1 ≡ self.old.1 }
     {
@@ -89,8 +97,8 @@ impl<D: Disk> Journal<D> {
         Ok(kept_of(*self.buffer.allocator(), &pieces)?)
     }
 
-    /// Adds a record: a vote for anyone but 4,294,967,295, a configuration of at most 50 members, at most 2,000 entries, each
-    /// within the bounds of an entry, or a cut. After `Ok` every crash leaves it.
+    /// Adds a record: a vote for anyone but 4,294,967,295, a configuration of at most 50 members, at most
+    /// 2,000 entries, each within the bounds of an entry, or a cut. After `Ok` every crash leaves it.
     ///
     /// # Errors
     /// `Memory` leaves the journal as it was. After `Disk` it has failed, and only `close` is left.
@@ -101,12 +109,13 @@ impl<D: Disk> Journal<D> {
         ensures ok { OnOk result ((records : List ARecord) → IsAtRest (D.state self.old.0) records
             → IsAtRest (D.state self.new.0) (records ++ item.now ∷ [])) }
         ensures open { OnOk result (IsOpen (D.state self.new.0)) }
-        ensures memory { result ≡ Err FileError.Memory → SameButRoom (D.state self.old.0) (D.state self.new.0) }
+        ensures memory { result ≡ Err FileError.Memory
+            → SameButRoom (D.state self.old.0) (D.state self.new.0) }
         ensures still_open { result ≡ Err FileError.Memory → IsOpen (D.state self.new.0) }
         ensures left { IsJournalDisk (D.state self.new.0) }
         ensures calls { EndsBy result
-            (append_steps (length (contents (D.state self.old.0).file)) (body (record_bytes item.now) ++ 0 ∷ []))
-            (D.state self.old.0) (D.state self.new.0) }
+            (append_steps (length (contents (D.state self.old.0).file))
+            (body (record_bytes item.now) ++ 0 ∷ [])) (D.state self.old.0) (D.state self.new.0) }
 
         // A crash at any moment of the call leaves the records from before it, with the new one or without.
         ensures any_moment { (records : List ARecord) → IsAtRest (D.state self.old.0) records
@@ -114,7 +123,8 @@ impl<D: Disk> Journal<D> {
         ensures keeps { Keeps (IsErrOf result FileError.Disk) (D.state self.old.0) (D.state self.new.0) }
 
         // A record that brings no entries takes 5 bytes more than it has of what was reserved.
-        ensures room { IsShort item.now → length (record_bytes item.now) + 5 ≤ spare (D.state self.old.0) self.old.1
+        ensures room { IsShort item.now
+            → length (record_bytes item.now) + 5 ≤ spare (D.state self.old.0) self.old.1
             → result ≢ Err FileError.Memory }
         ensures spare { OnOk result (spare (D.state self.old.0) self.old.1
             ≤ spare (D.state self.new.0) self.new.1 + (length (record_bytes item.now) + 5)) }
@@ -123,8 +133,9 @@ impl<D: Disk> Journal<D> {
         self.file.append(&self.buffer)
     }
 
-    /// There are fewer than 2^63 records: a fact for the proofs of callers that count them, which costs nothing.
-    pub fn count_fits(&self)
+    /// There are fewer than 2^63 records: a fact for the proofs of callers that count them,
+    /// which costs nothing.
+    pub fn recall_count_fits(&self)
         ensures { (records : List ARecord) → IsAtRest (D.state self.now.0) records → length records < 2 ^ 63 }
     {
         let _len = self.file.len();

@@ -1,5 +1,5 @@
-//! The journal of a node: votes, configurations, entries and cuts, as records on one disk. A crash at any moment leaves
-//! the records from before a record was added, or those with it.
+//! The journal of a node: votes, configurations, entries and cuts, as records on one disk. A crash at any
+//! moment leaves the records from before a record was added, or those with it.
 #![tactic(auto)]
 
 mod fold;

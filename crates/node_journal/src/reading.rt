@@ -76,7 +76,8 @@ fn members_of(alloc: Global, count: u32, bytes: &[u8]) -> Mem<MemberList>
 
 fn config_of(alloc: Global, bytes: &[u8]) -> Mem<Config>
     requires { (config : Config) × IsConfig config × (bytes.now ≡ config_bytes config) }
-    ensures { IfOk result (λ read. (config : Config) → IsConfig config → bytes.now ≡ config_bytes config → read ≡ config) }
+    ensures { IfOk result (λ read.
+        (config : Config) → IsConfig config → bytes.now ≡ config_bytes config → read ≡ config) }
 {
     let (term, rest) = u64_of(bytes);
     let (version, rest) = u32_of(rest);
@@ -124,7 +125,8 @@ fn entries_of(alloc: Global, count: u32, bytes: &[u8]) -> Mem<Vec<Entry>>
 fn batch_of(alloc: Global, bytes: &[u8]) -> Mem<(Vec<Entry>, OpTime)>
     requires { (entries : List AnEntry) × (point : OpTime) × IsOptime point × AreEntries entries
         × (bytes.now ≡ batch_bytes entries point) }
-    ensures { IfOk result (λ read. (entries : List AnEntry) (point : OpTime) → IsOptime point → AreEntries entries
+    ensures { IfOk result (λ read.
+        (entries : List AnEntry) (point : OpTime) → IsOptime point → AreEntries entries
         → bytes.now ≡ batch_bytes entries point → (read.0.items ≡ entries) × (read.1 ≡ point)) }
 {
     let (point, rest) = optime_of(bytes);

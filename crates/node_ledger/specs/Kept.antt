@@ -31,7 +31,8 @@ pub record IsNewest (log : List Entry) (entry : Entry) : Type 0 where
   pub fits : All (FitsBeside entry) log
   pub last : All (λ other. entry.optime.ts < other.optime.ts → place_of other.op ≢ place_of entry.op) log
 
--- an op that waits for its entry: of the node's term, behind the checkpoint, and the newest of its document once it is written
+-- an op that waits for its entry: of the node's term, behind the checkpoint, and the newest of its document
+-- once it is written
 pub record IsPending (node : Node) (at : OpTime) (op : Op) : Type 0 where
   pub open_slot : IsTrue (sets.contains node.slots at)
   pub positive : 0 < at.ts
@@ -41,14 +42,18 @@ pub record IsPending (node : Node) (at : OpTime) (op : Op) : Type 0 where
   pub lawful : IsLawfulOp op
   pub within : IsWithinEntry (record { optime = at; op = op })
   pub place : IsSome (place_of op)
-  pub small : (place : Place) → place_of op ≡ Some place → IsSmall (document_after op (maps.get (docs node.log) place))
+  pub small : (place : Place) → place_of op ≡ Some place
+      → IsSmall (document_after op (maps.get (docs node.log) place))
   pub newest : IsNewest node.log (record { optime = at; op = op })
 
 -- no two writers share a slot or a document
 pub record AreApart (node : Node) : Type 0 where
-  pub pending : (writer : ℕ) (at : OpTime) (op : Op) → HasOpen node.writers writer at op → IsPending node at op
-  pub apart : (one two : ℕ) (at by : OpTime) (op other : Op) → HasOpen node.writers one at op → HasOpen node.writers two by other → at.ts ≡ by.ts → one ≡ two
-  pub alone : (one two : ℕ) (at by : OpTime) (op other : Op) → HasOpen node.writers one at op → HasOpen node.writers two by other → place_of op ≡ place_of other → one ≡ two
+  pub pending : (writer : ℕ) (at : OpTime) (op : Op) → HasOpen node.writers writer at op
+      → IsPending node at op
+  pub apart : (one two : ℕ) (at by : OpTime) (op other : Op) → HasOpen node.writers one at op
+      → HasOpen node.writers two by other → at.ts ≡ by.ts → one ≡ two
+  pub alone : (one two : ℕ) (at by : OpTime) (op other : Op) → HasOpen node.writers one at op
+      → HasOpen node.writers two by other → place_of op ≡ place_of other → one ≡ two
 
 -- whether a writer, where there is one, holds a document
 abbrev pub is_held_by : Option Writer → Place → Bool
@@ -61,11 +66,12 @@ IsHolder writers place holder =
     MatchOption holder ((writer : ℕ) → is_held_by (maps.get writers writer) place ≡ false)
     (λ writer. is_held_by (maps.get writers writer) place ≡ true)
 
--- the documents that are stored have the versions that the log makes, are held by the writers that hold them, and are spread
--- over 64 shards
+-- the documents that are stored have the versions that the log makes, are held by the writers that hold them,
+-- and are spread over 64 shards
 pub record IsKept (node : Node) (store : Store) : Type 0 where
   pub sound : IsSound node
   pub writers : AreApart node
-  pub versions : (place : Place) → HasVersions place node.stable (shown_log node Local) (versions_at store place)
+  pub versions : (place : Place)
+      → HasVersions place node.stable (shown_log node Local) (versions_at store place)
   pub holders : (place : Place) → IsHolder node.writers place (holder_at store place)
   pub shards : store.count ≡ 64

@@ -1,4 +1,5 @@
--- What a node has written and will write, and how far that goes: a node whose other fields are as the set begins.
+-- What a node has written and will write, and how far that goes: a node whose other fields are as
+-- the set begins.
 use Rattle.std.specs.Prelude.{◌≡◌, ℕ, false, List, [], ◌∷◌}
 use Rattle.std.specs.Ordering.{nat_cmp}
 use Rattle.std.specs.FinMap as maps
@@ -24,7 +25,8 @@ abbrev pub nobody : Config
 nobody = first_config 0
 
 -- a node with these fields, and the others as the set begins
-abbrev pub ledger_node : ℕ → Role → ℕ → List Entry → sets.FinSet optime_cmp → maps.FinMap nat_cmp Writer → ℕ → OpTime → OpTime → Node
+abbrev pub ledger_node : ℕ → Role → ℕ → List Entry → sets.FinSet optime_cmp → maps.FinMap nat_cmp Writer → ℕ
+    → OpTime → OpTime → Node
 ledger_node term role clock log slots writers seen applied stable =
     record (opening_node nobody 0) {
       term = term;
@@ -38,7 +40,8 @@ ledger_node term role clock log slots writers seen applied stable =
       stable = stable;
     }
 
--- A node that comes up with the entries of its log, which it has applied, and the documents of its checkpoint as of an optime.
+-- A node that comes up with the entries of its log, which it has applied, and the documents of its checkpoint
+-- as of an optime.
 abbrev pub restored : ℕ → ℕ → List Entry → OpTime → Node
 restored term clock entries at =
     record (opening_node nobody 0) {
@@ -63,7 +66,8 @@ applied_at ledger at = record ledger { node = record ledger.node { applied = at 
 abbrev pub applied_with : Ledger → List Entry → Ledger
 applied_with ledger batch = applied_at ledger (applied_after ledger.node.applied batch)
 
--- The documents are there as of an optime: none of theirs is pruned, and, but on a primary, the log is applied so far.
+-- The documents are there as of an optime: none of theirs is pruned, and, but on a primary, the log is
+-- applied so far.
 pub record IsReadable (node : Node) (at : OpTime) : Type 0 where
   pub kept : is_before at node.stable ≡ false
   pub reached : is_primary node.role ≡ false → is_before node.applied at ≡ false

@@ -15,8 +15,9 @@ pub record IsIdle (node : Node) : Type 0 where
   pub slots : node.slots ≡ sets.empty
   pub writers : (writer : ℕ) → ¬ IsWriting node.writers writer
 
--- The log is one, of entries that fit into a record, up to the node's term and the greatest timestamp seen. It is applied no
--- further than it goes, and the documents of the checkpoint are no newer than what is applied. Only a primary has slots.
+-- The log is one, of entries that fit into a record, up to the node's term and the greatest timestamp seen.
+-- It is applied no further than it goes, and the documents of the checkpoint are no newer than what is
+-- applied. Only a primary has slots.
 pub record IsSound (node : Node) : Type 0 where
   pub oplog : IsOplog node.log
   pub entries : All IsWithinEntry node.log

@@ -19,7 +19,8 @@ abbrev pub versions_from : Place → Option Fields → List Entry → List Versi
 versions_from place before [] = []
 versions_from place before (entry ∷ log) =
     if is_at (place_of entry.op) place
-    then record { at = entry.optime; doc = document_after entry.op before } ∷ versions_from place (document_after entry.op before) log
+    then record { at = entry.optime; doc = document_after entry.op before }
+    ∷ versions_from place (document_after entry.op before) log
     else versions_from place before log
 
 -- the versions that a log makes of the document at a place
@@ -40,8 +41,10 @@ version_as_of at None = []
 version_as_of at (Some document) = record { at = at; doc = Some document } ∷ []
 
 -- what the log makes behind an optime, after versions up to there that show what the log leaves at it
-pub record HasVersions (place : Place) (stable : OpTime) (log : List Entry) (versions : List Version) : Type 0 where
+pub record HasVersions (place : Place) (stable : OpTime) (log : List Entry)
+    (versions : List Version) : Type 0 where
   pub base : List Version
-  pub is : versions ≡ base ++ versions_from place (get (docs (log_up_to stable log)) place) (log_behind stable log)
+  pub is : versions
+      ≡ base ++ versions_from place (get (docs (log_up_to stable log)) place) (log_behind stable log)
   pub early : All (λ version. is_before stable version.at ≡ false) base
   pub shows : latest_of base ≡ get (docs (log_up_to stable log)) place

@@ -24,7 +24,8 @@ use version_store::{Current, VersionStore};
 impl Ledger {
     /// The documents, as of each optime that can still be read, in 64 shards.
     pub fn store(&self) -> &VersionStore
-        ensures latest { (place : Place) → latest_of (versions_at result.now place) ≡ maps.get (local_documents self.now.node) place }
+        ensures latest { (place : Place)
+            → latest_of (versions_at result.now place) ≡ maps.get (local_documents self.now.node) place }
         ensures shown { (place : Place) (at : OpTime) → IsReadable self.now.node at
             → shown_at result.now place at ≡ maps.get (docs (log_up_to at self.now.node.log)) place }
         ensures shards { result.now.count ≡ 64 }
@@ -32,8 +33,8 @@ impl Ledger {
         &self.store
     }
 
-    /// The optime as of which a read at `local` shows documents: on a primary one later than every entry, and on another node how
-    /// far its log is applied.
+    /// The optime as of which a read at `local` shows documents: on a primary one later than every entry, and
+    /// on another node how far its log is applied.
     pub fn local_point(&self) -> OpTime
         ensures readable { IsReadable self.now.node result }
         ensures shown { log_up_to result self.now.node.log ≡ shown_log self.now.node Local }
@@ -50,7 +51,8 @@ impl Ledger {
     /// A document as a read at `local` shows it. It begins with its `_id`.
     pub fn latest(&self, ns: &str, id: &IdKey) -> Option<&Doc>
         ensures latest { option_copied result ≡ maps.get (local_documents self.now.node) (ns.now, id.now) }
-        ensures own { IfSome (option_copied result) (λ document. BeginsWithId document × (id_key document ≡ Some id.now)) }
+        ensures own { IfSome (option_copied result)
+            (λ document. BeginsWithId document × (id_key document ≡ Some id.now)) }
     {
         self.store.latest(ns, id)
     }
@@ -58,8 +60,10 @@ impl Ledger {
     /// A document as of an optime. It begins with its `_id`.
     pub fn read_at(&self, ns: &str, id: &IdKey, at: OpTime) -> Option<&Doc>
         requires { IsReadable self.now.node at }
-        ensures shown { option_copied result ≡ maps.get (docs (log_up_to at self.now.node.log)) (ns.now, id.now) }
-        ensures own { IfSome (option_copied result) (λ document. BeginsWithId document × (id_key document ≡ Some id.now)) }
+        ensures shown { option_copied result
+            ≡ maps.get (docs (log_up_to at self.now.node.log)) (ns.now, id.now) }
+        ensures own { IfSome (option_copied result)
+            (λ document. BeginsWithId document × (id_key document ≡ Some id.now)) }
     {
         self.store.read_at(ns, id, at)
     }
@@ -73,8 +77,10 @@ impl Ledger {
 
     /// What `latest` and `holder` give, by one look-up.
     pub fn current(&self, ns: &str, id: &IdKey) -> Current<'_>
-        ensures latest { option_copied result.latest ≡ maps.get (local_documents self.now.node) (ns.now, id.now) }
-        ensures own { IfSome (option_copied result.latest) (λ document. BeginsWithId document × (id_key document ≡ Some id.now)) }
+        ensures latest { option_copied result.latest
+            ≡ maps.get (local_documents self.now.node) (ns.now, id.now) }
+        ensures own { IfSome (option_copied result.latest)
+            (λ document. BeginsWithId document × (id_key document ≡ Some id.now)) }
         ensures holder { result.holder ≡ holder self.now.node (ns.now, id.now) }
     {
         self.store.current(ns, id)

@@ -33,7 +33,8 @@ pub(crate) fn insert_all(log: &mut OpenLog, slots: &mut Slots, entries: Vec<Entr
     requires stays { IsOplog (log.old.entries ++ entries.items) }
     ensures entries { log.new.entries ≡ log.old.entries ++ entries.items }
     ensures spare { log.new.spare ≡ log.old.spare - length entries.items }
-    ensures slots { slots.new ≡ record { slots = slots.old.slots; mark = seen_after slots.old.mark entries.items } }
+    ensures slots { slots.new
+        ≡ record { slots = slots.old.slots; mark = seen_after slots.old.mark entries.items } }
 {
     for entry in entries {
         slots.seen(entry.optime.ts);
@@ -42,12 +43,14 @@ pub(crate) fn insert_all(log: &mut OpenLog, slots: &mut Slots, entries: Vec<Entr
 }
 
 impl Ledger {
-    /// Appends entries to the log of a node that isn't primary, in the room that `reserve` made. They aren't applied yet.
+    /// Appends entries to the log of a node that isn't primary, in the room that `reserve` made. They
+    /// aren't applied yet.
     pub fn append(&mut self, entries: Vec<Entry>)
         requires role { is_primary self.old.node.role ≡ false }
         requires spare { length entries.items ≤ self.old.spare }
         requires oplog { IsOplog (self.old.node.log ++ entries.items) }
-        requires later { All (λ entry. is_before (last_point self.old.node) entry.optime ≡ true) entries.items }
+        requires later { All (λ entry. is_before (last_point self.old.node) entry.optime ≡ true)
+            entries.items }
         requires terms { All (λ entry. entry.optime.term ≤ self.old.node.term) entries.items }
         requires within { All IsWithinEntry entries.items }
         requires small { AreSmall (self.old.node.log ++ entries.items) }
@@ -57,8 +60,8 @@ impl Ledger {
         insert_all(&mut self.log, &mut self.slots, entries);
     }
 
-    /// Applies the next batch, of at most 5,000 entries, by so many workers. The result is how many entries there were. Out of
-    /// memory leaves all as it was.
+    /// Applies the next batch, of at most 5,000 entries, by so many workers. The result is how many entries
+    /// there were. Out of memory leaves all as it was.
     pub fn apply<R: Threads + Sync>(&mut self, rt: &R, workers: u32) -> Mem<usize>
         requires role { is_primary self.old.node.role ≡ false }
         requires workers { (0 < workers) × (workers ≤ 16) }
@@ -69,13 +72,15 @@ impl Ledger {
         self.apply_next(rt, workers, BATCH)
     }
 
-    /// Applies all entries up to an optime that aren't applied yet, batch by batch. Out of memory leaves all as it was.
+    /// Applies all entries up to an optime that aren't applied yet, batch by batch. Out of memory leaves all
+    /// as it was.
     pub fn apply_to<R: Threads + Sync>(&mut self, rt: &R, to: OpTime) -> Mem<()>
         requires { is_primary self.old.node.role ≡ false }
-        ensures ok { OnOk result (self.new ≡ applied_at self.old (later_of self.old.node.applied (last_of (log_up_to to self.old.node.log)))) }
+        ensures ok { OnOk result (self.new ≡ applied_at self.old
+            (later_of self.old.node.applied (last_of (log_up_to to self.old.node.log)))) }
         ensures err { OnErr result (self.new ≡ self.old) }
     {
-        self.is_sound();
+        self.recall_sound();
         let start = self.applied();
         let count = self.count_unapplied(to);
         let done = self.apply_batches(rt, count);
@@ -87,7 +92,8 @@ impl Ledger {
 
     /// How many entries up to an optime aren't applied.
     fn count_unapplied(&mut self, to: OpTime) -> usize
-        ensures count { result ≡ length (log_up_to to self.old.node.log) - length (log_up_to self.old.node.applied self.old.node.log) }
+        ensures count { result ≡ length (log_up_to to self.old.node.log)
+            - length (log_up_to self.old.node.applied self.old.node.log) }
         ensures same { self.new ≡ self.old }
     {
         self.log.gather();
@@ -101,10 +107,12 @@ impl Ledger {
     fn apply_batches<R: Threads + Sync>(&mut self, rt: &R, count: usize) -> Mem<()>
         requires role { is_primary self.old.node.role ≡ false }
         requires there { count ≤ length (log_behind self.old.node.applied self.old.node.log) }
-        ensures ok { OnOk result (self.new ≡ applied_with self.old (take count (log_behind self.old.node.applied self.old.node.log))) }
-        ensures begun { (at : OpTime) × (self.new ≡ applied_at self.old at) × (is_before at self.old.node.applied ≡ false) }
+        ensures ok { OnOk result (self.new
+            ≡ applied_with self.old (take count (log_behind self.old.node.applied self.old.node.log))) }
+        ensures begun { (at : OpTime) × (self.new ≡ applied_at self.old at)
+            × (is_before at self.old.node.applied ≡ false) }
     {
-        self.is_sound();
+        self.recall_sound();
         let mut left = count;
         while left > 0 {
             left -= self.apply_next(rt, WORKERS, left.min(BATCH))?;
@@ -117,8 +125,10 @@ impl Ledger {
         requires role { is_primary self.old.node.role ≡ false }
         requires workers { (0 < workers) × (workers ≤ 16) }
         requires most { most ≤ 5000 }
-        ensures count { IfOk result (λ count. count ≡ length (take most (log_behind self.old.node.applied self.old.node.log))) }
-        ensures ok { OnOk result (self.new ≡ applied_with self.old (take most (log_behind self.old.node.applied self.old.node.log))) }
+        ensures count { IfOk result (λ count.
+            count ≡ length (take most (log_behind self.old.node.applied self.old.node.log))) }
+        ensures ok { OnOk result (self.new
+            ≡ applied_with self.old (take most (log_behind self.old.node.applied self.old.node.log))) }
         ensures err { OnErr result (self.new ≡ self.old) }
     {
         self.log.gather();
@@ -134,20 +144,22 @@ impl Ledger {
         Ok(count)
     }
 
-    /// Drops the entries behind a point, which is an applied entry's optime or ZERO, and takes the documents back to it.
+    /// Drops the entries behind a point, which is an applied entry's optime or ZERO, and takes the documents
+    /// back to it.
     pub fn cut(&mut self, point: OpTime)
         requires role { is_primary self.old.node.role ≡ false }
         requires kept { is_before point self.old.node.stable ≡ false }
         requires applied { is_before self.old.node.applied point ≡ false }
         requires point { (point ≡ ZERO) ⊎ (has_entry self.old.node.log point ≡ true) }
-        ensures node { self.new.node ≡ record self.old.node { log = log_up_to point self.old.node.log; applied = point } }
+        ensures node { self.new.node
+            ≡ record self.old.node { log = log_up_to point self.old.node.log; applied = point } }
         ensures spare { self.old.spare ≤ self.new.spare }
     {
         self.unapply(point);
         self.drop_unapplied();
     }
 
-    /// Takes the documents back to an optime, up to which the log then counts as applied.
+    /// Takes the documents back to how they were at an optime; the entries behind it count as not applied.
     fn unapply(&mut self, at: OpTime)
         requires role { is_primary self.old.node.role ≡ false }
         requires kept { is_before at self.old.node.stable ≡ false }
@@ -161,15 +173,17 @@ impl Ledger {
     /// Drops the entries that aren't applied.
     fn drop_unapplied(&mut self)
         requires role { is_primary self.old.node.role ≡ false }
-        requires point { (self.old.node.applied ≡ ZERO) ⊎ (has_entry self.old.node.log self.old.node.applied ≡ true) }
-        ensures node { self.new.node ≡ record self.old.node { log = log_up_to self.old.node.applied self.old.node.log } }
+        requires point { (self.old.node.applied ≡ ZERO)
+            ⊎ (has_entry self.old.node.log self.old.node.applied ≡ true) }
+        ensures node { self.new.node
+            ≡ record self.old.node { log = log_up_to self.old.node.applied self.old.node.log } }
         ensures spare { self.old.spare ≤ self.new.spare }
     {
         self.log.cut(self.applied);
     }
 
-    /// Drops the versions of documents that no read at an optime or behind it shows, once the checkpoint has the documents as of
-    /// that optime.
+    /// Drops the versions of documents that only reads before `at` could show. The checkpoint has the
+    /// documents as of `at` by then.
     pub fn prune(&mut self, at: OpTime)
         requires later { is_before at self.old.node.stable ≡ false }
         requires applied { is_before (applied_point self.old.node) at ≡ false }

@@ -23,11 +23,11 @@ use visibility_point::visible_open;
 /// How many shards the documents are spread over.
 pub(crate) const SHARDS: u32 = 64;
 
-/// The log of a node, the open slots with their writers, and the documents, with the role and the term that decide how far
-/// the log can be read and applied.
+/// The log of a node, the open slots with their writers, and the documents, with the role and the term that
+/// decide how far the log can be read and applied.
 ///
-/// A primary's documents are those of its whole log. Another node's are those of its log as far as that is applied, and it
-/// has no open slots.
+/// A primary's documents are those of its whole log. Another node's are those of its log as far as that is
+/// applied, and it has no open slots.
 #[derive(Drop)]
 pub struct Ledger {
     pub(crate) alloc: Global,
@@ -56,17 +56,37 @@ impl Model for Ledger {
 
     ghost Value = { Seen };
 
-    ghost coded = { Prim.hlevel (codes, fields_code, optime_code, key.the_row.coded, entry.the_row.coded, config.the_row.coded, record_kept.the_row.coded, stored_item.the_row.coded, writers_code, slots_code, progress_code, known_code, tally_code) };
+    ghost coded = { Prim.hlevel (
+      codes,
+      fields_code,
+      optime_code,
+      key.the_row.coded,
+      entry.the_row.coded,
+      config.the_row.coded,
+      record_kept.the_row.coded,
+      stored_item.the_row.coded,
+      writers_code,
+      slots_code,
+      progress_code,
+      known_code,
+      tally_code,
+    ) };
 
     ghost use Rattle.node_ledger.specs.Kept.{IsKept};
 
-    ghost view = { λ l. record { node = ledger_node l.term l.role l.clock l.log.entries l.slots.slots l.writers l.slots.mark l.applied l.stable; spare = l.log.spare } };
+    ghost view = { λ l. record {
+      node = ledger_node l.term l.role l.clock l.log.entries l.slots.slots l.writers l.slots.mark
+          l.applied l.stable;
+      spare = l.log.spare;
+    } };
 
-    ghost invariant = { λ l. IsKept (ledger_node l.term l.role l.clock l.log.entries l.slots.slots l.writers l.slots.mark l.applied l.stable) l.store };
+    ghost invariant = { λ l. IsKept (ledger_node l.term l.role l.clock l.log.entries l.slots.slots l.writers
+        l.slots.mark l.applied l.stable) l.store };
 }
 
 impl Ledger {
-    /// The ledger of a node that has written nothing yet: a secondary in term 0. Out of memory is the one error.
+    /// The ledger of a node that has written nothing yet: a secondary in term 0. Out of memory is
+    /// the one error.
     pub fn new(alloc: Global) -> Mem<Self>
         ensures { IfOk result (λ ledger. ledger.node ≡ opening_node nobody 0) }
     {
@@ -84,8 +104,9 @@ impl Ledger {
         })
     }
 
-    /// The log is in order and lawful, and no two writers hold one document: facts for callers' proofs, which cost nothing.
-    pub fn is_sound(&self)
+    /// The log is in order and lawful, and no two writers hold one document: facts for callers' proofs,
+    /// which cost nothing.
+    pub fn recall_sound(&self)
         ensures node { IsSound self.now.node }
         ensures writers { AreApart self.now.node }
     {
@@ -120,8 +141,8 @@ impl Ledger {
         self.clock
     }
 
-    /// How far the log of a node that isn't primary is applied. On a primary this stays where it was when it had drained; see
-    /// `applied_point`.
+    /// How far the log of a node that isn't primary is applied. On a primary this stays where it was when it
+    /// had drained; see `applied_point`.
     pub fn applied(&self) -> OpTime
         ensures { result ≡ self.now.node.applied }
     {
@@ -194,8 +215,8 @@ impl Ledger {
         }
     }
 
-    /// Makes room for so many entries, which are then written without taking memory. Out of memory changes nothing
-    /// but how much room there is.
+    /// Reserves memory for `more` entries, which are then written without taking any. Out of memory changes
+    /// nothing but how much is reserved.
     pub fn reserve(&mut self, more: usize) -> Mem<()>
         ensures node { self.new.node ≡ self.old.node }
         ensures ok { OnOk result (more ≤ self.new.spare) }

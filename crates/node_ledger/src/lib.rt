@@ -1,5 +1,5 @@
-//! What a node has written: its log, the slots that are open with their writers, and the documents with their versions, as far
-//! as the log is applied.
+//! What a node has written: its log, the slots that are open with their writers, and the documents with their
+//! versions, as far as the log is applied.
 #![tactic(auto)]
 
 mod documents;

@@ -28,7 +28,8 @@ use version_store::VersionStore;
 
 /// A store of some documents, as of an optime.
 fn stored(alloc: Global, documents: BTreeMap<(Text, IdKey), Doc>, at: OpTime) -> Mem<VersionStore>
-    ensures versions { IfOk result (λ store. (place : Place) → versions_at store place ≡ version_as_of at (maps.get (documents_of documents.entries) place)) }
+    ensures versions { IfOk result (λ store. (place : Place)
+        → versions_at store place ≡ version_as_of at (maps.get (documents_of documents.entries) place)) }
     ensures free { IfOk result (λ store. (place : Place) → holder_at store place ≡ None) }
     ensures count { IfOk result (λ store. store.count ≡ 64) }
 {
@@ -40,8 +41,8 @@ fn stored(alloc: Global, documents: BTreeMap<(Text, IdKey), Doc>, at: OpTime) ->
 }
 
 impl Ledger {
-    /// The ledger of a secondary that comes up: the log is these entries, all applied, and `documents` are those that the
-    /// checkpoint has, as of the optime `at`. Out of memory is the one error.
+    /// The ledger of a secondary that comes up: the log is these entries, all applied, and `documents` are
+    /// those that the checkpoint has, as of the optime `at`. Out of memory is the one error.
     pub fn restore<R: Threads + Sync>(
         rt: &R,
         alloc: Global,

@@ -27,7 +27,8 @@ impl Ledger {
         self.term = term;
     }
 
-    /// Changes between Secondary, Candidate and Draining. For a primary there are `become_primary` and `step_down`.
+    /// Changes between Secondary, Candidate and Draining. For a primary there are
+    /// `become_primary` and `step_down`.
     pub fn set_role(&mut self, role: Role)
         requires from { is_primary self.old.node.role ≡ false }
         requires to { is_primary role ≡ false }
@@ -45,8 +46,8 @@ impl Ledger {
         self.role = Role::Primary;
     }
 
-    /// Makes the node a secondary. A primary's log then counts as applied to its end. Its slots are closed without entries, the
-    /// writers that had them are lost, and hold their documents no longer.
+    /// Makes the node a secondary. A primary's log then counts as applied to its end. Its slots are closed
+    /// without entries, the writers that had them are lost, and hold their documents no longer.
     pub fn step_down(&mut self)
         ensures { self.new ≡ record self.old { node = stepped_down self.old.node } }
     {
@@ -59,7 +60,7 @@ impl Ledger {
         self.role = Role::Secondary;
     }
 
-    /// How far its log is applied once it is a secondary.
+    /// How far the log counts as applied once the node is a secondary: a primary has applied all of it.
     fn reached(&self) -> OpTime
         ensures { result ≡ if_primary self.now.node.role (last_point self.now.node) self.now.node.applied }
     {

@@ -1,5 +1,5 @@
-// What is shown and told of a ledger's log. A node that is about to step down may have entries behind open slots, which it
-// tells as its slots were closed.
+// What is shown and told of a ledger's log. A node that is about to step down may have entries behind open
+// slots, which it tells as its slots were closed.
 ghost use Rattle.std.specs.Prelude.{◌≡◌, ◌≢◌, All, IfNone, IfOk, IfSome, length, map};
 ghost use Rattle.std.specs.Option.{option_copied};
 ghost use Rattle.oplog_entry.specs.Visible.{log_up_to};
@@ -50,8 +50,8 @@ impl Ledger {
         Ok(EntryList::new(self.log.copies(self.alloc)?))
     }
 
-    /// The answer to a node whose last optime is `base`, where the log is visible up to `visible`, as `oplog_fetcher` gives it.
-    /// Out of memory is the one error.
+    /// The answer to a node whose last optime is `base`, where the log is visible up to `visible`, as
+    /// `oplog_fetcher` gives it. Out of memory is the one error.
     pub fn fetched(
         &mut self,
         visible: OpTime,
@@ -59,7 +59,8 @@ impl Ledger {
         commit: OpTime,
         primary: bool,
     ) -> Mem<FetchReply>
-        ensures reply { IfOk result (λ reply. reply ≡ answered self.old.node.log visible base commit primary) }
+        ensures reply { IfOk result (λ reply.
+            reply ≡ answered self.old.node.log visible base commit primary) }
         ensures same { self.new ≡ self.old }
     {
         self.log.gather_up_to(visible);
@@ -93,14 +94,16 @@ impl Ledger {
 
     /// The optimes of the entries that stand behind an optime, up to another one.
     pub fn optimes_between(&mut self, after: OpTime, to: OpTime) -> Mem<OptimeList>
-        ensures list { IfOk result (λ list. list ≡ optimes_of (log_behind after (log_up_to to self.old.node.log))) }
+        ensures list { IfOk result (λ list.
+            list ≡ optimes_of (log_behind after (log_up_to to self.old.node.log))) }
         ensures same { self.new ≡ self.old }
     {
         self.log.gather_up_to(to);
         optimes_of(self.alloc, behind(self.log.settled().up_to(to), after))
     }
 
-    /// Up to where the log is rolled back for a source that has these optimes behind `after`, as `rollback_core` plans it.
+    /// Up to where the log is rolled back for a source that has these optimes behind `after`, as
+    /// `rollback_core` plans it.
     pub fn rollback_plan(
         &mut self,
         term: u64,
@@ -108,7 +111,8 @@ impl Ledger {
         after: OpTime,
         optimes: &[OpTime],
     ) -> Result<OpTime, RollbackRefusal>
-        ensures plan { result ≡ planned term self.old.node.log (last_point self.old.node) source_last after optimes.now }
+        ensures plan { result
+            ≡ planned term self.old.node.log (last_point self.old.node) source_last after optimes.now }
         ensures same { self.new ≡ self.old }
     {
         self.log.gather();
@@ -131,10 +135,12 @@ impl Ledger {
         self.log.settled().after(at).len() as u64
     }
 
-    /// The documents that the entries behind an optime touched, each once, as a read at `local` shows them: what a rollback to
-    /// that optime takes. Out of memory is the one error.
+    /// The documents that the entries behind an optime touched, each once, as a read at `local` shows them:
+    /// what a rollback to that optime takes. Out of memory is the one error.
     pub fn lost_behind(&mut self, at: OpTime) -> Mem<Vec<LostDocument>>
-        ensures lost { IfOk result (λ lost. map lost_of lost.items ≡ touched_documents (λ place. maps.get (local_documents self.old.node) place) (log_behind at self.old.node.log)) }
+        ensures lost { IfOk result (λ lost. map lost_of lost.items
+            ≡ touched_documents (λ place. maps.get (local_documents self.old.node) place)
+            (log_behind at self.old.node.log)) }
         ensures same { self.new ≡ self.old }
     {
         self.log.gather();

@@ -43,7 +43,8 @@ fn hold(
     requires room { slots.old.mark < 2 ^ 64 - 1 }
     requires free { holder_at store.old (ns.now, id.now) ≡ None }
     ensures slot { OnOk result (slots.new ≡ opened_slot slots.old (next_slot slots.old term clock)) }
-    ensures held { OnOk result (Changes store.old store.new (ns.now, id.now) (held_by (past_at store.old (ns.now, id.now)) (Some number))) }
+    ensures held { OnOk result (Changes store.old store.new (ns.now, id.now)
+        (held_by (past_at store.old (ns.now, id.now)) (Some number))) }
     ensures no_slot { OnErr result (slots.new ≡ slots.old) }
     ensures count { store.new.count ≡ store.old.count }
     ensures not_held { OnErr result ((place : Place) → past_at store.new place ≡ past_at store.old place) }
@@ -69,8 +70,8 @@ struct Slot {
 }
 
 impl Ledger {
-    /// Opens a slot for a writer's op, whose document no writer holds, and gives its optime. The writer then holds the document.
-    /// Out of memory leaves all as it was.
+    /// Opens a slot for a writer's op, whose document no writer holds, and gives its optime. The writer then
+    /// holds the document. Out of memory leaves all as it was.
     pub fn open(&mut self, number: u32, ns: &str, id: &IdKey, op: Op) -> Mem<OpTime>
         requires role { self.old.node.role ≡ Primary }
         requires room { self.old.node.seen < 2 ^ 64 - 1 }
@@ -105,11 +106,12 @@ impl Ledger {
         Ok(at)
     }
 
-    /// Writes a writer's entry at its slot, closes the slot, and gives its optime. The writer no longer holds its document. Out
-    /// of memory leaves all as it was.
+    /// Writes a writer's entry at its slot, closes the slot, and gives its optime. The writer no longer holds
+    /// its document. Out of memory leaves all as it was.
     pub fn settle(&mut self, number: u32) -> Mem<OpTime>
         requires { IsWriting self.old.node.writers number }
-        ensures ok { IfOk result (λ at. (op : Op) × HasOpen self.old.node.writers number at op × (self.new.node ≡ settled self.old.node number at op)) }
+        ensures ok { IfOk result (λ at. (op : Op) × HasOpen self.old.node.writers number at op
+            × (self.new.node ≡ settled self.old.node number at op)) }
         ensures err { OnErr result (self.new.node ≡ self.old.node) }
     {
         let slot = self.slot(number)?;
@@ -127,10 +129,12 @@ impl Ledger {
         Ok(slot.at)
     }
 
-    /// Closes a writer's slot with no entry. The writer is forgotten, and no longer holds its document.
+    /// Aborts a writer: its slot is closed without an entry, its document is free again, and its number may
+    /// be used anew.
     pub fn abort(&mut self, number: u32)
         requires { IsWriting self.old.node.writers number }
-        ensures node { (at : OpTime) × (op : Op) × HasOpen self.old.node.writers number at op × (self.new.node ≡ aborted self.old.node number at) }
+        ensures node { (at : OpTime) × (op : Op) × HasOpen self.old.node.writers number at op
+            × (self.new.node ≡ aborted self.old.node number at) }
         ensures spare { self.new.spare ≡ self.old.spare }
     {
         let Some(held) = self.writers.take(number) else {
@@ -146,7 +150,8 @@ impl Ledger {
 
     fn slot(&self, number: u32) -> Mem<Slot>
         requires { IsWriting self.now.node.writers number }
-        ensures { IfOk result (λ slot. (op : Op) × HasOpen self.now.node.writers number slot.at op × (place_of op ≡ Some (slot.ns, slot.id))) }
+        ensures { IfOk result (λ slot. (op : Op) × HasOpen self.now.node.writers number slot.at op
+            × (place_of op ≡ Some (slot.ns, slot.id))) }
     {
         let Some(Writer::Open { at, op }) = self.writers.get(number) else {
             unreachable!()
@@ -161,7 +166,8 @@ impl Ledger {
     fn after(&self, number: u32, ns: &Text, id: &IdKey) -> Mem<Option<Doc>>
         requires { IsWriting self.now.node.writers number }
         ensures { (at : OpTime) (op : Op) → HasOpen self.now.node.writers number at op
-            → IfOk result (λ after. after ≡ document_after op (maps.get (docs self.now.node.log) (ns.now, id.now))) }
+            → IfOk result (λ after.
+            after ≡ document_after op (maps.get (docs self.now.node.log) (ns.now, id.now))) }
     {
         let Some(Writer::Open { op, .. }) = self.writers.get(number) else {
             unreachable!()

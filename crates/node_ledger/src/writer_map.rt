@@ -78,7 +78,9 @@ impl Held {
 
     /// An open writer's slot, and the place of its document.
     pub(crate) fn slot(self) -> Option<(OpTime, (Text, IdKey))>
-        ensures { MatchOption result ((at : OpTime) (op : Op) → IsSome (place_of op) → self ≡ Writer.Open at op → ⊥) (λ slot. (op : Op) × (self ≡ Writer.Open slot.0 op) × (place_of op ≡ Some slot.1)) }
+        ensures { MatchOption result
+            ((at : OpTime) (op : Op) → IsSome (place_of op) → self ≡ Writer.Open at op → ⊥)
+            (λ slot. (op : Op) × (self ≡ Writer.Open slot.0 op) × (place_of op ≡ Some slot.1)) }
     {
         let Held { writer, place } = self;
         match (writer, place) {
@@ -102,7 +104,7 @@ impl Held {
         }
     }
 
-    /// Has an open writer lost.
+    /// Marks an open writer as lost: the node stepped down before it committed.
     fn lose(&mut self)
         ensures { self.new ≡ lost_writer self.old }
     {
@@ -170,7 +172,7 @@ impl WriterMap {
         }
     }
 
-    /// Takes a writer out.
+    /// Removes the writer with this number, and returns it, or none.
     pub(crate) fn take(&mut self, number: u32) -> Option<Held>
         ensures map { self.new ≡ maps.remove self.old number }
         ensures taken { result ≡ maps.get self.old number }
@@ -178,7 +180,7 @@ impl WriterMap {
         self.writers.remove(&number)
     }
 
-    /// Puts a number that is there back to what it was.
+    /// Undoes `insert`: the number has the writer again that it had before, or none.
     pub(crate) fn put_back(&mut self, number: u32, old: Option<Held>)
         requires { IsSome (maps.get self.old number) }
         ensures { self.new ≡ put_back self.old number old }
@@ -194,7 +196,7 @@ impl WriterMap {
         }
     }
 
-    /// Has a store let go of each document that a writer holds.
+    /// Releases in the store each document that a writer holds.
     pub(crate) fn release_all(&self, store: &mut VersionStore)
         requires { (place : Place) → IsHolder self.now place (holder_at store.old place) }
         ensures versions { (place : Place) → versions_at store.new place ≡ versions_at store.old place }

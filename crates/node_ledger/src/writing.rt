@@ -34,8 +34,8 @@ fn append(log: &mut OpenLog, slots: &mut Slots, optime: OpTime, op: Op)
 }
 
 impl Ledger {
-    /// Writes an entry at the next optime, which it gives, for a document that no writer holds. `after` is what the op leaves of
-    /// the document. Out of memory leaves all as it was.
+    /// Writes an entry at the next optime, which it gives, for a document that no writer holds. `after` is
+    /// what the op leaves of the document. Out of memory leaves all as it was.
     pub fn write(&mut self, ns: Text, id: IdKey, op: Op, after: Option<Doc>) -> Mem<OpTime>
         requires role { self.old.node.role ≡ Primary }
         requires room { self.old.node.seen < 2 ^ 64 - 1 }

@@ -21,11 +21,11 @@ use Rattle.set_model.specs.Points.{commit_after, last_point, visible_point}
 use Rattle.set_model.specs.Roles.{is_candidate, is_primary, is_secondary}
 use Rattle.set_model.specs.Stores.{Plan, config_record, finished, in_doubt, storing}
 use Rattle.node_state.specs.Ahead.{taking}
-use Rattle.node_state.specs.Hearings.{beat_after, commit_learnt, installs, newer, told_of}
+use Rattle.node_state.specs.HeardBeats.{beat_after, commit_learnt, installs, newer, told_of}
 use Rattle.node_state.specs.Ready.{IsHeard}
-use Rattle.node_state.specs.Told.{answered, told_plan}
+use Rattle.node_state.specs.MessageContinuation.{answered, message_plan}
 use Rattle.node_state.specs.declared.turn.Answer.{Answer}
-use Rattle.node_state.specs.declared.turn.Hearing.{Hearing}
+use Rattle.node_state.specs.declared.turn.HeardBeat.{HeardBeat}
 use Rattle.node_state.proofs.ForeseenLemmas.{there}
 
 -- one that gives way wasn't primary
@@ -62,7 +62,7 @@ replied_is next from answer node next_is sent_is =
 heard_is : (node : Node) (items : List Record) (from : ℕ) (beat : Beat) (installing : Bool) (answer : Option Answer) (say : Node → Outcome)
     → installing ≡ installs node beat
     → ((after_items : List Record) → answered answer (after node after_items from beat (cond installing beat.config node.config)) ≡ say (after node after_items from beat (cond installing beat.config node.config)))
-    → told_plan (told_of from beat installing answer) (record node { records = items }) ≡ heard (record node { records = items }) from beat say
+    → message_plan (told_of from beat installing answer) (record node { records = items }) ≡ heard (record node { records = items }) from beat say
 heard_is node items from beat true answer say installing says =
     ap (λ (o : Outcome). storing (in_doubt (record (given_way node beat) { records = items }) (config_record beat.config)) (finished o)) (says (items ++ records.Config beat.config ∷ []))
     ∙ ap (λ b. cond b (storing (in_doubt (record (given_way node beat) { records = items }) (config_record beat.config)) (finished (say (after node (items ++ records.Config beat.config ∷ []) from beat beat.config)))) (finished (say (after node items from beat node.config)))) installing
@@ -77,7 +77,7 @@ not_old node term told plan new is = is ∙ sym (ap (λ b. cond b (finished (ign
 beat_at : (node : Node) (items : List Record) (next from term : ℕ) (beat : Beat) (installing : Bool) (answer : Answer)
     → nat_lt term node.term ≡ false → installing ≡ installs node beat → answer.next ≡ next
     → answer.sent.items ≡ message_to node from (bodies.HeartbeatReply (beat_after node beat)) ∷ []
-    → told_plan (told_of from beat installing (Some answer)) (record node { records = items }) ≡ beat_told next (record node { records = items }) from term beat
+    → message_plan (told_of from beat installing (Some answer)) (record node { records = items }) ≡ beat_told next (record node { records = items }) from term beat
 beat_at node items next from term beat installing answer new installing_is next_is sent_is =
     not_old (record node { records = items }) term _ _ new
     (heard_is node items from beat installing (Some answer) (λ n. sending (reply.Replied next) n from (bodies.HeartbeatReply (beat_of n))) installing_is
@@ -88,7 +88,7 @@ beat_at node items next from term beat installing answer new installing_is next_
 
 answer_at : (node : Node) (items : List Record) (from term : ℕ) (beat : Beat) (installing : Bool)
     → nat_lt term node.term ≡ false → installing ≡ installs node beat
-    → told_plan (told_of from beat installing None) (record node { records = items }) ≡ beat_answered (record node { records = items }) from term beat
+    → message_plan (told_of from beat installing None) (record node { records = items }) ≡ beat_answered (record node { records = items }) from term beat
 answer_at node items from term beat installing new installing_is =
     not_old (record node { records = items }) term _ _ new
     (heard_is node items from beat installing None (λ n. replied reply.Heard n) installing_is (λ after_items. refl))
@@ -98,7 +98,7 @@ answer_at node items from term beat installing new installing_is =
 pub beat_is : (raised : Bool) (node : Node) (next from term : ℕ) (beat : Beat) (installing : Bool) (answer : Answer)
     → nat_lt term (taking raised term node).term ≡ false → installing ≡ installs (taking raised 0 node) beat → answer.next ≡ next
     → answer.sent.items ≡ message_to (taking raised term node) from (bodies.HeartbeatReply (beat_after (taking raised term node) beat)) ∷ []
-    → (items : List Record) → told_plan (told_of from beat installing (Some answer)) (there raised term node items) ≡ beat_told next (there raised term node items) from term beat
+    → (items : List Record) → message_plan (told_of from beat installing (Some answer)) (there raised term node items) ≡ beat_told next (there raised term node items) from term beat
 beat_is true node next from term beat installing answer new installing_is next_is sent_is items =
     beat_at (taking true term node) items next from term beat installing answer new installing_is next_is sent_is
 beat_is false node next from term beat installing answer new installing_is next_is sent_is items =
@@ -106,7 +106,7 @@ beat_is false node next from term beat installing answer new installing_is next_
 
 pub answer_is : (raised : Bool) (node : Node) (from term : ℕ) (beat : Beat) (installing : Bool)
     → nat_lt term (taking raised term node).term ≡ false → installing ≡ installs (taking raised 0 node) beat
-    → (items : List Record) → told_plan (told_of from beat installing None) (there raised term node items) ≡ beat_answered (there raised term node items) from term beat
+    → (items : List Record) → message_plan (told_of from beat installing None) (there raised term node items) ≡ beat_answered (there raised term node items) from term beat
 answer_is true node from term beat installing new installing_is items = answer_at (taking true term node) items from term beat installing new installing_is
 answer_is false node from term beat installing new installing_is items = answer_at node items from term beat installing new installing_is
 
@@ -127,13 +127,13 @@ secondary_is Candidate is = absurd (cc is)
 secondary_is Draining is = absurd (cc is)
 secondary_is Primary is = absurd (cc is)
 
-heard_at : (node : Node) (hearing : Hearing) (config : Config) (primary : Bool) (installing : Bool) → hearing.from < 50 → hearing.primary ≡ primary → rule config ≡ None
+heard_at : (node : Node) (hearing : HeardBeat) (config : Config) (primary : Bool) (installing : Bool) → hearing.from < 50 → hearing.primary ≡ primary → rule config ≡ None
     → (installing ≡ true → is_secondary (cond (is_candidate node.role && primary) Secondary node.role) ≡ true) → IsHeard (newer installing config) (newer installing config) hearing node
 heard_at node hearing config primary true from_is primary_is lawful secondary =
     (refl, from_is, (lawful, ap (λ p. cond (is_candidate node.role && p) Secondary node.role) primary_is ∙ secondary_is _ (secondary refl)))
 heard_at node hearing config primary false from_is primary_is lawful secondary = (refl, from_is, tt)
 
-pub ready_is : (raised : Bool) (node : Node) (term : ℕ) (beat : Beat) (hearing : Hearing) (installing : Bool) → hearing.from < 50 → hearing.primary ≡ beat.primary → rule beat.config ≡ None
+pub ready_is : (raised : Bool) (node : Node) (term : ℕ) (beat : Beat) (hearing : HeardBeat) (installing : Bool) → hearing.from < 50 → hearing.primary ≡ beat.primary → rule beat.config ≡ None
     → installing ≡ installs (taking raised 0 node) beat → IsHeard (newer installing beat.config) (newer installing beat.config) hearing (taking raised term node)
 ready_is true node term beat hearing installing from_is primary_is lawful installing_is =
     heard_at (taking true term node) hearing beat.config beat.primary installing from_is primary_is lawful (λ is. (and_parts _ _ (sym installing_is ∙ is)).0)

@@ -15,9 +15,9 @@ use Rattle.set_model.specs.Rollback.{rollback_reason}
 use Rattle.set_model.specs.Safety.{AtMost}
 use Rattle.set_model.specs.Stores.{finished}
 use Rattle.set_model.specs.declared.reply.Ignored.TheVariants.{NotCandidate, NotPrimary, OldTerm}
-use Rattle.node_state.specs.Ahead.{Foretells, taking}
+use Rattle.node_state.specs.Ahead.{IsPreparedFor, taking}
 use Rattle.set_model.specs.Taking.{CanTake}
-use Rattle.node_state.specs.declared.turn.Told.TheVariants.{Ignored}
+use Rattle.node_state.specs.declared.turn.MessageContinuation.TheVariants.{Ignored}
 use Rattle.node_state.proofs.TakenLemmas.{foretold}
 
 pub is_higher : (own term : ℕ) → own < term → nat_lt own term ≡ true
@@ -39,7 +39,7 @@ common_of node message raised after optimes visible can body raised_is reason =
 -- ---- answers to what a node has forgotten once it steps down
 
 pub vote_reply_tells : (next from term asked : ℕ) (dry : Bool) (why : Option VoteRefusal) (node : Node)
-    → Foretells (Ignored NotCandidate) true term (told next from term (VoteReply asked dry why)) node node
+    → IsPreparedFor (Ignored NotCandidate) true term (told next from term (VoteReply asked dry why)) node node
 vote_reply_tells next from term asked true why node = foretold _ true term (told next from term (VoteReply asked true why)) node node (λ items. refl) refl
 vote_reply_tells next from term asked false why node = foretold _ true term (told next from term (VoteReply asked false why)) node node (λ items. refl) refl
 
@@ -47,7 +47,7 @@ not_less : (term : ℕ) → nat_lt term term ≡ false
 not_less term = grind (arith, nat_tests)
 
 pub report_tells : (next from term : ℕ) (config : ℕ × ℕ) (durable : OpTime) (node : Node)
-    → Foretells (Ignored NotPrimary) true term (told next from term (Report config durable)) node node
+    → IsPreparedFor (Ignored NotPrimary) true term (told next from term (Report config durable)) node node
 report_tells next from term config durable node =
     foretold _ true term (told next from term (Report config durable)) node node
     (λ items.

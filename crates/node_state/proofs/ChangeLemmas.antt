@@ -23,9 +23,9 @@ use Rattle.part_laws.specs.Points.{checked, refusal_of}
 use Rattle.part_laws.proofs.RowLemmas.{reconfigs_agree}
 use Rattle.node_state.specs.Coherent.{IsCoherent}
 use Rattle.node_state.specs.Ready.{IsReadyTurn}
-use Rattle.node_state.specs.Seen.{Rest, seen_node}
-use Rattle.node_state.specs.Standing.{Standing}
-use Rattle.node_state.specs.declared.turn.Then.TheVariants as thens
+use Rattle.node_state.specs.Seen.{BesideLedger, seen_node}
+use Rattle.node_state.specs.StateView.{StateView}
+use Rattle.node_state.specs.declared.turn.Continuation.TheVariants as continuations
 use Rattle.node_state.specs.declared.turn.Turn.TheVariants as turns
 use Rattle.node_state.proofs.TermLemmas.{coherent-kept, with_config_kept}
 
@@ -52,8 +52,8 @@ not_broken Draining broken why none = absurd (cc none)
 not_broken Primary (Some number) why none = absurd (cc none)
 not_broken Primary None why none = refl
 
-pub change_ready : (nodes : ℕ) (standing : Standing) (config taken kept : Config) → None ≡ row.reconfig_refusal nodes standing.node config → taken ≡ in_term config standing.node.term → kept ≡ taken
-    → IsReadyTurn (turns.Storing (stores.Record (records.Config kept)) (thens.Reconfig taken)) standing
+pub change_ready : (nodes : ℕ) (standing : StateView) (config taken kept : Config) → None ≡ row.reconfig_refusal nodes standing.node config → taken ≡ in_term config standing.node.term → kept ≡ taken
+    → IsReadyTurn (turns.Storing (stores.Record (records.Config kept)) (continuations.Reconfig taken)) standing
 change_ready nodes standing config taken kept none taken_is kept_is =
     let lawful : rule config ≡ None = not_broken standing.node.role (rule config) (row.unless_unknown (unknown_member nodes config) (row.change_refusal standing.node config)) none in
     let right : rule taken ≡ None = ap rule taken_is ∙ lawful in (
@@ -68,7 +68,7 @@ change_ready nodes standing config taken kept none taken_is kept_is =
 
 -- ---- a configuration that is kept
 
-pub coherent-configured : (n : Node) (rest : Rest) (items : List Record) (config : Config) (tally : Option Tallied) (optimes : List OpTime)
+pub coherent-configured : (n : Node) (rest : BesideLedger) (items : List Record) (config : Config) (tally : Option Tallied) (optimes : List OpTime)
     → items ≡ rest.records ++ records.Config config ∷ [] → rule config ≡ None → n.role ≢ Candidate → IsCoherent (seen_node n rest) tally optimes
     → IsCoherent (seen_node n (record rest { records = items; config = config })) tally optimes
 coherent-configured n rest items config tally optimes are lawful other old =

@@ -17,12 +17,12 @@ use Rattle.oplog_store.specs.Log.{IsOplog, with_entry}
 use Rattle.election_core.specs.Counting.{Tallied}
 use Rattle.repl_msg.specs.Kept.{kept}
 use Rattle.repl_msg.specs.Logs.{has_entry}
-use Rattle.set_model.specs.Disk.{unkept}
+use Rattle.set_model.specs.Disk.{unjournaled}
 use Rattle.set_model.specs.Node.{Node}
 use Rattle.set_model.specs.Points.{visible_point}
 use Rattle.set_model.specs.Safety.{AtMost, Has}
 use Rattle.set_model.specs.declared.writer.Writer.{Writer}
-use Rattle.node_tables.specs.Unkept.{with_optime}
+use Rattle.node_tables.specs.Unjournaled.{with_optime}
 use Rattle.node_tables.proofs.OptimeLemmas.{map-with_entry}
 use Rattle.node_ledger.specs.Kept.{FitsBeside}
 use Rattle.node_state.specs.Coherent.{IsCoherent, IsRecorded, is_kept}
@@ -42,7 +42,7 @@ coherent-clock node tally optimes seconds old = record {
   first = old.first;
   points = record { stable = old.points.stable; commit = old.points.commit; durable = old.points.durable; there = old.points.there };
   recorded = record { vote = old.recorded.vote; config = old.recorded.config; entries = old.recorded.entries; early = old.recorded.early; point = old.recorded.point };
-  unkept = old.unkept;
+  unjournaled = old.unjournaled;
   counts = old.counts;
 }
 
@@ -54,7 +54,7 @@ coherent-applied node tally optimes at old = record {
   first = old.first;
   points = record { stable = old.points.stable; commit = old.points.commit; durable = old.points.durable; there = old.points.there };
   recorded = record { vote = old.recorded.vote; config = old.recorded.config; entries = old.recorded.entries; early = old.recorded.early; point = old.recorded.point };
-  unkept = old.unkept;
+  unjournaled = old.unjournaled;
   counts = old.counts;
 }
 
@@ -76,7 +76,7 @@ coherent-slots node slots writers seen tally optimes grows old = record {
     there = old.points.there;
   };
   recorded = record { vote = old.recorded.vote; config = old.recorded.config; entries = old.recorded.entries; early = old.recorded.early; point = old.recorded.point };
-  unkept = old.unkept;
+  unjournaled = old.unjournaled;
   counts = old.counts;
 }
 
@@ -129,8 +129,8 @@ coherent-written node entry slots writers seen tally optimes oplog fresh old = r
     early = in_all (λ (e : Entry). is_before node.durable e.optime ≡ false → is_kept node e ≡ true) (with_entry node.log entry) early;
     point = old.recorded.point;
   };
-  unkept =
-      ap (λ list. with_optime list entry.optime) old.unkept ∙ sym (map-with_entry (unkept node) entry (All-filter (λ (e : Entry). not (is_kept node e)) (FitsBeside entry) node.log fresh.fits))
+  unjournaled =
+      ap (λ list. with_optime list entry.optime) old.unjournaled ∙ sym (map-with_entry (unjournaled node) entry (All-filter (λ (e : Entry). not (is_kept node e)) (FitsBeside entry) node.log fresh.fits))
       ∙ ap (map (λ (e : Entry). e.optime)) (sym (filter-with (λ (e : Entry). not (has_entry (kept node.records).entries e.optime)) node.log entry oplog.order (ap not other)));
   counts = old.counts;
 }
@@ -154,6 +154,6 @@ coherent-stable node tally optimes at commit old = record {
   first = old.first;
   points = record { stable = commit; commit = old.points.commit; durable = old.points.durable; there = old.points.there };
   recorded = record { vote = old.recorded.vote; config = old.recorded.config; entries = old.recorded.entries; early = old.recorded.early; point = old.recorded.point };
-  unkept = old.unkept;
+  unjournaled = old.unjournaled;
   counts = old.counts;
 }

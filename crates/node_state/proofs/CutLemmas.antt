@@ -22,14 +22,14 @@ use Rattle.repl_msg.specs.declared.record.Kept.{Kept}
 use Rattle.repl_msg.specs.declared.record.Record.{Record}
 use Rattle.repl_msg.specs.declared.record.Record.TheVariants as records
 use Rattle.repl_msg.proofs.KeptLemmas.{kept_more}
-use Rattle.set_model.specs.Disk.{unkept}
+use Rattle.set_model.specs.Disk.{unjournaled}
 use Rattle.set_model.specs.Node.{Node}
 use Rattle.set_model.specs.Roles.{is_primary}
 use Rattle.set_model.specs.Safety.{AtMost, Has}
-use Rattle.node_tables.specs.Unkept.{up_to}
+use Rattle.node_tables.specs.Unjournaled.{up_to}
 use Rattle.node_state.specs.Coherent.{IsCoherent, is_kept}
 use Rattle.node_state.specs.Ready.{IsCut}
-use Rattle.node_state.specs.Seen.{Rest, seen_node}
+use Rattle.node_state.specs.Seen.{BesideLedger, seen_node}
 use Rattle.node_ledger.specs.Sound.{IsSound}
 use Rattle.node_ledger.proofs.LogLemmas.{filter-swap}
 use Rattle.node_state.proofs.RestartLemmas.{no_further}
@@ -88,8 +88,8 @@ module _ (node : Node) (point : OpTime) (lost : List (Place × Option Fields)) (
 
   unkept_are : up_to point optimes ≡ map (λ (e : Entry). e.optime) (filter (λ (e : Entry). not (has_entry (log_up_to point (kept node.records).entries) e.optime)) (log_up_to point node.log))
   unkept_are =
-      ap (up_to point) old.unkept
-      ∙ optimes_up_to point (unkept node)
+      ap (up_to point) old.unjournaled
+      ∙ optimes_up_to point (unjournaled node)
       ∙ ap (map (λ (e : Entry). e.optime))
       (filter-swap (λ (e : Entry). not (is_before point e.optime)) (λ (e : Entry). not (is_kept node e)) node.log
       ∙ sym (filter-same (λ (e : Entry). not (has_entry (log_up_to point (kept node.records).entries) e.optime)) (λ (e : Entry). not (is_kept node e)) (log_up_to point node.log)
@@ -140,12 +140,12 @@ module _ (node : Node) (point : OpTime) (lost : List (Place × Option Fields)) (
       there = durable_there;
     };
     recorded = record { vote = recorded_cut.vote_is; config = recorded_cut.config_is; entries = recorded_cut.entries_are; early = recorded_cut.early; point = recorded_cut.point_is };
-    unkept = recorded_cut.unkept_are;
+    unjournaled = recorded_cut.unkept_are;
     counts = old.counts;
   }
 
 -- the same of a node's parts in memory
-pub coherent-rolled : (n m : Node) (rest : Rest) (items : List Record) (point durable : OpTime) (lost : List (Place × Option Fields)) (optimes fewer : List OpTime)
+pub coherent-rolled : (n m : Node) (rest : BesideLedger) (items : List Record) (point durable : OpTime) (lost : List (Place × Option Fields)) (optimes fewer : List OpTime)
     → m ≡ record n { log = log_up_to point n.log; applied = point } → items ≡ rest.records ++ records.Cut point ∷ [] → durable ≡ earlier_of rest.durable point → fewer ≡ up_to point optimes
     → IsSound n → IsCut point (seen_node n rest) → IsCoherent (seen_node n rest) rest.tally optimes
     → IsCoherent (seen_node m (record rest { records = items; durable = durable; lost = lost; rollback = rest.rollback + 1 })) rest.tally fewer

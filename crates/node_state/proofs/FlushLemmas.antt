@@ -16,7 +16,7 @@ use Rattle.repl_msg.specs.Logs.{earlier_of, has_entry}
 use Rattle.repl_msg.specs.declared.record.Kept.{Kept}
 use Rattle.repl_msg.specs.declared.record.Record.TheVariants as records
 use Rattle.repl_msg.proofs.KeptLemmas.{kept_more}
-use Rattle.set_model.specs.Disk.{unkept, next_entries, next_durable}
+use Rattle.set_model.specs.Disk.{unjournaled, next_entries, next_durable}
 use Rattle.set_model.specs.Node.{Node}
 use Rattle.set_model.specs.Points.{visible_point}
 use Rattle.set_model.specs.Safety.{AtMost, Has}
@@ -56,7 +56,7 @@ record IsNext (node : Node) (many : ℕ) (point : OpTime) : Type 0 where
   within : AtMost point (visible_point node)
   there : (point ≡ ZERO) ⊎ Has node.log point
   grows : AtMost node.durable point
-  taken : (entry : Entry) → In entry (unkept node) → AtMost entry.optime point → In entry (take many (unkept node))
+  taken : (entry : Entry) → In entry (unjournaled node) → AtMost entry.optime point → In entry (take many (unjournaled node))
 
 visible_there : (node : Node) → (visible_point node ≡ ZERO) ⊎ Has node.log (visible_point node)
 visible_there node = elim (last_is (entries_before (least slots) node.log)) [
@@ -71,14 +71,14 @@ module _ (node : Node) (oplog : IsOplog node.log) (points : ArePoints node) (rec
   abbrev found : List Entry
   found = (kept node.records).entries
 
-  unkept_rises : Rises (unkept node)
+  unkept_rises : Rises (unjournaled node)
   unkept_rises = rest_rises found node.log oplog (is_kept node) recorded.entries
 
-  unkept_log : (entry : Entry) → In entry (unkept node) → In entry node.log × (has_entry found entry.optime ≡ false)
+  unkept_log : (entry : Entry) → In entry (unjournaled node) → In entry node.log × (has_entry found entry.optime ≡ false)
   unkept_log = rest_log found node.log oplog (is_kept node) recorded.entries
 
   -- what isn't in the records is behind what is durable
-  unkept_late : (entry : Entry) → In entry (unkept node) → AtMost node.durable entry.optime
+  unkept_late : (entry : Entry) → In entry (unjournaled node) → AtMost node.durable entry.optime
   unkept_late entry there = go (is_before node.durable entry.optime) refl (unkept_log entry there)
     where
       go : (b : Bool) → is_before node.durable entry.optime ≡ b → In entry node.log × (has_entry found entry.optime ≡ false) → AtMost node.durable entry.optime
@@ -87,25 +87,25 @@ module _ (node : Node) (oplog : IsOplog node.log) (points : ArePoints node) (rec
           let has : is_kept node entry ≡ true = all_in (λ (e : Entry). is_before node.durable e.optime ≡ false → is_kept node e ≡ true) node.log entry recorded.early known.0 is in
           absurd (cc (has, known.1))
 
-  next_is : (many : ℕ) → 0 < many → IsNext node many (cond (nat_lt many (length (unkept node))) (earlier_of (visible_point node) (last_of (take many (unkept node)))) (visible_point node))
-  next_is many some = go (nat_lt many (length (unkept node))) refl
+  next_is : (many : ℕ) → 0 < many → IsNext node many (cond (nat_lt many (length (unjournaled node))) (earlier_of (visible_point node) (last_of (take many (unjournaled node)))) (visible_point node))
+  next_is many some = go (nat_lt many (length (unjournaled node))) refl
     where
-      go : (b : Bool) → nat_lt many (length (unkept node)) ≡ b → IsNext node many (cond b (earlier_of (visible_point node) (last_of (take many (unkept node)))) (visible_point node))
+      go : (b : Bool) → nat_lt many (length (unjournaled node)) ≡ b → IsNext node many (cond b (earlier_of (visible_point node) (last_of (take many (unjournaled node)))) (visible_point node))
       go true is =
-          let last : (z : Entry) × In z (take many (unkept node)) × (z.optime ≡ last_of (take many (unkept node))) = last_taken many (unkept node) some (ltb-true many (length (unkept node)) is) in
-          let known : In last.0 (unkept node) = in_take many last.0 (unkept node) last.1 in
+          let last : (z : Entry) × In z (take many (unjournaled node)) × (z.optime ≡ last_of (take many (unjournaled node))) = last_taken many (unjournaled node) some (ltb-true many (length (unjournaled node)) is) in
+          let known : In last.0 (unjournaled node) = in_take many last.0 (unjournaled node) last.1 in
           record {
-            within = earlier_left (visible_point node) (last_of (take many (unkept node)));
-            there = earlier_by (λ o. (o ≡ ZERO) ⊎ Has node.log o) (visible_point node) (last_of (take many (unkept node))) (visible_there node)
-                (inr (in_has node.log (last_of (take many (unkept node))) last.0 (unkept_log last.0 known).0 last.2));
-            grows = earlier_by (λ o. AtMost node.durable o) (visible_point node) (last_of (take many (unkept node))) points.durable (subst (AtMost node.durable) last.2 (unkept_late last.0 known));
-            taken = λ entry there before. elim (taken_or_not many entry (unkept node) there) [
+            within = earlier_left (visible_point node) (last_of (take many (unjournaled node)));
+            there = earlier_by (λ o. (o ≡ ZERO) ⊎ Has node.log o) (visible_point node) (last_of (take many (unjournaled node))) (visible_there node)
+                (inr (in_has node.log (last_of (take many (unjournaled node))) last.0 (unkept_log last.0 known).0 last.2));
+            grows = earlier_by (λ o. AtMost node.durable o) (visible_point node) (last_of (take many (unjournaled node))) points.durable (subst (AtMost node.durable) last.2 (unkept_late last.0 known));
+            taken = λ entry there before. elim (taken_or_not many entry (unjournaled node) there) [
               | inl first ↦ first
               | inr second ↦
-                  let early : is_before last.0.optime entry.optime ≡ true = stands_before last.0 entry (taken_before many (unkept node) unkept_rises last.0 entry last.1 second) in
+                  let early : is_before last.0.optime entry.optime ≡ true = stands_before last.0 entry (taken_before many (unjournaled node) unkept_rises last.0 entry last.1 second) in
                   let late : is_before last.0.optime entry.optime ≡ false =
                   subst (λ o. is_before o entry.optime ≡ false) (sym last.2)
-                  (at_most_trans entry.optime (earlier_of (visible_point node) (last_of (take many (unkept node)))) (last_of (take many (unkept node))) before (earlier_right (visible_point node) (last_of (take many (unkept node))))) in
+                  (at_most_trans entry.optime (earlier_of (visible_point node) (last_of (take many (unjournaled node)))) (last_of (take many (unjournaled node))) before (earlier_right (visible_point node) (last_of (take many (unjournaled node))))) in
                   absurd (cc (early, late))
             ];
           }
@@ -113,7 +113,7 @@ module _ (node : Node) (oplog : IsOplog node.log) (points : ArePoints node) (rec
         within = at_most_refl (visible_point node);
         there = visible_there node;
         grows = points.durable;
-        taken = λ entry there before. subst (In entry) (sym (take_all many (unkept node) (ltb-false many (length (unkept node)) is))) there;
+        taken = λ entry there before. subst (In entry) (sym (take_all many (unjournaled node) (ltb-false many (length (unjournaled node)) is))) there;
       }
 
 -- ---- the node after it
@@ -144,7 +144,7 @@ coherent-flushed node tally optimes oplog old = record {
     there = next.there;
   };
   recorded = record { vote = now.0; config = now.1; entries = now.2; early = now.3; point = now.4 };
-  unkept = now.5;
+  unjournaled = now.5;
   counts = old.counts;
 }
   where
@@ -175,6 +175,6 @@ coherent-flushed node tally optimes oplog old = record {
       merged_is found node.log oplog (is_kept node) old.recorded.entries 2000,
       in_all (λ (e : Entry). is_before (next_durable node) e.optime ≡ false → has_entry more e.optime ≡ true) node.log early,
       refl,
-      ap (drop (length (next_entries node))) old.unkept ∙ drop_taken (λ (e : Entry). e.optime) 2000 (unkept node)
+      ap (drop (length (next_entries node))) old.unjournaled ∙ drop_taken (λ (e : Entry). e.optime) 2000 (unjournaled node)
           ∙ ap (map (λ (e : Entry). e.optime)) (sym (rest_after found node.log oplog (is_kept node) old.recorded.entries 2000)),
     )

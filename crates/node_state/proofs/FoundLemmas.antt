@@ -18,7 +18,7 @@ use Rattle.oplog_store.specs.Places.{IsEntryAt}
 use Rattle.oplog_store.proofs.Keeps.{pairs_tail, pairs_head}
 use Rattle.repl_msg.specs.Logs.{has_entry, same_optime}
 use Rattle.repl_msg.proofs.HasLemmas.{has_found, same_is, same_itself}
-use Rattle.set_model.specs.Disk.{next_entries, next_durable, unkept}
+use Rattle.set_model.specs.Disk.{next_entries, next_durable, unjournaled}
 use Rattle.set_model.specs.Points.{visible_point, earlier_of}
 use Rattle.set_model.specs.Node.{Node}
 use Rattle.node_state.specs.Flushing.{entry_at, entries_at}
@@ -89,13 +89,13 @@ entries_at-map log rises (x ∷ xs) there =
     ap (λ o. cons_option o (entries_at log (map (λ (e : Entry). e.optime) xs))) (entry_at-in log rises x (there x (inl refl)))
     ∙ ap (λ rest. x ∷ rest) (entries_at-map log rises xs (λ y more. there y (inr more)))
 
-pub next_entries-at : (node : Node) (optimes : List OpTime) → IsOplog node.log → optimes ≡ map (λ (e : Entry). e.optime) (unkept node)
+pub next_entries-at : (node : Node) (optimes : List OpTime) → IsOplog node.log → optimes ≡ map (λ (e : Entry). e.optime) (unjournaled node)
     → entries_at node.log (take 2000 optimes) ≡ next_entries node
 next_entries-at node optimes oplog is =
     ap (λ xs. entries_at node.log (take 2000 xs)) is
-    ∙ ap (entries_at node.log) (take-map (λ (e : Entry). e.optime) 2000 (unkept node))
+    ∙ ap (entries_at node.log) (take-map (λ (e : Entry). e.optime) 2000 (unjournaled node))
     ∙ entries_at-map node.log oplog.order (next_entries node)
-    (λ x there. (in_filter _ node.log x (in_take 2000 x (unkept node) there)).0)
+    (λ x there. (in_filter _ node.log x (in_take 2000 x (unjournaled node) there)).0)
 
 -- one optime more
 entries_more : (log : List Entry) (optimes : List OpTime) (i : ℕ) (at : OpTime) → i < length optimes → at ≡ slice_index_or optimes i at
@@ -132,11 +132,11 @@ map-length : (xs : List Entry) → length (map (λ (e : Entry). e.optime) xs) �
 map-length [] = refl
 map-length (x ∷ xs) = ap (λ n. suc n) (map-length xs)
 
-pub next_durable-long : (node : Node) (optimes : List OpTime) → optimes ≡ map (λ (e : Entry). e.optime) (unkept node) → 2000 < length optimes
+pub next_durable-long : (node : Node) (optimes : List OpTime) → optimes ≡ map (λ (e : Entry). e.optime) (unjournaled node) → 2000 < length optimes
     → next_durable node ≡ earlier_of (visible_point node) (last_of (next_entries node))
 next_durable-long node optimes is long =
-    let same : length optimes ≡ length (unkept node) = ap length is ∙ map-length (unkept node) in
-    let test : nat_lt 2000 (length (unkept node)) ≡ true = grind arith in
+    let same : length optimes ≡ length (unjournaled node) = ap length is ∙ map-length (unjournaled node) in
+    let test : nat_lt 2000 (length (unjournaled node)) ≡ true = grind arith in
     ap (λ b. cond b (earlier_of (visible_point node) (last_of (next_entries node))) (visible_point node)) test
 
 -- ---- whether a record is wanted

@@ -12,8 +12,8 @@ use Rattle.set_model.specs.Node.{Node, Report, Heard}
 use Rattle.set_model.specs.Points.{last_point, visible_point}
 use Rattle.set_model.specs.Roles.{is_primary}
 use Rattle.node_state.specs.Coherent.{IsCoherent}
-use Rattle.node_state.specs.Hearings.{commit_learnt}
-use Rattle.node_state.specs.Seen.{Rest, seen_node}
+use Rattle.node_state.specs.HeardBeats.{commit_learnt}
+use Rattle.node_state.specs.Seen.{BesideLedger, seen_node}
 use Rattle.node_state.proofs.CommitLemmas.{IsBetween, coherent-commit, counted_between}
 use Rattle.node_state.proofs.TermLemmas.{coherent-turned}
 
@@ -27,7 +27,7 @@ coherent-tables node progress known tally optimes old = record {
   first = old.first;
   points = record { stable = old.points.stable; commit = old.points.commit; durable = old.points.durable; there = old.points.there };
   recorded = record { vote = old.recorded.vote; config = old.recorded.config; entries = old.recorded.entries; early = old.recorded.early; point = old.recorded.point };
-  unkept = old.unkept;
+  unjournaled = old.unjournaled;
   counts = old.counts;
 }
 
@@ -36,7 +36,7 @@ learnt_between true stable durable commit heard old = counted_between stable dur
 learnt_between false stable durable commit heard old = old
 
 -- a commit point is learnt of a node that is known
-pub coherent-learnt : (n : Node) (rest : Rest) (commit heard : OpTime) (known : maps.FinMap nat_cmp Heard) (tally : Option Tallied) (optimes : List OpTime)
+pub coherent-learnt : (n : Node) (rest : BesideLedger) (commit heard : OpTime) (known : maps.FinMap nat_cmp Heard) (tally : Option Tallied) (optimes : List OpTime)
     → commit ≡ commit_learnt (seen_node n rest) heard
     → IsCoherent (seen_node n rest) tally optimes → IsCoherent (seen_node n (record rest { commit = commit; known = known })) tally optimes
 coherent-learnt n rest commit heard known tally optimes is old =
@@ -47,7 +47,7 @@ coherent-learnt n rest commit heard known tally optimes is old =
     old)
 
 -- a candidate that is a secondary counts nothing
-pub coherent-given_way : (n m : Node) (rest : Rest) (tally : Option Tallied) (optimes : List OpTime) → m ≡ record n { role = Secondary }
+pub coherent-given_way : (n m : Node) (rest : BesideLedger) (tally : Option Tallied) (optimes : List OpTime) → m ≡ record n { role = Secondary }
     → IsCoherent (seen_node n rest) tally optimes → IsCoherent (seen_node m (record rest { tally = None })) None optimes
 coherent-given_way n m rest tally optimes is old =
     subst (λ (k : Node). IsCoherent (seen_node k (record rest { tally = None })) None optimes) (sym is)

@@ -1,8 +1,8 @@
 -- What a node in memory has beside its ledger.
-use Rattle.node_state.specs.Seen.{Rest}
+use Rattle.node_state.specs.Seen.{BesideLedger}
 use Rattle.node_state.specs.declared.state.State.TheInside.{Inside}
 
-abbrev pub rest_in : Inside → Rest
+abbrev pub rest_in : Inside → BesideLedger
 rest_in s =
     record {
       number = s.number;

@@ -9,7 +9,7 @@ use Rattle.oplog_store.specs.Log.{IsOplog}
 use Rattle.entry_bytes.specs.Sizes.{IsWithinEntry}
 use Rattle.election_core.specs.Counting.{Tallied}
 use Rattle.repl_msg.specs.declared.record.Record.TheVariants as records
-use Rattle.set_model.specs.Disk.{next_entries, next_durable, next_stable, unkept, next_batch, batch_applied, apply}
+use Rattle.set_model.specs.Disk.{next_entries, next_durable, next_stable, unjournaled, next_batch, batch_applied, apply}
 use Rattle.set_model.specs.Outcome.{replied, refused}
 use Rattle.set_model.specs.Roles.{is_primary}
 use Rattle.set_model.specs.declared.reply.Reply.TheVariants as reply
@@ -23,9 +23,9 @@ use Rattle.set_model.specs.declared.store.Store.TheVariants as stores
 use Rattle.node_state.specs.Coherent.{IsCoherent}
 use Rattle.node_ledger.specs.Ledger.{Ledger, applied_with}
 use Rattle.node_state.specs.Ready.{IsFlush, IsCheckpoint, IsReadyTurn}
-use Rattle.node_state.specs.Seen.{Rest, seen_node}
-use Rattle.node_state.specs.Standing.{Standing}
-use Rattle.node_state.specs.declared.turn.Then.TheVariants as thens
+use Rattle.node_state.specs.Seen.{BesideLedger, seen_node}
+use Rattle.node_state.specs.StateView.{StateView}
+use Rattle.node_state.specs.declared.turn.Continuation.TheVariants as continuations
 use Rattle.node_state.specs.declared.turn.Turn.TheVariants as turns
 use Rattle.node_state.proofs.FlushLemmas.{coherent-flushed}
 use Rattle.node_state.proofs.CoherentLemmas.{coherent-stable}
@@ -48,8 +48,8 @@ length-taken f (suc many) (x ∷ xs) = let rest : length (take many xs) ≤ leng
 pub flush-count : (n m : Node) (item : Store) (count : ℕ) (point : OpTime) (tally : Option Tallied) (optimes : List OpTime) → n ≡ m → IsFlush item count point m → IsCoherent n tally optimes → count ≤ length optimes
 flush-count n m item count point tally optimes same ready old =
     let is : count ≡ length (next_entries n) = ready.count_is ∙ ap (λ (k : Node). length (next_entries k)) (sym same) in
-    let long : length optimes ≡ length (map (λ (e : Entry). e.optime) (unkept n)) = ap length old.unkept in
-    let less : length (next_entries n) ≤ length (map (λ (e : Entry). e.optime) (unkept n)) = length-taken (λ (e : Entry). e.optime) 2000 (unkept n) in
+    let long : length optimes ≡ length (map (λ (e : Entry). e.optime) (unjournaled n)) = ap length old.unjournaled in
+    let less : length (next_entries n) ≤ length (map (λ (e : Entry). e.optime) (unjournaled n)) = length-taken (λ (e : Entry). e.optime) 2000 (unjournaled n) in
     omega (arith, is, long, less)
 
 -- ---- a checkpoint
@@ -70,7 +70,7 @@ checkpoint-applied n m item at same ready =
 
 -- ---- a batch
 
-pub apply-done : (old new : Ledger) (rest : Rest) (count : ℕ) (to : OpTime) → is_primary old.node.role ≡ false → new ≡ applied_with old (next_batch old.node) → count ≡ length (next_batch old.node)
+pub apply-done : (old new : Ledger) (rest : BesideLedger) (count : ℕ) (to : OpTime) → is_primary old.node.role ≡ false → new ≡ applied_with old (next_batch old.node) → count ≡ length (next_batch old.node)
     → (count ≡ 0 → ⊥) → to ≡ new.node.applied → apply (seen_node old.node rest) ≡ replied (reply.Applied count to) (seen_node new.node rest)
 apply-done old new rest count to not new_is count_is some to_is =
     ap (λ b. cond b (refused NothingToDo (seen_node old.node rest)) (batch_applied (seen_node old.node rest) (next_batch old.node))) not
@@ -90,8 +90,8 @@ take_few zero xs = omega arith
 take_few (suc k) [] = omega arith
 take_few (suc k) (x ∷ xs) = let rest : length (take k xs) ≤ k = take_few k xs in omega (arith, rest)
 
-pub flush_ready : (standing : Standing) (list : List Entry) (count : ℕ) (point : OpTime) → All IsWithinEntry standing.node.log → list ≡ next_entries standing.node → count ≡ length list → point ≡ next_durable standing.node
-    → IsReadyTurn (turns.Storing (stores.Record (records.Entries list point)) (thens.Flush count point)) standing
+pub flush_ready : (standing : StateView) (list : List Entry) (count : ℕ) (point : OpTime) → All IsWithinEntry standing.node.log → list ≡ next_entries standing.node → count ≡ length list → point ≡ next_durable standing.node
+    → IsReadyTurn (turns.Storing (stores.Record (records.Entries list point)) (continuations.Flush count point)) standing
 flush_ready standing list count point within list_is count_is point_is = (
   record {
     item_is = ap (λ (es : List Entry). stores.Record (records.Entries es point)) list_is ∙ ap (λ (at : OpTime). stores.Record (records.Entries (next_entries standing.node) at)) point_is;
@@ -99,8 +99,8 @@ flush_ready standing list count point within list_is count_is point_is = (
     point_is = point_is;
   },
   (
-    subst (λ (es : List Entry). length es ≤ 2000) (sym list_is) (take_few 2000 (unkept standing.node)),
+    subst (λ (es : List Entry). length es ≤ 2000) (sym list_is) (take_few 2000 (unjournaled standing.node)),
     subst (All IsWithinEntry) (sym list_is)
-        (in_all IsWithinEntry (next_entries standing.node) (λ x there. all_in IsWithinEntry standing.node.log x within (in_filter _ standing.node.log x (in_take 2000 x (unkept standing.node) there)).0)),
+        (in_all IsWithinEntry (next_entries standing.node) (λ x there. all_in IsWithinEntry standing.node.log x within (in_filter _ standing.node.log x (in_take 2000 x (unjournaled standing.node) there)).0)),
   ),
 )

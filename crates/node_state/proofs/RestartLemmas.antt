@@ -28,7 +28,7 @@ use Rattle.set_model.specs.Points.{visible_point}
 use Rattle.set_model.specs.Safety.{AtMost, Has}
 use Rattle.node_state.specs.Coherent.{IsCoherent, is_kept}
 use Rattle.node_ledger.specs.Ledger.{restored}
-use Rattle.node_state.specs.Seen.{Rest, seen_node}
+use Rattle.node_state.specs.Seen.{BesideLedger, seen_node}
 use Rattle.node_ledger.specs.Versions.{AreSmall}
 use Rattle.node_state.specs.WellKept.{IsWellKept, IsReadAs, coming, counted}
 use Rattle.node_state.proofs.EntryLemmas.{in_has, has_in, below_last}
@@ -70,7 +70,7 @@ come_back-coherent first number records stable rollback clock below lawful well 
     early = in_all (λ (entry : Entry). is_before (kept records).point entry.optime ≡ false → is_kept node entry ≡ true) (kept records).entries (λ entry there late. has entry there);
     point = refl;
   };
-  unkept = sym (ap (map (λ (entry : Entry). entry.optime)) (filter-none (λ (entry : Entry). not (is_kept node entry)) (kept records).entries
+  unjournaled = sym (ap (map (λ (entry : Entry). entry.optime)) (filter-none (λ (entry : Entry). not (is_kept node entry)) (kept records).entries
       (in_all (λ (e : Entry). not (is_kept node e) ≡ false) (kept records).entries (λ entry there. ap not (has entry there)))));
   counts = λ candidate. absurd (cc candidate);
 }
@@ -86,7 +86,7 @@ come_back-coherent first number records stable rollback clock below lawful well 
     has entry there = in_has (kept records).entries entry.optime entry there refl
 
 -- beside its log, what a node comes back with that was read
-abbrev pub rest_read : Config → ℕ → List Record → OpTime → ℕ → Vote → Option Config → OpTime → Rest
+abbrev pub rest_read : Config → ℕ → List Record → OpTime → ℕ → Vote → Option Config → OpTime → BesideLedger
 rest_read first number records stable rollback vote config point =
     record {
       number = number;
@@ -151,7 +151,7 @@ restorable found records stable entries well read is =
     }
 
 -- a node that comes back is coherent, and nothing in its log isn't in its records
-pub restored-coherent : (first : Config) (number : ℕ) (records : List Record) (stable : OpTime) (rollback clock : ℕ) (found : Kept) (ledger : Node) (rest : Rest) (optimes : List OpTime)
+pub restored-coherent : (first : Config) (number : ℕ) (records : List Record) (stable : OpTime) (rollback clock : ℕ) (found : Kept) (ledger : Node) (rest : BesideLedger) (optimes : List OpTime)
     → number < 50 → rule first ≡ None → IsWellKept records stable → IsReadAs found records
     → ledger ≡ restored found.vote.term clock (log_up_to found.point found.entries) stable
     → rest ≡ rest_read first number records stable rollback found.vote found.config found.point → optimes ≡ []

@@ -25,14 +25,14 @@ use Rattle.set_model.specs.Reads.{local_documents}
 use Rattle.set_model.specs.Roles.{is_secondary}
 use Rattle.set_model.specs.Rollback.{common_told, lost_documents, roll_back, rolled_back, rollback_reason}
 use Rattle.set_model.specs.Safety.{AtMost, Has}
-use Rattle.node_state.specs.Ahead.{Foretells, Tells, taking}
+use Rattle.node_state.specs.Ahead.{IsPreparedFor, ComesTo, taking}
 use Rattle.node_state.specs.Coherent.{IsCoherent}
 use Rattle.node_ledger.specs.Ledger.{Ledger}
 use Rattle.node_state.specs.Ready.{IsCut}
 use Rattle.node_state.specs.Rolling.{point_or, reached}
-use Rattle.node_state.specs.Seen.{Rest, seen_node}
-use Rattle.node_state.specs.Told.{told_plan}
-use Rattle.node_state.specs.declared.turn.Told.TheVariants as tolds
+use Rattle.node_state.specs.Seen.{BesideLedger, seen_node}
+use Rattle.node_state.specs.MessageContinuation.{message_plan}
+use Rattle.node_state.specs.declared.turn.MessageContinuation.TheVariants as message_continuations
 use Rattle.node_state.proofs.CoherentLemmas.{coherent-applied}
 use Rattle.node_ledger.proofs.LogLemmas.{up_to-last}
 use Rattle.node_state.proofs.RestartLemmas.{no_further}
@@ -67,32 +67,32 @@ a_reason (Some other) point why is = cc is
 
 pub ignored_tells : (raised : Bool) (term : ℕ) (old : Node) (after : OpTime) (optimes : List OpTime) (visible : OpTime) (why : Ignored)
     → rollback_reason (taking raised term old) term after optimes visible ≡ Some why
-    → Foretells (tolds.Ignored why) raised term (λ node. common_told node term after optimes visible) old old
-ignored_tells raised term old after optimes visible why reason = record { tells = tells raised reason; at = old.applied; same = refl }
+    → IsPreparedFor (message_continuations.Ignored why) raised term (λ node. common_told node term after optimes visible) old old
+ignored_tells raised term old after optimes visible why reason = record { comes_to = comes_to raised reason; at = old.applied; same = refl }
   where
-    tells : (raised : Bool) → rollback_reason (taking raised term old) term after optimes visible ≡ Some why
-        → Tells (tolds.Ignored why) raised term (λ node. common_told node term after optimes visible) old old
-    tells true reason items =
+    comes_to : (raised : Bool) → rollback_reason (taking raised term old) term after optimes visible ≡ Some why
+        → ComesTo (message_continuations.Ignored why) raised term (λ node. common_told node term after optimes visible) old old
+    comes_to true reason items =
         sym (ap (roll_back (taking true term (record old { records = items })) (common_point old.log after optimes)) reason)
-    tells false reason items = sym (ap (roll_back (record old { records = items }) (common_point old.log after optimes)) reason)
+    comes_to false reason items = sym (ap (roll_back (record old { records = items }) (common_point old.log after optimes)) reason)
 
 pub rolled_tells : (raised : Bool) (term : ℕ) (old : Node) (at : OpTime) (after : OpTime) (optimes : List OpTime) (visible : OpTime) (point : OpTime) (removed : ℕ) (lost : List (Place × Option Fields))
     → IsOplog old.log → rollback_reason (taking raised term old) term after optimes visible ≡ None → point ≡ common_point old.log after optimes
     → removed ≡ length (log_behind point old.log) → lost ≡ lost_documents (local_documents old) (log_behind point old.log)
-    → Foretells (tolds.RolledBack point removed lost) raised term (λ node. common_told node term after optimes visible) old (record old { applied = at })
+    → IsPreparedFor (message_continuations.RolledBack point removed lost) raised term (λ node. common_told node term after optimes visible) old (record old { applied = at })
 rolled_tells raised term old at after optimes visible point removed lost oplog reason point_is removed_is lost_is =
-    record { tells = tells raised reason (lost_is ∙ ap (λ d. lost_documents d (log_behind point old.log)) (sym (taken_documents raised term old oplog))); at = at; same = refl }
+    record { comes_to = comes_to raised reason (lost_is ∙ ap (λ d. lost_documents d (log_behind point old.log)) (sym (taken_documents raised term old oplog))); at = at; same = refl }
   where
-    tells : (raised : Bool) → rollback_reason (taking raised term old) term after optimes visible ≡ None → lost ≡ lost_documents (local_documents (taking raised term old)) (log_behind point old.log)
-        → Tells (tolds.RolledBack point removed lost) raised term (λ node. common_told node term after optimes visible) old (record old { applied = at })
-    tells true reason lost_is items =
+    comes_to : (raised : Bool) → rollback_reason (taking raised term old) term after optimes visible ≡ None → lost ≡ lost_documents (local_documents (taking raised term old)) (log_behind point old.log)
+        → ComesTo (message_continuations.RolledBack point removed lost) raised term (λ node. common_told node term after optimes visible) old (record old { applied = at })
+    comes_to true reason lost_is items =
         let node = taking true term (record old { records = items }) in
-        (λ i. told_plan (tolds.RolledBack point (removed_is i) (lost_is i)) node)
+        (λ i. message_plan (message_continuations.RolledBack point (removed_is i) (lost_is i)) node)
         ∙ ap (rolled_back node) point_is
         ∙ sym (ap (roll_back node (common_point old.log after optimes)) reason)
-    tells false reason lost_is items =
+    comes_to false reason lost_is items =
         let node = record old { records = items } in
-        (λ i. told_plan (tolds.RolledBack point (removed_is i) (lost_is i)) node)
+        (λ i. message_plan (message_continuations.RolledBack point (removed_is i) (lost_is i)) node)
         ∙ ap (rolled_back node) point_is
         ∙ sym (ap (roll_back node (common_point old.log after optimes)) reason)
 
@@ -149,7 +149,7 @@ can_cut raised term old after optimes visible point oplog reason is commit below
         }
 
 -- a log that is applied further, or not, keeps a node coherent
-pub coherent-reached : (n m : Node) (rest : Rest) (spare left : ℕ) (at : OpTime) (result : Result (Unit {0}) AllocError) (tally : Option Tallied) (optimes : List OpTime)
+pub coherent-reached : (n m : Node) (rest : BesideLedger) (spare left : ℕ) (at : OpTime) (result : Result (Unit {0}) AllocError) (tally : Option Tallied) (optimes : List OpTime)
     → OnOk result (◌≡◌ {A = Ledger} (record { node = m; spare = left }) (record { node = record n { applied = at }; spare = spare })) → OnErr result (◌≡◌ {A = Ledger} (record { node = m; spare = left }) (record { node = n; spare = spare }))
     → IsCoherent (seen_node n rest) tally optimes → IsCoherent (seen_node m rest) tally optimes
 coherent-reached n m rest spare left at (Ok done) tally optimes ok err old =

@@ -32,19 +32,19 @@ use Rattle.set_model.specs.Votes.{vote_for}
 use Rattle.node_state.specs.Coherent.{IsCoherent, is_kept}
 use Rattle.node_state.specs.Ready.{IsReady, IsReadyTurn, CanBeStored, IsCut}
 use Rattle.node_ledger.specs.Sound.{IsSound}
-use Rattle.node_state.specs.Standing.{Standing}
+use Rattle.node_state.specs.StateView.{StateView}
 use Rattle.node_ledger.specs.Ledger.{IsReadable}
-use Rattle.node_state.specs.Seen.{Rest, seen_node}
+use Rattle.node_state.specs.Seen.{BesideLedger, seen_node}
 use Rattle.node_state.specs.WellKept.{IsWellKept, StoresWell}
-use Rattle.node_state.specs.declared.turn.Then.{Then}
-use Rattle.node_state.specs.declared.turn.Then.TheVariants.{Campaign, Drain, Flush, Checkpoint, Reconfig, VoteInTerm, VoteGiven, TookTerm, Installed, Cut}
+use Rattle.node_state.specs.declared.turn.Continuation.{Continuation}
+use Rattle.node_state.specs.declared.turn.Continuation.TheVariants.{Campaign, Drain, Flush, Checkpoint, Reconfig, VoteInTerm, VoteGiven, TookTerm, Installed, Cut}
 use Rattle.node_state.specs.declared.turn.Turn.TheVariants.{Storing}
 use Rattle.node_state.proofs.EntryLemmas.{has_in}
 use Rattle.node_state.proofs.FlushLemmas.{flushed_node, coherent-flushed}
 use Rattle.node_ledger.proofs.LogLemmas.{up_to-up_to}
 use Rattle.node_state.proofs.WellKeptLemmas.{kept_up_to, well_kept, well_voted, well_configured, well_cut, well_stable}
 
-pub sound_seen : (ledger : Node) (rest : Rest) → IsSound ledger → IsSound (seen_node ledger rest)
+pub sound_seen : (ledger : Node) (rest : BesideLedger) → IsSound ledger → IsSound (seen_node ledger rest)
 sound_seen ledger rest sound = record {
   oplog = sound.oplog;
   entries = sound.entries;
@@ -169,7 +169,7 @@ vote_within from (Some refusal) below = tt
 as_item : (node : Node) (item own : Store) → item ≡ own → StoresWell node own → StoresWell node item
 as_item node item own is stores = subst (StoresWell node) (sym is) stores
 
-pub stores_well : (item : Store) (then : Then) (standing : Standing) (tally : Option Tallied) (optimes : List OpTime) → IsSound standing.node → IsCoherent standing.node tally optimes
+pub stores_well : (item : Store) (then : Continuation) (standing : StateView) (tally : Option Tallied) (optimes : List OpTime) → IsSound standing.node → IsCoherent standing.node tally optimes
     → IsReady item then standing → CanBeStored item → StoresWell standing.node item
 stores_well item (Campaign next votes sent) standing tally optimes sound coherent ready can =
     as_item standing.node item _ ready.item_is
@@ -197,10 +197,10 @@ stores_well item (Cut point removed lost) standing tally optimes sound coherent 
     as_item standing.node item _ ready.0 (cuts_well standing.node tally optimes sound coherent point ready.1)
 
 -- the same of a node's parts in memory
-pub well_in_memory : (ledger : Node) (rest : Rest) (optimes : List OpTime) → IsSound ledger → IsCoherent (seen_node ledger rest) rest.tally optimes → IsWellKept rest.records ledger.stable
+pub well_in_memory : (ledger : Node) (rest : BesideLedger) (optimes : List OpTime) → IsSound ledger → IsCoherent (seen_node ledger rest) rest.tally optimes → IsWellKept rest.records ledger.stable
 well_in_memory ledger rest optimes sound coherent = well_kept (seen_node ledger rest) rest.tally optimes (sound_seen ledger rest sound) coherent
 
-pub stores_in_memory : (item : Store) (then : Then) (ledger : Node) (rest : Rest) (spare : ℕ) (optimes : List OpTime) → IsSound ledger → IsCoherent (seen_node ledger rest) rest.tally optimes
+pub stores_in_memory : (item : Store) (then : Continuation) (ledger : Node) (rest : BesideLedger) (spare : ℕ) (optimes : List OpTime) → IsSound ledger → IsCoherent (seen_node ledger rest) rest.tally optimes
     → IsReadyTurn (Storing item then) (record { node = seen_node ledger rest; spare = spare }) → StoresWell (seen_node ledger rest) item
 stores_in_memory item then ledger rest spare optimes sound coherent ready =
     stores_well item then (record { node = seen_node ledger rest; spare = spare }) rest.tally optimes (sound_seen ledger rest sound) coherent ready.0 ready.1

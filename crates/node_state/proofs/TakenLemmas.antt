@@ -12,49 +12,49 @@ use Rattle.set_model.specs.Deliver.{take_term}
 use Rattle.set_model.specs.Node.{Node}
 use Rattle.set_model.specs.declared.store.Store.{Store}
 use Rattle.set_model.specs.Stores.{Plan, in_doubt, records_after, stored, storing, vote_record}
-use Rattle.node_state.specs.Ahead.{Foretells, Tells, ahead, taking}
-use Rattle.node_state.specs.Ready.{IsFetched, IsReadyTold, in_term_of}
-use Rattle.node_state.specs.Standing.{Standing}
+use Rattle.node_state.specs.Ahead.{IsPreparedFor, ComesTo, view_in_term, taking}
+use Rattle.node_state.specs.Ready.{IsFetched, IsReadyMessage, in_term_of}
+use Rattle.node_state.specs.StateView.{StateView}
 use Rattle.set_model.specs.Taking.{CanTakeEntries}
-use Rattle.node_state.specs.Told.{told_plan}
-use Rattle.node_state.specs.declared.turn.Told.{Told}
-use Rattle.node_state.specs.declared.turn.Told.TheVariants.{Answered, Fetched, Heard, RolledBack, Ignored}
+use Rattle.node_state.specs.MessageContinuation.{message_plan}
+use Rattle.node_state.specs.declared.turn.MessageContinuation.{MessageContinuation}
+use Rattle.node_state.specs.declared.turn.MessageContinuation.TheVariants.{Answered, Fetched, Heard, RolledBack, Ignored}
 
 -- what is told where nothing has changed
-pub foretold : (told : Told) (raised : Bool) (term : ℕ) (plan : Node → Plan) (old new : Node) → Tells told raised term plan old old → new ≡ old → Foretells told raised term plan old new
-foretold told raised term plan old new tells same = record {
-  tells = subst (λ (n : Node). Tells told raised term plan old n) (sym same) tells;
+pub foretold : (told : MessageContinuation) (raised : Bool) (term : ℕ) (plan : Node → Plan) (old new : Node) → ComesTo told raised term plan old old → new ≡ old → IsPreparedFor told raised term plan old new
+foretold told raised term plan old new comes_to same = record {
+  comes_to = subst (λ (n : Node). ComesTo told raised term plan old n) (sym same) comes_to;
   at = old.applied;
   same = same;
 }
 
 -- another place up to which the log is applied doesn't matter where the node goes down
-same_doubt : (old new : Node) (raised : Bool) (term : ℕ) (told : Told) (plan : Node → Plan) → Foretells told raised term plan old new → (term' : ℕ) → in_doubt old (vote_record term' None) ≡ in_doubt new (vote_record term' None)
+same_doubt : (old new : Node) (raised : Bool) (term : ℕ) (told : MessageContinuation) (plan : Node → Plan) → IsPreparedFor told raised term plan old new → (term' : ℕ) → in_doubt old (vote_record term' None) ≡ in_doubt new (vote_record term' None)
 same_doubt old new raised term told plan foretells term' = sym (ap (λ (n : Node). in_doubt n (vote_record term' None)) foretells.same)
 
 -- the record of the term, and then what is told
-pub taken_then : (told : Told) (term : ℕ) (plan : Node → Plan) (old new : Node) → Foretells told true term plan old new
-    → take_term old term plan ≡ storing (in_doubt new (vote_record term None)) (told_plan told (in_new_term (stored new (vote_record term None)) term None))
+pub taken_then : (told : MessageContinuation) (term : ℕ) (plan : Node → Plan) (old new : Node) → IsPreparedFor told true term plan old new
+    → take_term old term plan ≡ storing (in_doubt new (vote_record term None)) (message_plan told (in_new_term (stored new (vote_record term None)) term None))
 taken_then told term plan old new foretells =
     let items : List Record = old.records ++ records.Vote (record { term = term; candidate = None }) ∷ [] in
     let more : new.records ++ records.Vote (record { term = term; candidate = None }) ∷ [] ≡ items =
     ap (λ (n : Node). n.records ++ records.Vote (record { term = term; candidate = None }) ∷ []) foretells.same in
     ap (λ (broken : Node). storing broken (plan (in_new_term (record old { records = items }) term None))) (same_doubt old new true term told plan foretells term)
     ∙ ap (storing (in_doubt new (vote_record term None)))
-    (sym (ap (λ (list : List Record). told_plan told (in_new_term (record new { records = list }) term None)) more ∙ foretells.tells items))
+    (sym (ap (λ (list : List Record). message_plan told (in_new_term (record new { records = list }) term None)) more ∙ foretells.comes_to items))
 
 -- nothing is stored before it
-pub told_now : (told : Told) (term : ℕ) (plan : Node → Plan) (old new : Node) → Foretells told false term plan old new → plan old ≡ told_plan told new
+pub told_now : (told : MessageContinuation) (term : ℕ) (plan : Node → Plan) (old new : Node) → IsPreparedFor told false term plan old new → plan old ≡ message_plan told new
 told_now told term plan old new foretells =
     let same : new.records ≡ old.records = ap (λ (n : Node). n.records) foretells.same in
-    sym (ap (λ (list : List Record). told_plan told (record new { records = list })) same ∙ foretells.tells old.records)
+    sym (ap (λ (list : List Record). message_plan told (record new { records = list })) same ∙ foretells.comes_to old.records)
 
 -- ---- what is ready stays so with other records
 
 fetch_with : (node : Node) (items : List Record) (term : ℕ) (fetched : FetchReply) → CanTakeEntries node term fetched → CanTakeEntries (record node { records = items }) term fetched
 fetch_with node items term fetched can = record { order = can.order; base = can.base; entries = can.entries; terms = can.terms; documents = can.documents }
 
-pub ready_with : (told : Told) (standing : Standing) (items : List Record) → IsReadyTold told standing → IsReadyTold told (record standing { node = record standing.node { records = items } })
+pub ready_with : (told : MessageContinuation) (standing : StateView) (items : List Record) → IsReadyMessage told standing → IsReadyMessage told (record standing { node = record standing.node { records = items } })
 ready_with (Answered next sent) standing items ready = tt
 ready_with (Fetched from fetched) standing items ready = record { from_is = ready.from_is; lawful = fetch_with standing.node items standing.node.term fetched ready.lawful; room = ready.room }
 ready_with (Heard (Some config) kept hearing) standing items ready = ready
@@ -81,8 +81,8 @@ fetch_then false node term fetched is can = record {
     no_less : (a b : ℕ) → nat_lt b a ≡ false → a ≤ b
     no_less a b test = grind (arith, nat_tests)
 
-pub ready_fetched : (raised : Bool) (old : Node) (new : Standing) (term from : ℕ) (given reply : FetchReply) → new.node ≡ old → given ≡ reply → raised ≡ nat_lt old.term term
-    → from < 50 → CanTakeEntries old term reply → length given.entries ≤ new.spare → IsFetched from given (ahead raised term new)
+pub ready_fetched : (raised : Bool) (old : Node) (new : StateView) (term from : ℕ) (given reply : FetchReply) → new.node ≡ old → given ≡ reply → raised ≡ nat_lt old.term term
+    → from < 50 → CanTakeEntries old term reply → length given.entries ≤ new.spare → IsFetched from given (view_in_term raised term new)
 ready_fetched raised old new term from given reply same copied is from_is can room = record {
   from_is = from_is;
   lawful = fetch_then raised new.node term given (is ∙ ap (λ (n : Node). nat_lt n.term term) (sym same))
@@ -91,10 +91,10 @@ ready_fetched raised old new term from given reply same copied is from_is can ro
 }
 
 -- the node is in the message's term, whose record stands
-pub ready_entered : (told : Told) (item : Store) (term : ℕ) (old new : Standing) → item ≡ vote_record term None → new.node ≡ in_new_term (stored old.node item) term None → new.spare ≡ old.spare
-    → IsReadyTold told (in_term_of term old) → IsReadyTold told new
+pub ready_entered : (told : MessageContinuation) (item : Store) (term : ℕ) (old new : StateView) → item ≡ vote_record term None → new.node ≡ in_new_term (stored old.node item) term None → new.spare ≡ old.spare
+    → IsReadyMessage told (in_term_of term old) → IsReadyMessage told new
 ready_entered told item term old new item_is node_is spare_is ready =
-    subst (IsReadyTold told) (sym made) (ready_with told (in_term_of term old) (records_after old.node.records (vote_record term None)) ready)
+    subst (IsReadyMessage told) (sym made) (ready_with told (in_term_of term old) (records_after old.node.records (vote_record term None)) ready)
   where
     node_then : new.node ≡ in_new_term (stored old.node (vote_record term None)) term None
     node_then = node_is ∙ ap (λ (s : Store). in_new_term (stored old.node s) term None) item_is

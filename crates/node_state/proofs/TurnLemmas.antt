@@ -7,13 +7,13 @@ use Rattle.set_model.specs.Outcome.{replied, refused}
 use Rattle.set_model.specs.Stores.{Plan, finished, if_up}
 use Rattle.node_state.specs.declared.turn.Turn.{Turn}
 use Rattle.node_state.specs.declared.turn.Turn.TheVariants.{Finished, Storing}
-use Rattle.node_state.specs.Turns.{Means, Says}
+use Rattle.node_state.specs.Turns.{Means, FinishesWith}
 
 -- what a command comes to on a node that is up
 pub while_up : (node : Node) (plan : Plan) → node.up ≡ true → if_up node plan ≡ plan
 while_up node plan up = ap (λ b. cond b plan (finished (refused NodeDown node))) up
 
 -- a turn that says what a plan comes to
-pub says_means : (turn : Turn) (reply : Reply) (node : Node) (plan : Plan) → Says turn reply [] → plan ≡ finished (replied reply node) → Means turn node plan
+pub says_means : (turn : Turn) (reply : Reply) (node : Node) (plan : Plan) → FinishesWith turn reply [] → plan ≡ finished (replied reply node) → Means turn node plan
 says_means (Finished answer sent) reply node plan says is = cc
 says_means (Storing item then) reply node plan says is = absurd says

@@ -23,11 +23,12 @@ use Rattle.node_state.specs.declared.admission.Admission.{Admission}
 abbrev pub IsRefusal : WriteRefusal → Refusal → Type 0
 IsRefusal why refusal = option_map refusal_of (reason_of why) ≡ Some refusal
 
--- An op that is logged is lawful, touches the document at the place, and leaves one that isn't too large. At the node's next
--- optime its entry fits into a record.
+-- An op that is logged is lawful, touches the document at the place, and leaves one that isn't too large. At
+-- the node's next optime its entry fits into a record.
 abbrev pub CanBeLogged : Node → Place → Prepared → Type 0
 CanBeLogged node place (Entry op after) =
-    IsLawfulOp op × (place_of op ≡ Some place) × (after ≡ document_after op (maps.get (docs node.log) place)) × IsSmall after
+    IsLawfulOp op × (place_of op ≡ Some place)
+    × (after ≡ document_after op (maps.get (docs node.log) place)) × IsSmall after
     × IsWithinEntry (record { optime = next_optime node; op = op })
 CanBeLogged node place NoMatch = ⊤
 CanBeLogged node place Unchanged = ⊤

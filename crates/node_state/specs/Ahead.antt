@@ -7,37 +7,39 @@ use Rattle.repl_msg.specs.declared.record.Record.{Record}
 use Rattle.set_model.specs.Changes.{in_new_term}
 use Rattle.set_model.specs.Node.{Node}
 use Rattle.set_model.specs.Stores.{Plan}
-use Rattle.node_state.specs.Standing.{Standing}
-use Rattle.node_state.specs.Told.{told_plan}
-use Rattle.node_state.specs.declared.turn.Told.{Told}
+use Rattle.node_state.specs.StateView.{StateView}
+use Rattle.node_state.specs.MessageContinuation.{message_plan}
+use Rattle.node_state.specs.declared.turn.MessageContinuation.{MessageContinuation}
 
 -- the node as it takes a message: once it has the message's term, where that is higher
 abbrev pub taking : Bool → ℕ → Node → Node
 taking raised term node = if raised then in_new_term node term None else node
 
 -- the same, with the room that it has
-abbrev pub ahead : Bool → ℕ → Standing → Standing
-ahead raised term standing = record standing { node = taking raised term standing.node }
+abbrev pub view_in_term : Bool → ℕ → StateView → StateView
+view_in_term raised term standing = record standing { node = taking raised term standing.node }
 
 -- at that node this comes to what the plan says, whatever is stored before
-abbrev pub Tells : Told → Bool → ℕ → (Node → Plan) → Node → Node → Type 0
-Tells told raised term plan old new =
-    (items : List Record) → told_plan told (taking raised term (record new { records = items })) ≡ plan (taking raised term (record old { records = items }))
+abbrev pub ComesTo : MessageContinuation → Bool → ℕ → (Node → Plan) → Node → Node → Type 0
+ComesTo told raised term plan old new =
+    (items : List Record) → message_plan told (taking raised term (record new { records = items }))
+    ≡ plan (taking raised term (record old { records = items }))
 
 -- and nothing has changed but how far the log is applied
-pub record Foretells (told : Told) (raised : Bool) (term : ℕ) (plan : Node → Plan) (old new : Node) : Type 0 where
-  pub tells : Tells told raised term plan old new
+pub record IsPreparedFor (told : MessageContinuation) (raised : Bool) (term : ℕ) (plan : Node → Plan)
+    (old new : Node) : Type 0 where
+  pub comes_to : ComesTo told raised term plan old new
   pub at : OpTime
   pub same : new ≡ record old { applied = at }
 
 -- a message that is made ready so: no memory is taken for it once its term is
-abbrev pub is_foreseen : Body → Bool
-is_foreseen (bodies.Fetch base) = true
-is_foreseen (bodies.FetchReply reply) = true
-is_foreseen (bodies.Report config durable) = false
-is_foreseen (bodies.VoteAsk ask) = false
-is_foreseen (bodies.VoteReply asked dry why) = false
-is_foreseen (bodies.Heartbeat beat) = true
-is_foreseen (bodies.HeartbeatReply beat) = true
-is_foreseen (bodies.CommonAsk after) = true
-is_foreseen (bodies.CommonReply after optimes visible) = true
+abbrev pub is_prepared : Body → Bool
+is_prepared (bodies.Fetch base) = true
+is_prepared (bodies.FetchReply reply) = true
+is_prepared (bodies.Report config durable) = false
+is_prepared (bodies.VoteAsk ask) = false
+is_prepared (bodies.VoteReply asked dry why) = false
+is_prepared (bodies.Heartbeat beat) = true
+is_prepared (bodies.HeartbeatReply beat) = true
+is_prepared (bodies.CommonAsk after) = true
+is_prepared (bodies.CommonReply after optimes visible) = true

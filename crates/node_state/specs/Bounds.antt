@@ -14,7 +14,8 @@ pub record IsBounded (node : Node) : Type 0 where
 abbrev pub IsNumbered : ℕ → Type 0
 IsNumbered next = next < 2 ^ 63
 
--- a command that a node does in memory, storing as it goes; the others are about its disks or the messages of the set
+-- a command that a node does in memory, storing as it goes; the others are about its disks or the messages
+-- of the set
 abbrev pub is_own : Command → Bool
 is_own (Deliver message) = false
 is_own (DeliverLatest from to) = false

@@ -10,7 +10,7 @@ use Rattle.election_core.specs.Counting.{Tallied}
 use Rattle.repl_msg.specs.Kept.{kept}
 use Rattle.set_model.specs.declared.role.Role.TheVariants.{Candidate}
 use Rattle.set_model.specs.Node.{Node}
-use Rattle.set_model.specs.Disk.{unkept}
+use Rattle.set_model.specs.Disk.{unjournaled}
 use Rattle.set_model.specs.Points.{has_entry, visible_point}
 use Rattle.set_model.specs.Safety.{AtMost, Has}
 
@@ -25,8 +25,8 @@ pub record ArePoints (node : Node) : Type 0 where
 abbrev pub is_kept : Node → Entry → Bool
 is_kept node entry = has_entry (kept node.records).entries entry.optime
 
--- The records keep the node's term and vote, its configuration, entries of its log, all up to the durable point, and that
--- point.
+-- The records keep the node's term and vote, its configuration, entries of its log, all up to the durable
+-- point, and that point.
 pub record IsRecorded (node : Node) : Type 0 where
   pub vote : (kept node.records).vote ≡ record { term = node.term; candidate = node.vote }
   pub config : unwrap_or (kept node.records).config node.first ≡ node.config
@@ -36,7 +36,8 @@ pub record IsRecorded (node : Node) : Type 0 where
 
 -- a candidate counts the votes of its configuration's voters
 abbrev pub CountsVoters : Node → Option Tallied → Type 0
-CountsVoters node tally = node.role ≡ Candidate → IfSome tally (λ t. t.voters ≡ voters node.config) × (tally ≢ None)
+CountsVoters node tally =
+    node.role ≡ Candidate → IfSome tally (λ t. t.voters ≡ voters node.config) × (tally ≢ None)
 
 pub record IsCoherent (node : Node) (tally : Option Tallied) (optimes : List OpTime) : Type 0 where
   pub number : node.number < 50
@@ -46,5 +47,5 @@ pub record IsCoherent (node : Node) (tally : Option Tallied) (optimes : List OpT
   pub points : ArePoints node
   pub recorded : IsRecorded node
   -- the entries that aren't in the records
-  pub unkept : optimes ≡ map (λ entry. entry.optime) (unkept node)
+  pub unjournaled : optimes ≡ map (λ entry. entry.optime) (unjournaled node)
   pub counts : CountsVoters node tally

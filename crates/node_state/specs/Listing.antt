@@ -7,4 +7,5 @@ use Rattle.bson_doc.specs.Tree.{Fields}
 
 -- each with its collection
 abbrev pub found_at : (Place → Option Fields) → List Place → List (List ℕ × Fields)
-found_at shown places = filter_map (λ place. option_map (λ document. (place.0, document)) (shown place)) places
+found_at shown places =
+    filter_map (λ place. option_map (λ document. (place.0, document)) (shown place)) places

@@ -1,4 +1,5 @@
--- Commands to which neither the size of the set nor the number of its next message matters, nor what a restart finds.
+-- Commands to which neither the size of the set nor the number of its next message matters, nor what
+-- a restart finds.
 use Rattle.std.specs.Prelude.{ℕ, Bool, false}
 use Rattle.set_model.specs.declared.command.Command.{Command}
 use Rattle.set_model.specs.Node.{Node}

@@ -1,4 +1,5 @@
--- What going on needs: no memory runs out between two stores, and what was made before is what the remaining steps are to leave.
+-- What going on needs: no memory runs out between two stores, and what was made before is what the remaining
+-- steps are to leave.
 use Rattle.std.specs.Prelude.{◌≡◌, ◌<◌, ◌≤◌, ◌-◌, ◌^◌, ◌+◌, ℕ, false, List, [], ◌∷◌, All, Option, None, Some, IfSome, length, ⊤, ◌⊎◌}
 use Rattle.rs_optime.specs.declared.optime.OpTime.{OpTime}
 use Rattle.oplog_entry.specs.Visible.{ZERO}
@@ -28,14 +29,14 @@ use Rattle.set_model.specs.Rollback.{cut_record}
 use Rattle.set_model.specs.Safety.{AtMost, Has}
 use Rattle.set_model.specs.Stores.{vote_record, config_record}
 use Rattle.set_model.specs.Votes.{asks, vote_for}
-use Rattle.node_state.specs.Standing.{Standing}
+use Rattle.node_state.specs.StateView.{StateView}
 use Rattle.set_model.specs.Taking.{CanTakeEntries}
-use Rattle.node_state.specs.Told.{beat_in}
-use Rattle.node_state.specs.declared.turn.Hearing.{Hearing}
-use Rattle.node_state.specs.declared.turn.Then.{Then}
-use Rattle.node_state.specs.declared.turn.Then.TheVariants.{Campaign, Drain, Flush, Checkpoint, Reconfig, VoteInTerm, VoteGiven, TookTerm, Installed, Cut}
-use Rattle.node_state.specs.declared.turn.Told.{Told}
-use Rattle.node_state.specs.declared.turn.Told.TheVariants.{Answered, Fetched, Heard, RolledBack, Ignored}
+use Rattle.node_state.specs.MessageContinuation.{beat_in}
+use Rattle.node_state.specs.declared.turn.HeardBeat.{HeardBeat}
+use Rattle.node_state.specs.declared.turn.Continuation.{Continuation}
+use Rattle.node_state.specs.declared.turn.Continuation.TheVariants.{Campaign, Drain, Flush, Checkpoint, Reconfig, VoteInTerm, VoteGiven, TookTerm, Installed, Cut}
+use Rattle.node_state.specs.declared.turn.MessageContinuation.{MessageContinuation}
+use Rattle.node_state.specs.declared.turn.MessageContinuation.TheVariants.{Answered, Fetched, Heard, RolledBack, Ignored}
 use Rattle.node_state.specs.declared.turn.Turn.{Turn}
 use Rattle.node_state.specs.declared.turn.Turn.TheVariants.{Finished, Storing}
 
@@ -48,7 +49,7 @@ pub record IsCandidacy (item : Store) (tally : Tallied) (sent : List Message) (n
   pub sent_is : sent ≡ asks (candidate node) false
 
 -- the log is applied, and there is room for the no-op
-pub record IsDrained (item : Store) (config : Config) (standing : Standing) : Type 0 where
+pub record IsDrained (item : Store) (config : Config) (standing : StateView) : Type 0 where
   pub item_is : item ≡ config_record config
   pub config_is : config ≡ in_term standing.node.config standing.node.term
   pub role : standing.node.role ≡ Draining
@@ -72,20 +73,23 @@ pub record IsNewConfig (item : Store) (config : Config) (node : Node) : Type 0 w
   pub role : node.role ≡ Primary
 
 -- a vote, or none, in a higher term
-pub record IsVoteInTerm (item : Store) (next from : ℕ) (ask : VoteAsk) (why : Option VoteRefusal) (sent : List Message) (node : Node) : Type 0 where
+pub record IsVoteInTerm (item : Store) (next from : ℕ) (ask : VoteAsk) (why : Option VoteRefusal)
+    (sent : List Message) (node : Node) : Type 0 where
   pub item_is : item ≡ vote_record ask.asked (vote_for from why)
   pub above : node.term < ask.asked
   pub term : ask.asked < 2 ^ 63
   pub from_is : from < 50
-  pub sent_is : sent ≡ message_to (in_new_term node ask.asked (vote_for from why)) from (bodies.VoteReply ask.asked ask.dry why) ∷ []
+  pub sent_is : sent ≡ message_to (in_new_term node ask.asked (vote_for from why)) from
+      (bodies.VoteReply ask.asked ask.dry why) ∷ []
 
 -- a vote in the node's own term
-pub record IsVoteGiven (item : Store) (from : ℕ) (ask : VoteAsk) (why : Option VoteRefusal) (sent : List Message) (node : Node) : Type 0 where
+pub record IsVoteGiven (item : Store) (from : ℕ) (ask : VoteAsk) (why : Option VoteRefusal)
+    (sent : List Message) (node : Node) : Type 0 where
   pub item_is : item ≡ vote_record node.term (Some from)
   pub from_is : from < 50
   pub sent_is : sent ≡ message_to node from (bodies.VoteReply ask.asked ask.dry why) ∷ []
 
-pub record IsInstall (item : Store) (config : Config) (hearing : Hearing) (node : Node) : Type 0 where
+pub record IsInstall (item : Store) (config : Config) (hearing : HeardBeat) (node : Node) : Type 0 where
   pub item_is : item ≡ config_record config
   pub lawful : rule config ≡ None
   pub role : node.role ≡ Secondary
@@ -101,50 +105,52 @@ pub record IsCut (point : OpTime) (node : Node) : Type 0 where
 
 -- ---- once a message's term is taken
 
-pub record IsFetched (from : ℕ) (fetched : FetchReply) (standing : Standing) : Type 0 where
+pub record IsFetched (from : ℕ) (fetched : FetchReply) (standing : StateView) : Type 0 where
   pub from_is : from < 50
   pub lawful : CanTakeEntries standing.node standing.node.term fetched
   pub room : length fetched.entries ≤ standing.spare
 
 -- a configuration that is kept and installed alike
-abbrev pub IsHeard : Option Config → Option Config → Hearing → Node → Type 0
+abbrev pub IsHeard : Option Config → Option Config → HeardBeat → Node → Type 0
 IsHeard config kept hearing node =
     (kept ≡ config) × (hearing.from < 50)
     × IfSome config (λ c. (rule c ≡ None) × ((given_way node (beat_in hearing node)).role ≡ Secondary))
 
-abbrev pub IsReadyTold : Told → Standing → Type 0
-IsReadyTold (Answered next sent) standing = ⊤
-IsReadyTold (Fetched from fetched) standing = IsFetched from fetched standing
-IsReadyTold (Heard config kept hearing) standing = IsHeard config kept hearing standing.node
-IsReadyTold (RolledBack point removed lost) standing = IsCut point standing.node
-IsReadyTold (Ignored why) standing = ⊤
+abbrev pub IsReadyMessage : MessageContinuation → StateView → Type 0
+IsReadyMessage (Answered next sent) standing = ⊤
+IsReadyMessage (Fetched from fetched) standing = IsFetched from fetched standing
+IsReadyMessage (Heard config kept hearing) standing = IsHeard config kept hearing standing.node
+IsReadyMessage (RolledBack point removed lost) standing = IsCut point standing.node
+IsReadyMessage (Ignored why) standing = ⊤
 
 -- a node that took a term
-abbrev pub in_term_of : ℕ → Standing → Standing
+abbrev pub in_term_of : ℕ → StateView → StateView
 in_term_of term standing = record standing { node = in_new_term standing.node term None }
 
-pub record IsTerm (item : Store) (term : ℕ) (told : Told) (standing : Standing) : Type 0 where
+pub record IsTerm (item : Store) (term : ℕ) (told : MessageContinuation) (standing : StateView) : Type 0 where
   pub item_is : item ≡ vote_record term None
   pub above : standing.node.term < term
   pub bound : term < 2 ^ 63
-  pub ready : IsReadyTold told (in_term_of term standing)
+  pub ready : IsReadyMessage told (in_term_of term standing)
 
 -- ---- all of them
 
-abbrev pub IsReady : Store → Then → Standing → Type 0
+abbrev pub IsReady : Store → Continuation → StateView → Type 0
 IsReady item (Campaign next tally sent) standing = IsCandidacy item tally sent.items standing.node
 IsReady item (Drain config) standing = IsDrained item config standing
 IsReady item (Flush count point) standing = IsFlush item count point standing.node
 IsReady item (Checkpoint at) standing = IsCheckpoint item at standing.node
 IsReady item (Reconfig config) standing = IsNewConfig item config standing.node
-IsReady item (VoteInTerm next from ask why sent) standing = IsVoteInTerm item next from ask why sent.items standing.node
-IsReady item (VoteGiven next from ask why sent) standing = IsVoteGiven item from ask why sent.items standing.node
+IsReady item (VoteInTerm next from ask why sent) standing =
+    IsVoteInTerm item next from ask why sent.items standing.node
+IsReady item (VoteGiven next from ask why sent) standing =
+    IsVoteGiven item from ask why sent.items standing.node
 IsReady item (TookTerm term told) standing = IsTerm item term told standing
 IsReady item (Installed config hearing) standing = IsInstall item config hearing standing.node
 IsReady item (Cut point removed lost) standing = (item ≡ cut_record point) × IsCut point standing.node
 
--- what a node stores can be kept: a vote for a member, a configuration that breaks no rule, and at most 2,000 entries, each of
--- which fits into a record
+-- what a node stores can be kept: a vote for a member, a configuration that breaks no rule, and at most 2,000
+-- entries, each of which fits into a record
 abbrev pub CanBeStored : Store → Type 0
 CanBeStored (stores.Record (records.Vote vote)) = IfSome vote.candidate (λ c. c < 50)
 CanBeStored (stores.Record (records.Config config)) = rule config ≡ None
@@ -152,6 +158,6 @@ CanBeStored (stores.Record (records.Entries list point)) = (length list ≤ 2000
 CanBeStored (stores.Record (records.Cut at)) = ⊤
 CanBeStored (stores.Checkpoint at) = ⊤
 
-abbrev pub IsReadyTurn : Turn → Standing → Type 0
+abbrev pub IsReadyTurn : Turn → StateView → Type 0
 IsReadyTurn (Finished answer sent) standing = ⊤
 IsReadyTurn (Storing item then) standing = IsReady item then standing × CanBeStored item

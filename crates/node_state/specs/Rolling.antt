@@ -15,7 +15,9 @@ point_or None point = Ok point
 
 -- A node whose log is applied up to a point. A primary's documents go on to the end of its log.
 abbrev pub reached : Node → OpTime → Node
-reached node point = record node { applied = if_primary node.role node.applied (later_of node.applied (last_of (log_up_to point node.log))) }
+reached node point = record node {
+  applied = if_primary node.role node.applied (later_of node.applied (last_of (log_up_to point node.log)));
+}
 
 -- the log cut behind a point, and these documents lost
 abbrev pub rolled_node : Node → OpTime → List (Place × Option Fields) → Node

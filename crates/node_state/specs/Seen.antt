@@ -16,7 +16,7 @@ yes_of None = []
 yes_of (Some tally) = tally.yes
 
 -- beside the log and what hangs on it
-pub record Rest : Type 0 where
+pub record BesideLedger : Type 0 where
   pub number : ℕ
   pub first : Config
   pub vote : Option ℕ
@@ -32,7 +32,7 @@ pub record Rest : Type 0 where
   pub rollback : ℕ
 
 -- the node of which a ledger has the log. It is up.
-abbrev pub seen_node : Node → Rest → Node
+abbrev pub seen_node : Node → BesideLedger → Node
 seen_node ledger rest =
     record ledger {
       number = rest.number;

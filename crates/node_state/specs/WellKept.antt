@@ -21,8 +21,9 @@ use Rattle.node_ledger.specs.Versions.{AreSmall}
 abbrev pub counted : List Record → List Entry
 counted records = log_up_to (kept records).point (kept records).entries
 
--- The vote is a member's, the configuration breaks no rule, the entries are a log up to the vote's term, those up to the point are
--- within the bounds of entries and documents, and the documents of the checkpoint are no newer than the point.
+-- The vote is a member's, the configuration breaks no rule, the entries are a log up to the vote's term,
+-- those up to the point are within the bounds of entries and documents, and the documents of the checkpoint
+-- are no newer than the point.
 pub record IsWellKept (records : List Record) (stable : OpTime) : Type 0 where
   pub term : (kept records).vote.term < 2 ^ 63
   pub vote : IfSome (kept records).vote.candidate (λ member. member < 50)
@@ -41,15 +42,23 @@ pub record IsReadAs (found : Kept) (records : List Record) : Type 0 where
   pub point : found.point ≡ (kept records).point
   pub entries : log_up_to found.point found.entries ≡ (kept records).entries
 
--- A node can come back with what it stores, whether that is there or not. The documents of its checkpoint are those of what it
--- then keeps, and of its log, and can be read in memory.
+-- A node can come back with what it stores, whether that is there or not. The documents of its checkpoint are
+-- those of what it then keeps, and of its log, and can be read in memory.
 pub record StoresWell (node : Node) (item : Store) : Type 0 where
   pub well : IsWellKept (records_after node.records item) (stable_after node.stable item)
-  pub same : log_up_to node.stable (kept (records_after node.records item)).entries ≡ log_up_to node.stable (kept node.records).entries
-  pub shown : log_up_to (stable_after node.stable item) (kept node.records).entries ≡ log_up_to (stable_after node.stable item) node.log
+  pub same : log_up_to node.stable (kept (records_after node.records item)).entries
+      ≡ log_up_to node.stable (kept node.records).entries
+  pub shown : log_up_to (stable_after node.stable item) (kept node.records).entries
+      ≡ log_up_to (stable_after node.stable item) node.log
   pub readable : IsReadable node (stable_after node.stable item)
 
 -- a node that is about to come up: who it is, and what it kept while it was down
 abbrev pub coming : Config → ℕ → List Record → OpTime → ℕ → ℕ → Node
 coming first number records stable rollback clock =
-    record (opening_node first number) { up = false; records = records; stable = stable; rollback = rollback; clock = clock }
+    record (opening_node first number) {
+      up = false;
+      records = records;
+      stable = stable;
+      rollback = rollback;
+      clock = clock;
+    }

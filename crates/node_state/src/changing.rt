@@ -10,10 +10,10 @@ ghost use Rattle.part_laws.specs.Points.{refusal_of};
 ghost use Rattle.node_state.specs.Bounds.{IsBounded};
 ghost use Rattle.node_state.specs.Ready.{IsNewConfig, IsReadyTurn};
 ghost use Rattle.node_state.specs.Turns.{Means, rest_of};
-ghost use Rattle.node_state.specs.declared.turn.Then.TheVariants as thens;
+ghost use Rattle.node_state.specs.declared.turn.Continuation.TheVariants as continuations;
 
 use crate::State;
-use crate::turn::{Then, Turn};
+use crate::turn::{Continuation, Turn};
 use bson_doc::Mem;
 use member_config::Config;
 use reconfig_core::{ConfigRefusal, check};
@@ -74,7 +74,8 @@ impl State {
 
     pub(crate) fn start_reconfig(&mut self, nodes: u32, config: &Config) -> Mem<Turn>
         requires bounds { IsBounded self.old.node }
-        ensures turn { IfOk result (λ turn. Means turn self.new.node (change.reconfig nodes self.old.node config.now)) }
+        ensures turn { IfOk result (λ turn.
+            Means turn self.new.node (change.reconfig nodes self.old.node config.now)) }
         ensures ready { IfOk result (λ turn. IsReadyTurn turn self.new) }
         ensures err { OnErr result (self.new.node ≡ self.old.node) }
     {
@@ -84,13 +85,14 @@ impl State {
         let config = in_term(config, self.ledger.term())?;
         Ok(Turn::Storing {
             item: Store::Record(Record::Config(config.copy()?)),
-            then: Then::Reconfig { config },
+            then: Continuation::Reconfig { config },
         })
     }
 
     pub(crate) fn go_on_reconfig(&mut self, item: &Store, config: Config) -> Turn
         requires ready { IsNewConfig item.now config self.old.node }
-        ensures turn { Means result self.new.node (rest_of (thens.Reconfig config) (stored self.old.node item.now)) }
+        ensures turn { Means result self.new.node
+            (rest_of (continuations.Reconfig config) (stored self.old.node item.now)) }
         ensures ready { IsReadyTurn result self.new }
     {
         let term = config.term;
@@ -100,7 +102,7 @@ impl State {
         self.answered(Reply::Config { term, version })
     }
 
-    /// The node has a configuration, whose record stands.
+    /// Installs a configuration whose record is in the journal.
     pub(crate) fn have_config(&mut self, item: &Store, config: Config)
         requires item { item.now ≡ config_record config }
         requires lawful { rule config ≡ None }

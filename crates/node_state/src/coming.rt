@@ -11,12 +11,12 @@ ghost use Rattle.node_state.specs.WellKept.{coming, IsReadAs, IsWellKept, Stores
 ghost use Rattle.node_state.specs.Ready.{IsReady, CanBeStored};
 
 use crate::State;
-use crate::turn::Then;
+use crate::turn::Continuation;
 use bson_doc::{Doc, IdKey, Mem, Text};
 use commit_point::Progress;
 use member_config::Config;
 use node_ledger::Ledger;
-use node_tables::{KnownTable, Records, Unkept};
+use node_tables::{KnownTable, Records, Unjournaled};
 use repl_msg::Kept;
 use rs_optime::OpTime;
 use set_model::{EntryList, LostList, Store};
@@ -39,9 +39,9 @@ pub struct Coming<'a> {
 }
 
 impl State {
-    /// A node that comes up with what was read of its journal (`found`), and with the documents that its checkpoint has, as of
-    /// the optime `stable`. Entries behind the journal's point are left out, since the node cuts its log there as it comes up.
-    /// Out of memory is the one error.
+    /// A node that comes up with what was read of its journal (`found`), and with the documents that its
+    /// checkpoint has, as of the optime `stable`. Entries behind the journal's point are left out, since the
+    /// node cuts its log there as it comes up. Out of memory is the one error.
     pub fn restored<R: Threads + Sync>(
         rt: &R,
         alloc: Global,
@@ -55,8 +55,11 @@ impl State {
         requires rollback { coming_up.rollback < 2 ^ 64 - 1 }
         requires kept { IsWellKept coming_up.records.list stable }
         requires read { IsReadAs found coming_up.records.list }
-        requires documents { documents_of documents.entries ≡ docs (log_up_to stable (kept coming_up.records.list).entries) }
-        ensures { IfOk result (λ state. state.node ≡ come_back (coming coming_up.entry.first.now coming_up.entry.number coming_up.entry.records.list stable coming_up.entry.rollback coming_up.entry.clock) (kept coming_up.entry.records.list)) }
+        requires documents { documents_of documents.entries
+            ≡ docs (log_up_to stable (kept coming_up.records.list).entries) }
+        ensures { IfOk result (λ state. state.node
+            ≡ come_back (coming coming_up.entry.first.now coming_up.entry.number coming_up.entry.records.list
+            stable coming_up.entry.rollback coming_up.entry.clock) (kept coming_up.entry.records.list)) }
     {
         let config = config_or(found.config, coming_up.first)?;
         let entries = entries_up_to(found.entries, found.point);
@@ -84,7 +87,7 @@ impl State {
             dry_run: None,
             lost: LostList::new(alloc),
             rollback: coming_up.rollback + 1,
-            unkept: Unkept::new(alloc),
+            unjournaled: Unjournaled::new(alloc),
             records: coming_up.records,
         })
     }
@@ -92,9 +95,9 @@ impl State {
 
 // Facts of a node in memory, for the proofs of who stores for it.
 impl State {
-    /// It is up, with nothing in doubt, its log is in order, and its number and first configuration are lawful: a fact for
-    /// callers' proofs, which costs nothing.
-    pub fn is_sound(&self)
+    /// It is up, with nothing in doubt, its log is in order, and its number and first configuration are
+    /// lawful: a fact for callers' proofs, which costs nothing.
+    pub fn recall_sound(&self)
         ensures sound { IsSound self.now.node }
         ensures up { self.now.node.up ≡ true }
         ensures settled { self.now.node.doubt ≡ None }
@@ -102,25 +105,27 @@ impl State {
         ensures first { rule self.now.node.first ≡ None }
     {
         let _ = &self.number;
-        self.ledger.is_sound();
+        self.ledger.recall_sound();
     }
 
-    /// The node could come up again with its records and its checkpoint: a fact for callers' proofs, which costs nothing.
-    pub fn is_well_kept(&self)
+    /// The node could come up again with its records and its checkpoint: a fact for callers' proofs,
+    /// which costs nothing.
+    pub fn recall_well_kept(&self)
         ensures { IsWellKept self.now.node.records self.now.node.stable }
     {
         let _ = &self.number;
-        self.ledger.is_sound();
+        self.ledger.recall_sound();
     }
 
-    /// It could do so too once this is stored: a fact for callers' proofs, which costs nothing.
-    pub fn stores_well(&self, _item: &Store, _then: &Then)
+    /// The node could come up again once this is stored, too: a fact for callers' proofs,
+    /// which costs nothing.
+    pub fn recall_stores_well(&self, _item: &Store, _then: &Continuation)
         requires ready { IsReady _item.now _then.now self.now }
         requires stored { CanBeStored _item.now }
         ensures { StoresWell self.now.node _item.now }
     {
         let _ = &self.number;
-        self.ledger.is_sound();
+        self.ledger.recall_sound();
     }
 }
 

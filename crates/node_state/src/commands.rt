@@ -12,7 +12,7 @@ ghost use Rattle.node_state.specs.Turns.{Means};
 use crate::State;
 use crate::turn::Turn;
 use bson_doc::Mem;
-use doc_update::LentWrite;
+use doc_update::BorrowedWrite;
 use set_model::{Command, Reply};
 
 /// Whether a command is a write, or a step of a writer: these store and send nothing.
@@ -43,42 +43,44 @@ impl State {
         Ok(self.answered(reply))
     }
 
-    /// Does a write, or a step of a writer, and answers it. Out of memory is the one error, and leaves the node as it was.
+    /// Does a write, or a step of a writer, and answers it. Out of memory is the one error, and leaves the
+    /// node as it was.
     #[tactic(auto, using(crate::proofs::TurnLemmas::while_up))]
     pub fn write(&mut self, command: &Command) -> Mem<Reply>
         requires bounds { IsBounded self.old.node }
         requires write { is_write command.now ≡ true }
         requires within { is_within command.now ≡ true }
-        ensures ok { IfOk result (λ reply. plain_row self.old.node command.now ≡ finished (replied reply self.new.node)) }
+        ensures ok { IfOk result (λ reply.
+            plain_row self.old.node command.now ≡ finished (replied reply self.new.node)) }
         ensures err { OnErr result (self.new.node ≡ self.old.node) }
     {
-        self.stays_up();
+        self.recall_up();
         match command {
-            Command::Begin { writer, op, .. } => self.begin(*writer, op.lent()),
+            Command::Begin { writer, op, .. } => self.begin(*writer, op.borrowed()),
             Command::Commit { writer, .. } => self.commit(*writer),
             Command::Abort { writer, .. } => Ok(self.abort(*writer)),
             Command::Insert {
                 collection: ns,
                 document: doc,
                 ..
-            } => self.write_at_once(LentWrite::Insert { ns, doc }),
+            } => self.write_at_once(BorrowedWrite::Insert { ns, doc }),
             Command::Replace {
                 collection: ns,
                 id,
                 document: doc,
                 ..
-            } => self.write_at_once(LentWrite::Replace { ns, id, doc }),
+            } => self.write_at_once(BorrowedWrite::Replace { ns, id, doc }),
             Command::Update {
                 collection: ns,
                 id,
                 operators,
                 ..
-            } => self.write_at_once(LentWrite::Update { ns, id, operators }),
+            } => self.write_at_once(BorrowedWrite::Update { ns, id, operators }),
             Command::Delete {
                 collection: ns,
                 id,
                 ..
-            } => self.write_at_once(LentWrite::Delete { ns, id }),
+            } => self.write_at_once(BorrowedWrite::Delete { ns, id }),
             _ => unreachable!(),
         }
     }
@@ -86,10 +88,11 @@ impl State {
     #[tactic(auto, using(crate::proofs::TurnLemmas::while_up))]
     fn shown_by(&mut self, command: &Command) -> Mem<Reply>
         requires show { is_show command.now ≡ true }
-        ensures ok { IfOk result (λ reply. plain_row self.old.node command.now ≡ finished (replied reply self.new.node)) }
+        ensures ok { IfOk result (λ reply.
+            plain_row self.old.node command.now ≡ finished (replied reply self.new.node)) }
         ensures err { OnErr result (self.new.node ≡ self.old.node) }
     {
-        self.stays_up();
+        self.recall_up();
         match command {
             Command::Read {
                 level,
@@ -114,7 +117,7 @@ impl State {
     }
 
     /// A node in memory is up.
-    pub(crate) fn stays_up(&self)
+    pub(crate) fn recall_up(&self)
         ensures { self.now.node.up ≡ true }
     {
         let _ = &self.alloc;

@@ -45,7 +45,7 @@ impl State {
         }
     }
 
-    /// What the acknowledgement is about.
+    /// The optime that is to be acknowledged: the one that is named, or that of the writer's entry.
     fn target_point(&self, target: Target) -> Result<OpTime, Refusal>
         ensures { result ≡ concerns.target_point self.now.node target }
     {
@@ -67,7 +67,8 @@ impl State {
     }
 
     fn ack_at(&self, at: OpTime, concern: AckConcern) -> Turn
-        ensures turn { Means result self.now.node (finished (concerns.acked self.now.node at (concerns.ack_refusal self.now.node at concern))) }
+        ensures turn { Means result self.now.node
+            (finished (concerns.acked self.now.node at (concerns.ack_refusal self.now.node at concern))) }
         ensures ready { IsReadyTurn result self.now }
     {
         match self.ack_refusal(at, concern) {

@@ -5,11 +5,11 @@ ghost use Rattle.set_model.specs.Stores.{finished, stored};
 ghost use Rattle.node_state.specs.Bounds.{IsBounded, IsNumbered};
 ghost use Rattle.node_state.specs.Ready.{IsCandidacy, IsDrained, IsReadyTurn};
 ghost use Rattle.node_state.specs.Turns.{Means, rest_of};
-ghost use Rattle.node_state.specs.declared.turn.Then.TheVariants as thens;
+ghost use Rattle.node_state.specs.declared.turn.Continuation.TheVariants as continuations;
 
 use crate::State;
 use crate::terms::vote_record;
-use crate::turn::{Then, Turn};
+use crate::turn::{Continuation, Turn};
 use bson_doc::Mem;
 use election_core::Tally;
 use member_config::Config;
@@ -32,11 +32,13 @@ impl State {
         }
     }
 
-    /// The node asks the other voters for the next term, with its own vote.
+    /// Begins a campaign: the node votes for itself in the next term, and asks the other voters once that
+    /// vote is in the journal.
     pub(crate) fn start_campaign(&mut self, next: u64) -> Mem<Turn>
         requires bounds { IsBounded self.old.node }
         requires next { IsNumbered next }
-        ensures turn { IfOk result (λ turn. Means turn self.new.node (elections.campaign next self.old.node)) }
+        ensures turn { IfOk result (λ turn.
+            Means turn self.new.node (elections.campaign next self.old.node)) }
         ensures ready { IfOk result (λ turn. IsReadyTurn turn self.new) }
         ensures err { OnErr result (self.new.node ≡ self.old.node) }
     {
@@ -47,7 +49,7 @@ impl State {
         let tally = Tally::new(self.alloc, self.number, &self.config)?;
         let sent = self.asks(term, false)?;
         let item = vote_record(term, Some(self.number));
-        let then = Then::Campaign { next, tally, sent };
+        let then = Continuation::Campaign { next, tally, sent };
         Ok(Turn::Storing { item, then })
     }
 
@@ -59,7 +61,8 @@ impl State {
         sent: Vec<Message>,
     ) -> Turn
         requires ready { IsCandidacy item.now tally sent.items self.old.node }
-        ensures turn { Means result self.new.node (rest_of (thens.Campaign next tally sent) (stored self.old.node item.now)) }
+        ensures turn { Means result self.new.node
+            (rest_of (continuations.Campaign next tally sent) (stored self.old.node item.now)) }
         ensures ready { IsReadyTurn result self.new }
     {
         let term = self.ledger.term() + 1;
@@ -109,13 +112,14 @@ impl State {
 
     /// A dry run in the node's term, with its own vote.
     fn new_dry_run(&self) -> Mem<DryRun>
-        ensures { IfOk result (λ dry_run. elections.trying self.now.node ≡ record self.now.node { dry_tally = Some dry_run }) }
+        ensures { IfOk result (λ dry_run.
+            elections.trying self.now.node ≡ record self.now.node { dry_tally = Some dry_run }) }
     {
         let config = self.config.copy()?;
         DryRun::new(self.alloc, self.number, self.ledger.term(), config)
     }
 
-    /// A node that won applies its log, and has its configuration in its term.
+    /// Drains a node that won: it applies its whole log, and then stores its configuration in its own term.
     pub(crate) fn start_drain<R: Threads + Sync>(&mut self, rt: &R) -> Mem<Turn>
         requires bounds { IsBounded self.old.node }
         ensures turn { IfOk result (λ turn. Means turn self.new.node (elections.drain self.old.node)) }
@@ -131,13 +135,14 @@ impl State {
         self.apply_all(rt)?;
         Ok(Turn::Storing {
             item,
-            then: Then::Drain { config },
+            then: Continuation::Drain { config },
         })
     }
 
     pub(crate) fn go_on_drain(&mut self, item: &Store, config: Config) -> Turn
         requires ready { IsDrained item.now config self.old }
-        ensures turn { Means result self.new.node (rest_of (thens.Drain config) (stored self.old.node item.now)) }
+        ensures turn { Means result self.new.node
+            (rest_of (continuations.Drain config) (stored self.old.node item.now)) }
         ensures ready { IsReadyTurn result self.new }
     {
         self.lead(item, config);

@@ -1,7 +1,7 @@
 // Entries that were fetched, as they arrive.
 ghost use Rattle.std.specs.Prelude.{◌≡◌, ◌<◌, ◌≤◌, ◌-◌, nat_lt, fold, length, map, true, IfOk, OnOk, OnErr};
 ghost use Rattle.repl_msg.specs.Fetching.{continues};
-ghost use Rattle.node_tables.specs.Unkept.{with_optime};
+ghost use Rattle.node_tables.specs.Unjournaled.{with_optime};
 ghost use Rattle.set_model.specs.Changes.{heard_of};
 ghost use Rattle.set_model.specs.Fetching as rows;
 ghost use Rattle.set_model.specs.Outcome.{replied};
@@ -9,61 +9,67 @@ ghost use Rattle.set_model.specs.Points.{last_point, learnt};
 ghost use Rattle.set_model.specs.Stores.{finished};
 ghost use Rattle.set_model.specs.declared.reply.Reply.TheVariants.{Took};
 ghost use Rattle.set_model.specs.declared.role.Role.TheVariants.{Secondary};
-ghost use Rattle.node_state.specs.Ahead.{Foretells, ahead};
-ghost use Rattle.node_state.specs.Ready.{IsFetched, IsReadyTold, IsReadyTurn};
+ghost use Rattle.node_state.specs.Ahead.{IsPreparedFor, view_in_term};
+ghost use Rattle.node_state.specs.Ready.{IsFetched, IsReadyMessage, IsReadyTurn};
 ghost use Rattle.set_model.specs.Taking.{CanTakeEntries};
 ghost use Rattle.node_state.specs.Turns.{Means};
 
 use crate::State;
-use crate::turn::{Told, Turn};
+use crate::turn::{MessageContinuation, Turn};
 use bson_doc::Mem;
 use commit_point::learn;
-use node_tables::Unkept;
+use node_tables::Unjournaled;
 use oplog_entry::Entry;
 use repl_msg::FetchReply;
 use rs_optime::OpTime;
 use set_model::{Ignored, Reply, Role};
 
-/// Entries are written that aren't in the records yet.
-fn note_all(unkept: &mut Unkept, entries: &[Entry])
-    requires room { length entries.now ≤ unkept.old.spare }
-    ensures { unkept.new ≡ record { optimes = fold with_optime unkept.old.optimes (map (λ e. e.optime) entries.now); spare = unkept.old.spare - length entries.now } }
+/// Notes that these entries aren't in the journal yet.
+fn note_all(unjournaled: &mut Unjournaled, entries: &[Entry])
+    requires room { length entries.now ≤ unjournaled.old.spare }
+    ensures { unjournaled.new ≡ record {
+      optimes = fold with_optime unjournaled.old.optimes (map (λ e. e.optime) entries.now);
+      spare = unjournaled.old.spare - length entries.now;
+    } }
 {
     for entry in entries {
-        unkept.add(entry.optime);
+        unjournaled.add(entry.optime);
     }
 }
 
 impl State {
-    /// The entries of an answer, with room for them.
+    /// Prepares to take the entries of an answer to a fetch: memory for them is reserved before
+    /// anything else changes.
     pub(crate) fn prepare_entries(
         &mut self,
         from: u32,
         term: u64,
         reply: &FetchReply,
         raised: bool,
-    ) -> Mem<Told>
+    ) -> Mem<MessageContinuation>
         requires from { from < 50 }
         requires fetched { CanTakeEntries self.old.node term reply.now }
         requires raised { raised ≡ nat_lt self.old.node.term term }
-        ensures told { IfOk result (λ told. Foretells told raised term (λ node. finished (rows.entries_told node from reply.now)) self.old.node self.new.node) }
-        ensures ready { IfOk result (λ told. IsReadyTold told (ahead raised term self.new)) }
+        ensures told { IfOk result (λ told. IsPreparedFor told raised term
+            (λ node. finished (rows.entries_told node from reply.now)) self.old.node self.new.node) }
+        ensures ready { IfOk result (λ told. IsReadyMessage told (view_in_term raised term self.new)) }
         ensures err { OnErr result (self.new.node ≡ self.old.node) }
     {
         let reply = reply.copy()?;
         self.make_room(reply.entries.as_slice().len())?;
-        Ok(Told::Fetched { from, reply })
+        Ok(MessageContinuation::Fetched { from, reply })
     }
 
     fn make_room(&mut self, count: usize) -> Mem<()>
         ensures node { self.new.node ≡ self.old.node }
         ensures room { OnOk result (count ≤ self.new.spare) }
     {
-        self.unkept.reserve(count)?;
+        self.unjournaled.reserve(count)?;
         self.ledger.reserve(count)
     }
 
-    /// A secondary takes entries that go on where its log ends.
+    /// Appends the entries if they continue a secondary's log, and replies with their number and the
+    /// log's last optime.
     pub(crate) fn take_entries(&mut self, from: u32, reply: FetchReply) -> Turn
         requires ready { IsFetched from reply self.old }
         ensures turn { Means result self.new.node (finished (rows.entries_told self.old.node from reply)) }
@@ -82,7 +88,9 @@ impl State {
         requires ready { IsFetched from reply self.old }
         requires role { self.old.node.role ≡ Secondary }
         requires base { continues (last_point self.old.node) reply ≡ true }
-        ensures turn { Means result self.new.node (finished (replied (Took (length reply.entries) (last_point (rows.taken self.old.node from reply))) (rows.taken self.old.node from reply))) }
+        ensures turn { Means result self.new.node (finished
+            (replied (Took (length reply.entries) (last_point (rows.taken self.old.node from reply)))
+            (rows.taken self.old.node from reply))) }
         ensures ready { IsReadyTurn result self.new }
     {
         let count = reply.entries.as_slice().len() as u64;
@@ -95,7 +103,7 @@ impl State {
         })
     }
 
-    /// The sender is known, and its commit point is learnt.
+    /// Notes how far the sender's log is visible and whether it is primary, and learns its commit point.
     fn learn_from(&mut self, from: u32, visible: OpTime, commit: OpTime, primary: bool)
         requires { from < 50 }
         ensures { self.new.node ≡ learnt (heard_of self.old.node from visible primary) commit }
@@ -112,9 +120,9 @@ impl State {
         requires base { continues (last_point self.old.node) reply ≡ true }
         ensures { self.new.node ≡ rows.with_fetched self.old.node reply.entries }
     {
-        self.ledger.is_sound();
-        note_all(&mut self.unkept, reply.entries.as_slice());
+        self.ledger.recall_sound();
+        note_all(&mut self.unjournaled, reply.entries.as_slice());
         self.ledger.append(reply.entries.into_entries());
-        self.ledger.is_sound();
+        self.ledger.recall_sound();
     }
 }

@@ -9,10 +9,10 @@ ghost use Rattle.set_model.specs.Stores.{finished, stored};
 ghost use Rattle.node_state.specs.Flushing.{entry_at, entries_at};
 ghost use Rattle.node_state.specs.Ready.{IsCheckpoint, IsFlush, IsReadyTurn};
 ghost use Rattle.node_state.specs.Turns.{Means, rest_of};
-ghost use Rattle.node_state.specs.declared.turn.Then.TheVariants as thens;
+ghost use Rattle.node_state.specs.declared.turn.Continuation.TheVariants as continuations;
 
 use crate::State;
-use crate::turn::{Then, Turn};
+use crate::turn::{Continuation, Turn};
 use bson_doc::Mem;
 use node_ledger::Ledger;
 use oplog_entry::Entry;
@@ -35,7 +35,7 @@ pub(crate) fn earlier(one: OpTime, other: OpTime) -> OpTime
 fn entry_at(ledger: &Ledger, at: OpTime) -> Option<&Entry>
     ensures { option_copied result ≡ entry_at ledger.now.node.log at }
 {
-    ledger.is_sound();
+    ledger.recall_sound();
     ledger.entry_at(at)
 }
 
@@ -59,7 +59,7 @@ fn copies_at(alloc: Global, ledger: &Ledger, optimes: &[OpTime]) -> Mem<EntryLis
             copies.push(entry.copy()?)?;
         }
     }
-    ledger.is_sound();
+    ledger.recall_sound();
     Ok(EntryList::new(copies))
 }
 
@@ -97,7 +97,7 @@ impl State {
         }))
     }
 
-    /// The next entries that aren't in the records, at most 2,000.
+    /// Begins a flush: stores the next entries that aren't in the journal, at most 2,000.
     #[tactic(auto, using(crate::proofs::KeepLemmas::flush_ready))]
     pub(crate) fn start_flush(&mut self) -> Mem<Turn>
         ensures turn { IfOk result (λ turn. Means turn self.new.node (disk.flush self.old.node)) }
@@ -105,7 +105,7 @@ impl State {
         ensures same { self.new.node ≡ self.old.node }
         ensures err { OnErr result (self.new.node ≡ self.old.node) }
     {
-        self.is_sound();
+        self.recall_sound();
         if self.is_flushed() {
             return Ok(self.refused(Refusal::NothingToDo));
         }
@@ -114,7 +114,7 @@ impl State {
         let point = self.next_durable(&list);
         Ok(Turn::Storing {
             item: Store::Record(Record::Entries { list, point }),
-            then: Then::Flush { count, point },
+            then: Continuation::Flush { count, point },
         })
     }
 
@@ -122,7 +122,7 @@ impl State {
     fn is_flushed(&self) -> bool
         ensures { result ≡ disk.is_flushed self.now.node }
     {
-        self.unkept.is_empty() && self.durable == self.ledger.visible()
+        self.unjournaled.is_empty() && self.durable == self.ledger.visible()
     }
 
     /// Copies of the entries of the next record.
@@ -130,8 +130,8 @@ impl State {
         ensures list { IfOk result (λ list. list ≡ disk.next_entries self.old.node) }
         ensures same { self.new ≡ self.old }
     {
-        self.ledger.is_sound();
-        let optimes = self.unkept.first(RECORD)?;
+        self.ledger.recall_sound();
+        let optimes = self.unjournaled.first(RECORD)?;
         copies_at(self.alloc, &self.ledger, &optimes)
     }
 
@@ -141,7 +141,7 @@ impl State {
         ensures { result ≡ disk.next_durable self.now.node }
     {
         let visible = self.ledger.visible();
-        if self.unkept.len() <= RECORD {
+        if self.unjournaled.len() <= RECORD {
             return visible;
         }
         earlier(visible, last_optime(list))
@@ -149,7 +149,8 @@ impl State {
 
     pub(crate) fn go_on_flush(&mut self, item: &Store, count: u64, point: OpTime) -> Turn
         requires ready { IsFlush item.now count point self.old.node }
-        ensures turn { Means result self.new.node (rest_of (thens.Flush count point) (stored self.old.node item.now)) }
+        ensures turn { Means result self.new.node
+            (rest_of (continuations.Flush count point) (stored self.old.node item.now)) }
         ensures ready { IsReadyTurn result self.new }
     {
         self.flush(item, count as usize, point);
@@ -157,13 +158,14 @@ impl State {
         self.answered(Reply::Flushed { count, to: point })
     }
 
-    /// The first entries that weren't in the records are there now.
+    /// Goes on once the first `count` entries that weren't in the journal are there: the log is durable
+    /// up to `point`.
     fn flush(&mut self, item: &Store, count: usize, point: OpTime)
         requires ready { IsFlush item.now count point self.old.node }
         ensures { self.new.node ≡ record (stored self.old.node item.now) { durable = point } }
     {
-        self.ledger.is_sound();
-        self.unkept.drop_first(count);
+        self.ledger.recall_sound();
+        self.unjournaled.drop_first(count);
         self.records = self.records.with(item);
         self.durable = point;
     }
@@ -179,11 +181,11 @@ impl State {
         }
         Turn::Storing {
             item: Store::Checkpoint(at),
-            then: Then::Checkpoint { at },
+            then: Continuation::Checkpoint { at },
         }
     }
 
-    /// The lesser of the commit point and what is applied.
+    /// The optime of the next checkpoint: the earlier of the commit point and what is applied.
     fn next_stable(&self) -> OpTime
         ensures { result ≡ disk.next_stable self.now.node }
     {
@@ -192,7 +194,8 @@ impl State {
 
     pub(crate) fn go_on_checkpoint(&mut self, item: &Store, at: OpTime) -> Turn
         requires ready { IsCheckpoint item.now at self.old.node }
-        ensures turn { Means result self.new.node (rest_of (thens.Checkpoint at) (stored self.old.node item.now)) }
+        ensures turn { Means result self.new.node
+            (rest_of (continuations.Checkpoint at) (stored self.old.node item.now)) }
         ensures ready { IsReadyTurn result self.new }
     {
         self.keep_documents(item, at);
@@ -204,7 +207,7 @@ impl State {
         requires ready { IsCheckpoint item.now at self.old.node }
         ensures { self.new.node ≡ stored self.old.node item.now }
     {
-        self.ledger.is_sound();
+        self.ledger.recall_sound();
         self.ledger.prune(at);
         self.records = self.records.with(item);
     }

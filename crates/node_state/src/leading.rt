@@ -29,11 +29,12 @@ impl State {
     /// Applies the whole log.
     pub(crate) fn apply_all<R: Threads + Sync>(&mut self, rt: &R) -> Mem<()>
         requires role { is_primary self.old.node.role ≡ false }
-        ensures ok { OnOk result (self.new.node ≡ record self.old.node { applied = last_point self.old.node }) }
+        ensures ok { OnOk result
+            (self.new.node ≡ record self.old.node { applied = last_point self.old.node }) }
         ensures spare { self.new.spare ≡ self.old.spare }
         ensures err { OnErr result (self.new.node ≡ self.old.node) }
     {
-        self.ledger.is_sound();
+        self.ledger.recall_sound();
         let last = self.ledger.last();
         self.ledger.apply_to(rt, last)?;
         Ok(())
@@ -44,11 +45,11 @@ impl State {
         ensures node { self.new.node ≡ self.old.node }
         ensures ok { OnOk result (more ≤ self.new.spare) }
     {
-        self.unkept.reserve(more)?;
+        self.unjournaled.reserve(more)?;
         self.ledger.reserve(more)
     }
 
-    /// It is primary, with its configuration in its term, whose record stands.
+    /// Makes the node primary, with its configuration in its own term, whose record is in the journal.
     pub(crate) fn lead(&mut self, item: &Store, config: Config)
         requires item { item.now ≡ config_record config }
         requires config { config ≡ in_term self.old.node.config self.old.node.term }
@@ -71,10 +72,10 @@ impl State {
         ensures at { result ≡ next_optime self.old.node }
         ensures node { self.new.node ≡ logged self.old.node Noop }
     {
-        self.ledger.is_sound();
+        self.ledger.recall_sound();
         let at = self.ledger.append_noop();
-        self.ledger.is_sound();
-        self.unkept.add(at);
+        self.ledger.recall_sound();
+        self.unjournaled.add(at);
         at
     }
 

@@ -1,6 +1,8 @@
-//! A node of a replica set in memory: its log and documents, its vote, its points, its configuration, and what it heard of others.
+//! A node of a replica set in memory: its log and documents, its vote, its points, its configuration, and
+//! what it heard of others.
 //!
-//! What it does with a command or a message is a turn: it is finished, or it stores something and goes on once that is on disk.
+//! What it does with a command or a message is a turn: it is finished, or it stores something and goes on
+//! once that is on disk.
 #![tactic(auto)]
 
 mod admission;
@@ -32,4 +34,4 @@ mod writes;
 pub use coming::Coming;
 pub use commands::is_write;
 pub use state::State;
-pub use turn::{Answer, Hearing, Then, Told, Turn};
+pub use turn::{Answer, Continuation, HeardBeat, MessageContinuation, Turn};

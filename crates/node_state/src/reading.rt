@@ -43,7 +43,7 @@ impl State {
         ensures readable { IsReadable self.now.node result }
         ensures shown { log_up_to result self.now.node.log ≡ shown_log self.now.node level }
     {
-        self.ledger.is_sound();
+        self.ledger.recall_sound();
         let applied = self.ledger.applied_point();
         match snapshot(concern(level), self.is_primary(), self.commit, applied) {
             ReadAt::Latest => self.ledger.local_point(),
@@ -53,7 +53,8 @@ impl State {
 
     /// The document of a key.
     pub(crate) fn read(&self, level: ReadLevel, collection: &Text, id: &Value) -> Mem<Reply>
-        ensures { IfOk result (λ reply. read self.now.node level collection.now (tree_of id.now) ≡ replied reply self.now.node) }
+        ensures { IfOk result (λ reply.
+            read self.now.node level collection.now (tree_of id.now) ≡ replied reply self.now.node) }
     {
         let key = match IdKey::of(id) {
             Ok(key) => key,

@@ -3,7 +3,7 @@ ghost use Rattle.std.specs.Prelude.{◌≡◌, map, IfOk, OnErr, OnOk};
 ghost use Rattle.member_config.specs.Numbers.{is_among};
 ghost use Rattle.set_model.specs.Reports as rows;
 ghost use Rattle.set_model.specs.Stores.{finished};
-ghost use Rattle.node_state.specs.Hearings.{report_ignored};
+ghost use Rattle.node_state.specs.HeardBeats.{report_ignored};
 ghost use Rattle.node_state.specs.Ready.{IsReadyTurn};
 ghost use Rattle.node_state.specs.Turns.{Means};
 
@@ -26,7 +26,7 @@ fn has_number(members: &[Member], number: u32) -> bool
 }
 
 impl State {
-    /// A member tells how far it is durable. Its message brings no higher term.
+    /// Takes a report of how far a member is durable. The message's term isn't higher than the node's.
     pub(crate) fn report_told(
         &mut self,
         from: u32,
@@ -34,7 +34,8 @@ impl State {
         config: (u64, u32),
         durable: OpTime,
     ) -> Mem<Turn>
-        ensures turn { IfOk result (λ turn. Means turn self.new.node (finished (rows.report_told self.old.node from term config durable))) }
+        ensures turn { IfOk result (λ turn.
+            Means turn self.new.node (finished (rows.report_told self.old.node from term config durable))) }
         ensures ready { IfOk result (λ turn. IsReadyTurn turn self.new) }
         ensures err { OnErr result (self.new.node ≡ self.old.node) }
     {
@@ -63,7 +64,8 @@ impl State {
     }
 
     fn note_report(&mut self, from: u32, config: (u64, u32), durable: OpTime) -> Mem<()>
-        ensures ok { OnOk result (self.new.node ≡ rows.with_report self.old.node from (record { config = config; durable = durable })) }
+        ensures ok { OnOk result (self.new.node
+            ≡ rows.with_report self.old.node from (record { config = config; durable = durable })) }
         ensures err { OnErr result (self.new.node ≡ self.old.node) }
     {
         self.progress.note(from, config, durable)

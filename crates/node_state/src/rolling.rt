@@ -9,18 +9,18 @@ ghost use Rattle.set_model.specs.Rollback as rows;
 ghost use Rattle.set_model.specs.Rollback.{cut_record};
 ghost use Rattle.set_model.specs.Safety.{AtMost};
 ghost use Rattle.set_model.specs.Stores.{finished, stored};
-ghost use Rattle.node_state.specs.Ahead.{Foretells, ahead, taking};
+ghost use Rattle.node_state.specs.Ahead.{IsPreparedFor, view_in_term, taking};
 ghost use Rattle.node_state.specs.Bounds.{IsBounded};
-ghost use Rattle.node_state.specs.Ready.{IsCut, IsReadyTold, IsReadyTurn};
+ghost use Rattle.node_state.specs.Ready.{IsCut, IsReadyMessage, IsReadyTurn};
 ghost use Rattle.node_state.specs.Rolling.{point_or, reached, rolled_node};
-ghost use Rattle.node_state.specs.Told.{told_plan};
+ghost use Rattle.node_state.specs.MessageContinuation.{message_plan};
 ghost use Rattle.node_state.specs.Turns.{Means, rest_of};
-ghost use Rattle.node_state.specs.declared.turn.Then.TheVariants as thens;
-ghost use Rattle.node_state.specs.declared.turn.Told.TheVariants as tolds;
+ghost use Rattle.node_state.specs.declared.turn.Continuation.TheVariants as continuations;
+ghost use Rattle.node_state.specs.declared.turn.MessageContinuation.TheVariants as message_continuations;
 
 use crate::State;
 use crate::keeping::earlier;
-use crate::turn::{Then, Told, Turn};
+use crate::turn::{Continuation, MessageContinuation, Turn};
 use bson_doc::Mem;
 use repl_msg::{Body, OptimeList, Record};
 use rollback_core::{LostDocument, RollbackRefusal};
@@ -45,20 +45,21 @@ fn listed(alloc: Global, documents: Vec<LostDocument>) -> Mem<LostList>
 
 // What another node asks.
 impl State {
-    /// Too many optimes would be told.
+    /// Refuses a request whose answer would list more than 20,000 optimes.
     pub(crate) fn common_refusal(&mut self, term: u64, after: OpTime) -> Option<Refusal>
         ensures refusal { result ≡ rows.common_refusal self.old.node term after }
         ensures same { self.new ≡ self.old }
     {
-        self.is_sound();
-        let visible = self.visible_then(self.ledger.is_below(term));
+        self.recall_sound();
+        let visible = self.visible_after_term(self.ledger.is_below(term));
         if self.ledger.count_between(after, visible) > MOST_OPTIMES {
             return Some(Refusal::TooManyOptimes);
         }
         None
     }
 
-    /// A node asks what comes after its commit point.
+    /// Prepares the answer to a node that looks for the common point: the visible optimes behind that
+    /// node's commit point.
     pub(crate) fn prepare_common_asked(
         &mut self,
         next: u64,
@@ -66,26 +67,27 @@ impl State {
         term: u64,
         after: OpTime,
         raised: bool,
-    ) -> Mem<Told>
-        ensures told { IfOk result (λ told. Foretells told raised term (λ node. finished (rows.common_asked next node from after)) self.old.node self.new.node) }
-        ensures ready { IfOk result (λ told. IsReadyTold told (ahead raised term self.new)) }
+    ) -> Mem<MessageContinuation>
+        ensures told { IfOk result (λ told. IsPreparedFor told raised term
+            (λ node. finished (rows.common_asked next node from after)) self.old.node self.new.node) }
+        ensures ready { IfOk result (λ told. IsReadyMessage told (view_in_term raised term self.new)) }
         ensures same { self.new ≡ self.old }
     {
-        self.is_sound();
-        let visible = self.visible_then(raised);
+        self.recall_sound();
+        let visible = self.visible_after_term(raised);
         let body = Body::CommonReply {
             after,
             optimes: self.ledger.optimes_between(after, visible)?,
             visible,
         };
-        let sent = self.message_in(self.term_then(raised, term), from, body)?;
-        Ok(Told::Answered { next, sent })
+        let sent = self.message_in(self.term_after(raised, term), from, body)?;
+        Ok(MessageContinuation::Answered { next, sent })
     }
 }
 
 // What another node answers.
 impl State {
-    /// The optimes after a node's commit point, as another has them.
+    /// Prepares a rollback to the common point, by the optimes that the source has behind `after`.
     pub(crate) fn prepare_common_told<R: Threads + Sync>(
         &mut self,
         rt: &R,
@@ -94,23 +96,26 @@ impl State {
         optimes: &OptimeList,
         visible: OpTime,
         raised: bool,
-    ) -> Mem<Told>
+    ) -> Mem<MessageContinuation>
         requires bounds { IsBounded self.old.node }
         requires raised { raised ≡ nat_lt self.old.node.term term }
-        requires common { rows.rollback_reason (taking raised term self.old.node) term after optimes.now visible ≡ None → AtMost self.old.node.commit (common_point self.old.node.log after optimes.now) }
-        ensures told { IfOk result (λ told. Foretells told raised term (λ node. rows.common_told node term after optimes.now visible) self.old.node self.new.node) }
-        ensures ready { IfOk result (λ told. IsReadyTold told (ahead raised term self.new)) }
+        requires common { rows.rollback_reason (taking raised term self.old.node) term after
+            optimes.now visible ≡ None
+            → AtMost self.old.node.commit (common_point self.old.node.log after optimes.now) }
+        ensures told { IfOk result (λ told. IsPreparedFor told raised term
+            (λ node. rows.common_told node term after optimes.now visible) self.old.node self.new.node) }
+        ensures ready { IfOk result (λ told. IsReadyMessage told (view_in_term raised term self.new)) }
         ensures err { OnErr result (self.new.node ≡ self.old.node) }
     {
-        self.ledger.is_sound();
+        self.ledger.recall_sound();
         let point = match self.rollback_point(term, after, optimes, visible, raised) {
             Ok(point) => point,
-            Err(why) => return Ok(Told::Ignored(why)),
+            Err(why) => return Ok(MessageContinuation::Ignored(why)),
         };
         let removed = self.ledger.count_behind(point);
         let lost = self.lost_behind(point)?;
         self.reach(rt, point)?;
-        Ok(Told::RolledBack {
+        Ok(MessageContinuation::RolledBack {
             point,
             removed,
             lost,
@@ -126,13 +131,15 @@ impl State {
         visible: OpTime,
         raised: bool,
     ) -> Result<OpTime, Ignored>
-        ensures point { result ≡ point_or (rows.rollback_reason (taking raised term self.old.node) term after optimes.now visible) (common_point self.old.node.log after optimes.now) }
+        ensures point { result ≡ point_or
+            (rows.rollback_reason (taking raised term self.old.node) term after optimes.now visible)
+            (common_point self.old.node.log after optimes.now) }
         ensures same { self.new ≡ self.old }
     {
-        if !self.is_secondary_then(raised) {
+        if !self.is_secondary_after_term(raised) {
             return Err(Ignored::NotSecondary);
         }
-        let own = self.term_then(raised, term);
+        let own = self.term_after(raised, term);
         if term < own {
             return Err(Ignored::OldTerm);
         }
@@ -146,10 +153,10 @@ impl State {
         }
     }
 
-    fn is_secondary_then(&self, raised: bool) -> bool
+    fn is_secondary_after_term(&self, raised: bool) -> bool
         ensures { result ≡ is_secondary (taking raised 0 self.now.node).role }
     {
-        match self.role_then(raised) {
+        match self.role_after_term(raised) {
             Role::Secondary => true,
             Role::Candidate | Role::Draining | Role::Primary => false,
         }
@@ -157,7 +164,8 @@ impl State {
 
     /// The documents that the entries behind a point touched, as they stand.
     fn lost_behind(&mut self, point: OpTime) -> Mem<LostList>
-        ensures lost { IfOk result (λ lost. lost ≡ rows.lost_documents (local_documents self.old.node) (log_behind point self.old.node.log)) }
+        ensures lost { IfOk result (λ lost.
+            lost ≡ rows.lost_documents (local_documents self.old.node) (log_behind point self.old.node.log)) }
         ensures same { self.new ≡ self.old }
     {
         listed(self.alloc, self.ledger.lost_behind(point)?)
@@ -174,15 +182,16 @@ impl State {
         }
     }
 
-    /// The node rolls back: it keeps that its log is cut.
+    /// Begins a rollback: stores the record that cuts the log behind `point`.
     pub(crate) fn roll_back(&mut self, point: OpTime, removed: u64, lost: LostList) -> Turn
         requires ready { IsCut point self.old.node }
-        ensures turn { Means result self.new.node (told_plan (tolds.RolledBack point removed lost) self.old.node) }
+        ensures turn { Means result self.new.node
+            (message_plan (message_continuations.RolledBack point removed lost) self.old.node) }
         ensures ready { IsReadyTurn result self.new }
     {
         Turn::Storing {
             item: Store::Record(Record::Cut(point)),
-            then: Then::Cut {
+            then: Continuation::Cut {
                 point,
                 removed,
                 lost,
@@ -190,7 +199,7 @@ impl State {
         }
     }
 
-    /// The log is cut behind the point.
+    /// Goes on once the record of a rollback is in the journal: cuts the log behind `point`, and replies.
     pub(crate) fn go_on_cut(
         &mut self,
         item: &Store,
@@ -200,7 +209,8 @@ impl State {
     ) -> Turn
         requires item { item.now ≡ cut_record point }
         requires ready { IsCut point self.old.node }
-        ensures turn { Means result self.new.node (rest_of (thens.Cut point removed lost) (stored self.old.node item.now)) }
+        ensures turn { Means result self.new.node
+            (rest_of (continuations.Cut point removed lost) (stored self.old.node item.now)) }
         ensures ready { IsReadyTurn result self.new }
     {
         self.cut_log(item, point, lost);
@@ -213,9 +223,9 @@ impl State {
         requires ready { IsCut point self.old.node }
         ensures { self.new.node ≡ rolled_node (stored self.old.node item.now) point lost }
     {
-        self.ledger.is_sound();
+        self.ledger.recall_sound();
         self.ledger.cut(point);
-        self.unkept.cut(point);
+        self.unjournaled.cut(point);
         self.records = self.records.with(item);
         self.durable = earlier(self.durable, point);
         self.lost = lost;

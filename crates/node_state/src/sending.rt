@@ -17,10 +17,11 @@ use repl_msg::{Beat, Body, Message};
 use set_model::{Refusal, Reply, Role};
 
 impl State {
-    /// How it stands.
+    /// Sends a heartbeat to a member.
     pub(crate) fn heartbeat(&mut self, next: u64, to: u32) -> Mem<Turn>
         requires next { IsNumbered next }
-        ensures turn { IfOk result (λ turn. Means turn self.new.node (finished (heartbeat next self.old.node to))) }
+        ensures turn { IfOk result (λ turn.
+            Means turn self.new.node (finished (heartbeat next self.old.node to))) }
         ensures ready { IfOk result (λ turn. IsReadyTurn turn self.new) }
         ensures err { OnErr result (self.new.node ≡ self.old.node) }
     {
@@ -28,10 +29,11 @@ impl State {
         self.sends(Reply::Sent(next), to, Body::Heartbeat(beat))
     }
 
-    /// How far it is durable.
+    /// Reports to a member how far the node is durable.
     pub(crate) fn report(&mut self, next: u64, to: u32) -> Mem<Turn>
         requires next { IsNumbered next }
-        ensures turn { IfOk result (λ turn. Means turn self.new.node (finished (report next self.old.node to))) }
+        ensures turn { IfOk result (λ turn.
+            Means turn self.new.node (finished (report next self.old.node to))) }
         ensures ready { IfOk result (λ turn. IsReadyTurn turn self.new) }
         ensures err { OnErr result (self.new.node ≡ self.old.node) }
     {
@@ -42,10 +44,12 @@ impl State {
         self.sends(Reply::Sent(next), to, body)
     }
 
-    /// What comes after its commit point?
+    /// Asks a member for its optimes behind the node's commit point, to find the common point of
+    /// the two logs.
     pub(crate) fn common(&mut self, next: u64, to: u32) -> Mem<Turn>
         requires next { IsNumbered next }
-        ensures turn { IfOk result (λ turn. Means turn self.new.node (finished (common next self.old.node to))) }
+        ensures turn { IfOk result (λ turn.
+            Means turn self.new.node (finished (common next self.old.node to))) }
         ensures ready { IfOk result (λ turn. IsReadyTurn turn self.new) }
         ensures err { OnErr result (self.new.node ≡ self.old.node) }
     {
@@ -55,7 +59,7 @@ impl State {
         self.sends(Reply::Sent(next), to, body)
     }
 
-    /// What comes after its last entry?
+    /// Asks the sync source for the entries behind the node's last one.
     pub(crate) fn fetch(&mut self, next: u64) -> Mem<Turn>
         requires next { IsNumbered next }
         ensures turn { IfOk result (λ turn. Means turn self.new.node (finished (fetch next self.old.node))) }
@@ -73,7 +77,8 @@ impl State {
         self.sends(reply, source, Body::Fetch { base: last })
     }
 
-    /// How the node stands.
+    /// What a heartbeat tells: configuration, commit point, last visible optime, and whether the
+    /// node is primary.
     pub(crate) fn beat(&self) -> Mem<Beat>
         ensures { IfOk result (λ beat. beat ≡ beat_of self.now.node) }
     {
@@ -87,7 +92,8 @@ impl State {
 
     /// A turn that sends one message.
     pub(crate) fn sends(&self, reply: Reply, to: u32, body: Body) -> Mem<Turn>
-        ensures turn { IfOk result (λ turn. Means turn self.now.node (finished (sending reply self.now.node to body))) }
+        ensures turn { IfOk result (λ turn.
+            Means turn self.now.node (finished (sending reply self.now.node to body))) }
         ensures ready { IfOk result (λ turn. IsReadyTurn turn self.now) }
     {
         let sent = self.message(to, body)?;
@@ -103,7 +109,8 @@ impl State {
 
     /// One message, in a term that the node is about to take.
     pub(crate) fn message_in(&self, term: u64, to: u32, body: Body) -> Mem<Vec<Message>>
-        ensures { IfOk result (λ sent. sent.items ≡ message_to (record self.now.node { term = term }) to body ∷ []) }
+        ensures { IfOk result (λ sent.
+            sent.items ≡ message_to (record self.now.node { term = term }) to body ∷ []) }
     {
         let mut sent = Vec::new(self.alloc);
         sent.push(Message {

@@ -18,15 +18,15 @@ ghost use Rattle.node_ledger.specs.Ledger.{IsReadable};
 ghost use Rattle.node_state.specs.Bounds.{IsBounded, IsNumbered, is_long, is_own, is_write};
 ghost use Rattle.node_state.specs.Ready.{IsReady, IsReadyTurn};
 ghost use Rattle.set_model.specs.Taking.{CanTake};
-ghost use Rattle.node_state.specs.Turns.{Means, Says, rest_of};
+ghost use Rattle.node_state.specs.Turns.{Means, FinishesWith, rest_of};
 
-use crate::turn::{Then, Turn};
+use crate::turn::{Continuation, Turn};
 use bson_doc::Mem;
 use commit_point::Progress;
 use election_core::Tally;
 use member_config::Config;
 use node_ledger::Ledger;
-use node_tables::{DryRun, KnownTable, Records, Unkept};
+use node_tables::{DryRun, KnownTable, Records, Unjournaled};
 use repl_msg::Message;
 use rs_optime::OpTime;
 use set_model::{Command, LostList, Refusal, Reply, Store};
@@ -57,7 +57,7 @@ pub struct State {
     pub(crate) lost: LostList,
     pub(crate) rollback: u64,
     /// The optimes of the entries that aren't in the records.
-    pub(crate) unkept: Unkept,
+    pub(crate) unjournaled: Unjournaled,
     pub(crate) records: Records,
 }
 
@@ -72,22 +72,68 @@ impl Model for State {
     ghost use Rattle.repl_msg.specs.contracts.record.Record as record_kept;
     ghost use Rattle.set_model.specs.contracts.store.Store as store_row;
     ghost use Rattle.node_ledger.specs.Code.{writers_code, slots_code, progress_code, known_code, tally_code};
-    ghost use Rattle.node_state.specs.Standing.{Standing};
+    ghost use Rattle.node_state.specs.StateView.{StateView};
 
-    ghost Value = { Standing };
+    ghost Value = { StateView };
 
-    ghost coded = { Prim.hlevel (codes, fields_code, optime_code, key.the_row.coded, entry.the_row.coded, config_row.the_row.coded, record_kept.the_row.coded, store_row.the_row.coded, writers_code, slots_code, progress_code, known_code, tally_code) };
+    ghost coded = { Prim.hlevel (
+      codes,
+      fields_code,
+      optime_code,
+      key.the_row.coded,
+      entry.the_row.coded,
+      config_row.the_row.coded,
+      record_kept.the_row.coded,
+      store_row.the_row.coded,
+      writers_code,
+      slots_code,
+      progress_code,
+      known_code,
+      tally_code,
+    ) };
 
     ghost use Rattle.node_state.specs.Seen.{seen_node};
     ghost use Rattle.node_state.specs.Coherent.{IsCoherent};
 
-    ghost view = { λ s. record { node = seen_node s.ledger.node (record { number = s.number; first = s.first; vote = s.vote; records = s.records.list; durable = s.durable; commit = s.commit; config = s.config; progress = s.progress; known = s.known; tally = s.tally; dry_tally = s.dry_run; lost = s.lost; rollback = s.rollback }); spare = min s.ledger.spare s.unkept.spare } };
+    ghost view = { λ s. record {
+      node = seen_node s.ledger.node (record {
+        number = s.number;
+        first = s.first;
+        vote = s.vote;
+        records = s.records.list;
+        durable = s.durable;
+        commit = s.commit;
+        config = s.config;
+        progress = s.progress;
+        known = s.known;
+        tally = s.tally;
+        dry_tally = s.dry_run;
+        lost = s.lost;
+        rollback = s.rollback;
+      });
+      spare = min s.ledger.spare s.unjournaled.spare;
+    } };
 
-    ghost invariant = { λ s. IsCoherent (seen_node s.ledger.node (record { number = s.number; first = s.first; vote = s.vote; records = s.records.list; durable = s.durable; commit = s.commit; config = s.config; progress = s.progress; known = s.known; tally = s.tally; dry_tally = s.dry_run; lost = s.lost; rollback = s.rollback })) s.tally s.unkept.optimes };
+    ghost invariant = { λ s. IsCoherent (seen_node s.ledger.node (record {
+      number = s.number;
+      first = s.first;
+      vote = s.vote;
+      records = s.records.list;
+      durable = s.durable;
+      commit = s.commit;
+      config = s.config;
+      progress = s.progress;
+      known = s.known;
+      tally = s.tally;
+      dry_tally = s.dry_run;
+      lost = s.lost;
+      rollback = s.rollback;
+    })) s.tally s.unjournaled.optimes };
 }
 
 impl State {
-    /// A node as the set begins, with this number and this first configuration. Out of memory is the one error.
+    /// A node as the set begins, with this number and this first configuration. Out of memory is
+    /// the one error.
     pub fn open(alloc: Global, number: u32, config: &Config) -> Mem<State>
         requires number { number < 50 }
         requires config { rule config.now ≡ None }
@@ -108,23 +154,26 @@ impl State {
             dry_run: None,
             lost: LostList::new(alloc),
             rollback: 0,
-            unkept: Unkept::new(alloc),
+            unjournaled: Unjournaled::new(alloc),
             records: Records::none(),
         })
     }
 
     /// The documents that the log leaves, as of each optime that the store can show, in 64 shards.
     pub fn store(&self) -> &VersionStore
-        ensures latest { (place : Place) → latest_of (versions_at result.now place) ≡ maps.get (local_documents self.now.node) place }
-        ensures shown { (place : Place) (at : OpTime) → IsReadable self.now.node at → shown_at result.now place at ≡ maps.get (docs (log_up_to at self.now.node.log)) place }
+        ensures latest { (place : Place)
+            → latest_of (versions_at result.now place) ≡ maps.get (local_documents self.now.node) place }
+        ensures shown { (place : Place) (at : OpTime) → IsReadable self.now.node at
+            → shown_at result.now place at ≡ maps.get (docs (log_up_to at self.now.node.log)) place }
         ensures shards { result.now.count ≡ 64 }
     {
         self.ledger.store()
     }
 
-    /// Begins what a command asks of a node. `nodes` is how many nodes the set has, and `next` the number that the next
-    /// message gets. For a write there is `write`. Out of memory is the one error, and leaves the node as it was. A command
-    /// that may run out of memory as it stores (`is_long`) has changed nothing by then.
+    /// Begins what a command asks of a node. `nodes` is how many nodes the set has, and `next` the number
+    /// that the next message gets. For a write there is `write`. Out of memory is the one error, and leaves
+    /// the node as it was. A command that may run out of memory as it stores (`is_long`) has changed
+    /// nothing by then.
     #[tactic(auto, using(crate::proofs::TurnLemmas::while_up))]
     pub fn start<R: Threads + Sync>(
         &mut self,
@@ -138,12 +187,13 @@ impl State {
         requires own { is_own command.now ≡ true }
         requires turn { is_write command.now ≡ false }
         requires within { is_within command.now ≡ true }
-        ensures turn { IfOk result (λ turn. Means turn self.new.node (row nodes next false self.old.node command.now)) }
+        ensures turn { IfOk result (λ turn.
+            Means turn self.new.node (row nodes next false self.old.node command.now)) }
         ensures ready { IfOk result (λ turn. IsReadyTurn turn self.new) }
         ensures quiet { is_long command.now ≡ true → self.new.node ≡ self.old.node }
         ensures err { OnErr result (self.new.node ≡ self.old.node) }
     {
-        self.stays_up();
+        self.recall_up();
         match command {
             Command::Campaign { .. } => self.start_campaign(next),
             Command::Drain { .. } => self.start_drain(rt),
@@ -183,49 +233,54 @@ impl State {
         }
     }
 
-    /// Begins what the node does with a message that arrives; `next` is the number that the next message gets. Out of memory
-    /// is the one error, and leaves the node as it was.
+    /// Begins what the node does with a message that arrives; `next` is the number that the next message
+    /// gets. Out of memory is the one error, and leaves the node as it was.
     pub fn take<R: Threads + Sync>(&mut self, rt: &R, next: u64, message: &Message) -> Mem<Turn>
         requires bounds { IsBounded self.old.node }
         requires next { IsNumbered next }
         requires message { CanTake self.old.node message.now }
-        ensures turn { IfOk result (λ turn. Means turn self.new.node (deliver next self.old.node message.now)) }
+        ensures turn { IfOk result (λ turn.
+            Means turn self.new.node (deliver next self.old.node message.now)) }
         ensures ready { IfOk result (λ turn. IsReadyTurn turn self.new) }
         ensures err { OnErr result (self.new.node ≡ self.old.node) }
     {
         self.take_message(rt, next, message)
     }
 
-    /// Goes on once `item`, which a turn asked to store, is on the node's disk: `then` is what the turn gave with it. It takes
-    /// no memory.
-    pub fn go_on(&mut self, item: &Store, then: Then) -> Turn
+    /// Goes on once `item`, which a turn asked to store, is on the node's disk: `then` is what the turn gave
+    /// with it. It takes no memory.
+    pub fn go_on(&mut self, item: &Store, then: Continuation) -> Turn
         requires ready { IsReady item.now then self.old }
         ensures turn { Means result self.new.node (rest_of then (stored self.old.node item.now)) }
         ensures ready { IsReadyTurn result self.new }
     {
         match then {
-            Then::Campaign { next, tally, sent } => self.go_on_campaign(item, next, tally, sent),
-            Then::Drain { config } => self.go_on_drain(item, config),
-            Then::Flush { count, point } => self.go_on_flush(item, count, point),
-            Then::Checkpoint { at } => self.go_on_checkpoint(item, at),
-            Then::Reconfig { config } => self.go_on_reconfig(item, config),
-            Then::VoteInTerm {
+            Continuation::Campaign { next, tally, sent } => self.go_on_campaign(
+                item, next, tally, sent,
+            ),
+            Continuation::Drain { config } => self.go_on_drain(item, config),
+            Continuation::Flush { count, point } => self.go_on_flush(item, count, point),
+            Continuation::Checkpoint { at } => self.go_on_checkpoint(item, at),
+            Continuation::Reconfig { config } => self.go_on_reconfig(item, config),
+            Continuation::VoteInTerm {
                 next,
                 from,
                 ask,
                 why,
                 sent,
             } => self.go_on_vote_in_term(item, next, from, ask, why, sent),
-            Then::VoteGiven {
+            Continuation::VoteGiven {
                 next,
                 from,
                 ask,
                 why,
                 sent,
             } => self.go_on_vote_given(item, next, from, ask, why, sent),
-            Then::TookTerm { term, told } => self.go_on_term(item, term, told),
-            Then::Installed { config, hearing } => self.go_on_installed(item, config, hearing),
-            Then::Cut {
+            Continuation::TookTerm { term, told } => self.go_on_term(item, term, told),
+            Continuation::Installed { config, hearing } => self.go_on_installed(
+                item, config, hearing,
+            ),
+            Continuation::Cut {
                 point,
                 removed,
                 lost,
@@ -233,9 +288,9 @@ impl State {
         }
     }
 
-    /// A turn that sends nothing.
+    /// A turn that is finished, with this reply and no message.
     pub(crate) fn answered(&self, reply: Reply) -> Turn
-        ensures { Says result reply [] }
+        ensures { FinishesWith result reply [] }
     {
         Turn::Finished {
             reply,
@@ -244,7 +299,7 @@ impl State {
     }
 
     pub(crate) fn refused(&self, why: Refusal) -> Turn
-        ensures { Says result (Reply.Refused why) [] }
+        ensures { FinishesWith result (Reply.Refused why) [] }
     {
         self.answered(Reply::Refused(why))
     }

@@ -2,17 +2,17 @@
 ghost use Rattle.std.specs.Prelude.{◌≡◌, ◌<◌, ◌&&◌, nat_lt, true, false, IfOk, OnErr};
 ghost use Rattle.set_model.specs.Deliver as delivered;
 ghost use Rattle.set_model.specs.Stores.{stored};
-ghost use Rattle.node_state.specs.Ahead.{is_foreseen};
+ghost use Rattle.node_state.specs.Ahead.{is_prepared};
 ghost use Rattle.node_state.specs.Bounds.{IsBounded, IsNumbered};
-ghost use Rattle.node_state.specs.Ready.{IsReadyTold, IsReadyTurn, IsTerm};
+ghost use Rattle.node_state.specs.Ready.{IsReadyMessage, IsReadyTurn, IsTerm};
 ghost use Rattle.set_model.specs.Taking.{CanTake};
-ghost use Rattle.node_state.specs.Told.{told_plan};
+ghost use Rattle.node_state.specs.MessageContinuation.{message_plan};
 ghost use Rattle.node_state.specs.Turns.{Means, rest_of};
-ghost use Rattle.node_state.specs.declared.turn.Then.TheVariants as thens;
+ghost use Rattle.node_state.specs.declared.turn.Continuation.TheVariants as continuations;
 
 use crate::State;
 use crate::terms::vote_record;
-use crate::turn::{Then, Told, Turn};
+use crate::turn::{Continuation, MessageContinuation, Turn};
 use bson_doc::Mem;
 use repl_msg::{Body, Message};
 use set_model::{Refusal, Reply, Store};
@@ -38,11 +38,12 @@ impl State {
         requires bounds { IsBounded self.old.node }
         requires next { IsNumbered next }
         requires message { CanTake self.old.node message.now }
-        ensures turn { IfOk result (λ turn. Means turn self.new.node (delivered.deliver next self.old.node message.now)) }
+        ensures turn { IfOk result (λ turn.
+            Means turn self.new.node (delivered.deliver next self.old.node message.now)) }
         ensures ready { IfOk result (λ turn. IsReadyTurn turn self.new) }
         ensures err { OnErr result (self.new.node ≡ self.old.node) }
     {
-        self.stays_up();
+        self.recall_up();
         if let Some(why) = self.body_refusal(message) {
             return Ok(self.refused(why));
         }
@@ -63,34 +64,39 @@ impl State {
         }
     }
 
-    /// A message of a higher term: the node keeps that term first.
+    /// Takes a message of a higher term: the term goes to the journal first.
     fn take_higher<R: Threads + Sync>(&mut self, rt: &R, next: u64, message: &Message) -> Mem<Turn>
         requires bounds { IsBounded self.old.node }
         requires next { IsNumbered next }
         requires message { CanTake self.old.node message.now }
         requires brings { delivered.brings_term message.now.body ≡ true }
         requires higher { self.old.node.term < message.now.term }
-        ensures turn { IfOk result (λ turn. Means turn self.new.node (delivered.take_term self.old.node message.now.term (delivered.told next message.now.from message.now.term message.now.body))) }
+        ensures turn { IfOk result (λ turn.
+            Means turn self.new.node (delivered.take_term self.old.node message.now.term
+            (delivered.told next message.now.from message.now.term message.now.body))) }
         ensures ready { IfOk result (λ turn. IsReadyTurn turn self.new) }
         ensures err { OnErr result (self.new.node ≡ self.old.node) }
     {
         let told = self.prepare_higher(rt, next, message)?;
         Ok(Turn::Storing {
             item: vote_record(message.term, None),
-            then: Then::TookTerm {
+            then: Continuation::TookTerm {
                 term: message.term,
                 told,
             },
         })
     }
 
-    /// A message of no higher term, or one that asks for a vote.
+    /// Takes a message whose term isn't higher, or a request for a vote, which has its own rule for
+    /// a higher term.
     fn take_known<R: Threads + Sync>(&mut self, rt: &R, next: u64, message: &Message) -> Mem<Turn>
         requires bounds { IsBounded self.old.node }
         requires next { IsNumbered next }
         requires message { CanTake self.old.node message.now }
-        requires known { (delivered.brings_term message.now.body && nat_lt self.old.node.term message.now.term) ≡ false }
-        ensures turn { IfOk result (λ turn. Means turn self.new.node (delivered.told next message.now.from message.now.term message.now.body self.old.node)) }
+        requires known { (delivered.brings_term message.now.body
+            && nat_lt self.old.node.term message.now.term) ≡ false }
+        ensures turn { IfOk result (λ turn. Means turn self.new.node
+            (delivered.told next message.now.from message.now.term message.now.body self.old.node)) }
         ensures ready { IfOk result (λ turn. IsReadyTurn turn self.new) }
         ensures err { OnErr result (self.new.node ≡ self.old.node) }
     {
@@ -104,12 +110,12 @@ impl State {
             Body::Report { config, durable } => {
                 self.report_told(message.from, message.term, *config, *durable)
             }
-            _ => self.take_foreseen(rt, next, message),
+            _ => self.take_prepared(rt, next, message),
         }
     }
 
-    /// A message of no higher term that is made ready, and for which no memory is taken from then on.
-    fn take_foreseen<R: Threads + Sync>(
+    /// Takes a message whose term isn't higher. Nothing runs out of memory once it is prepared.
+    fn take_prepared<R: Threads + Sync>(
         &mut self,
         rt: &R,
         next: u64,
@@ -119,8 +125,9 @@ impl State {
         requires next { IsNumbered next }
         requires message { CanTake self.old.node message.now }
         requires known { nat_lt self.old.node.term message.now.term ≡ false }
-        requires foreseen { is_foreseen message.now.body ≡ true }
-        ensures turn { IfOk result (λ turn. Means turn self.new.node (delivered.told next message.now.from message.now.term message.now.body self.old.node)) }
+        requires prepared_body { is_prepared message.now.body ≡ true }
+        ensures turn { IfOk result (λ turn. Means turn self.new.node
+            (delivered.told next message.now.from message.now.term message.now.body self.old.node)) }
         ensures ready { IfOk result (λ turn. IsReadyTurn turn self.new) }
         ensures err { OnErr result (self.new.node ≡ self.old.node) }
     {
@@ -128,10 +135,11 @@ impl State {
         Ok(self.tell(told))
     }
 
-    /// The node has the message's term, and takes the message.
-    pub(crate) fn go_on_term(&mut self, item: &Store, term: u64, told: Told) -> Turn
+    /// Goes on once the message's term is in the journal: enters it, and takes the message.
+    pub(crate) fn go_on_term(&mut self, item: &Store, term: u64, told: MessageContinuation) -> Turn
         requires ready { IsTerm item.now term told self.old }
-        ensures turn { Means result self.new.node (rest_of (thens.TookTerm term told) (stored self.old.node item.now)) }
+        ensures turn { Means result self.new.node
+            (rest_of (continuations.TookTerm term told) (stored self.old.node item.now)) }
         ensures ready { IsReadyTurn result self.new }
     {
         self.enter_term(item, term, None);
@@ -139,28 +147,28 @@ impl State {
     }
 
     /// Takes a message whose term the node has. Takes no memory.
-    pub(crate) fn tell(&mut self, told: Told) -> Turn
-        requires ready { IsReadyTold told self.old }
-        ensures turn { Means result self.new.node (told_plan told self.old.node) }
+    pub(crate) fn tell(&mut self, told: MessageContinuation) -> Turn
+        requires ready { IsReadyMessage told self.old }
+        ensures turn { Means result self.new.node (message_plan told self.old.node) }
         ensures ready { IsReadyTurn result self.new }
     {
         match told {
-            Told::Answered { next, sent } => Turn::Finished {
+            MessageContinuation::Answered { next, sent } => Turn::Finished {
                 reply: Reply::Replied(next),
                 sent,
             },
-            Told::Fetched { from, reply } => self.take_entries(from, reply),
-            Told::Heard {
+            MessageContinuation::Fetched { from, reply } => self.take_entries(from, reply),
+            MessageContinuation::Heard {
                 config,
                 kept,
                 hearing,
             } => self.hear(config, kept, hearing),
-            Told::RolledBack {
+            MessageContinuation::RolledBack {
                 point,
                 removed,
                 lost,
             } => self.roll_back(point, removed, lost),
-            Told::Ignored(why) => self.answered(Reply::Ignored(why)),
+            MessageContinuation::Ignored(why) => self.answered(Reply::Ignored(why)),
         }
     }
 }

@@ -16,14 +16,15 @@ use repl_msg::VoteRefusal;
 use set_model::{Ignored, Reply, Role};
 
 impl State {
-    /// A voter answers a candidate.
-    pub(crate) fn earnest_told(
+    /// Takes a voter's answer to a candidate, and counts the vote if it was given.
+    pub(crate) fn election_told(
         &mut self,
         from: u32,
         asked: u64,
         why: Option<VoteRefusal>,
     ) -> Mem<Turn>
-        ensures turn { IfOk result (λ turn. Means turn self.new.node (finished (votes.vote_told self.old.node from asked why))) }
+        ensures turn { IfOk result (λ turn.
+            Means turn self.new.node (finished (votes.vote_told self.old.node from asked why))) }
         ensures ready { IfOk result (λ turn. IsReadyTurn turn self.new) }
         ensures err { OnErr result (self.new.node ≡ self.old.node) }
     {
@@ -50,8 +51,11 @@ impl State {
     /// Counts a vote for the candidate.
     fn add_vote(&mut self, from: u32) -> Mem<Count>
         requires role { self.old.node.role ≡ Candidate }
-        ensures ok { OnOk result (self.new.node ≡ record self.old.node { tally = votes.with_vote self.old.node.config self.old.node.tally from }) }
-        ensures count { IfOk result (λ count. count ≡ record { yes = length self.new.node.tally; needed = majority self.new.node.config }) }
+        ensures ok { OnOk result (self.new.node ≡ record self.old.node {
+          tally = votes.with_vote self.old.node.config self.old.node.tally from;
+        }) }
+        ensures count { IfOk result (λ count.
+            count ≡ record { yes = length self.new.node.tally; needed = majority self.new.node.config }) }
         ensures err { OnErr result (self.new.node ≡ self.old.node) }
     {
         match &mut self.tally {
@@ -60,9 +64,10 @@ impl State {
         }
     }
 
-    /// A voter answers a node that asked who would vote for it.
+    /// Takes a voter's answer in a dry run, and counts the vote if it would be given.
     pub(crate) fn dry_told(&mut self, from: u32, asked: u64, why: Option<VoteRefusal>) -> Mem<Turn>
-        ensures turn { IfOk result (λ turn. Means turn self.new.node (finished (votes.dry_told self.old.node from asked why self.old.node.dry_tally))) }
+        ensures turn { IfOk result (λ turn. Means turn self.new.node
+            (finished (votes.dry_told self.old.node from asked why self.old.node.dry_tally))) }
         ensures ready { IfOk result (λ turn. IsReadyTurn turn self.new) }
         ensures err { OnErr result (self.new.node ≡ self.old.node) }
     {
@@ -79,7 +84,7 @@ impl State {
         }))
     }
 
-    /// Whether it asked who would vote for it in this term.
+    /// Whether the node's dry run is of the term `asked`, and the node is still in that term.
     fn is_trying(&self, asked: u64) -> bool
         ensures { result ≡ is_trying self.now.node.dry_tally asked self.now.node.term }
     {
@@ -91,7 +96,8 @@ impl State {
 
     /// Counts who would vote for it.
     fn add_dry_vote(&mut self, from: u32) -> Mem<Count>
-        ensures ok { OnOk result (self.new.node ≡ record self.old.node { dry_tally = with_dry_vote self.old.node.dry_tally from }) }
+        ensures ok { OnOk result (self.new.node
+            ≡ record self.old.node { dry_tally = with_dry_vote self.old.node.dry_tally from }) }
         ensures count { IfOk result (λ count. count ≡ dry_count self.new.node.dry_tally) }
         ensures err { OnErr result (self.new.node ≡ self.old.node) }
     {

@@ -21,7 +21,7 @@ pub(crate) fn vote_record(term: u64, candidate: Option<u32>) -> Store
 }
 
 impl State {
-    /// The node is a secondary of another term, with its vote there. Its record stands.
+    /// Makes the node a secondary in this term, with this vote. The record of both is in the journal.
     pub(crate) fn enter_term(&mut self, item: &Store, term: u64, vote: Option<u32>)
         requires item { item.now ≡ vote_record term vote }
         requires above { self.old.node.term ≤ term }
@@ -30,7 +30,7 @@ impl State {
         ensures node { self.new.node ≡ in_new_term (stored self.old.node item.now) term vote }
         ensures spare { self.new.spare ≡ self.old.spare }
     {
-        self.ledger.is_sound();
+        self.ledger.recall_sound();
         self.ledger.step_down();
         self.ledger.set_term(term);
         self.records = self.records.with(item);
@@ -45,7 +45,7 @@ impl State {
         ensures node { self.new.node ≡ stepped_down self.old.node }
         ensures spare { self.new.spare ≡ self.old.spare }
     {
-        self.ledger.is_sound();
+        self.ledger.recall_sound();
         self.ledger.step_down();
         self.progress = Progress::new(self.alloc);
         self.tally = None;
@@ -63,7 +63,7 @@ impl State {
         self.vote = Some(vote);
     }
 
-    /// A secondary is a candidate that counts its votes.
+    /// Makes a secondary a candidate with these votes.
     pub(crate) fn stand(&mut self, tally: Tally)
         requires role { self.old.node.role ≡ Secondary }
         requires counts { tally.voters ≡ voters self.old.node.config }

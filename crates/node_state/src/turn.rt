@@ -1,6 +1,8 @@
-// What a node does with a command or a message, step by step: it stores something, and goes on once that is on its disk.
+// What a node does with a command or a message, step by step: it stores something, and goes on once that is
+// on its disk.
 //
-// All memory that the later steps need is taken beforehand and lies in here, since a node mustn't run out between two stores.
+// All memory that the later steps need is taken beforehand and lies in here, since a node mustn't run out
+// between two stores.
 use election_core::Tally;
 use member_config::Config;
 use repl_msg::{FetchReply, Message, VoteAsk, VoteRefusal};
@@ -13,12 +15,12 @@ pub enum Turn {
     /// It has its reply, and the messages that it sends.
     Finished { reply: Reply, sent: Vec<Message> },
     /// It stores this, and then goes on.
-    Storing { item: Store, then: Then },
+    Storing { item: Store, then: Continuation },
 }
 
 /// What the node does once that which it stores is on its disk.
 #[derive(Drop)]
-pub enum Then {
+pub enum Continuation {
     /// The node is a candidate of the next term, with its own vote, and asks the others.
     Campaign {
         next: u64,
@@ -61,12 +63,12 @@ pub enum Then {
     /// It enters a message's higher term, and then takes the message.
     TookTerm {
         term: u64,
-        told: Told,
+        told: MessageContinuation,
     },
     /// It goes by a newer configuration that a heartbeat brought.
     Installed {
         config: Config,
-        hearing: Hearing,
+        hearing: HeardBeat,
     },
     /// Its log is cut behind the point.
     Cut {
@@ -78,7 +80,7 @@ pub enum Then {
 
 /// What the node does with a message, once it has entered its term.
 #[derive(Drop)]
-pub enum Told {
+pub enum MessageContinuation {
     /// It sends this answer.
     Answered {
         next: u64,
@@ -89,11 +91,12 @@ pub enum Told {
         from: u32,
         reply: FetchReply,
     },
-    /// A heartbeat is heard. `config` is its configuration, where the node installs it, and `kept` a copy for the journal.
+    /// A heartbeat is heard. `config` is its configuration, where the node installs it, and `kept` a copy
+    /// for the journal.
     Heard {
         config: Option<Config>,
         kept: Option<Config>,
-        hearing: Hearing,
+        hearing: HeardBeat,
     },
     /// The node rolls back to the point.
     RolledBack {
@@ -107,7 +110,7 @@ pub enum Told {
 
 /// What a heartbeat tells of its sender, and the answer to it, where one is sent.
 #[derive(Drop)]
-pub struct Hearing {
+pub struct HeardBeat {
     pub from: u32,
     pub visible: OpTime,
     pub primary: bool,

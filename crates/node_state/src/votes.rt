@@ -8,11 +8,11 @@ ghost use Rattle.set_model.specs.Votes as votes;
 ghost use Rattle.node_state.specs.Bounds.{IsBounded, IsNumbered};
 ghost use Rattle.node_state.specs.Ready.{IsVoteGiven, IsVoteInTerm, IsReadyTurn};
 ghost use Rattle.node_state.specs.Turns.{Means, rest_of};
-ghost use Rattle.node_state.specs.declared.turn.Then.TheVariants as thens;
+ghost use Rattle.node_state.specs.declared.turn.Continuation.TheVariants as continuations;
 
 use crate::State;
 use crate::terms::vote_record;
-use crate::turn::{Then, Turn};
+use crate::turn::{Continuation, Turn};
 use bson_doc::Mem;
 use election_core::{VoterView, decide};
 use repl_msg::{Body, Message, VoteAsk, VoteRefusal};
@@ -31,13 +31,14 @@ fn vote_for(from: u32, why: Option<VoteRefusal>) -> Option<u32>
 }
 
 impl State {
-    /// A node asks for a vote.
+    /// Decides on a request for a vote, and answers it. A vote or a higher term goes to the journal first.
     pub(crate) fn vote_asked(&mut self, next: u64, from: u32, ask: VoteAsk) -> Mem<Turn>
         requires bounds { IsBounded self.old.node }
         requires next { IsNumbered next }
         requires from { from < 50 }
         requires asked { ask.asked < 2 ^ 63 }
-        ensures turn { IfOk result (λ turn. Means turn self.new.node (votes.vote_asked next self.old.node from ask)) }
+        ensures turn { IfOk result (λ turn.
+            Means turn self.new.node (votes.vote_asked next self.old.node from ask)) }
         ensures ready { IfOk result (λ turn. IsReadyTurn turn self.new) }
         ensures err { OnErr result (self.new.node ≡ self.old.node) }
     {
@@ -47,7 +48,7 @@ impl State {
             let sent = self.vote_reply(ask.asked, from, &ask, why)?;
             return Ok(Turn::Storing {
                 item: vote_record(ask.asked, vote_for(from, why)),
-                then: Then::VoteInTerm {
+                then: Continuation::VoteInTerm {
                     next,
                     from,
                     ask,
@@ -60,7 +61,7 @@ impl State {
         if !ask.dry && ask.asked == term && why.is_none() {
             return Ok(Turn::Storing {
                 item: vote_record(term, Some(from)),
-                then: Then::VoteGiven {
+                then: Continuation::VoteGiven {
                     next,
                     from,
                     ask,
@@ -100,7 +101,8 @@ impl State {
         ask: &VoteAsk,
         why: Option<VoteRefusal>,
     ) -> Mem<Vec<Message>>
-        ensures { IfOk result (λ sent. sent.items ≡ message_to (record self.now.node { term = term }) to (bodies.VoteReply ask.now.asked ask.now.dry why) ∷ []) }
+        ensures { IfOk result (λ sent. sent.items ≡ message_to (record self.now.node { term = term }) to
+            (bodies.VoteReply ask.now.asked ask.now.dry why) ∷ []) }
     {
         let mut sent = Vec::new(self.alloc);
         sent.push(Message {
@@ -126,7 +128,8 @@ impl State {
         sent: Vec<Message>,
     ) -> Turn
         requires ready { IsVoteInTerm item.now next from ask why sent.items self.old.node }
-        ensures turn { Means result self.new.node (rest_of (thens.VoteInTerm next from ask why sent) (stored self.old.node item.now)) }
+        ensures turn { Means result self.new.node
+            (rest_of (continuations.VoteInTerm next from ask why sent) (stored self.old.node item.now)) }
         ensures ready { IsReadyTurn result self.new }
     {
         self.enter_term(item, ask.asked, vote_for(from, why));
@@ -146,7 +149,8 @@ impl State {
         sent: Vec<Message>,
     ) -> Turn
         requires ready { IsVoteGiven item.now from ask why sent.items self.old.node }
-        ensures turn { Means result self.new.node (rest_of (thens.VoteGiven next from ask why sent) (stored self.old.node item.now)) }
+        ensures turn { Means result self.new.node
+            (rest_of (continuations.VoteGiven next from ask why sent) (stored self.old.node item.now)) }
         ensures ready { IsReadyTurn result self.new }
     {
         self.set_vote(item, from);
@@ -156,7 +160,7 @@ impl State {
         }
     }
 
-    /// A voter answers, in earnest or dry. Its message brings no higher term.
+    /// Takes a voter's answer, in an election or a dry run. The message's term isn't higher than the node's.
     pub(crate) fn vote_told(
         &mut self,
         from: u32,
@@ -164,14 +168,15 @@ impl State {
         dry: bool,
         why: Option<VoteRefusal>,
     ) -> Mem<Turn>
-        ensures turn { IfOk result (λ turn. Means turn self.new.node (finished (vote_reply_told self.old.node from asked dry why))) }
+        ensures turn { IfOk result (λ turn.
+            Means turn self.new.node (finished (vote_reply_told self.old.node from asked dry why))) }
         ensures ready { IfOk result (λ turn. IsReadyTurn turn self.new) }
         ensures err { OnErr result (self.new.node ≡ self.old.node) }
     {
         if dry {
             self.dry_told(from, asked, why)
         } else {
-            self.earnest_told(from, asked, why)
+            self.election_told(from, asked, why)
         }
     }
 }

@@ -1,7 +1,7 @@
 // Writers in two steps.
 ghost use Rattle.std.specs.Prelude.{◌≡◌, ◌-◌, ◌^◌, ◌<◌, true, false, None, Ok, IfOk, OnErr};
 ghost use Rattle.std.specs.FinMap as maps;
-ghost use Rattle.doc_update.specs.Lent.{shown};
+ghost use Rattle.doc_update.specs.Borrowed.{shown};
 ghost use Rattle.set_model.specs.Holds.{holder};
 ghost use Rattle.set_model.specs.Limits.{is_collection, collection_of};
 ghost use Rattle.set_model.specs.Outcome.{replied};
@@ -12,16 +12,17 @@ ghost use Rattle.node_ledger.specs.Writers.{IsWriting, is_open};
 use crate::State;
 use crate::admission::Admission;
 use bson_doc::Mem;
-use doc_update::{LentWrite, Prepared};
+use doc_update::{BorrowedWrite, Prepared};
 use set_model::{Refusal, Reply, Role, Writer};
 
 impl State {
     /// Opens a slot for a write.
     #[tactic(auto, using(crate::proofs::AdmitLemmas::closed_writers))]
-    pub(crate) fn begin(&mut self, writer: u32, lent: LentWrite<'_>) -> Mem<Reply>
+    pub(crate) fn begin(&mut self, writer: u32, borrowed: BorrowedWrite<'_>) -> Mem<Reply>
         requires seen { self.old.node.seen < 2 ^ 64 - 1 }
-        requires name { is_collection (collection_of (shown lent)) ≡ true }
-        ensures ok { IfOk result (λ reply. begin self.old.node writer (shown lent.entry) ≡ replied reply self.new.node) }
+        requires name { is_collection (collection_of (shown borrowed)) ≡ true }
+        ensures ok { IfOk result (λ reply.
+            begin self.old.node writer (shown borrowed.entry) ≡ replied reply self.new.node) }
         ensures err { OnErr result (self.new.node ≡ self.old.node) }
     {
         if self.ledger.role() != Role::Primary {
@@ -30,7 +31,7 @@ impl State {
         if self.ledger.is_writing(writer) {
             return Ok(Reply::Refused(Refusal::WriterOpen));
         }
-        match self.admit(lent) {
+        match self.admit(borrowed) {
             Ok(Ok(admission)) => self.begin_admitted(writer, admission),
             Ok(Err(why)) => Ok(Reply::Refused(why)),
             Err(error) => Err(error),
@@ -45,7 +46,8 @@ impl State {
         requires closed { is_open (maps.get self.old.node.writers writer) ≡ false }
         requires free { holder self.old.node (admission.ns, admission.id) ≡ None }
         requires can { CanBeLogged self.old.node (admission.ns, admission.id) admission.effect }
-        ensures ok { IfOk result (λ reply. begun self.old.node writer (Ok admission.effect) ≡ replied reply self.new.node) }
+        ensures ok { IfOk result (λ reply.
+            begun self.old.node writer (Ok admission.effect) ≡ replied reply self.new.node) }
         ensures err { OnErr result (self.new.node ≡ self.old.node) }
     {
         let Admission { ns, id, effect } = admission;
@@ -53,7 +55,7 @@ impl State {
             Prepared::NoMatch => Ok(Reply::NoMatch),
             Prepared::Unchanged => Ok(Reply::Unchanged),
             Prepared::Entry { op, .. } => {
-                self.ledger.is_sound();
+                self.ledger.recall_sound();
                 let at = self.ledger.open(writer, ns.as_str(), &id, op)?;
                 Ok(Reply::Begun(at))
             }
@@ -77,11 +79,11 @@ impl State {
         ensures ok { IfOk result (λ reply. commit self.old.node writer ≡ replied reply self.new.node) }
         ensures err { OnErr result (self.new.node ≡ self.old.node) }
     {
-        self.ledger.is_sound();
-        self.unkept.reserve(1)?;
+        self.ledger.recall_sound();
+        self.unjournaled.reserve(1)?;
         let at = self.ledger.settle(writer)?;
-        self.unkept.add(at);
-        self.ledger.is_sound();
+        self.unjournaled.add(at);
+        self.ledger.recall_sound();
         Ok(Reply::Committed(at))
     }
 
@@ -100,7 +102,7 @@ impl State {
         requires { IsWriting self.old.node.writers writer }
         ensures { abort self.old.node writer ≡ replied result self.new.node }
     {
-        self.ledger.is_sound();
+        self.ledger.recall_sound();
         self.ledger.abort(writer);
         Reply::Aborted
     }

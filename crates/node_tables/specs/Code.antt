@@ -3,7 +3,7 @@ use Rattle.std.specs.Prelude.{ℕ, List, refl}
 use Rattle.std.specs.Coded.{Coded, code_by, coded×, coded_list, coded_ℕ}
 use Rattle.rs_optime.specs.Order.{optime_code}
 use Rattle.rs_optime.specs.declared.optime.OpTime.{OpTime}
-use Rattle.node_tables.specs.Unkept.{Optimes}
+use Rattle.node_tables.specs.Unjournaled.{Optimes}
 pub use Rattle.set_model.specs.Code.{known_code, tally_code}
 
 abbrev pub optimes_code : Coded Optimes

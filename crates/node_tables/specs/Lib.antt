@@ -1,4 +1,4 @@
 pub mod Code
 pub mod Known
 pub mod Records
-pub mod Unkept
+pub mod Unjournaled

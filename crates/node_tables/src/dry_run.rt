@@ -47,8 +47,10 @@ impl DryRun {
 
     /// Counts a vote, where it is of a voter that isn't counted yet.
     pub fn add(&mut self, from: u32) -> Mem<Count>
-        ensures ok { OnOk result (self.new ≡ record self.old { yes = with_vote self.old.config self.old.yes from }) }
-        ensures count { IfOk result (λ c. c ≡ record { yes = length self.new.yes; needed = majority self.new.config }) }
+        ensures ok { OnOk result
+            (self.new ≡ record self.old { yes = with_vote self.old.config self.old.yes from }) }
+        ensures count { IfOk result (λ c.
+            c ≡ record { yes = length self.new.yes; needed = majority self.new.config }) }
         ensures err { OnErr result (self.new ≡ self.old) }
     {
         self.tally.add(from)

@@ -60,11 +60,12 @@ impl KnownTable {
         self.places[member as usize] = Some(Heard { last, primary });
     }
 
-    /// The member from which a node fetches: of the other members whose last optime is later
-    /// than its own the one with the lowest number, or none. Where chaining isn't allowed, only a primary counts. Out of
+    /// The member from which a node fetches: of the other members whose last optime is later than its own the
+    /// one with the lowest number, or none. Where chaining isn't allowed, only a primary counts. Out of
     /// memory is the one error.
     pub fn source(&self, config: &Config, own: u32, last: OpTime) -> Mem<Option<u32>>
-        ensures { IfOk result (λ source. source ≡ lowest (sources_of config.now own last (maps.get self.now))) }
+        ensures { IfOk result (λ source.
+            source ≡ lowest (sources_of config.now own last (maps.get self.now))) }
     {
         let known = self.list()?;
         Ok(choose(config, own, last, &known).ok())

@@ -1,13 +1,13 @@
-//! What a node keeps beside its log: what it heard of the other members, which entries aren't in its records yet, who
-//! would vote for it, and, in proofs alone, its records.
+//! What a node keeps beside its log: what it heard of the other members, which entries aren't in its records
+//! yet, who would vote for it, and, in proofs alone, its records.
 #![tactic(auto)]
 
 mod dry_run;
 mod known;
 mod records;
-mod unkept;
+mod unjournaled;
 
 pub use dry_run::DryRun;
 pub use known::KnownTable;
 pub use records::Records;
-pub use unkept::Unkept;
+pub use unjournaled::Unjournaled;

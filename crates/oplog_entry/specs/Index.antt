@@ -13,7 +13,8 @@ abbrev pub value_at : Fields → ℕ → Option Tree
 value_at document place = first_value (fields_from place document)
 
 abbrev pub AreAllPlaces : Fields → BTreeMap (List ℕ) ℕ → Type 0
-AreAllPlaces document places = (name : List ℕ) → option_and_then (value_at document) (get (slice_cmp nat_cmp) places name) ≡ found name document
+AreAllPlaces document places = (name : List ℕ)
+    → option_and_then (value_at document) (get (slice_cmp nat_cmp) places name) ≡ found name document
 
 -- of a document with at most 16 fields no places are kept
 abbrev pub ArePlaces : Fields → Option (BTreeMap (List ℕ) ℕ) → Type 0

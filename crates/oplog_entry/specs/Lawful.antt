@@ -23,7 +23,8 @@ is_among name names = list_any (bytes_eq name) names
 abbrev pub AreUnsets : Trees → Type 0
 AreUnsets no_items = ⊤
 AreUnsets (item (text name) rest) =
-    (¬ Contains name 0) × (bytes_eq name (codes "_id") ≡ false) × (is_among name (strings_of rest) ≡ false) × AreUnsets rest
+    (¬ Contains name 0) × (bytes_eq name (codes "_id") ≡ false)
+    × (is_among name (strings_of rest) ≡ false) × AreUnsets rest
 AreUnsets (item _ rest) = ⊥
 
 -- A document begins with an `_id` that has a key, an `id` has a key, and fields leave the `_id` alone.

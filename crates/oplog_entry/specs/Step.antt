@@ -30,7 +30,8 @@ abbrev pub is_at : Option Place → Place → Bool
 is_at None place = false
 is_at (Some own) place = eq_by_cmp place_cmp own place
 
--- with each of these fields set, in their order: a present name keeps its place, and a new one goes to the end
+-- with each of these fields set, in their order: a present name keeps its place, and a new one goes
+-- to the end
 abbrev pub with_sets : Fields → Fields → Fields
 with_sets document no_fields = document
 with_sets document (field name value rest) = with_sets (with_set document name value) rest
@@ -49,6 +50,7 @@ changed document sets unsets = fold without (with_sets document sets) (strings_o
 abbrev pub document_after : Op → Option Fields → Option Fields
 document_after (Insert ns o) before = Some o
 document_after (Replace ns id o) before = Some o
-document_after (SetFields ns id sets unsets) before = option_map (λ document. changed document sets unsets) before
+document_after (SetFields ns id sets unsets) before =
+    option_map (λ document. changed document sets unsets) before
 document_after (Delete ns id) before = None
 document_after Noop before = before

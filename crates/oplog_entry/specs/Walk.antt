@@ -12,10 +12,12 @@ join (field name value rest) later = field name value (join rest later)
 abbrev pub kept : List (List ℕ) → Fields → Fields → Fields
 kept gone sets no_fields = no_fields
 kept gone sets (field name value rest) =
-    if is_among name gone then kept gone sets rest else field name (unwrap_or (found name sets) value) (kept gone sets rest)
+    if is_among name gone then kept gone sets rest
+    else field name (unwrap_or (found name sets) value) (kept gone sets rest)
 
 -- what is new to a document
 abbrev pub fresh : List (List ℕ) → Fields → Fields → Fields
 fresh gone d no_fields = no_fields
 fresh gone d (field name value rest) =
-    if is_among name gone then fresh gone d rest else (if is_some (found name d) then fresh gone d rest else field name value (fresh gone d rest))
+    if is_among name gone then fresh gone d rest
+    else (if is_some (found name d) then fresh gone d rest else field name value (fresh gone d rest))

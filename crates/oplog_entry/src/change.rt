@@ -54,9 +54,11 @@ fn add(
     gone: &NameSet<'_>,
 ) -> Mem<()>
     requires clean { is_among name gone.now ≡ false → found name document.now ≡ None → ¬ Contains name 0 }
-    requires new { is_among name gone.now ≡ false → found name document.now ≡ None → found name out.old ≡ None }
+    requires new { is_among name gone.now ≡ false → found name document.now ≡ None
+        → found name out.old ≡ None }
     ensures { OnOk result (out.new ≡ (if is_among name gone.now then out.old
-        else (if is_some (found name document.now) then out.old else with_field out.old name (tree_of value.now)))) }
+        else (if is_some (found name document.now) then out.old
+        else with_field out.old name (tree_of value.now)))) }
 {
     if gone.contains(&name) || document.get(&name).is_some() {
         return Ok(());
@@ -84,8 +86,8 @@ fn add_fresh(
     Ok(())
 }
 
-/// The document once each field of `sets` is set, a present name in its place and a new one at the end, and then the
-/// names in `unsets` are gone. Takes O(n log n) comparisons of names.
+/// The document once each field of `sets` is set, a present name in its place and a new one at the end, and
+/// then the names in `unsets` are gone. Takes O(n log n) comparisons of names.
 pub fn with_changes(alloc: Global, document: &Doc, sets: &Doc, unsets: &Items) -> Mem<Doc>
     ensures changed { IfOk result (λ d. d ≡ changed document.now sets.now unsets.now) }
     ensures twice { IfOk result (λ d. changed d sets.now unsets.now ≡ d) }

@@ -36,8 +36,8 @@ pub enum Op {
     Noop,
 }
 
-/// One entry of an oplog. An entry is lawful (`IsLawful`) where its term is below 2^63, its `_id` is one that tells
-/// documents apart, and its fields leave that `_id` alone.
+/// One entry of an oplog. An entry is lawful (`IsLawful`) where its term is below 2^63, its `_id` is one that
+/// tells documents apart, and its fields leave that `_id` alone.
 #[derive(Drop)]
 pub struct Entry {
     pub optime: OpTime,

@@ -9,8 +9,8 @@ use std::alloc::Global;
 use std::collections::BTreeMap;
 use std::marker::Model;
 
-/// A document with its names in order, seen as its fields. A look-up takes O(log n) comparisons, and a small document
-/// is looked through as it is.
+/// A document with its names in order, seen as its fields. A look-up takes O(log n) comparisons, and a small
+/// document is looked through as it is.
 #[derive(Drop)]
 pub struct FieldIndex<'a> {
     document: &'a Doc,
@@ -38,7 +38,7 @@ impl<'a> FieldIndex<'a> {
         ensures index { IfOk result (λ index. index ≡ document.now) }
         ensures names { IsDocument document.now }
     {
-        document.is_sound();
+        document.recall_sound();
         if document.len() <= FEW_FIELDS {
             return Ok(FieldIndex {
                 document,

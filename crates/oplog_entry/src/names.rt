@@ -32,7 +32,8 @@ impl<'a> Model for NameSet<'a> {
 }
 
 impl<'a> NameSet<'a> {
-    /// The set of the strings among some values; other values are passed over. Out of memory is the one error.
+    /// The set of the strings among some values; other values are passed over. Out of memory is
+    /// the one error.
     pub fn new(alloc: Global, values: &'a Items) -> Mem<Self>
         ensures { IfOk result (λ names. names ≡ strings_of values.now) }
     {

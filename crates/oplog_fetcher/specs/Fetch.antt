@@ -1,4 +1,5 @@
--- Fetching, from a log and the optime up to which it is visible (MongoDB's replication architecture guide, oplog fetching).
+-- Fetching, from a log and the optime up to which it is visible (MongoDB's replication architecture
+-- guide, oplog fetching).
 use Rattle.std.specs.Prelude.{Bool, List}
 use Rattle.rs_optime.specs.declared.optime.OpTime.{OpTime}
 use Rattle.oplog_entry.specs.declared.entry.Entry.{Entry}

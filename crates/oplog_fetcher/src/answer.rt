@@ -16,9 +16,9 @@ use std::alloc::Global;
 /// The most entries of one answer.
 pub const MOST_ENTRIES: usize = 5_000;
 
-/// The answer to a node whose last optime is `base`, from a log that is visible up to `visible`: the next visible entries, at
-/// most 5,000, where `base` is ZERO or a visible entry's optime (`holds`), and none elsewhere. Out of memory is the one
-/// error.
+/// Answers a fetch by a node whose last optime is `base`, from a log that is visible up to `visible`: the
+/// next visible entries behind `base`, at most 5,000. Where `base` is neither ZERO nor a visible entry's
+/// optime, there are none, and `holds` is false. Out of memory is the one error.
 pub fn reply_to(
     alloc: Global,
     log: &Oplog,
@@ -45,7 +45,7 @@ pub fn reply_to(
     })
 }
 
-/// Whether a place is the beginning, or that of a visible entry.
+/// Whether an answer can begin behind this optime: it is ZERO, or a visible entry's.
 fn holds(log: &Oplog, visible: OpTime, base: OpTime) -> bool
     ensures { result ≡ has_place (log_up_to visible log.now.entries) base }
 {

@@ -7,14 +7,16 @@ use repl_msg::FetchReply;
 use rs_optime::OpTime;
 use thiserror::Error;
 
-/// The answer doesn't go on where the log ends: its sender hasn't that entry, or it was asked for another place.
+/// The answer doesn't continue this log: the source hasn't the log's last entry, or was asked when the
+/// log ended elsewhere.
 #[derive(Clone, Copy, Debug, PartialEq, Eq, Error)]
 #[error("the entries don't go on where the log ends")]
 pub struct OtherPlace;
 
-/// The entries of an answer that goes on behind a log's last optime.
+/// The entries of an answer, if they continue a log that ends at `last`; else `OtherPlace`.
 pub fn accept(last: OpTime, reply: &FetchReply) -> Result<&[Entry], OtherPlace>
-    ensures ok { IfOk result (λ entries. (continues last reply.now ≡ true) × (entries.now ≡ reply.now.entries)) }
+    ensures ok { IfOk result (λ entries.
+        (continues last reply.now ≡ true) × (entries.now ≡ reply.now.entries)) }
     ensures lawful { IfOk result (λ entries. All IsLawful entries.now) }
     ensures err { OnErr result (continues last reply.now ≡ false) }
 {

@@ -8,7 +8,7 @@ use Rattle.rs_optime.specs.declared.optime.OpTime.{OpTime}
 use Rattle.oplog_entry.specs.declared.entry.Entry.{Entry}
 use Rattle.oplog_entry.specs.Visible.{is_before, last_of, log_up_to}
 use Rattle.oplog_store.specs.Log.{IsOplog, Log, StandsAt, StandsBefore, with_entry}
-use Rattle.oplog_store.specs.Places.{IsEntryAt, IsHeld, IsHoled, Moved, Placed, written}
+use Rattle.oplog_store.specs.Places.{IsEntryAt, IsHeld, IsLogWithHoles, Moved, Placed, written}
 use Rattle.oplog_store.specs.declared.places.Place.{Place}
 use Rattle.oplog_store.proofs.Keeps.{pairs_head, pairs_tail}
 use Rattle.oplog_store.proofs.LogLemmas.{oplog_filter}
@@ -64,7 +64,7 @@ last_old (other ∷ next ∷ log) entry rises early =
     ]
 
 -- nothing is written
-pub holed_new : (log : Log) (places : List Place) → log.entries ≡ [] → places ≡ [] → IsHoled log places (record { term = 0; ts = 0 }) 0
+pub holed_new : (log : Log) (places : List Place) → log.entries ≡ [] → places ≡ [] → IsLogWithHoles log places (record { term = 0; ts = 0 }) 0
 holed_new log [] none empty = record {
   held = record {
     oplog = subst IsOplog (sym (append-nil log.entries ∙ none)) (record { order = λ i j d less within. absurd (omega arith); lawful = λ k d within. absurd (omega arith) });
@@ -77,9 +77,9 @@ holed_new log [] none empty = record {
 holed_new log (place ∷ places) none empty = absurd (cc empty)
 
 -- where an entry is put among the places, and what is settled then moves
-pub holed_placed : (log new : Log) (places put places_new : List Place) (at at_new : OpTime) (spare : ℕ) (entry : Entry) → IsHoled log places at spare → 0 < spare
+pub holed_placed : (log new : Log) (places put places_new : List Place) (at at_new : OpTime) (spare : ℕ) (entry : Entry) → IsLogWithHoles log places at spare → 0 < spare
     → Placed log.entries places entry put → Moved log.entries put log.spare new.entries places_new new.spare
-    → at_new ≡ last_of (with_entry (log.entries ++ written places) entry) → IsHoled new places_new at_new (spare - 1)
+    → at_new ≡ last_of (with_entry (log.entries ++ written places) entry) → IsLogWithHoles new places_new at_new (spare - 1)
 holed_placed log new places put places_new at at_new spare entry holed some placed moved last = record {
   held = moved.held;
   last = last ∙ ap last_of (sym (moved.entries ∙ placed.entries));
@@ -127,25 +127,25 @@ alone log (place ∷ places) none oplog = absurd (cc none)
 whole : (log : List Entry) (places : List Place) → places ≡ [] → log ++ written places ≡ log
 whole log places none = ap (λ ps. log ++ written ps) none ∙ append-nil log
 
-pub holed_alone : (log : Log) (places : List Place) (at : OpTime) (spare : ℕ) → places ≡ [] → IsOplog log.entries → at ≡ last_of log.entries → spare ≤ log.spare → IsHoled log places at spare
+pub holed_alone : (log : Log) (places : List Place) (at : OpTime) (spare : ℕ) → places ≡ [] → IsOplog log.entries → at ≡ last_of log.entries → spare ≤ log.spare → IsLogWithHoles log places at spare
 holed_alone log places at spare none oplog last room =
     let long : length places ≡ 0 = ap length none in
     record { held = alone log.entries places none oplog; last = last ∙ ap last_of (sym (whole log.entries places none)); room = omega arith }
 
 -- the log was brought into one piece and cut
-pub holed_cut : (log mid new : Log) (places places_new : List Place) (at to last : OpTime) (spare : ℕ) → IsHoled log places at spare
+pub holed_cut : (log mid new : Log) (places places_new : List Place) (at to last : OpTime) (spare : ℕ) → IsLogWithHoles log places at spare
     → Moved log.entries places log.spare mid.entries places_new mid.spare → places_new ≡ [] → new.entries ≡ log_up_to to mid.entries → mid.spare ≤ new.spare → last ≡ last_of new.entries
-    → IsHoled new places_new last spare
+    → IsLogWithHoles new places_new last spare
 holed_cut log mid new places places_new at to last spare holed moved none cut room is =
     let long : length places_new ≡ 0 = ap length none in
     let oplog : IsOplog mid.entries = subst IsOplog (whole mid.entries places_new none) moved.held.oplog in
     holed_alone new places_new last spare none (subst IsOplog (sym cut) (oplog_filter (λ (e : Entry). not (is_before to e.optime)) mid.entries oplog)) is (omega (arith, holed.room, moved.room))
 
 -- an entry that has no place is put into the log in one piece
-pub holed_inserted : (log mid new : Log) (places put places_new : List Place) (at at_new : OpTime) (spare : ℕ) (entry other : Entry) → IsHoled log places at spare → 0 < spare
+pub holed_inserted : (log mid new : Log) (places put places_new : List Place) (at at_new : OpTime) (spare : ℕ) (entry other : Entry) → IsLogWithHoles log places at spare → 0 < spare
     → other ≡ entry → put ≡ places → Moved log.entries put log.spare mid.entries places_new mid.spare → places_new ≡ []
     → new ≡ record { entries = with_entry mid.entries other; spare = mid.spare - 1 } → IsOplog (with_entry (log.entries ++ written places) entry)
-    → at_new ≡ last_of (with_entry (log.entries ++ written places) entry) → IsHoled new places_new at_new (spare - 1)
+    → at_new ≡ last_of (with_entry (log.entries ++ written places) entry) → IsLogWithHoles new places_new at_new (spare - 1)
 holed_inserted log mid new places put places_new at at_new spare entry other holed some own back moved none is oplog last =
     let same : mid.entries ≡ log.entries ++ written places = sym (whole mid.entries places_new none) ∙ moved.entries ∙ ap (λ ps. log.entries ++ written ps) back in
     let entries : new.entries ≡ with_entry (log.entries ++ written places) entry = ap (λ (l : Log). l.entries) is ∙ (λ i. with_entry (same i) (own i)) in

@@ -10,7 +10,7 @@ use Rattle.oplog_store.specs.declared.places.Place.{Place}
 use Rattle.oplog_store.specs.declared.places.Place.TheVariants.{Open, Written, Closed}
 
 -- the entries, how many of them stand before the first hole, and how many more there is room for
-pub record Holed : Type 0 where
+pub record LogWithHoles : Type 0 where
   pub entries : List Entry
   pub settled : List Entry
   pub spare : ℕ
@@ -56,19 +56,21 @@ abbrev pub IsEntryAt : List Entry → OpTime → Entry → Type 0
 IsEntryAt log at entry = (place : ℕ) × (slice_get log place ≡ Some entry) × (entry.optime ≡ at)
 
 -- an entry was put among the places, where it belongs in the log
-pub record Placed (settled : List Entry) (places : List Place) (entry : Entry) (places_new : List Place) : Type 0 where
+pub record Placed (settled : List Entry) (places : List Place) (entry : Entry)
+    (places_new : List Place) : Type 0 where
   pub held : IsHeld settled places_new
   pub entries : settled ++ written places_new ≡ with_entry (settled ++ written places) entry
   pub room : length places_new ≤ length places + 1
 
 -- entries moved from the places to what is settled: none is lost, and there is room as before
-pub record Moved (settled : List Entry) (places : List Place) (spare : ℕ) (settled_new : List Entry) (places_new : List Place) (spare_new : ℕ) : Type 0 where
+pub record Moved (settled : List Entry) (places : List Place) (spare : ℕ) (settled_new : List Entry)
+    (places_new : List Place) (spare_new : ℕ) : Type 0 where
   pub held : IsHeld settled_new places_new
   pub entries : settled_new ++ written places_new ≡ settled ++ written places
   pub room : spare + length places_new ≤ spare_new + length places
 
 -- a log in two parts, with its last optime and the room that there is beside what the places take
-pub record IsHoled (log : Log) (places : List Place) (at : OpTime) (spare : ℕ) : Type 0 where
+pub record IsLogWithHoles (log : Log) (places : List Place) (at : OpTime) (spare : ℕ) : Type 0 where
   pub held : IsHeld log.entries places
   pub last : at ≡ last_of (log.entries ++ written places)
   pub room : spare + length places ≤ log.spare

@@ -14,8 +14,9 @@ use std::alloc::{AllocError, Global};
 use std::collections::VecDeque;
 use std::marker::Model;
 
-/// The oplog of a node whose slots may be open (MongoDB's "oplog holes"). A place is kept for the entry of each, so that
-/// it comes there without moving those behind it. An entry that has no place is put where it belongs all the same.
+/// The oplog of a node whose slots may be open (MongoDB's "oplog holes"). A place is kept for the entry of
+/// each, so that it comes there without moving those behind it. An entry that has no place is put where it
+/// belongs all the same.
 #[derive(Drop)]
 pub struct OpenLog {
     settled: Oplog,
@@ -26,18 +27,22 @@ pub struct OpenLog {
 
 impl Model for OpenLog {
     ghost use Rattle.std.specs.Prelude.{◌++◌};
-    ghost use Rattle.oplog_store.specs.Places.{Holed, written};
-    ghost use Rattle.oplog_store.specs.Code.{holed_code};
+    ghost use Rattle.oplog_store.specs.Places.{LogWithHoles, written};
+    ghost use Rattle.oplog_store.specs.Code.{log_with_holes_code};
 
-    ghost Value = { Holed };
+    ghost Value = { LogWithHoles };
 
-    ghost coded = { holed_code };
+    ghost coded = { log_with_holes_code };
 
-    ghost use Rattle.oplog_store.specs.Places.{IsHoled};
+    ghost use Rattle.oplog_store.specs.Places.{IsLogWithHoles};
 
-    ghost view = { λ o. record { entries = o.settled.entries ++ written o.beyond.items; settled = o.settled.entries; spare = o.spare } };
+    ghost view = { λ o. record {
+      entries = o.settled.entries ++ written o.beyond.items;
+      settled = o.settled.entries;
+      spare = o.spare;
+    } };
 
-    ghost invariant = { λ o. IsHoled o.settled o.beyond.items o.last o.spare };
+    ghost invariant = { λ o. IsLogWithHoles o.settled o.beyond.items o.last o.spare };
 }
 
 /// Makes room for so many entries beside those that the places take.
@@ -116,7 +121,8 @@ impl OpenLog {
         }
     }
 
-    /// Keeps a place for the entry of a slot that opens behind all others. Out of memory, none is kept, and the log is the same.
+    /// Keeps a place for the entry of a slot that opens behind all others. Out of memory, none is kept, and
+    /// the log is the same.
     pub fn open(&mut self, at: OpTime)
         ensures { self.new ≡ self.old }
     {
@@ -139,7 +145,8 @@ impl OpenLog {
 
     /// Brings all entries into one piece, which `settled` then lends. No place is kept any more.
     pub fn gather(&mut self)
-        ensures { self.new ≡ record { entries = self.old.entries; settled = self.old.entries; spare = self.old.spare } }
+        ensures { self.new
+            ≡ record { entries = self.old.entries; settled = self.old.entries; spare = self.old.spare } }
     {
         gather(&mut self.settled, &mut self.beyond);
     }

@@ -36,7 +36,8 @@ impl Place {
 
     /// Its entry, where it has one.
     fn entry(&self) -> Option<&Entry>
-        ensures { MatchOption (option_copied result) (written (self.now ∷ []) ≡ []) (λ entry. self.now ≡ Written entry) }
+        ensures { MatchOption (option_copied result) (written (self.now ∷ []) ≡ [])
+            (λ entry. self.now ≡ Written entry) }
     {
         match self {
             Place::Written(entry) => Some(entry),
@@ -61,10 +62,12 @@ pub(crate) fn precedes(one: OpTime, two: OpTime) -> bool
     one.ts < two.ts && one.term <= two.term
 }
 
-/// Keeps a place for the entry of a slot that opens. None is kept where something stands behind it, or when memory runs out.
-/// `last` is the optime of the last entry.
+/// Keeps a place for the entry of a slot that opens. None is kept where something stands behind it, or when
+/// memory runs out. `last` is the optime of the last entry.
 pub(crate) fn open(beyond: &mut VecDeque<Place>, last: OpTime, at: OpTime)
-    ensures { (settled : List Entry) → IsHeld settled beyond.old.items → last ≡ last_of (settled ++ written beyond.old.items) → Moved settled beyond.old.items 0 settled beyond.new.items 1 }
+    ensures { (settled : List Entry) → IsHeld settled beyond.old.items
+        → last ≡ last_of (settled ++ written beyond.old.items)
+        → Moved settled beyond.old.items 0 settled beyond.new.items 1 }
 {
     if precedes(end_of(beyond, last), at) && beyond.reserve(1).is_ok() {
         beyond.push_back_reserved(Place::Open(at));
@@ -73,7 +76,8 @@ pub(crate) fn open(beyond: &mut VecDeque<Place>, last: OpTime, at: OpTime)
 
 /// The optime of the last place, or of the last entry where there is no place.
 fn end_of(beyond: &VecDeque<Place>, last: OpTime) -> OpTime
-    ensures { (settled : List Entry) (at : OpTime) → IsHeld settled beyond.now.items → last ≡ last_of (settled ++ written beyond.now.items) → Precedes result at
+    ensures { (settled : List Entry) (at : OpTime) → IsHeld settled beyond.now.items
+        → last ≡ last_of (settled ++ written beyond.now.items) → Precedes result at
         → AllPrecede settled beyond.now.items at }
 {
     match beyond.back() {
@@ -82,10 +86,12 @@ fn end_of(beyond: &VecDeque<Place>, last: OpTime) -> OpTime
     }
 }
 
-/// Puts an entry at the place that is kept for it, or behind all places. It comes back where there is no place, or
-/// when memory runs out.
+/// Puts an entry at the place that is kept for it, or behind all places. It comes back where there is no
+/// place, or when memory runs out.
 pub(crate) fn put(beyond: &mut VecDeque<Place>, entry: Entry) -> Option<Entry>
-    ensures placed { IfNone result ((settled : List Entry) → IsHeld settled beyond.old.items → IsOplog (with_entry (settled ++ written beyond.old.items) entry) → Placed settled beyond.old.items entry beyond.new.items) }
+    ensures placed { IfNone result ((settled : List Entry) → IsHeld settled beyond.old.items
+        → IsOplog (with_entry (settled ++ written beyond.old.items) entry)
+        → Placed settled beyond.old.items entry beyond.new.items) }
     ensures back { IfSome result (λ other. (other ≡ entry) × (beyond.new.items ≡ beyond.old.items)) }
 {
     let Some(last) = beyond.back() else {
@@ -109,7 +115,9 @@ fn push(beyond: &mut VecDeque<Place>, entry: Entry) -> Option<Entry>
 }
 
 fn fill(beyond: &mut VecDeque<Place>, entry: Entry) -> Option<Entry>
-    ensures filled { IfNone result ((place : ℕ) × (slice_get beyond.old.items place ≡ Some (Open entry.optime)) × (beyond.new.items ≡ slice_set beyond.old.items place (Written entry))) }
+    ensures filled { IfNone result
+        ((place : ℕ) × (slice_get beyond.old.items place ≡ Some (Open entry.optime))
+        × (beyond.new.items ≡ slice_set beyond.old.items place (Written entry))) }
     ensures back { IfSome result (λ other. (other ≡ entry) × (beyond.new.items ≡ beyond.old.items)) }
 {
     let place = place_from(beyond, entry.optime.ts);
@@ -122,7 +130,8 @@ fn fill(beyond: &mut VecDeque<Place>, entry: Entry) -> Option<Entry>
 
 /// Closes the slot at an optime, where a place is kept for it.
 pub(crate) fn close(beyond: &mut VecDeque<Place>, at: OpTime)
-    ensures { (settled : List Entry) → IsHeld settled beyond.old.items → Moved settled beyond.old.items 0 settled beyond.new.items 0 }
+    ensures { (settled : List Entry) → IsHeld settled beyond.old.items
+        → Moved settled beyond.old.items 0 settled beyond.new.items 0 }
 {
     let place = place_from(beyond, at.ts);
     if is_open_at(beyond, place, at) {
@@ -186,8 +195,10 @@ pub(crate) fn entry_at(beyond: &VecDeque<Place>, at: OpTime) -> Option<&Entry>
 
 /// The first place that isn't before a timestamp.
 fn place_from(beyond: &VecDeque<Place>, ts: u64) -> usize
-    ensures front { AllPairs StandsFirst beyond.now.items → AllWithin (λ place. (optime_of place).ts < ts) beyond.now.items 0 result }
-    ensures back { AllPairs StandsFirst beyond.now.items → AllWithin (λ place. ts ≤ (optime_of place).ts) beyond.now.items result (length beyond.now.items) }
+    ensures front { AllPairs StandsFirst beyond.now.items
+        → AllWithin (λ place. (optime_of place).ts < ts) beyond.now.items 0 result }
+    ensures back { AllPairs StandsFirst beyond.now.items
+        → AllWithin (λ place. ts ≤ (optime_of place).ts) beyond.now.items result (length beyond.now.items) }
 {
     beyond.partition_point(
         |place| -> bool
@@ -209,7 +220,8 @@ fn is_open_at(beyond: &VecDeque<Place>, place: usize, at: OpTime) -> bool
 pub(crate) fn settle(settled: &mut Oplog, beyond: &mut VecDeque<Place>)
     requires held { IsHeld settled.old.entries beyond.old.items }
     requires room { length beyond.old.items ≤ settled.old.spare }
-    ensures { Moved settled.old.entries beyond.old.items settled.old.spare settled.new.entries beyond.new.items settled.new.spare }
+    ensures { Moved settled.old.entries beyond.old.items settled.old.spare settled.new.entries
+        beyond.new.items settled.new.spare }
 {
     while begins_settled(beyond) {
         move_first(settled, beyond);
@@ -220,7 +232,8 @@ pub(crate) fn settle(settled: &mut Oplog, beyond: &mut VecDeque<Place>)
 pub(crate) fn gather(settled: &mut Oplog, beyond: &mut VecDeque<Place>)
     requires held { IsHeld settled.old.entries beyond.old.items }
     requires room { length beyond.old.items ≤ settled.old.spare }
-    ensures moved { Moved settled.old.entries beyond.old.items settled.old.spare settled.new.entries beyond.new.items settled.new.spare }
+    ensures moved { Moved settled.old.entries beyond.old.items settled.old.spare settled.new.entries
+        beyond.new.items settled.new.spare }
     ensures none { beyond.new.items ≡ [] }
 {
     while !beyond.is_empty() {
@@ -242,7 +255,8 @@ fn move_first(settled: &mut Oplog, beyond: &mut VecDeque<Place>)
     requires held { IsHeld settled.old.entries beyond.old.items }
     requires some { 0 < length beyond.old.items }
     requires room { length beyond.old.items ≤ settled.old.spare }
-    ensures moved { Moved settled.old.entries beyond.old.items settled.old.spare settled.new.entries beyond.new.items settled.new.spare }
+    ensures moved { Moved settled.old.entries beyond.old.items settled.old.spare settled.new.entries
+        beyond.new.items settled.new.spare }
     ensures fewer { length beyond.new.items < length beyond.old.items }
 {
     let Some(place) = beyond.pop_front() else {
@@ -257,7 +271,8 @@ fn move_first(settled: &mut Oplog, beyond: &mut VecDeque<Place>)
 /// The optime of the last entry at a place before an optime, or another optime where there is none.
 pub(crate) fn last_before(beyond: &VecDeque<Place>, at: OpTime, other: OpTime) -> OpTime
     requires { AllPairs StandsFirst beyond.now.items }
-    ensures { (settled : List Entry) → other ≡ last_of settled → result ≡ last_of (settled ++ entries_before (Some at) (written beyond.now.items)) }
+    ensures { (settled : List Entry) → other ≡ last_of settled
+        → result ≡ last_of (settled ++ entries_before (Some at) (written beyond.now.items)) }
 {
     let count = beyond.partition_point(
         |place| -> bool
@@ -270,7 +285,8 @@ pub(crate) fn last_before(beyond: &VecDeque<Place>, at: OpTime, other: OpTime) -
 /// The optime of the last entry at one of the first places, or another optime where there is none.
 fn last_written(beyond: &VecDeque<Place>, count: usize, other: OpTime) -> OpTime
     requires { count ≤ length beyond.now.items }
-    ensures { (settled : List Entry) → other ≡ last_of settled → result ≡ last_of (settled ++ written (take count beyond.now.items)) }
+    ensures { (settled : List Entry) → other ≡ last_of settled
+        → result ≡ last_of (settled ++ written (take count beyond.now.items)) }
 {
     let mut last = other;
     for place in 0..count {
@@ -281,7 +297,8 @@ fn last_written(beyond: &VecDeque<Place>, count: usize, other: OpTime) -> OpTime
 
 /// The optime of the entry at a place, or another optime where there is none.
 fn written_or(place: &Place, other: OpTime) -> OpTime
-    ensures { (entries : List Entry) → other ≡ last_of entries → result ≡ last_of (entries ++ written (place.now ∷ [])) }
+    ensures { (entries : List Entry) → other ≡ last_of entries
+        → result ≡ last_of (entries ++ written (place.now ∷ [])) }
 {
     match place.entry() {
         Some(entry) => entry.optime,

@@ -1,4 +1,5 @@
--- Acknowledgements and reads: what the crates that decide them answer, given a node's values, and what the node answers.
+-- Acknowledgements and reads: what the crates that decide them answer, given a node's values, and what
+-- the node answers.
 use Rattle.std.specs.Prelude.{◌≡◌, List, Option, None, Some}
 use Rattle.rs_optime.specs.declared.optime.OpTime.{OpTime}
 use Rattle.oplog_entry.specs.declared.entry.Entry.{Entry}
@@ -40,7 +41,8 @@ refusal_of (part_answer.CannotSatisfy members) = Some (refusal.CannotSatisfy mem
 abbrev pub ConcernsAgree : Type 0
 ConcernsAgree =
     (node : Node) (at : OpTime) (concern : AckConcern)
-    → refusal_of (answered node.progress node.config node.number node.durable node.commit at (concern_of concern)) ≡ unmet node at concern
+    → refusal_of (answered node.progress node.config node.number node.durable node.commit at
+    (concern_of concern)) ≡ unmet node at concern
 
 -- ---- reads
 
@@ -56,4 +58,5 @@ part_shown log (At at) = log_up_to at log
 abbrev pub ReadsAgree : Type 0
 ReadsAgree =
     (node : Node) (level : ReadLevel)
-    → part_shown node.log (shown_at (level_of level) (is_primary node.role) node.commit (applied_point node)) ≡ shown_log node level
+    → part_shown node.log (shown_at (level_of level) (is_primary node.role) node.commit (applied_point node))
+    ≡ shown_log node level

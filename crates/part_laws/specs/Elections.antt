@@ -1,4 +1,5 @@
--- Votes and tallies: what the crates that decide them answer, given a node's values, and what the node answers.
+-- Votes and tallies: what the crates that decide them answer, given a node's values, and what
+-- the node answers.
 use Rattle.std.specs.Prelude.{◌≡◌, ℕ, List}
 use Rattle.vote_store.specs.Voting.{vote_for}
 use Rattle.member_config.specs.declared.config.Config.{Config}
@@ -34,5 +35,7 @@ tally_of config voted = record { voters = voters config; yes = voted }
 
 -- a `Tally` grows as a node's does, and needs the majority that the node needs
 pub record TalliesAgree : Type 0 where
-  pub grows : (config : Config) (voted : List ℕ) (from : ℕ) → with_yes (tally_of config voted) from ≡ tally_of config (with_vote config voted from)
-  pub needed : (config : Config) (voted : List ℕ) → (count_of (tally_of config voted)).needed ≡ majority config
+  pub grows : (config : Config) (voted : List ℕ) (from : ℕ)
+      → with_yes (tally_of config voted) from ≡ tally_of config (with_vote config voted from)
+  pub needed : (config : Config) (voted : List ℕ)
+      → (count_of (tally_of config voted)).needed ≡ majority config

@@ -1,4 +1,5 @@
--- Sources, fetching and rollback: what the crates that decide them answer, given a node's values, and what the node answers.
+-- Sources, fetching and rollback: what the crates that decide them answer, given a node's values, and what
+-- the node answers.
 use Rattle.std.specs.Prelude.{◌≡◌, ℕ, true, not, nat_lt, List, filter, length, Result, Ok, Err, if◌then◌else◌}
 use Rattle.std.specs.List.{All}
 use Rattle.std.specs.FinMap as maps
@@ -39,7 +40,8 @@ AreKnown node known = (member : ℕ) → heard_of known member ≡ maps.get node
 abbrev pub SourcesAgree : Type 0
 SourcesAgree =
     (node : Node) (known : List Known) → AreKnown node known
-    → lowest (sources_of node.config node.number (last_point node) (heard_of known)) ≡ lowest (fetching.sources node)
+    → lowest (sources_of node.config node.number (last_point node) (heard_of known))
+    ≡ lowest (fetching.sources node)
 
 -- ---- fetching
 
@@ -51,7 +53,8 @@ AreBehindZero log = All (λ entry. is_before ZERO entry.optime ≡ true) log
 abbrev pub FetchesAgree : Type 0
 FetchesAgree =
     (node : Node) (base : OpTime) → IsOplog node.log → AreBehindZero node.log
-    → reply_to node.log (visible_point node) base node.commit (is_primary node.role) ≡ fetching.reply_to node base
+    → reply_to node.log (visible_point node) base node.commit (is_primary node.role)
+    ≡ fetching.reply_to node base
 
 -- a secondary takes what `accept` takes
 abbrev pub AcceptsAgree : Type 0
@@ -60,7 +63,8 @@ AcceptsAgree =
     → fetching.entries_told node from reply
     ≡ (if not (is_secondary node.role) then ignored row.NotSecondary node
     else if not (continues (last_point node) reply) then ignored row.OtherPlace node
-    else replied (Took (length reply.entries) (last_point (fetching.taken node from reply))) (fetching.taken node from reply))
+    else replied (Took (length reply.entries) (last_point (fetching.taken node from reply)))
+    (fetching.taken node from reply))
 
 -- ---- rollback
 
@@ -79,9 +83,10 @@ RollbacksAgree =
     else planned node (plan node.term node.log (last_point node) visible after optimes))
     ≡ rollback.common_told node term after optimes visible
 
--- Where a source shows, up to the optime that was asked for, what the node's log has up to there, the common point is the
--- last entry that both have.
+-- Where a source shows, up to the optime that was asked for, what the node's log has up to there, the common
+-- point is the last entry that both have.
 abbrev pub CommonPointsAreLast : Type 0
 CommonPointsAreLast =
     (log shown : List Entry) (after : OpTime) → log_up_to after log ≡ log_up_to after shown
-    → common_point log after (rollback.optimes_of (log_behind after shown)) ≡ last_of (filter (λ entry. has_entry shown entry.optime) log)
+    → common_point log after (rollback.optimes_of (log_behind after shown))
+    ≡ last_of (filter (λ entry. has_entry shown entry.optime) log)

@@ -1,4 +1,5 @@
--- Commit points and configurations: what the crates that decide them answer, given a node's values, and what the node answers.
+-- Commit points and configurations: what the crates that decide them answer, given a node's values, and what
+-- the node answers.
 use Rattle.std.specs.Prelude.{◌≡◌, ℕ, not, Option, Some, if◌then◌else◌}
 use Rattle.std.specs.Option.{option_map}
 use Rattle.rs_optime.specs.declared.optime.OpTime.{OpTime}
@@ -16,10 +17,13 @@ use Rattle.set_model.specs.Reconfig.{reconfig_refusal}
 
 -- ---- commit points
 
--- `advance` is where a primary's commit point goes, and `learn` is what another node makes of one that it hears of
+-- `advance` is where a primary's commit point goes, and `learn` is what another node makes of one that
+-- it hears of
 pub record PointsAgree : Type 0 where
-  pub advances : (node : Node) → (evaluated node).commit ≡ if_primary node.role (advanced node.progress node.config node.term node.number node.durable node.commit) node.commit
-  pub learns : (node : Node) (heard : OpTime) → (learnt node heard).commit ≡ commit_after node.commit heard node.durable
+  pub advances : (node : Node) → (evaluated node).commit ≡ if_primary node.role
+      (advanced node.progress node.config node.term node.number node.durable node.commit) node.commit
+  pub learns : (node : Node) (heard : OpTime)
+      → (learnt node heard).commit ≡ commit_after node.commit heard node.durable
 
 -- ---- configurations
 
@@ -42,5 +46,6 @@ checked nodes node config =
 abbrev pub ReconfigsAgree : Type 0
 ReconfigsAgree =
     (nodes : ℕ) (node : Node) (config : Config)
-    → (if not (is_primary node.role) then Some row.NotPrimary else option_map refusal_of (checked nodes node config))
+    → (if not (is_primary node.role) then Some row.NotPrimary
+    else option_map refusal_of (checked nodes node config))
     ≡ reconfig_refusal nodes node config

@@ -13,7 +13,8 @@ pub fn tallies_grow_as_a_node_s()
     ensures { TalliesAgree }
 {}
 
-/// `advance` is where a primary's commit point goes, and `learn` is what another node makes of one that it hears of.
+/// `advance` is where a primary's commit point goes, and `learn` is what another node makes of one that
+/// it hears of.
 pub fn commit_points_move_as_a_node_s()
     ensures { PointsAgree }
 {}

@@ -9,9 +9,10 @@ use Rattle.repl_msg.specs.Points.{Reports, held}
 use Rattle.reconfig_core.specs.declared.refusal.ConfigRefusal.{ConfigRefusal}
 use Rattle.reconfig_core.specs.declared.refusal.ConfigRefusal.TheVariants.{WrongVersion, ConfigRule, PrimaryNotMember, TwoVoters, ConfigNotCommitted, TermNotCommitted, OplogNotCommitted, UnknownMember}
 
--- what the current configuration lacks: a majority of its voters has to have it, the commit point is of the term, and a
--- majority has that too
-abbrev pub committed_refusal : Config → (own term : ℕ) → Reports → (durable commit : OpTime) → Option ConfigRefusal
+-- what the current configuration lacks: a majority of its voters has to have it, the commit point is of the
+-- term, and a majority has that too
+abbrev pub committed_refusal : Config → (own term : ℕ) → Reports
+    → (durable commit : OpTime) → Option ConfigRefusal
 committed_refusal current own term reports durable commit =
     if nat_lt (config_held reports current own) (majority current)
     then Some (ConfigNotCommitted (config_held reports current own) (majority current))
@@ -43,7 +44,8 @@ unless_broken (Some broken) other = Some (ConfigRule broken)
 unless_broken None other = other
 
 -- a rule that is broken, an unknown member, what the new one lacks, what the current one lacks
-abbrev pub refusal : (current new : Config) → (own nodes term : ℕ) → Reports → (durable commit : OpTime) → Option ConfigRefusal
+abbrev pub refusal : (current new : Config) → (own nodes term : ℕ) → Reports
+    → (durable commit : OpTime) → Option ConfigRefusal
 refusal current new own nodes term reports durable commit =
     unless_broken (rule new) (unless_unknown (unknown_member nodes new)
     (or_else (change_refusal current new own) (committed_refusal current own term reports durable commit)))

@@ -8,7 +8,7 @@ use Rattle.std.specs.declared.alloc.Global.{Global}
 use Rattle.rs_disk.specs.File.{File, IsImage, LeavesOnly, contents, settled}
 use Rattle.rs_disk.specs.Moments.{EachMoment}
 use Rattle.rs_disk.specs.State.{State, SameButRoom}
-use Rattle.rs_disk.specs.Steps.{Step, in_step, after_step, after_steps, past_of, Makes, Breaks}
+use Rattle.rs_disk.specs.Steps.{Step, in_step, after_step, after_steps, past_of, Makes, FailsWithin}
 use Rattle.rs_disk.proofs.MomentLemmas.{EachLeaves, settled_leaves}
 use Rattle.record_file.specs.Records.{AreOpen, HasRecords, body, lists}
 use Rattle.record_file.specs.Files.{IsAtRest, IsOpen, IsRecordDisk, IsBeforeOrAfter, HasFirst, StopsBy, EndsBy, adding_steps, append_steps}
@@ -35,7 +35,7 @@ makes_then a b old mid new first second = record {
 }
 
 -- how calls break off depends on the file and its past alone
-breaks_from : (steps : List Step) (old other new : State) → old.file ≡ other.file → old.past ≡ other.past → Breaks steps old new → Breaks steps other new
+breaks_from : (steps : List Step) (old other new : State) → old.file ≡ other.file → old.past ≡ other.past → FailsWithin steps old new → FailsWithin steps other new
 breaks_from [] old other new file past none = none
 breaks_from (step ∷ steps) old other new file past (inl crashed) =
     inl (record {
@@ -46,13 +46,13 @@ breaks_from (step ∷ steps) old other new file past (inl crashed) =
 breaks_from (step ∷ steps) old other new file past (inr (mid, is, later)) =
     inr (mid, record { file = is.file ∙ ap (after_step step) file; past = is.past ∙ (λ i. in_step step (file i) ∷ file i ∷ past i) }, later)
 
-breaks_then : (a b : List Step) (old mid new : State) → Makes a old mid → Breaks b mid new → Breaks (a ++ b) old new
+breaks_then : (a b : List Step) (old mid new : State) → Makes a old mid → FailsWithin b mid new → FailsWithin (a ++ b) old new
 breaks_then [] b old mid new made breaks = breaks_from b mid old new made.file made.past breaks
 breaks_then (step ∷ a) b old mid new made breaks =
     let first : State = record old { file = after_step step old.file; past = in_step step old.file ∷ old.file ∷ old.past } in
     inr (first, record { file = refl; past = refl }, breaks_then a b first mid new (record { file = made.file; past = made.past }) breaks)
 
-breaks_before : (a b : List Step) (old new : State) → Breaks a old new → Breaks (a ++ b) old new
+breaks_before : (a b : List Step) (old new : State) → FailsWithin a old new → FailsWithin (a ++ b) old new
 breaks_before [] b old new none = absurd none
 breaks_before (step ∷ a) b old new (inl crashed) = inl crashed
 breaks_before (step ∷ a) b old new (inr (mid, is, later)) = inr (mid, is, breaks_before a b mid new later)
@@ -96,15 +96,15 @@ module _ (at : ℕ) (pieces : List (Vec ℕ Global)) (i : ℕ) (d : Vec ℕ Glob
       (makes_then (adding_steps at (lists (take i pieces))) (append_steps (at + sum_by size_of (take i pieces)) (body this.items ++ 0 ∷ [])) old mid new made
       (subst (λ (n : ℕ). Makes (append_steps n (body this.items ++ 0 ∷ [])) mid new) long added))
 
-  breaks_here : Breaks (append_steps (length (contents mid.file)) (body this.items ++ 0 ∷ [])) mid new → Breaks (adding_steps at (lists pieces)) old new
+  breaks_here : FailsWithin (append_steps (length (contents mid.file)) (body this.items ++ 0 ∷ [])) mid new → FailsWithin (adding_steps at (lists pieces)) old new
   breaks_here breaks =
       let behind = drop (i + 1) pieces in
       let there = at + sum_by size_of (take i pieces) in
       let whole : take i pieces ++ this ∷ behind ≡ pieces = ap (λ (l : List (Vec ℕ Global)). take i pieces ++ l) (sym (drop_more pieces i d within)) ∙ take-append-drop i pieces in
-      subst (λ (l : List Step). Breaks l old new) (sym (steps_append at (take i pieces) (this ∷ behind)) ∙ ap (λ (l : List (Vec ℕ Global)). adding_steps at (lists l)) whole)
+      subst (λ (l : List Step). FailsWithin l old new) (sym (steps_append at (take i pieces) (this ∷ behind)) ∙ ap (λ (l : List (Vec ℕ Global)). adding_steps at (lists l)) whole)
       (breaks_then (adding_steps at (lists (take i pieces))) (adding_steps there (lists (this ∷ behind))) old mid new made
       (breaks_before (append_steps there (body this.items ++ 0 ∷ [])) (adding_steps (there + size_of this) (lists behind)) mid new
-      (subst (λ (n : ℕ). Breaks (append_steps n (body this.items ++ 0 ∷ [])) mid new) long breaks)))
+      (subst (λ (n : ℕ). FailsWithin (append_steps n (body this.items ++ 0 ∷ [])) mid new) long breaks)))
 
   -- the disk failed within it
   pub adds_stop : {T U : Type 0} (answer : Result T FileError) (result : Result U FileError) (error : FileError) → answer ≡ Err error → result ≡ Err error → result ≢ Err Memory
@@ -135,7 +135,7 @@ ends_reserved (Ok x) pieces old mid new same made =
     })
 ends_reserved (Err Disk) pieces old mid new same breaks =
     let file : mid.file ≡ old.file = ap (λ (s : State). s.file) same in
-    subst (λ (f : File). Breaks (adding_steps (length (contents f)) pieces) old new) file
+    subst (λ (f : File). FailsWithin (adding_steps (length (contents f)) pieces) old new) file
     (breaks_from (adding_steps (length (contents mid.file)) pieces) mid old new file (ap (λ (s : State). s.past) same) breaks)
 ends_reserved (Err Memory) pieces old mid new same (made, rest, is, makes) =
     let file : mid.file ≡ old.file = ap (λ (s : State). s.file) same in

@@ -3,7 +3,7 @@ use Rattle.std.specs.Prelude.{◌≡◌, ◌⊎◌, ℕ, ◌+◌, ◌-◌, ◌<�
 use Rattle.std.proofs.Common.{inl, refl, ap, arith}
 use Rattle.rs_disk.specs.File.{IsEmpty, IsImage, LeavesOnly, write, cut, settled, contents}
 use Rattle.rs_disk.specs.State.{State}
-use Rattle.rs_disk.specs.Steps.{Step, reads, changes, syncs, Makes, MakesFirst, Breaks}
+use Rattle.rs_disk.specs.Steps.{Step, reads, changes, syncs, Makes, MakesFirst, FailsWithin}
 use Rattle.record_file.specs.Parsed.{IsParsed}
 use Rattle.record_file.specs.Records.{AreOpen, HasRecords, body}
 use Rattle.record_file.specs.declared.error.FileError.{FileError}
@@ -28,13 +28,15 @@ MayHave state records = (image : List ℕ) × IsImage state.file image × HasRec
 abbrev pub IsOneOf : State → List ℕ → Type 0
 IsOneOf state image = (records : List (List ℕ)) × HasRecords image records × MayHave state records
 
--- A disk that is empty or that a record file left: whatever a crash leaves of it has a list. It reads as one of these.
+-- A disk that is empty or that a record file left: whatever a crash leaves of it has a list. It reads as
+-- one of these.
 pub record IsRecordDisk (state : State) : Type 0 where
   pub leaves : LeavesOnly (λ image. (records : List (List ℕ)) × HasRecords image records) state.file
 
 -- an empty disk is one
 pub empty_disk : (state : State) → IsEmpty state.file → IsRecordDisk state
-empty_disk state empty = record { leaves = λ image is. ([], inl (omega (arith, ap length (empty.leaves image is)), refl)) }
+empty_disk state empty =
+    record { leaves = λ image is. ([], inl (omega (arith, ap length (empty.leaves image is)), refl)) }
 
 -- the records before an append, or those with the new one
 abbrev pub IsBeforeOrAfter : List (List ℕ) → List ℕ → List ℕ → Type 0
@@ -60,9 +62,10 @@ abbrev pub answer_of : {D A : Type 0} → Result A (D × FileError) → Result A
 answer_of (Ok opened) = Ok opened
 answer_of (Err refused) = Err refused.1
 
--- which of these calls were made where the answer is an error: a fault ends them, and memory runs out between two
+-- which of these calls were made where the answer is an error: a fault ends them, and memory runs
+-- out between two
 abbrev pub StopsBy : FileError → List Step → State → State → Type 0
-StopsBy Disk steps old new = Breaks steps old new
+StopsBy Disk steps old new = FailsWithin steps old new
 StopsBy Memory steps old new = MakesFirst steps old new
 
 -- all of these calls were made and done, or with an error the first ones
@@ -70,7 +73,8 @@ abbrev pub EndsBy : {T : Type 0} → Result T FileError → List Step → State 
 EndsBy (Ok value) steps old new = Makes steps old new
 EndsBy (Err error) steps old new = StopsBy error steps old new
 
--- the calls of an append: behind the last gate the record with the next gate, a sync, the last gate itself, a sync
+-- the calls of an append: behind the last gate the record with the next gate, a sync, the last gate
+-- itself, a sync
 abbrev pub append_steps : ℕ → List ℕ → List Step
 append_steps at tail = changes (write at tail) ∷ syncs ∷ changes (write (at - 1) (1 ∷ [])) ∷ syncs ∷ []
 
@@ -87,11 +91,14 @@ first_steps = syncs ∷ changes (write 0 (0 ∷ [])) ∷ syncs ∷ []
 abbrev pub repair_steps : ℕ → List Step
 repair_steps end = syncs ∷ reads ∷ changes (cut end) ∷ syncs ∷ []
 
--- The calls of an opening, by what its first sync keeps: a file with records is cut behind the first closed gate.
+-- The calls of an opening, by what its first sync keeps: a file with records is cut behind the
+-- first closed gate.
 abbrev pub AreOpeningSteps : List ℕ → List Step → Type 0
 AreOpeningSteps bytes steps = ((length bytes ≤ 1) × (steps ≡ first_steps))
-    ⊎ ((1 < length bytes) × (records : List (List ℕ)) × (end : ℕ) × IsParsed bytes records end × (steps ≡ repair_steps end))
+    ⊎ ((1 < length bytes) × (records : List (List ℕ)) × (end : ℕ) × IsParsed bytes records end
+    × (steps ≡ repair_steps end))
 
 -- an opening made its calls, or with an error the first of them, and no others
 abbrev pub OpensBy : {T : Type 0} → Result T FileError → State → State → Type 0
-OpensBy result old new = (steps : List Step) × AreOpeningSteps (contents old.file) steps × EndsBy result steps old new
+OpensBy result old new =
+    (steps : List Step) × AreOpeningSteps (contents old.file) steps × EndsBy result steps old new

@@ -8,4 +8,5 @@ IsFirst bytes gate piece rest = (gate ≢ 0) × (length piece < 2 ^ 32) × (byte
 
 -- the records up to the first closed gate, and the place behind it
 abbrev pub IsParsed : List ℕ → List (List ℕ) → ℕ → Type 0
-IsParsed bytes records end = (front : List ℕ) × (rest : List ℕ) × AreOpen records front × (bytes ≡ front ++ 0 ∷ rest) × (end ≡ length front + 1)
+IsParsed bytes records end = (front : List ℕ) × (rest : List ℕ) × AreOpen records front
+    × (bytes ≡ front ++ 0 ∷ rest) × (end ≡ length front + 1)

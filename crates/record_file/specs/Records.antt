@@ -1,7 +1,8 @@
 -- Which list of records the bytes of a file stand for.
 --
--- A record is a gate byte, its length in 4 bytes with the lowest first, and its bytes. A gate is closed where it is 0 and
--- else open. The records that count stand in front of the first closed gate; what stands behind it means nothing.
+-- A record is a gate byte, its length in 4 bytes with the lowest first, and its bytes. A gate is closed where
+-- it is 0 and else open. The records that count stand in front of the first closed gate; what stands behind
+-- it means nothing.
 use Rattle.std.specs.Prelude.{◌≡◌, ◌≢◌, ◌⊎◌, ℕ, ◌^◌, ◌<◌, ◌≤◌, List, [], ◌∷◌, ◌++◌, length, map, Vec}
 use Rattle.std.specs.Int.{to_le_bytes, w32}
 use Rattle.std.specs.declared.alloc.Global.{Global}
@@ -18,7 +19,8 @@ AreOpen (piece ∷ records) bytes = (gate : ℕ) × (rest : List ℕ)
 
 -- open records up to the first closed gate
 abbrev pub AreInFront : List ℕ → List (List ℕ) → Type 0
-AreInFront bytes records = (front : List ℕ) × (rest : List ℕ) × AreOpen records front × (bytes ≡ front ++ 0 ∷ rest)
+AreInFront bytes records =
+    (front : List ℕ) × (rest : List ℕ) × AreOpen records front × (bytes ≡ front ++ 0 ∷ rest)
 
 -- the file's records: a file of at most one byte has none
 abbrev pub HasRecords : List ℕ → List (List ℕ) → Type 0

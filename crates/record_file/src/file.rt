@@ -1,7 +1,7 @@
 // An append-only list of byte records on one disk.
 //
-// The gate of a new record stands closed and synced before anything behind it is written, and it is opened only
-// after the record is synced. So no checksum is needed: what a crash tears stands behind a closed gate.
+// The gate of a new record stands closed and synced before anything behind it is written, and it is opened
+// only after the record is synced. So no checksum is needed: what a crash tears stands behind a closed gate.
 ghost use Rattle.std.specs.Prelude.{◌≡◌, ◌≢◌, ◌+◌, ◌^◌, ◌<◌, ◌≤◌, List, ℕ, [], ◌∷◌, ◌++◌, All, length, Err, IfErr, IfOk, OnOk, IsErrOf};
 ghost use Rattle.rs_disk.specs.File.{contents};
 ghost use Rattle.rs_disk.specs.Moments.{EachMoment};
@@ -45,12 +45,15 @@ impl<D: Disk> RecordFile<D> {
     /// Reads the records of a disk that is empty or that a record file left, and repairs its end.
     ///
     /// # Errors
-    /// `Disk` where the disk failed. Either error hands the disk back, and an opening may be tried again on it.
+    /// `Disk` where the disk failed. Either error hands the disk back, and an opening may be tried
+    /// again on it.
     pub fn open(alloc: Global, disk: D) -> Result<(RecordFile<D>, Vec<Vec<u8>>), (D, FileError)>
         requires { IsRecordDisk (D.state disk) }
 
-        ensures records { IfOk result (λ opened. HasRecords (contents (D.state disk).file) (lists opened.1.items)) }
-        ensures only { IfOk result (λ opened. (records : List (List ℕ)) → HasRecords (contents (D.state disk).file) records
+        ensures records { IfOk result (λ opened.
+            HasRecords (contents (D.state disk).file) (lists opened.1.items)) }
+        ensures only { IfOk result (λ opened.
+            (records : List (List ℕ)) → HasRecords (contents (D.state disk).file) records
             → lists opened.1.items ≡ records) }
         ensures at_rest { IfOk result (λ opened. IsAtRest (D.state opened.0.0) (lists opened.1.items)) }
         ensures open { IfOk result (λ opened. IsOpen (D.state opened.0.0)) }
@@ -58,8 +61,10 @@ impl<D: Disk> RecordFile<D> {
         ensures calls { OpensBy (answer_of result) (D.state disk) (D.state (disk_after result)) }
 
         // A crash at any moment leaves one of the lists that a crash before the call might have left.
-        ensures any_moment { EachMoment (IsOneOf (D.state disk)) (D.state disk) (D.state (disk_after result)) }
-        ensures keeps { Keeps (IsErrOf (answer_of result) FileError.Disk) (D.state disk) (D.state (disk_after result)) }
+        ensures any_moment { EachMoment (IsOneOf (D.state disk)) (D.state disk)
+            (D.state (disk_after result)) }
+        ensures keeps { Keeps (IsErrOf (answer_of result) FileError.Disk) (D.state disk)
+            (D.state (disk_after result)) }
     {
         let mut file = RecordFile::unopened(alloc, disk);
         match file.reopen() {
@@ -75,8 +80,10 @@ impl<D: Disk> RecordFile<D> {
     pub fn reopen(&mut self) -> Result<Vec<Vec<u8>>, FileError>
         requires { IsRecordDisk (D.state self.old.0) }
 
-        ensures records { IfOk result (λ read. HasRecords (contents (D.state self.old.0).file) (lists read.items)) }
-        ensures only { IfOk result (λ read. (records : List (List ℕ)) → HasRecords (contents (D.state self.old.0).file) records
+        ensures records { IfOk result (λ read.
+            HasRecords (contents (D.state self.old.0).file) (lists read.items)) }
+        ensures only { IfOk result (λ read.
+            (records : List (List ℕ)) → HasRecords (contents (D.state self.old.0).file) records
             → lists read.items ≡ records) }
         ensures at_rest { IfOk result (λ read. IsAtRest (D.state self.new.0) (lists read.items)) }
         ensures open { OnOk result (IsOpen (D.state self.new.0)) }
@@ -84,7 +91,8 @@ impl<D: Disk> RecordFile<D> {
         ensures calls { OpensBy result (D.state self.old.0) (D.state self.new.0) }
 
         // A crash at any moment leaves one of the lists that a crash before the call might have left.
-        ensures any_moment { EachMoment (IsOneOf (D.state self.old.0)) (D.state self.old.0) (D.state self.new.0) }
+        ensures any_moment { EachMoment (IsOneOf (D.state self.old.0)) (D.state self.old.0)
+            (D.state self.new.0) }
         ensures keeps { Keeps (IsErrOf result FileError.Disk) (D.state self.old.0) (D.state self.new.0) }
         ensures buffer { self.new.1 ≡ self.old.1 }
     {
@@ -109,11 +117,13 @@ impl<D: Disk> RecordFile<D> {
 
         ensures ok { OnOk result ((records : List (List ℕ)) → IsAtRest (D.state self.old.0) records
             → IsAtRest (D.state self.new.0) (records ++ piece.now ∷ [])) }
-        ensures memory { result ≡ Err FileError.Memory → SameButRoom (D.state self.old.0) (D.state self.new.0) }
+        ensures memory { result ≡ Err FileError.Memory
+            → SameButRoom (D.state self.old.0) (D.state self.new.0) }
         ensures open { OnOk result (IsOpen (D.state self.new.0)) }
         ensures still_open { result ≡ Err FileError.Memory → IsOpen (D.state self.new.0) }
         ensures left { IsRecordDisk (D.state self.new.0) }
-        ensures calls { EndsBy result (append_steps (length (contents (D.state self.old.0).file)) (body piece.now ++ 0 ∷ []))
+        ensures calls { EndsBy result
+            (append_steps (length (contents (D.state self.old.0).file)) (body piece.now ++ 0 ∷ []))
             (D.state self.old.0) (D.state self.new.0) }
 
         // A crash at any moment of the call leaves the records from before it, with the new one or without.
@@ -122,8 +132,10 @@ impl<D: Disk> RecordFile<D> {
         ensures keeps { Keeps (IsErrOf result FileError.Disk) (D.state self.old.0) (D.state self.new.0) }
 
         // A record takes 5 bytes more than it has.
-        ensures room { length piece.now + 5 ≤ spare (D.state self.old.0) self.old.1 → result ≢ Err FileError.Memory }
-        ensures spare { OnOk result (spare (D.state self.old.0) self.old.1 ≤ spare (D.state self.new.0) self.new.1 + (length piece.now + 5)) }
+        ensures room { length piece.now + 5 ≤ spare (D.state self.old.0) self.old.1
+            → result ≢ Err FileError.Memory }
+        ensures spare { OnOk result (spare (D.state self.old.0) self.old.1
+            ≤ spare (D.state self.new.0) self.new.1 + (length piece.now + 5)) }
     {
         add(&mut self.disk, &mut self.buffer, piece)
     }
@@ -131,15 +143,16 @@ impl<D: Disk> RecordFile<D> {
     /// Adds records one behind the other. After `Ok` every crash leaves all of them.
     ///
     /// # Errors
-    /// `Memory` leaves the file as it was: what they take is taken before the first of them is added. After `Disk`
-    /// the file has failed, and only `close` is left.
+    /// `Memory` leaves the file as it was: what they take is taken before the first of them is added. After
+    /// `Disk` the file has failed, and only `close` is left.
     pub fn append_all(&mut self, pieces: &[Vec<u8>]) -> Result<(), FileError>
         requires open { IsOpen (D.state self.old.0) }
         requires short { All (λ piece. length piece.items < 2 ^ 32) pieces.now }
 
         ensures ok { OnOk result ((records : List (List ℕ)) → IsAtRest (D.state self.old.0) records
             → IsAtRest (D.state self.new.0) (records ++ lists pieces.now)) }
-        ensures memory { result ≡ Err FileError.Memory → SameButRoom (D.state self.old.0) (D.state self.new.0) }
+        ensures memory { result ≡ Err FileError.Memory
+            → SameButRoom (D.state self.old.0) (D.state self.new.0) }
         ensures open { OnOk result (IsOpen (D.state self.new.0)) }
         ensures still_open { result ≡ Err FileError.Memory → IsOpen (D.state self.new.0) }
         ensures left { IsRecordDisk (D.state self.new.0) }
@@ -155,8 +168,8 @@ impl<D: Disk> RecordFile<D> {
         add_all(&mut self.disk, &mut self.buffer, pieces)
     }
 
-    /// Takes the memory for records of so many bytes together, where each counts 5 more than it has. Out of memory leaves the
-    /// file as it was.
+    /// Takes the memory for records of so many bytes together, where each counts 5 more than it has. Out of
+    /// memory leaves the file as it was.
     pub fn reserve(&mut self, more: u64) -> Result<(), AllocError>
         ensures same { SameButRoom (D.state self.old.0) (D.state self.new.0) }
         ensures open { IsOpen (D.state self.old.0) → IsOpen (D.state self.new.0) }

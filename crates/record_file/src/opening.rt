@@ -14,7 +14,8 @@ use std::alloc::Global;
 // Reads the records of a disk that a record file left, and repairs its end.
 pub(crate) fn prepare<D: Disk>(alloc: Global, disk: &mut D) -> Result<Vec<Vec<u8>>, FileError>
     requires { IsRecordDisk (D.state disk.old) }
-    ensures records { IfOk result (λ records. HasRecords (contents (D.state disk.old).file) (lists records.items)) }
+    ensures records { IfOk result (λ records.
+        HasRecords (contents (D.state disk.old).file) (lists records.items)) }
     ensures at_rest { IfOk result (λ records. IsAtRest (D.state disk.new) (lists records.items)) }
     ensures calls { OpensBy result (D.state disk.old) (D.state disk.new) }
     ensures keeps { Keeps (IsErrOf result FileError.Disk) (D.state disk.old) (D.state disk.new) }

@@ -18,7 +18,8 @@ pub(crate) fn begin<D: Disk>(disk: &mut D) -> Result<(), FileError>
     requires synced { (D.state disk.old).file ≡ settled (contents (D.state disk.old).file) }
     requires short { length (contents (D.state disk.old).file) ≤ 1 }
     ensures at_rest { OnOk result (IsAtRest (D.state disk.new) []) }
-    ensures calls { EndsBy result (changes (write 0 (0 ∷ [])) ∷ syncs ∷ []) (D.state disk.old) (D.state disk.new) }
+    ensures calls { EndsBy result (changes (write 0 (0 ∷ [])) ∷ syncs ∷ []) (D.state disk.old)
+        (D.state disk.new) }
     ensures keeps { Keeps (IsErrOf result FileError.Disk) (D.state disk.old) (D.state disk.new) }
 {
     put(disk, 0, &[0])
@@ -29,9 +30,11 @@ pub(crate) fn repair<D: Disk>(alloc: Global, disk: &mut D) -> Result<Vec<Vec<u8>
     requires synced { (D.state disk.old).file ≡ settled (contents (D.state disk.old).file) }
     requires long { 1 < length (contents (D.state disk.old).file) }
     requires has { IsRecordDisk (D.state disk.old) }
-    ensures records { IfOk result (λ records. HasRecords (contents (D.state disk.old).file) (lists records.items)) }
+    ensures records { IfOk result (λ records.
+        HasRecords (contents (D.state disk.old).file) (lists records.items)) }
     ensures at_rest { IfOk result (λ records. IsAtRest (D.state disk.new) (lists records.items)) }
-    ensures calls { (records : List (List ℕ)) × (end : ℕ) × IsParsed (contents (D.state disk.old).file) records end
+    ensures calls { (records : List (List ℕ))
+        × (end : ℕ) × IsParsed (contents (D.state disk.old).file) records end
         × EndsBy result (reads ∷ changes (cut end) ∷ syncs ∷ []) (D.state disk.old) (D.state disk.new) }
     ensures keeps { Keeps (IsErrOf result FileError.Disk) (D.state disk.old) (D.state disk.new) }
 {

@@ -14,7 +14,8 @@ holds shown base = same_optime base ZERO || has_entry shown base
 abbrev pub entries_after : List Entry → OpTime → List Entry
 entries_after shown base = if holds shown base then take 5000 (log_behind base shown) else []
 
--- what a source answers whose visible log this is, with its visible optime, its commit point and whether it is primary
+-- what a source answers whose visible log this is, with its visible optime, its commit point and whether
+-- it is primary
 abbrev pub reply_of : List Entry → (visible base commit : OpTime) → Bool → FetchReply
 reply_of shown visible base commit primary =
     record {

@@ -1,5 +1,5 @@
--- What a rollback keeps of a log, and which documents it takes (MongoDB's replication architecture guide, rollback;
--- RaftMongo).
+-- What a rollback keeps of a log, and which documents it takes (MongoDB's replication architecture
+-- guide, rollback; RaftMongo).
 use Rattle.std.specs.Prelude.{ℕ, ◌==◌, Bool, not, ◌&&◌, ◌||◌, nat_lt, List, map, filter, Option}
 use Rattle.std.specs.List.{list_any, filter_map}
 use Rattle.std.specs.FinMap as maps
@@ -12,13 +12,15 @@ use Rattle.oplog_entry.specs.Step.{place_of}
 use Rattle.oplog_entry.specs.Visible.{last_of}
 use Rattle.repl_msg.specs.Logs.{same_optime}
 
--- the source has this, as far as its answer tells: it is at or before the optime that was asked for, or in the list
+-- the source has this, as far as its answer tells: it is at or before the optime that was asked for, or
+-- in the list
 abbrev pub is_common : OpTime → List OpTime → OpTime → Bool
 is_common after optimes at = not (is_before after at) || list_any (same_optime at) optimes
 
 -- a source's log ends in a node's term, and the node's own in an earlier one
 abbrev pub is_of_later_branch : ℕ → (own_last source_last : OpTime) → Bool
-is_of_later_branch term own_last source_last = source_last.term == term && nat_lt own_last.term source_last.term
+is_of_later_branch term own_last source_last =
+    source_last.term == term && nat_lt own_last.term source_last.term
 
 -- the greatest entry that the source has too, or ZERO
 abbrev pub common_point : List Entry → OpTime → List OpTime → OpTime

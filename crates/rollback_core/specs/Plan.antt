@@ -7,7 +7,8 @@ use Rattle.rollback_core.specs.declared.point.RollbackRefusal.{RollbackRefusal}
 use Rattle.rollback_core.specs.declared.point.RollbackRefusal.TheVariants.{NotOlder, SameBranch}
 
 -- why a node doesn't roll back, and up to where it does
-abbrev pub plan : ℕ → List Entry → (own_last source_last after : OpTime) → List OpTime → Result OpTime RollbackRefusal
+abbrev pub plan : ℕ → List Entry
+    → (own_last source_last after : OpTime) → List OpTime → Result OpTime RollbackRefusal
 plan term log own_last source_last after optimes =
     if not (is_of_later_branch term own_last source_last) then Err NotOlder
     else if is_common after optimes own_last then Err SameBranch

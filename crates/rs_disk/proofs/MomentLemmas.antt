@@ -4,7 +4,7 @@ use Rattle.rs_disk.specs.File.{File, LeavesOnly, contents, settled}
 use Rattle.rs_disk.specs.Images.{read_is_image, only_image}
 use Rattle.rs_disk.specs.Moments.{EachMoment, starts, goes_on, joins}
 use Rattle.rs_disk.specs.State.{State, IsDone}
-use Rattle.rs_disk.specs.Steps.{Step, in_step, after_step, after_steps, past_of, Makes, MakesFirst, Breaks}
+use Rattle.rs_disk.specs.Steps.{Step, in_step, after_step, after_steps, past_of, Makes, MakesFirst, FailsWithin}
 
 -- what is synced reads so after every crash
 pub settled_leaves : (P : List ℕ → Type 0) (bytes : List ℕ) → P bytes → LeavesOnly P (settled bytes)
@@ -42,7 +42,7 @@ module _ (P : List ℕ → Type 0) where
       let first = one_done step steps old mid leaves (record { file = refl; past = refl }) in
       joins P old mid new first.0 (made_moments steps mid new first.1 (record { file = made.file; past = made.past }))
 
-  pub broken_moments : (steps : List Step) (old new : State) → EachLeaves P steps old.file → Breaks steps old new → EachMoment P old new
+  pub broken_moments : (steps : List Step) (old new : State) → EachLeaves P steps old.file → FailsWithin steps old new → EachMoment P old new
   broken_moments [] old new leaves none = absurd none
   broken_moments (step ∷ steps) old new leaves (inl crashed) =
       goes_on P old old new (in_step step old.file) (starts P old leaves.0) crashed.past leaves.1 (λ image left. leaves.1 image (crashed.leaves image left))

@@ -1,9 +1,9 @@
 -- A file between two syncs, and what a crash may leave of it.
 --
--- The model is that of a disk with a volatile cache. Between two syncs each range that was written, and everything
--- behind the least end that the file has had, may hold any bytes after a crash: old, new or neither. The file may then
--- end anywhere from the least to the greatest end that it has had. All other bytes stay. A sync that succeeds leaves one
--- outcome. Bytes are numbers below 256, and a file is a list of them.
+-- The model is that of a disk with a volatile cache. Between two syncs each range that was written, and
+-- everything behind the least end that the file has had, may hold any bytes after a crash: old, new or
+-- neither. The file may then end anywhere from the least to the greatest end that it has had. All other bytes
+-- stay. A sync that succeeds leaves one outcome. Bytes are numbers below 256, and a file is a list of them.
 use Rattle.std.specs.Prelude.{◌≡◌, ℕ, ◌+◌, ◌<◌, ◌≤◌, min, max, Bool, false, ◌&&◌, ◌||◌, nat_le, nat_lt, List, [], ◌∷◌, ◌++◌, length, take, drop, slice_index, ⊤}
 
 -- a change since the last sync
@@ -42,17 +42,20 @@ contents file = read_of file.synced file.changes
 -- the least end of the file since the last sync
 abbrev pub least_of : List ℕ → List Change → ℕ
 least_of synced [] = length synced
-least_of synced (change ∷ changes) = min (least_of synced changes) (length (read_of synced (change ∷ changes)))
+least_of synced (change ∷ changes) =
+    min (least_of synced changes) (length (read_of synced (change ∷ changes)))
 
 -- the greatest end of the file since the last sync
 abbrev pub greatest_of : List ℕ → List Change → ℕ
 greatest_of synced [] = length synced
-greatest_of synced (change ∷ changes) = max (greatest_of synced changes) (length (read_of synced (change ∷ changes)))
+greatest_of synced (change ∷ changes) =
+    max (greatest_of synced changes) (length (read_of synced (change ∷ changes)))
 
 -- the place has been written since the last sync
 abbrev pub is_written : ℕ → List Change → Bool
 is_written place [] = false
-is_written place (write at bytes ∷ changes) = nat_le at place && nat_lt place (at + length bytes) || is_written place changes
+is_written place (write at bytes ∷ changes) =
+    nat_le at place && nat_lt place (at + length bytes) || is_written place changes
 is_written place (cut to ∷ changes) = is_written place changes
 
 -- numbers below 256; a place behind the end counts as 0

@@ -7,7 +7,7 @@ pub mod Pages
 pub mod Past
 pub mod Picks
 pub mod Calls
-pub mod Strikes
+pub mod FailsAsArmed
 pub mod Memory
 pub mod Moments
 pub mod Steps

@@ -24,4 +24,12 @@ arm_of disk = disk.arm
 
 -- an empty disk that isn't armed and has no orders
 abbrev pub fresh : State
-fresh = record { file = settled []; past = []; faults = 0; orders = no_orders; is_armed = false; is_steady = true; room = 0 }
+fresh = record {
+  file = settled [];
+  past = [];
+  faults = 0;
+  orders = no_orders;
+  is_armed = false;
+  is_steady = true;
+  room = 0;
+}

@@ -20,7 +20,8 @@ pub record Holds (pages : Pages) (file : File) : Type 0 where
   pub contents : take pages.end pages.now.items ≡ contents file
   pub synced : take pages.synced_end pages.synced.items ≡ file.synced
   pub least : pages.least ≡ least_of file.synced file.changes
-  pub touched : (place : ℕ) → place < pages.least → slice_index_or pages.touched.items place false ≡ is_written place file.changes
+  pub touched : (place : ℕ) → place < pages.least
+      → slice_index_or pages.touched.items place false ≡ is_written place file.changes
   -- what was written lies behind this place
   pub first : pages.first ≤ pages.least
   pub untouched : (place : ℕ) → place < pages.first → is_written place file.changes ≡ false
@@ -30,5 +31,6 @@ pub record IsSettling (pages : Pages) : Type 0 where
   pub within : IsWithin pages
   pub first : pages.first ≤ pages.end
   pub first_synced : pages.first ≤ pages.synced_end
-  pub same : (place : ℕ) → place < pages.first → slice_index pages.now.items place ≡ slice_index pages.synced.items place
+  pub same : (place : ℕ) → place < pages.first
+      → slice_index pages.now.items place ≡ slice_index pages.synced.items place
   pub untouched : (place : ℕ) → place < pages.first → slice_index_or pages.touched.items place false ≡ false

@@ -56,12 +56,14 @@ done_past call past = called call Done past
 -- the past after a call that failed: without a pick nothing was done
 abbrev pub failed_past : Call → Option ℕ → Past → Past
 failed_past call None past = called call Undone past
-failed_past call (Some pick) past = record (called call Undone past) { file = settled (picked pick (during call past.file)) }
+failed_past call (Some pick) past =
+    record (called call Undone past) { file = settled (picked pick (during call past.file)) }
 
 -- an order to fail at some call takes no time
 abbrev pub past_after : Event → Past → Past
 past_after event past = after event.call
   where
     after : Call → Past
-    after (Arm call pick) = record { file = past.file; before = past.before; orders = ordered (arm call pick) past.orders }
+    after (Arm call pick) =
+        record { file = past.file; before = past.before; orders = ordered (arm call pick) past.orders }
     after call = called call event.end past

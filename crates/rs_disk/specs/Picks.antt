@@ -9,7 +9,8 @@ is_open file place = is_written place file.changes || nat_le (least_of file.sync
 -- these bytes, from that place on, with the pick and the place for each byte that may be any
 abbrev pub filled : ℕ → File → ℕ → List ℕ → List ℕ
 filled pick file place [] = []
-filled pick file place (byte ∷ bytes) = (if is_open file place then (pick + place) % 256 else byte) ∷ filled pick file (place + 1) bytes
+filled pick file place (byte ∷ bytes) =
+    (if is_open file place then (pick + place) % 256 else byte) ∷ filled pick file (place + 1) bytes
 
 -- 0 leaves what was synced, 1 what a read gives, and any other pick other bytes
 abbrev pub picked : ℕ → File → List ℕ

@@ -1,6 +1,6 @@
 -- What there is to know of a disk, and what its calls do to it.
 use Rattle.std.specs.Prelude.{◌≡◌, ℕ, ◌≤◌, Bool, IsTrue, List, ◌∷◌, Result, Ok, Err, Option}
-use Rattle.rs_io.specs.Fault.{Rose}
+use Rattle.rs_io.specs.Fault.{CountRose}
 use Rattle.rs_disk.specs.File.{File, write, changed, contents, settled, IsImage, LeavesOnly}
 use Rattle.rs_disk.specs.Orders.{Orders, ordered, arm, power_cut}
 use Rattle.rs_disk.specs.declared.disk.DiskError.{DiskError}
@@ -32,8 +32,8 @@ pub record IsDone (during done : File) (old new : State) : Type 0 where
   pub file : new.file ≡ done
   pub past : Passed during old new
 
--- The file is as a crash within the call may have left it: what is read now and what a crash now may leave are among
--- what such a crash may have left.
+-- The file is as a crash within the call may have left it: what is read now and what a crash now may leave
+-- are among what such a crash may have left.
 pub record IsCrashed (during : File) (old new : State) : Type 0 where
   pub reads : IsImage during (contents new.file)
   pub leaves : LeavesOnly (IsImage during) new.file
@@ -46,15 +46,16 @@ Ends during done (Err _) old new = IsCrashed during old new
 
 -- how a write ends: out of memory leaves the disk as it was
 abbrev pub Writes : ℕ → List ℕ → Result (Unit {0}) DiskError → State → State → Type 0
-Writes at bytes (Ok _) old new = IsDone (changed (write at bytes) old.file) (changed (write at bytes) old.file) old new
+Writes at bytes (Ok _) old new =
+    IsDone (changed (write at bytes) old.file) (changed (write at bytes) old.file) old new
 Writes at bytes (Err Failed) old new = IsCrashed (changed (write at bytes) old.file) old new
 Writes at bytes (Err Memory) old new = SameButRoom old new
 
--- What each of `read_at`, `write_at`, `cut` and `sync` keeps. A fault comes only where the count rose, and on a steady
--- disk only where it was armed.
+-- What each of `read_at`, `write_at`, `cut` and `sync` keeps. A fault comes only where the count rose, and on
+-- a steady disk only where it was armed.
 pub record Keeps (Fault : Type 0) (old new : State) : Type 0 where
   pub faults : old.faults ≤ new.faults
-  pub cause : Fault → Rose old.faults new.faults
+  pub cause : Fault → CountRose old.faults new.faults
   pub only_armed : Fault → IsTrue old.is_steady → IsTrue old.is_armed
   pub steady : IsTrue old.is_steady → IsTrue new.is_steady
   pub armed : IsTrue new.is_armed → IsTrue old.is_armed
@@ -63,11 +64,13 @@ pub record Keeps (Fault : Type 0) (old new : State) : Type 0 where
 
 -- the disk was asked to fail at some call, and nothing else has changed
 abbrev pub IsArmed : ℕ → Option ℕ → State → State → Type 0
-IsArmed call pick old new = new ≡ record old { orders = ordered (arm call pick) old.orders; is_armed = new.is_armed }
+IsArmed call pick old new =
+    new ≡ record old { orders = ordered (arm call pick) old.orders; is_armed = new.is_armed }
 
 -- the power was cut: one of the images is left, and stands as synced
 pub record IsCut (pick : ℕ) (old new : State) : Type 0 where
   pub image : IsImage old.file (contents new.file)
   pub synced : new.file ≡ settled (contents new.file)
   pub past : Passed old.file old new
-  pub rest : new ≡ record old { file = new.file; past = new.past; orders = ordered (power_cut pick) old.orders }
+  pub rest : new
+      ≡ record old { file = new.file; past = new.past; orders = ordered (power_cut pick) old.orders }

@@ -10,11 +10,12 @@ pub(crate) struct Arm {
 }
 
 impl Arm {
-    ghost use Rattle.rs_disk.specs.Strikes.{strikes, counted};
+    ghost use Rattle.rs_disk.specs.FailsAsArmed.{fails_next, counted};
 
     // Counts a call, and gives the arm where that call is to fail.
     pub(crate) fn count(next: &mut Option<Arm>) -> Option<Arm>
-        ensures strikes { MatchOption result (strikes next.old ≡ false) (λ arm. (next.old ≡ Some arm) × (strikes next.old ≡ true)) }
+        ensures fails_next { MatchOption result (fails_next next.old ≡ false)
+            (λ arm. (next.old ≡ Some arm) × (fails_next next.old ≡ true)) }
         ensures counted { next.new ≡ counted next.old }
     {
         match *next {

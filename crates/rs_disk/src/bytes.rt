@@ -62,7 +62,9 @@ pub(crate) fn fill_open(
     requires there { end ≤ length marks.now }
     ensures len { vec_len bytes.new ≡ vec_len bytes.old }
     ensures bytes { (k : ℕ) → slice_index bytes.new.items k
-        ≡ (if nat_le start k && nat_lt k end && (nat_le least k || slice_index_or marks.now k false) then (pick + k) % 256 else slice_index bytes.old.items k) }
+        ≡ (if nat_le start k && nat_lt k end && (nat_le least k || slice_index_or marks.now k false)
+        then (pick + k) % 256
+        else slice_index bytes.old.items k) }
 {
     for place in start..end {
         if place >= least || marks[place] {

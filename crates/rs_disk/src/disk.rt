@@ -38,8 +38,8 @@ impl From<Failed> for DiskError {
 /// One file on a disk with a volatile cache. What was written since the last `sync` may be lost, in part or
 /// wholly, or be torn.
 ///
-/// A call of `read_at`, `write_at`, `cut` or `sync` that fails leaves the file as a crash within that call may
-/// have left it.
+/// A call of `read_at`, `write_at`, `cut` or `sync` that fails leaves the file as a crash within that call
+/// may have left it.
 pub trait Disk {
     ghost use Rattle.rs_disk.specs.State.{State, Ends, Writes, Keeps, IsArmed, IsCut, SameButRoom};
 
@@ -54,8 +54,10 @@ pub trait Disk {
     /// Fills the slice with the bytes from that place on.
     fn read_at(&mut self, at: u64, into: &mut [u8]) -> Result<(), Failed>
         requires { at + length into.old ≤ length (contents (state self.old).file) }
-        ensures bytes { OnOk result (into.new ≡ slice_range (contents (state self.old).file) at (at + length into.old)) }
-        ensures outcome { Ends (state self.old).file (state self.old).file result (state self.old) (state self.new) }
+        ensures bytes { OnOk result
+            (into.new ≡ slice_range (contents (state self.old).file) at (at + length into.old)) }
+        ensures outcome { Ends (state self.old).file (state self.old).file result (state self.old)
+            (state self.new) }
         ensures keeps { Keeps (IsErr result) (state self.old) (state self.new) };
 
     /// Writes over what is there, and past the end.
@@ -68,14 +70,15 @@ pub trait Disk {
         ensures outcome { Writes at bytes.now result (state self.old) (state self.new) }
         ensures keeps { Keeps (IsErrOf result DiskError.Failed) (state self.old) (state self.new) }
         ensures too_long { 2 ^ 63 ≤ at + length bytes.now → IsErrOf result DiskError.Memory }
-        ensures room { at + length bytes.now ≤ max (length (contents (state self.old).file)) (state self.old).room
+        ensures room { at + length bytes.now
+            ≤ max (length (contents (state self.old).file)) (state self.old).room
             → result ≢ Err DiskError.Memory };
 
     /// Cuts the file to its first `to` bytes.
     fn cut(&mut self, to: u64) -> Result<(), Failed>
         requires { to ≤ length (contents (state self.old).file) }
-        ensures outcome { Ends (changed (cut to) (state self.old).file) (changed (cut to) (state self.old).file) result
-            (state self.old) (state self.new) }
+        ensures outcome { Ends (changed (cut to) (state self.old).file)
+            (changed (cut to) (state self.old).file) result (state self.old) (state self.new) }
         ensures keeps { Keeps (IsErr result) (state self.old) (state self.new) };
 
     /// Makes what was written durable: after it, a crash leaves what a read gives.
@@ -84,8 +87,8 @@ pub trait Disk {
             (state self.old) (state self.new) }
         ensures keeps { Keeps (IsErr result) (state self.old) (state self.new) };
 
-    /// Takes the memory for writes of up to so many bytes past the end, which then can't run out of it. An error, also where
-    /// 2^63 bytes would be reached, leaves the file as it was.
+    /// Takes the memory for writes of up to so many bytes past the end, which then can't run out of it. An
+    /// error, also where 2^63 bytes would be reached, leaves the file as it was.
     fn reserve(&mut self, more: u64) -> Result<(), AllocError>
         ensures same { SameButRoom (state self.old) (state self.new) }
         ensures kept { (state self.old).room ≤ (state self.new).room }
@@ -93,17 +96,20 @@ pub trait Disk {
         ensures too_long { 2 ^ 63 ≤ length (contents (state self.old).file) + more → IsErr result };
 
     /// Asks that the `call`-th call after this one fail, counted from 1 over `read_at`, `write_at`, `cut` and
-    /// `sync`; 0 asks it of the next. With a pick, a power cut strikes within that call. It takes the place of an
-    /// earlier `arm` that hasn't struck.
+    /// `sync`; 0 asks it of the next. With a pick, a power cut strikes within that call. It takes the place
+    /// of an earlier `arm` that hasn't struck.
     fn arm(&mut self, call: u32, pick: Option<u64>)
         ensures { IsArmed call pick (state self.old) (state self.new) };
 
-    /// Cuts the power: what was written since the last `sync` may be lost or torn. The pick chooses among what may be left.
+    /// Cuts the power: what was written since the last `sync` may be lost or torn. The pick chooses among
+    /// what may be left.
     fn power_cut(&mut self, pick: u64)
         ensures { IsCut pick (state self.old) (state self.new) };
 
     ghost use Rattle.rs_disk.specs.Images.{read_is_image};
 
     /// A disk as it reads is one of its images.
-    ghost reads_an_image: { (disk : Self) → IsImage (state disk).file (contents (state disk).file) } = { λ disk. read_is_image (state disk).file };
+    ghost reads_an_image: { (disk : Self)
+        → IsImage (state disk).file (contents (state disk).file) } = { λ disk.
+            read_is_image (state disk).file };
 }

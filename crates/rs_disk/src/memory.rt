@@ -27,7 +27,7 @@ impl MemDisk {
     ghost use Rattle.rs_disk.specs.Memory.{state_of, arm_of, fresh};
     ghost use Rattle.rs_disk.specs.Past.{during, done, failed_past, done_past};
     ghost use Rattle.rs_disk.specs.State.{Ends, Keeps};
-    ghost use Rattle.rs_disk.specs.Strikes.{Strikes};
+    ghost use Rattle.rs_disk.specs.FailsAsArmed.{FailsAsArmed};
 
     /// An empty disk without orders, which isn't armed.
     pub fn new(alloc: Global) -> MemDisk
@@ -45,10 +45,10 @@ impl MemDisk {
     // One of the calls that an arm counts.
     fn call(&mut self, call: &Call<'_>) -> Result<(), Failed>
         requires { CanCall call.now self.old.pages }
-        ensures outcome { Ends (during call.now (state_of self.old).file) (done call.now (state_of self.old).file) result
-            (state_of self.old) (state_of self.new) }
+        ensures outcome { Ends (during call.now (state_of self.old).file)
+            (done call.now (state_of self.old).file) result (state_of self.old) (state_of self.new) }
         ensures keeps { Keeps (IsErr result) (state_of self.old) (state_of self.new) }
-        ensures strikes { Strikes (during call.now (state_of self.old).file) (IsErr result)
+        ensures fails_next { FailsAsArmed (during call.now (state_of self.old).file) (IsErr result)
             (arm_of self.old) (arm_of self.new) (state_of self.old) (state_of self.new) }
     {
         match Arm::count(&mut self.arm) {
@@ -110,7 +110,7 @@ impl Disk for MemDisk {
     ghost use Rattle.rs_disk.specs.Memory.{state_of, arm_of};
     ghost use Rattle.rs_disk.specs.Picks.{picked};
     ghost use Rattle.rs_disk.specs.State.{Ends, Writes, Keeps, IsArmed, IsCut, SameButRoom};
-    ghost use Rattle.rs_disk.specs.Strikes.{Strikes};
+    ghost use Rattle.rs_disk.specs.FailsAsArmed.{FailsAsArmed};
 
     ghost state = { state_of };
 
@@ -120,10 +120,12 @@ impl Disk for MemDisk {
 
     fn read_at(&mut self, at: u64, into: &mut [u8]) -> Result<(), Failed>
         requires { at + length into.old ≤ length (contents (state_of self.old).file) }
-        ensures bytes { OnOk result (into.new ≡ slice_range (contents (state_of self.old).file) at (at + length into.old)) }
-        ensures outcome { Ends (state_of self.old).file (state_of self.old).file result (state_of self.old) (state_of self.new) }
+        ensures bytes { OnOk result
+            (into.new ≡ slice_range (contents (state_of self.old).file) at (at + length into.old)) }
+        ensures outcome { Ends (state_of self.old).file (state_of self.old).file result (state_of self.old)
+            (state_of self.new) }
         ensures keeps { Keeps (IsErr result) (state_of self.old) (state_of self.new) }
-        ensures strikes { Strikes (state_of self.old).file (IsErr result)
+        ensures fails_next { FailsAsArmed (state_of self.old).file (IsErr result)
             (arm_of self.old) (arm_of self.new) (state_of self.old) (state_of self.new) }
     {
         self.call(&Call::Read)?;
@@ -137,11 +139,13 @@ impl Disk for MemDisk {
         ensures outcome { Writes at bytes.now result (state_of self.old) (state_of self.new) }
         ensures keeps { Keeps (IsErrOf result DiskError.Failed) (state_of self.old) (state_of self.new) }
         ensures too_long { 2 ^ 63 ≤ at + length bytes.now → IsErrOf result DiskError.Memory }
-        ensures room { at + length bytes.now ≤ max (length (contents (state_of self.old).file)) (state_of self.old).room
+        ensures room { at + length bytes.now
+            ≤ max (length (contents (state_of self.old).file)) (state_of self.old).room
             → result ≢ Err DiskError.Memory }
-        ensures strikes { result ≢ Err DiskError.Memory
-            → Strikes (changed (write at bytes.now) (state_of self.old).file) (IsErrOf result DiskError.Failed)
-            (arm_of self.old) (arm_of self.new) (state_of self.old) (state_of self.new) }
+        ensures fails_next { result ≢ Err DiskError.Memory
+            → FailsAsArmed (changed (write at bytes.now) (state_of self.old).file)
+            (IsErrOf result DiskError.Failed) (arm_of self.old) (arm_of self.new) (state_of self.old)
+            (state_of self.new) }
         ensures uncounted { result ≡ Err DiskError.Memory → arm_of self.new ≡ arm_of self.old }
     {
         if bytes.len() as u64 >= LIMIT - at {
@@ -154,10 +158,10 @@ impl Disk for MemDisk {
 
     fn cut(&mut self, to: u64) -> Result<(), Failed>
         requires { to ≤ length (contents (state_of self.old).file) }
-        ensures outcome { Ends (changed (cut to) (state_of self.old).file) (changed (cut to) (state_of self.old).file) result
-            (state_of self.old) (state_of self.new) }
+        ensures outcome { Ends (changed (cut to) (state_of self.old).file)
+            (changed (cut to) (state_of self.old).file) result (state_of self.old) (state_of self.new) }
         ensures keeps { Keeps (IsErr result) (state_of self.old) (state_of self.new) }
-        ensures strikes { Strikes (changed (cut to) (state_of self.old).file) (IsErr result)
+        ensures fails_next { FailsAsArmed (changed (cut to) (state_of self.old).file) (IsErr result)
             (arm_of self.old) (arm_of self.new) (state_of self.old) (state_of self.new) }
     {
         self.call(&Call::Cut(to))
@@ -167,7 +171,7 @@ impl Disk for MemDisk {
         ensures outcome { Ends (state_of self.old).file (settled (contents (state_of self.old).file)) result
             (state_of self.old) (state_of self.new) }
         ensures keeps { Keeps (IsErr result) (state_of self.old) (state_of self.new) }
-        ensures strikes { Strikes (state_of self.old).file (IsErr result)
+        ensures fails_next { FailsAsArmed (state_of self.old).file (IsErr result)
             (arm_of self.old) (arm_of self.new) (state_of self.old) (state_of self.new) }
     {
         self.call(&Call::Sync)
@@ -176,7 +180,8 @@ impl Disk for MemDisk {
     fn reserve(&mut self, more: u64) -> Result<(), AllocError>
         ensures same { SameButRoom (state_of self.old) (state_of self.new) }
         ensures kept { (state_of self.old).room ≤ (state_of self.new).room }
-        ensures room { OnOk result (length (contents (state_of self.old).file) + more ≤ (state_of self.new).room) }
+        ensures room { OnOk result
+            (length (contents (state_of self.old).file) + more ≤ (state_of self.new).room) }
         ensures too_long { 2 ^ 63 ≤ length (contents (state_of self.old).file) + more → IsErr result }
         ensures arm { arm_of self.new ≡ arm_of self.old }
     {

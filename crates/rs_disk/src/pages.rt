@@ -63,7 +63,8 @@ impl Pages {
         requires start { at ≤ self.old.end }
         requires room { at + length bytes.now ≤ room_of self.old }
         ensures room { room_of self.new ≡ room_of self.old }
-        ensures file { (file : File) → Holds self.old file → Holds self.new (changed (write at bytes.now) file) }
+        ensures file { (file : File) → Holds self.old file
+            → Holds self.new (changed (write at bytes.now) file) }
     {
         let end = at + bytes.len();
         overwrite(&mut self.now, at, bytes);

@@ -45,7 +45,7 @@ use Rattle.set_model.specs.declared.writer.Writer.{Writer}
 use Rattle.set_model.specs.declared.writer.Writer.TheVariants as writers
 use Rattle.set_model.specs.Admitted.{admitted}
 use Rattle.set_model.specs.Concerns.{ack, ack_at, acked, ack_refusal, target_point}
-use Rattle.set_model.specs.Disk.{apply, batch_applied, next_batch, flush, is_flushed, unkept, next_entries, next_durable, checkpoint, next_stable, crash, restart, recovered, came_back, settled_doubt, has_more}
+use Rattle.set_model.specs.Disk.{apply, batch_applied, next_batch, flush, is_flushed, unjournaled, next_entries, next_durable, checkpoint, next_stable, crash, restart, recovered, came_back, settled_doubt, has_more}
 use Rattle.set_model.specs.Elections.{campaign, candidate, candidate_refusal, dry_run, drain, step_down}
 use Rattle.set_model.specs.Fetching.{fetch, fetch_from, sources}
 use Rattle.set_model.specs.Limits.{is_for}
@@ -263,7 +263,7 @@ module _ (l : Limits) (node : Node) (ok : NodeFine l node) (room : RoomFor l nod
       item = stores.Record (records.Entries (next_entries node) (next_durable node))
 
       entries : FineStore l.nodes l.time item
-      entries = take_timely l.time 2000 (unkept node) (filter_timely l.time _ node.log ok.0.timely)
+      entries = take_timely l.time 2000 (unjournaled node) (filter_timely l.time _ node.log ok.0.timely)
 
   checkpoint_fine : FinePlan l (checkpoint node)
   checkpoint_fine = plan_if l (same_optime (next_stable node) node.stable) _ _ (λ is. quiet l _ node ok) (λ is. (

@@ -1,4 +1,5 @@
--- How large the numbers of a run get, which grow with its events, and that no node meets a configuration that breaks a rule.
+-- Bounds that hold of every run: how large terms, timestamps and counts can get after so many events, and
+-- that no node ever has or is sent a configuration that breaks a rule.
 use Rattle.std.specs.Prelude.{◌≡◌, ◌<◌, ◌≤◌, ◌+◌, ◌*◌, ℕ, suc, List, length, None, Some, IfSome, All, Contains, slice_get}
 use Rattle.oplog_entry.specs.declared.entry.Entry.{Entry}
 use Rattle.member_config.specs.declared.config.Config.{Config}
@@ -19,7 +20,7 @@ last_timestamp events = 9223372032559808513 + events
 abbrev pub AreTimed : ℕ → List Entry → Type 0
 AreTimed events entries = All (λ entry. entry.optime.ts ≤ last_timestamp events) entries
 
--- the node at this place of a set of so many, behind so many events
+-- The node with the number `place`, in a set of `nodes` nodes, after `events` events.
 pub record IsSmallNode (nodes events place : ℕ) (node : Node) : Type 0 where
   pub number : node.number ≡ place
   pub known : place < nodes
@@ -39,7 +40,8 @@ pub record IsSmallMessage (nodes events : ℕ) (message : Message) : Type 0 wher
   pub asked : IfSome (term_asked message.body) (λ asked. asked ≤ events)
   pub entries : AreTimed events (entries_carried message.body)
 
--- Behind so many events terms, rollback ids and messages are few, and no timestamp is past what a clock and they can bring.
+-- After n events terms and rollback ids are at most n, a journal has at most 2n records, there are at most 7n
+-- messages, and no timestamp is later than clocks and n events can make it.
 pub record NumbersStaySmall (sizes : Sizes) (events : List Event) : Type 0 where
   pub count : (place : ℕ) → length (world_at sizes events place).nodes ≡ sizes.nodes
   pub nodes :
@@ -49,11 +51,12 @@ pub record NumbersStaySmall (sizes : Sizes) (events : List Event) : Type 0 where
       (place : ℕ) (message : Message) → Contains (world_at sizes events place).messages message
       → IsSmallMessage sizes.nodes place message
   pub sent : (place : ℕ) → length (world_at sizes events place).messages ≤ 7 * place
-  pub each : (place : ℕ) → length (world_at sizes events (suc place)).messages ≤ length (world_at sizes events place).messages + 7
+  pub each : (place : ℕ) → length (world_at sizes events (suc place)).messages
+      ≤ length (world_at sizes events place).messages + 7
 
 -- ---- configurations
 
--- it breaks no rule, and its members are nodes of a set of so many
+-- A configuration that breaks no rule, and all of whose members are nodes of a set of `nodes` nodes.
 pub record IsLawfulConfig (nodes : ℕ) (config : Config) : Type 0 where
   pub rules : rule config ≡ None
   pub members : unknown_member nodes config ≡ None

@@ -1,5 +1,5 @@
--- What a rollback goes back to is the last that the node and its source have in common (MongoDB's replication architecture
--- guide, rollback).
+-- A rollback goes back to the last entry that the node and its source have in common (MongoDB's replication
+-- architecture guide, rollback).
 use Rattle.std.specs.Prelude.{◌≡◌, ◌⊎◌, ◌<◌, ◌≤◌, ℕ, suc, List, length, None, Some, slice_get}
 use Rattle.rs_optime.specs.Order.{AtMost}
 use Rattle.rs_optime.specs.declared.optime.OpTime.{OpTime}
@@ -22,19 +22,23 @@ pub record IsGreatestInBoth (one two : List Entry) (at : OpTime) : Type 0 where
   pub greatest : (o : OpTime) → Has one o → Has two o → AtMost o at
 
 module _ (sizes : Sizes) (events : List Event) where
-  -- the event behind a place sent the message of this number, and its sender is then this node
+  -- The event at this place sent the message of this number; `sender` is the node that sent it, just
+  -- after the event.
   pub record IsSent (place number : ℕ) (message : Message) (sender : Node) : Type 0 where
     pub new : length (world_at sizes events place).messages ≤ number
     pub there : slice_get (world_at sizes events (suc place)).messages number ≡ Some message
     pub sends : IsAt sizes events (suc place) message.from sender
 
-  -- Where a node rolls back by an answer, the common point is the greatest entry that its log and what its source showed, as
-  -- the answer was sent, both have, or ZERO where they have none.
+  -- If an answer makes a node roll back, the common point is the last entry that two logs share: the node's
+  -- own, and the source's visible log as it sent the answer. It is ZERO where they share none.
   abbrev pub CommonPointsAreGreatest : Type 0
   CommonPointsAreGreatest =
-      (place number : ℕ) (node : Node) (message : Message) (after : OpTime) (optimes : List OpTime) (visible : OpTime)
-      → IsAt sizes events place message.to node → slice_get (world_at sizes events place).messages number ≡ Some message
+      (place number : ℕ) (node : Node) (message : Message) (after : OpTime) (optimes : List OpTime)
+      (visible : OpTime)
+      → IsAt sizes events place message.to node
+      → slice_get (world_at sizes events place).messages number ≡ Some message
       → message.body ≡ bodies.CommonReply after optimes visible
       → rollback_reason (termed node message) message.term after optimes visible ≡ None
       → (sent : ℕ) × (source : Node) × (sent < place) × IsSent sent number message source
-      × IsGreatestInBoth (termed node message).log (visible_log source) (common_point (termed node message).log after optimes)
+      × IsGreatestInBoth (termed node message).log (visible_log source)
+      (common_point (termed node message).log after optimes)

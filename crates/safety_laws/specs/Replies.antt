@@ -1,4 +1,5 @@
--- What a fetched log owes: the answers to fetches can be taken (MongoDB's replication architecture guide, oplog fetching).
+-- Every answer to a fetch can be taken by the node that asked for it (MongoDB's replication architecture
+-- guide, oplog fetching).
 use Rattle.std.specs.Prelude.{◌≡◌, ◌≤◌, ℕ, ◌++◌, List, length, take, All, Contains}
 use Rattle.oplog_store.specs.Log.{IsOplog}
 pub use Rattle.entry_bytes.specs.Sizes.{IsWithinEntry}
@@ -12,8 +13,11 @@ use Rattle.set_model.specs.Points.{last_point}
 use Rattle.set_model.specs.Run.{Sizes, run}
 use Rattle.set_model.specs.Safety.{IsAt}
 
--- the entries of an answer are a log that goes on behind its base, and a node whose log ends there may take them
-pub record RepliesFollowAt (sizes : Sizes) (events : List Event) (message : Message) (fetched : FetchReply) : Type 0 where
+-- The entries of an answer continue its base: they are in order, none is too large, and none is of a later
+-- term than the message. Appended to a node's log that ends at the base, any first part of them leaves no
+-- document too large.
+pub record RepliesFollowAt (sizes : Sizes) (events : List Event) (message : Message)
+    (fetched : FetchReply) : Type 0 where
   pub order : IsOplog fetched.entries
   pub base : All (Follows fetched.base) fetched.entries
   pub entries : All IsWithinEntry fetched.entries
@@ -22,8 +26,9 @@ pub record RepliesFollowAt (sizes : Sizes) (events : List Event) (message : Mess
       (n : ℕ) (node : Node) → IsAt sizes events (length events) n node → last_point node ≡ fetched.base
       → (many : ℕ) → AreWithinDocument (node.log ++ take many fetched.entries)
 
--- Each answer to a fetch goes on where it says, and a log that ends there may go on with it.
+-- After at most 4,294,967,295 events this holds of every answer to a fetch that was sent.
 abbrev pub RepliesFollow : Sizes → List Event → Type 0
 RepliesFollow sizes events =
     (message : Message) (fetched : FetchReply) → length events ≤ 4294967295
-    → Contains (run sizes events).world.messages message → message.body ≡ bodies.FetchReply fetched → RepliesFollowAt sizes events message fetched
+    → Contains (run sizes events).world.messages message → message.body ≡ bodies.FetchReply fetched
+    → RepliesFollowAt sizes events message fetched

@@ -1,4 +1,4 @@
--- Whatever was sent, the node that it is for can take it.
+-- Every message that was sent can be taken by its receiver.
 use Rattle.std.specs.Prelude.{◌≤◌, List, length, Contains}
 use Rattle.repl_msg.specs.declared.message.Message.{Message}
 use Rattle.set_model.specs.declared.command.Event.{Event}
@@ -7,8 +7,10 @@ use Rattle.set_model.specs.Run.{Sizes, run}
 use Rattle.set_model.specs.Safety.{IsAt}
 use Rattle.set_model.specs.Taking.{CanTake}
 
--- In the last world each message that was sent can be taken by the node that it is for.
+-- After at most 4,294,967,295 events each message that was sent meets what its receiver requires of
+-- a message (`CanTake`).
 abbrev pub MessagesCanBeTaken : Sizes → List Event → Type 0
 MessagesCanBeTaken sizes events =
-    (message : Message) (node : Node) → length events ≤ 4294967295 → Contains (run sizes events).world.messages message
+    (message : Message) (node : Node) → length events ≤ 4294967295
+    → Contains (run sizes events).world.messages message
     → IsAt sizes events (length events) message.to node → CanTake node message

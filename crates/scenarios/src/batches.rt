@@ -12,7 +12,8 @@ const UPDATED: u32 = 300;
 /// Node 1 fetches from node 0 what comes next.
 const FETCH: &str = "heartbeat n0 n1\ndeliver n0 n1\nfetch n1\ndeliver n1 n0\ndeliver n0 n1\n";
 
-/// Node 0 leads, with the no-op of its term, in these sets: of three members, and of one with a node beside it.
+/// Node 0 leads, with the no-op of its term, in these sets: of three members, and of one with a
+/// node beside it.
 pub const THREE: &str = "set 3\ncampaign n0\ndeliver m0\ndeliver m2\ndrain n0\n";
 
 /// The set of one member, with a node beside it.
@@ -30,7 +31,8 @@ pub const ONE_ENDS: &str =
     5012: replied m7\n5013: took 1 last 1/0/5001\n5014: applied 5000 to 1/0/5000\n5015: applied 1 to 1/0/5001\n\
     5016: found {_id: 1, n: 300}\n";
 
-/// The primary writes 5,000 entries behind its no-op, and node 1 fetches them and applies them with so many workers.
+/// The primary writes 5,000 entries behind its no-op, and node 1 fetches them and applies them with
+/// so many workers.
 pub fn script(alloc: Global, opening: &str, workers: u32) -> Result<Vec<u8>> {
     let mut script = String::from_str(alloc, opening)?;
     for id in 1..PAST {

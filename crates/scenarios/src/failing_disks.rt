@@ -6,8 +6,9 @@ use anyhow::Result;
 use std::alloc::Global;
 use std::thread::Threads;
 
-/// A script, and how many calls it makes of each disk where none fails: of each node's journal and of its checkpoints, and maybe
-/// of a disk behind the set's. A record that is stored takes four calls, and so does opening a file that has one.
+/// A script, and how many calls it makes of each disk where none fails: of each node's journal and of its
+/// checkpoints, and maybe of a disk behind the set's. A record that is stored takes four calls, and so does
+/// opening a file that has one.
 #[derive(Clone, Copy, Drop)]
 pub struct OnDisks {
     pub name: &'static str,
@@ -40,8 +41,9 @@ const OPENING: u32 = 3;
 /// How a call fails: as in a crash, and in power cuts that leave what these picks name.
 const PICKS: [Option<u64>; 4] = [None, Some(0), Some(1), Some(2)];
 
-/// Whether the script bears a disk that fails, whichever of these it is, in whichever of its calls and in whichever way.
-pub fn are_borne<R: Threads + Sync>(
+/// Whether the script bears a disk that fails, whichever of these it is, in whichever of its calls and
+/// in whichever way.
+pub fn are_survived<R: Threads + Sync>(
     rt: &R,
     alloc: Global,
     script: &str,
@@ -50,7 +52,7 @@ pub fn are_borne<R: Threads + Sync>(
     let trial = Trial::new(rt, alloc, script, calls.len() / 2)?;
     for (disk, calls) in calls.iter().enumerate() {
         for pick in PICKS {
-            if !trial.bears(rt, alloc, disk, *calls, pick)? {
+            if !trial.survives(rt, alloc, disk, *calls, pick)? {
                 return Ok(false);
             }
         }
@@ -83,7 +85,7 @@ impl Trial {
     }
 
     /// Fails one of the disk's calls after another. Behind the last there is none to fail.
-    fn bears<R: Threads + Sync>(
+    fn survives<R: Threads + Sync>(
         &self,
         rt: &R,
         alloc: Global,
@@ -103,8 +105,9 @@ impl Trial {
         Ok(ran.is(0, &self.whole))
     }
 
-    /// Whether the set wasn't opened, where the call fell into the opening. Else the run is as without the fault up to the
-    /// command whose call failed, which alone is refused for it, and each node comes back with what it told to be durable.
+    /// Whether the set wasn't opened, where the call fell into the opening. Else the run is as without the
+    /// fault up to the command whose call failed, which alone is refused for it, and each node comes back
+    /// with what it told to be durable.
     fn is_lawful(&self, alloc: Global, ran: Ran, call: u32) -> Result<bool> {
         if call <= OPENING {
             return Ok(ran.is(7, ""));

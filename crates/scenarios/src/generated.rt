@@ -1,4 +1,5 @@
-//! The summary of a generated script. What it has to be was found with a generator and a simulator of their own, in Python.
+//! The summary of a generated script. What it has to be was found with a generator and a simulator of their
+//! own, in Python.
 
 /// The words that ask for it.
 pub const WORDS: [&str; 4] = ["chaos", "7", "5000", "5"];

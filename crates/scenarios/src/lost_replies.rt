@@ -9,8 +9,8 @@ use std::thread::Threads;
 /// The scripts that are run into it.
 pub const SCRIPTS: [&str; 2] = ["first", "two_lost"];
 
-/// Whether each reply of the script is put by a call of its own, and the first call that fails ends the run: the status is 5,
-/// and what was put is the replies before. There is no further call.
+/// Whether each reply of the script is put by a call of its own, and the first call that fails ends the run:
+/// the status is 5, and what was put is the replies before. There is no further call.
 pub fn end_the_run<R: Threads + Sync>(
     rt: &R,
     alloc: Global,

@@ -1,5 +1,5 @@
-//! Runs each example script of the folder and compares what it prints with what is written beside it, and runs some of them where a
-//! disk or the sink fails.
+//! Runs each example script of the folder and compares what it prints with what is written beside it, and
+//! runs some of them where a disk or the sink fails.
 #![tactic(auto)]
 
 mod batches;
@@ -81,7 +81,12 @@ fn faults<R: Threads + Sync>(rt: &HostRuntime, threads: &R) -> Result<bool> {
     let repeated = tell(rt, "messages that come again", repeated)?;
     let mut borne = true;
     for OnDisks { name, calls } in failing_disks::SCRIPTS {
-        let holds = failing_disks::are_borne(threads, alloc, &text(rt, name, "replset")?, calls)?;
+        let holds = failing_disks::are_survived(
+            threads,
+            alloc,
+            &text(rt, name, "replset")?,
+            calls,
+        )?;
         let what = format!(in alloc; "{name} on failing disks")?;
         borne = tell(rt, &what, holds)? && borne;
     }
@@ -131,8 +136,8 @@ fn printed<R: Threads + Sync>(rt: &R, alloc: Global, words: &[&str]) -> Result<V
     Ok(runs::run(rt, alloc, words, Vec::new(alloc))?.put)
 }
 
-/// How many bytes a string may have in the largest document that is stored: `{_id: 1, s: STRING}` has 22 bytes more than
-/// its string, and may have 262,144.
+/// How many bytes a string may have in the largest document that is stored: `{_id: 1, s: STRING}` has 22
+/// bytes more than its string, and may have 262,144.
 const LONGEST: usize = 262_122;
 
 /// Whether the largest string that fits a document is stored, and one byte more is refused.
@@ -151,7 +156,8 @@ fn draws_the_line<R: Threads + Sync>(rt: &R, alloc: Global) -> Result<bool> {
     Ok(stored && refused)
 }
 
-/// Whether a log of more than a batch comes to another node in two fetches and two batches, by one worker and by many.
+/// Whether a log of more than a batch comes to another node in two fetches and two batches, by one worker
+/// and by many.
 fn comes_in_batches<R: Threads + Sync>(
     rt: &R,
     alloc: Global,
@@ -163,7 +169,8 @@ fn comes_in_batches<R: Threads + Sync>(
     Ok(one.ends_with(ending.as_bytes()) && many.ends_with(ending.as_bytes()))
 }
 
-/// Whether a generated script comes to its summary, each time that it is asked for, and its transcript tells of as many writes.
+/// Whether a generated script comes to its summary, each time that it is asked for, and its transcript tells
+/// of as many writes.
 fn sums_up<R: Threads + Sync>(rt: &R, alloc: Global) -> Result<bool> {
     let first = printed(rt, alloc, &generated::WORDS)?;
     let again = printed(rt, alloc, &generated::WORDS)?;

@@ -22,7 +22,8 @@ pub fn as_said<R: Threads + Sync>(rt: &R, alloc: Global, table: &str) -> Result<
     Ok(true)
 }
 
-/// The same of scripts that don't stand well in a file: a line that isn't UTF-8, a line of a byte too many, a line too many.
+/// The same of scripts that don't stand well in a file: a line that isn't UTF-8, a line of a byte too many, a
+/// line too many.
 pub fn over_the_limits<R: Threads + Sync>(rt: &R, alloc: Global) -> Result<bool> {
     Ok(
         is_refused(

@@ -9,8 +9,8 @@ use std::thread::Threads;
 /// How often each message comes.
 const TIMES: usize = 2_000;
 
-/// Whether what comes again changes nothing. A heading of the table names a message, the node that it goes to and the answer to
-/// its first delivery, and the script brings it to there.
+/// Whether what comes again changes nothing. A heading of the table names a message, the node that it goes to
+/// and the answer to its first delivery, and the script brings it to there.
 pub fn change_nothing<R: Threads + Sync>(rt: &R, alloc: Global, table: &str) -> Result<bool> {
     for row in table.split("== ") {
         if let Some((heading, script)) = row.split_once('\n') {

@@ -3,7 +3,8 @@
 use anyhow::Result;
 use std::alloc::Global;
 
-/// The replies of a transcript, each with its lines and their ends. A reply's further lines begin with a space.
+/// The replies of a transcript, each with its lines and their ends. A reply's further lines begin
+/// with a space.
 pub fn replies(alloc: Global, transcript: &str) -> Result<Vec<String>> {
     let mut replies: Vec<String> = Vec::new(alloc);
     let mut reply = String::new(alloc);

@@ -40,7 +40,8 @@ pub struct Fault {
     pub pick: Option<u64>,
 }
 
-/// What the words come to over an input of these bytes, on these disks, where the sink fails in its calls of these numbers.
+/// What the words come to over an input of these bytes, on these disks, where the sink fails in its calls
+/// of these numbers.
 pub fn run_on<R: Threads + Sync>(
     rt: &R,
     alloc: Global,
@@ -103,7 +104,8 @@ pub fn run_with_fault<R: Threads + Sync>(
 /// As many empty disks as a set is given, of which one fails.
 fn disks_with(alloc: Global, fault: Fault) -> Result<Vec<MemDisk>, AllocError>
     ensures len { IfOk result (λ disks. vec_len disks ≡ 100) }
-    ensures empty { IfOk result (λ disks. All (λ (disk : MemDisk). IsEmpty (state_of disk).file) disks.items) }
+    ensures empty { IfOk result (λ disks.
+        All (λ (disk : MemDisk). IsEmpty (state_of disk).file) disks.items) }
 {
     let mut disks = Vec::with_capacity(alloc, DISKS)?;
     for place in 0..DISKS {

@@ -7,20 +7,20 @@ use Rattle.bson_doc.specs.Length.{value_levels}
 use Rattle.bson_doc.specs.Tree.{Tree, int32, document, Fields, no_fields, field}
 use Rattle.doc_text.specs.Integers.{fits}
 use Rattle.doc_text.specs.Printing.{printed}
-use Rattle.doc_text.specs.Spelling.{IsLawful, GoesNoFurther}
+use Rattle.doc_text.specs.Spelling.{IsLawful, EndsThere}
 use Rattle.doc_text.specs.Values.{answer_at}
 use Rattle.doc_text.proofs.NamesAreClean.{no_zero}
 use Rattle.doc_text.proofs.PrintedIsSpelled.{read_again}
 use Rattle.script_words.specs.Values.{value_at, last_value, last_document}
 
 -- a value that is printed, with what stands behind it
-pub value_is : (tree : Tree) (rest : List ℕ) → IsLawful tree → value_levels tree ≤ 100 → GoesNoFurther tree rest → value_at (printed tree ++ rest) ≡ Ok (tree, rest)
+pub value_is : (tree : Tree) (rest : List ℕ) → IsLawful tree → value_levels tree ≤ 100 → EndsThere tree rest → value_at (printed tree ++ rest) ≡ Ok (tree, rest)
 unfolding value_at
 value_is tree rest lawful shallow whole =
     let answer : answer_at (printed tree ++ rest) 0 ≡ Ok (tree, length (printed tree)) = read_again [] (printed tree) tree lawful refl rest shallow whole in
     rw (answer, drop_at (printed tree) rest (length (printed tree)) refl) refl
 
-pub last_value_is : (tree : Tree) → IsLawful tree → value_levels tree ≤ 100 → GoesNoFurther tree [] → last_value (printed tree) ≡ Ok tree
+pub last_value_is : (tree : Tree) → IsLawful tree → value_levels tree ≤ 100 → EndsThere tree [] → last_value (printed tree) ≡ Ok tree
 unfolding last_value
 last_value_is tree lawful shallow whole =
     let read : value_at (printed tree) ≡ Ok (tree, []) = ap value_at (sym (append-nil (printed tree))) ∙ value_is tree [] lawful shallow whole in
@@ -62,7 +62,7 @@ operators_are =
     ap last_document (sym operators_text) ∙ last_document_is operators lawful (omega arith)
 
 -- a number, with what is no number behind it
-pub number_value : (id : ℕ) (rest : List ℕ) → id < 2 ^ 31 → GoesNoFurther (int32 (pos id)) rest → value_at (decimal id ++ rest) ≡ Ok (int32 (pos id), rest)
+pub number_value : (id : ℕ) (rest : List ℕ) → id < 2 ^ 31 → EndsThere (int32 (pos id)) rest → value_at (decimal id ++ rest) ≡ Ok (int32 (pos id), rest)
 unfolding printed
 number_value id rest few whole = value_is (int32 (pos id)) rest (fits_small id few) (omega arith) whole
 

@@ -5,4 +5,5 @@ use Rattle.fault_script.specs.declared.script.Script.{Script}
 
 -- these bytes are a script of a set of so many nodes, which all are members
 abbrev pub IsScriptFor : ℕ → List ℕ → Type 0
-IsScriptFor nodes bytes = (read : Script) × (script bytes ≡ Ok read) × (read.nodes ≡ nodes) × (read.members ≡ nodes)
+IsScriptFor nodes bytes =
+    (read : Script) × (script bytes ≡ Ok read) × (read.nodes ≡ nodes) × (read.members ≡ nodes)

@@ -1,4 +1,5 @@
--- The line that names the sizes of the set: `set NODES`, and how many of the nodes are members, or nothing where all are.
+-- The line that names the sizes of the set: `set NODES`, and how many of the nodes are members, or nothing
+-- where all are.
 use Rattle.std.specs.Prelude.{ℕ, List, codes, Some, Result, Err, if◌then◌else◌}
 use Rattle.std.specs.Str.{bytes_eq}
 use Rattle.bson_doc.specs.Bind.{◌>>=◌}
@@ -17,4 +18,6 @@ sizes_at left = do
 unfoldable pub set_line : List ℕ → Result SetLine ScriptRule
 set_line text = do
   first ← word_at (Some text)
-  if bytes_eq first.0 (codes "set") then (if has_shape (Words 1 2) first.1 then sizes_at first.1 else Err WordCount) else Err NoSetLine
+  if bytes_eq first.0 (codes "set")
+      then (if has_shape (Words 1 2) first.1 then sizes_at first.1 else Err WordCount)
+      else Err NoSetLine

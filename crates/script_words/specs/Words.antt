@@ -71,11 +71,14 @@ abbrev pub ended : {A : Type 0} → Left → A → Result A ScriptRule
 ended None value = Ok value
 ended (Some text) value = Err WordCount
 
--- One or more decimal digits, whose number is in this range. The first rule is that of other words, and the second that of
--- other numbers.
+-- One or more decimal digits, whose number is in this range. The first rule is that of other words, and the
+-- second that of other numbers.
 abbrev pub number_of : ScriptRule → ScriptRule → ℕ → ℕ → List ℕ → Result ℕ ScriptRule
 number_of form range least most word =
-    if nat_lt 0 (length word) && list_all is_ascii_digit word then (if nat_le least (digits_value 10 word) && nat_le (digits_value 10 word) most then Ok (digits_value 10 word) else Err range)
+    if nat_lt 0 (length word) && list_all is_ascii_digit word
+    then (if nat_le least (digits_value 10 word) && nat_le (digits_value 10 word) most
+    then Ok (digits_value 10 word)
+    else Err range)
     else Err form
 
 -- a letter and a number
@@ -139,7 +142,8 @@ is_slash c = c == 47
 
 -- what stands before the first slash, and what behind it
 abbrev pub cut_at_slash : List ℕ → Result (List ℕ × List ℕ) ScriptRule
-cut_at_slash text = if list_any is_slash text then Ok (before_first is_slash text, after_first is_slash text) else Err BadWord
+cut_at_slash text =
+    if list_any is_slash text then Ok (before_first is_slash text, after_first is_slash text) else Err BadWord
 
 -- TERM/SECONDS/INCREMENT
 unfoldable pub optime_of : List ℕ → Result OpTime ScriptRule

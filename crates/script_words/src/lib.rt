@@ -1,4 +1,5 @@
-//! One line of a script, word by word: the sizes of the set, or a command, or the first rule that the line breaks.
+//! One line of a script, word by word: the sizes of the set, or a command, or the first rule that
+//! the line breaks.
 #![tactic(auto)]
 
 mod choices;

@@ -19,7 +19,8 @@ pub struct SetLine {
     pub members: u32,
 }
 
-/// The sizes that a `set` line names: `set NODES MEMBERS`, where `MEMBERS` may be left out and then is `NODES`.
+/// The sizes that a `set` line names: `set NODES MEMBERS`, where `MEMBERS` may be left out and
+/// then is `NODES`.
 #[tactic(auto, unfolding(crate::specs::Set::set_line))]
 pub fn set_line(text: &str) -> Result<SetLine, ScriptRule>
     ensures { result ≡ set_line text.now }

@@ -170,7 +170,8 @@ pub fn number(left: Left<'_>, least: u32, most: u32) -> Read<'_, u32>
 /// Any number of 64 bits.
 #[tactic(auto, unfolding(crate::specs::Words::number_at))]
 fn long_number(left: Left<'_>) -> Read<'_, u64>
-    ensures { Reads (λ x. (x.0, option_copied x.1)) result (number_at 0 18446744073709551615 (option_copied left.entry)) }
+    ensures { Reads (λ x. (x.0, option_copied x.1)) result
+        (number_at 0 18446744073709551615 (option_copied left.entry)) }
 {
     let (word, rest) = word(left)?;
     let number = long_of(word, ScriptRule::BadWord, ScriptRule::BadNumber)?;
@@ -179,7 +180,8 @@ fn long_number(left: Left<'_>) -> Read<'_, u64>
 
 /// A number in a range, or `default` where no word is left.
 pub fn optional(left: Left<'_>, default: u32, least: u32, most: u32) -> Read<'_, u32>
-    ensures { Reads (λ x. (x.0, option_copied x.1)) result (optional_at default least most (option_copied left.entry)) }
+    ensures { Reads (λ x. (x.0, option_copied x.1)) result
+        (optional_at default least most (option_copied left.entry)) }
 {
     match left {
         Some(_) => number(left, least, most),
@@ -216,7 +218,8 @@ pub fn node(left: Left<'_>, nodes: u32) -> Read<'_, u32>
 /// Another node than this one.
 #[tactic(auto, unfolding(crate::specs::Words::other_node_at))]
 pub fn other_node(left: Left<'_>, nodes: u32, first: u32) -> Read<'_, u32>
-    ensures { Reads (λ x. (x.0, option_copied x.1)) result (other_node_at nodes first (option_copied left.entry)) }
+    ensures { Reads (λ x. (x.0, option_copied x.1)) result
+        (other_node_at nodes first (option_copied left.entry)) }
 {
     let (other, rest) = node(left, nodes)?;
     if other == first {

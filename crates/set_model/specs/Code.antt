@@ -11,12 +11,13 @@ use Rattle.repl_msg.specs.Sources.{Heard}
 use Rattle.set_model.specs.Node.{DryTally}
 
 abbrev heard_code : Coded Heard
-heard_code = code_by (OpTime × Bool) (coded× optime_code coded_bool) (λ h. (h.last, h.primary)) (λ p. record { last = p.0; primary = p.1 }) (λ _. refl)
+heard_code = code_by (OpTime × Bool) (coded× optime_code coded_bool) (λ h. (h.last, h.primary))
+    (λ p. record { last = p.0; primary = p.1 }) (λ _. refl)
 
 abbrev pub known_code : Coded (maps.FinMap nat_cmp Heard)
 known_code = maps.code coded_ℕ heard_code
 
 abbrev pub tally_code : Coded DryTally
 tally_code =
-    code_by (ℕ × (Config × List ℕ)) (coded× coded_ℕ (coded× config_row.coded (coded_list coded_ℕ))) (λ t. (t.term, (t.config, t.yes)))
-    (λ p. record { term = p.0; config = p.1.0; yes = p.1.1 }) (λ _. refl)
+    code_by (ℕ × (Config × List ℕ)) (coded× coded_ℕ (coded× config_row.coded (coded_list coded_ℕ)))
+    (λ t. (t.term, (t.config, t.yes))) (λ p. record { term = p.0; config = p.1.0; yes = p.1.1 }) (λ _. refl)

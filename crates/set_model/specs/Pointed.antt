@@ -17,7 +17,8 @@ committed_among nodes number = option_map_or committed (slice_get nodes number) 
 -- the most that a node has committed in a world, and in those that events make of it one after another
 abbrev pub most_from : World → List Event → ℕ → ℕ
 most_from world [] number = committed_among world.nodes number
-most_from world (event ∷ events) number = max (committed_among world.nodes number) (most_from (step world event).world events number)
+most_from world (event ∷ events) number =
+    max (committed_among world.nodes number) (most_from (step world event).world events number)
 
 -- the most that a node has committed in any world of a run
 abbrev pub pointed : Sizes → List Event → ℕ → ℕ

@@ -1,4 +1,5 @@
--- Rolling back what a later primary doesn't have (MongoDB's replication architecture guide, rollback; RaftMongo).
+-- Rolling back what a later primary doesn't have (MongoDB's replication architecture
+-- guide, rollback; RaftMongo).
 use Rattle.std.specs.Prelude.{ℕ, ◌+◌, Bool, not, nat_lt, List, map, length, Option, None, Some, if◌then◌else◌}
 use Rattle.std.specs.FinMap as maps
 use Rattle.rs_optime.specs.declared.optime.OpTime.{OpTime}
@@ -36,7 +37,8 @@ common next node to = sending (Sent next) node to (bodies.CommonAsk node.commit)
 abbrev pub optimes_of : List Entry → List OpTime
 optimes_of log = map (λ entry. entry.optime) log
 
--- the entries that will be visible once a message of this term is taken: all of them, where it makes the node step down
+-- the entries that will be visible once a message of this term is taken: all of them, where it makes the
+-- node step down
 abbrev pub shown_in : Node → ℕ → List Entry
 shown_in node term = if nat_lt node.term term then node.log else visible_log node
 
@@ -46,7 +48,8 @@ common_refusal node term after =
     if nat_lt 20000 (length (log_behind after (shown_in node term))) then Some TooManyOptimes else None
 
 abbrev pub common_reply : Node → OpTime → Body
-common_reply node after = bodies.CommonReply after (optimes_of (log_behind after (visible_log node))) (visible_point node)
+common_reply node after =
+    bodies.CommonReply after (optimes_of (log_behind after (visible_log node))) (visible_point node)
 
 abbrev pub common_asked : ℕ → Node → ℕ → OpTime → Outcome
 common_asked next node from after = sending (Replied next) node from (common_reply node after)
@@ -86,7 +89,8 @@ cut_back node point =
 
 abbrev pub rolled_back : Node → OpTime → Plan
 rolled_back node point =
-    then_stored node (cut_record point) (λ n. finished (replied (RolledBack point (length (log_behind point n.log))) (cut_back n point)))
+    then_stored node (cut_record point)
+    (λ n. finished (replied (RolledBack point (length (log_behind point n.log))) (cut_back n point)))
 
 abbrev pub roll_back : Node → OpTime → Option Ignored → Plan
 roll_back node point (Some why) = finished (ignored why node)

@@ -1,4 +1,5 @@
--- Which messages a node can be handed (MongoDB's replication architecture guide; RaftMongo; MongoRaftReconfig).
+-- Which messages a node can be handed (MongoDB's replication architecture guide;
+-- RaftMongo; MongoRaftReconfig).
 use Rattle.std.specs.Prelude.{◌≡◌, ◌<◌, ◌≤◌, ◌^◌, ℕ, ◌++◌, List, None, IfSome, take, All}
 use Rattle.rs_optime.specs.declared.optime.OpTime.{OpTime}
 use Rattle.oplog_store.specs.Log.{IsOplog}
@@ -15,23 +16,27 @@ use Rattle.set_model.specs.Points.{last_point}
 use Rattle.set_model.specs.Rollback.{common_point, rollback_reason}
 use Rattle.set_model.specs.Safety.{AtMost}
 
--- The entries of an answer go on behind its base, each fits into a record, and a log that ends at the base may go on with them.
+-- The entries of an answer go on behind its base, each fits into a record, and a log that ends at the base
+-- may go on with them.
 pub record CanTakeEntries (node : Node) (term : ℕ) (fetched : FetchReply) : Type 0 where
   pub order : IsOplog fetched.entries
   pub base : All (Follows fetched.base) fetched.entries
   pub entries : All IsWithinEntry fetched.entries
   pub terms : All (λ entry. entry.optime.term ≤ term) fetched.entries
-  pub documents : last_point node ≡ fetched.base → (many : ℕ) → AreWithinDocument (node.log ++ take many fetched.entries)
+  pub documents : last_point node ≡ fetched.base
+      → (many : ℕ) → AreWithinDocument (node.log ++ take many fetched.entries)
 
--- Its numbers are in their bounds, its configuration breaks no rule, its entries go on, and no rollback goes behind the commit
--- point.
+-- Its numbers are in their bounds, its configuration breaks no rule, its entries go on, and no rollback goes
+-- behind the commit point.
 pub record CanTake (node : Node) (message : Message) : Type 0 where
   pub sender : message.from < 50
   pub term : message.term < 2 ^ 63
   pub asked : IfSome (term_asked message.body) (λ asked. asked < 2 ^ 63)
   pub config : IfSome (config_carried message.body) (λ config. rule config ≡ None)
-  pub fetched : (reply : FetchReply) → message.body ≡ bodies.FetchReply reply → CanTakeEntries node message.term reply
+  pub fetched : (reply : FetchReply) → message.body ≡ bodies.FetchReply reply
+      → CanTakeEntries node message.term reply
   pub common :
-      (after : OpTime) (optimes : List OpTime) (visible : OpTime) → message.body ≡ bodies.CommonReply after optimes visible
+      (after : OpTime) (optimes : List OpTime) (visible : OpTime)
+      → message.body ≡ bodies.CommonReply after optimes visible
       → rollback_reason (termed node message) message.term after optimes visible ≡ None
       → AtMost node.commit (common_point node.log after optimes)

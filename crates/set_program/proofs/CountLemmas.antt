@@ -15,11 +15,11 @@ use Rattle.set_model.specs.declared.reply.Reply.{Reply}
 use Rattle.set_model.specs.declared.reply.Reply.TheVariants.{Refused}
 use Rattle.set_model.specs.Run.{Run, after}
 use Rattle.set_model.specs.World.{World, Task, acts, takes, nothing, actor, step, task, touched_node}
-use Rattle.node_core.specs.Acting.{DisksActed, Runs, is_here, orders_after}
-use Rattle.set_world.specs.Disks.{AtTouched, OneChanged}
+use Rattle.node_core.specs.Acting.{DisksActed, RunsWithoutOrders, is_here, orders_after}
+use Rattle.set_world.specs.Disks.{AtTouchedNode, OneChanged}
 use Rattle.set_world.proofs.DiskLemmas.{delivered_disks}
 use Rattle.set_world.proofs.FaultLemmas.{only_broken}
-use Rattle.set_program.specs.Counts.{FailedSoOften, OneRoseOfTwo, OrdersAre, failures_at, orders_behind}
+use Rattle.set_program.specs.Counts.{FailedAtLeast, EitherFaultCounted, OrdersAre, failures_at, orders_behind}
 use Rattle.set_program.specs.Disks.{DisksPlay, DisksStep}
 
 -- ---- lists
@@ -122,7 +122,7 @@ no_message world (commands.Deliver message) none = refl
 no_message world (commands.DeliverLatest from to) none = refl
 no_message world command none = absurd (cc none)
 
-no_faults : (failed : Option ℕ) (j c : State) → failed ≡ None → Runs (IsSome failed) j j c c
+no_faults : (failed : Option ℕ) (j c : State) → failed ≡ None → RunsWithoutOrders (IsSome failed) j j c c
 no_faults failed j c none = record {
   fails = record {
     journal_faults = omega arith;
@@ -167,7 +167,7 @@ module _ {D : Type 0} (state : D → State) (world : World) (event : Event) (old
   )
 
   by_task : (what : Task) → task world event.command ≡ what
-      → AtTouched what event.failed old new (λ n. OneChanged state (DisksActed event.command (step world event).reply (IsSome event.failed)) n old new) → NodeSteps
+      → AtTouchedNode what event.failed old new (λ n. OneChanged state (DisksActed event.command (step world event).reply (IsSome event.failed)) n old new) → NodeSteps
   by_task (acts touched) is one = by_one touched (ap actor is) one
   by_task (takes message) is one = by_one message.to (ap actor is) one
   by_task nothing is none = by_none is none.0 none.1
@@ -221,11 +221,11 @@ sums most one count j jm j' c cm c' (inl sum) first second (inr full) = inr full
 sums most one count j jm j' c cm c' (inl sum) first second (inl rest) = inl (omega (arith, sum, rest))
 
 -- a store of the node that failed raised one of its counts
-failed_here : (number : ℕ) (world : World) (event : Event) (j j' c c' : State) → NodeStep number world event j j' c c' → (is_some event.failed && touched_node world event.command == number) ≡ true → OneRoseOfTwo j j' c c'
+failed_here : (number : ℕ) (world : World) (event : Event) (j j' c c' : State) → NodeStep number world event j j' c c' → (is_some event.failed && touched_node world event.command == number) ≡ true → EitherFaultCounted j j' c c'
 failed_here number world event j j' c c' (inl acted) is = acted.1.fails.cause (and_parts (is_some event.failed) (touched_node world event.command == number) is).0
 failed_here number world event j j' c c' (inr same) is = absurd (same.0 (eqb-true (touched_node world event.command) number (and_parts (is_some event.failed) (touched_node world event.command == number) is).1))
 
-pub failures_counted : (number : ℕ) (world : World) (events : List Event) (j j' c c' : State) → NodePlay number world events j j' c c' → FailedSoOften (failures_at number world events) j j' c c'
+pub failures_counted : (number : ℕ) (world : World) (events : List Event) (j j' c c' : State) → NodePlay number world events j j' c c' → FailedAtLeast (failures_at number world events) j j' c c'
 failures_counted number world [] j j' c c' same =
     inl (let rises = play_rises number world [] j j' c c' same in omega (arith, rises.0, rises.1))
 failures_counted number world (event ∷ later) j j' c c' (jm, cm, one, rest) =
@@ -237,7 +237,7 @@ failures_counted number world (event ∷ later) j j' c c' (jm, cm, one, rest) =
     behind : (jm.faults ≤ j'.faults) × (cm.faults ≤ c'.faults)
     behind = play_rises number (step world event).world later jm j' cm c' rest
 
-    by_test : FailedSoOften (failures_at number (step world event).world later) jm j' cm c' → (b : Bool) → (is_some event.failed && touched_node world event.command == number) ≡ b → FailedSoOften ((if b then 1 else 0) + failures_at number (step world event).world later) j j' c c'
+    by_test : FailedAtLeast (failures_at number (step world event).world later) jm j' cm c' → (b : Bool) → (is_some event.failed && touched_node world event.command == number) ≡ b → FailedAtLeast ((if b then 1 else 0) + failures_at number (step world event).world later) j j' c c'
     by_test again true is =
         sums (2 ^ 64 - 1) 1 (failures_at number (step world event).world later) j.faults jm.faults j'.faults c.faults cm.faults c'.faults
         (rose_by_one (2 ^ 64 - 1) j.faults jm.faults c.faults cm.faults (failed_here number world event j jm c cm one is) first.0 first.1) behind.0 behind.1 again
@@ -247,13 +247,13 @@ failures_counted number world (event ∷ later) j j' c c' (jm, cm, one, rest) =
 
 -- the counts before and behind are further apart
 pub failed_wider : (count : ℕ) (jo j j' jn co c c' cn : State) → jo.faults ≤ j.faults → co.faults ≤ c.faults → j'.faults ≤ jn.faults → c'.faults ≤ cn.faults
-    → FailedSoOften count j j' c c' → FailedSoOften count jo jn co cn
+    → FailedAtLeast count j j' c c' → FailedAtLeast count jo jn co cn
 failed_wider count jo j j' jn co c c' cn one two three four (inl sum) = inl (omega (arith, one, two, three, four, sum))
 failed_wider count jo j j' jn co c c' cn one two three four (inr (inl full)) = inr (inl (omega (arith, full, three)))
 failed_wider count jo j j' jn co c c' cn one two three four (inr (inr full)) = inr (inr (omega (arith, full, four)))
 
 pub rose_wider : (jo j j' jn co c c' cn : State) → jo.faults ≤ j.faults → co.faults ≤ c.faults → j'.faults ≤ jn.faults → c'.faults ≤ cn.faults
-    → OneRoseOfTwo j j' c c' → OneRoseOfTwo jo jn co cn
+    → EitherFaultCounted j j' c c' → EitherFaultCounted jo jn co cn
 rose_wider jo j j' jn co c c' cn one two three four (inl rose) = inl (omega (arith, one, three, rose))
 rose_wider jo j j' jn co c c' cn one two three four (inr rose) = inr (omega (arith, two, four, rose))
 
@@ -304,7 +304,7 @@ broke number world first event same touches refused = (
 )
 
 pub fault_caused : (number : ℕ) (so_far : Run) (events : List Event) (j j' c c' : State) → NodePlay number so_far.world events j j' c c'
-    → (place : ℕ) (event : Event) → AnswersHere so_far events place number event (Refused DiskFailed) → OneRoseOfTwo j j' c c'
+    → (place : ℕ) (event : Event) → AnswersHere so_far events place number event (Refused DiskFailed) → EitherFaultCounted j j' c c'
 fault_caused number so_far [] j j' c c' same place event is = absurd (cc is.event_is)
 fault_caused number so_far (first ∷ later) j j' c c' (jm, cm, one, rest) zero event is =
     let behind = play_rises number (step so_far.world first).world later jm j' cm c' rest in
@@ -313,7 +313,7 @@ fault_caused number so_far (first ∷ later) j j' c c' (jm, cm, one, rest) zero 
     failed : (IsSome first.failed) × (touched_node so_far.world first.command ≡ number)
     failed = broke number so_far.world first event (same_Some first event is.event_is) is.touches is.reply_is
 
-    here : NodeStep number so_far.world first j jm c cm → OneRoseOfTwo j jm c cm
+    here : NodeStep number so_far.world first j jm c cm → EitherFaultCounted j jm c cm
     here (inl acted) = acted.1.fails.cause failed.0
     here (inr same) = absurd (same.0 failed.1)
 fault_caused number so_far (first ∷ later) j j' c c' (jm, cm, one, rest) (suc place) event is =

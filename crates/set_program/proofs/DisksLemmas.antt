@@ -9,7 +9,7 @@ use Rattle.set_model.specs.Run.{Run, Sizes, after, opening, run}
 use Rattle.set_model.specs.World.{World, step, task}
 use Rattle.node_core.specs.Acting.{DisksActed}
 use Rattle.set_world.specs.World.{Set}
-use Rattle.set_world.specs.Disks.{AtTouched, DisksUndone, IsStep, IsUndone, OneChanged}
+use Rattle.set_world.specs.Disks.{AtTouchedNode, DisksUndone, IsStep, NothingDone, OneChanged}
 use Rattle.set_program.specs.Disks.{DisksPlay, DisksPlayed, DisksRan, DisksStep}
 
 -- an event more is played
@@ -23,11 +23,11 @@ play_more state so_far (earlier ∷ events) event first old new played more =
 -- the disks of a command are those of its event
 of_event : {D : Type 0} (state : D → State) (world : World) (event : Event) (command : Command) (reply : Reply) (old new : List D)
     → command ≡ event.command → reply ≡ (step world event).reply
-    → AtTouched (task world command) event.failed old new (λ n. OneChanged state (DisksActed command reply (IsSome event.failed)) n old new)
+    → AtTouchedNode (task world command) event.failed old new (λ n. OneChanged state (DisksActed command reply (IsSome event.failed)) n old new)
     → DisksStep state world event old new
 of_event state world event command reply old new command_is reply_is changed =
-    subst (λ (r : Reply). AtTouched (task world event.command) event.failed old new (λ n. OneChanged state (DisksActed event.command r (IsSome event.failed)) n old new)) reply_is
-    (subst (λ (c : Command). AtTouched (task world c) event.failed old new (λ n. OneChanged state (DisksActed c reply (IsSome event.failed)) n old new)) command_is changed)
+    subst (λ (r : Reply). AtTouchedNode (task world event.command) event.failed old new (λ n. OneChanged state (DisksActed event.command r (IsSome event.failed)) n old new)) reply_is
+    (subst (λ (c : Command). AtTouchedNode (task world c) event.failed old new (λ n. OneChanged state (DisksActed c reply (IsSome event.failed)) n old new)) command_is changed)
 
 -- a set goes on by a step
 pub step_played : {D : Type 0} (state : D → State) (old new : Set D) (line : ℕ) (command : Command) (reply : Reply) → IsStep state old new line command reply
@@ -67,7 +67,7 @@ undone_at state sizes sizes' history history' command old new sizes_are history_
     (subst (λ (s : Sizes). DisksUndone state (run s history).world command old new) sizes_are undone)
 
 -- a command wasn't done
-pub undone_ran : {D : Type 0} (state : D → State) (old new : Set D) (line : ℕ) (command : Command) (IsNext : ℕ → Command → Type 0) → IsNext line command → IsUndone state old new command
+pub undone_ran : {D : Type 0} (state : D → State) (old new : Set D) (line : ℕ) (command : Command) (IsNext : ℕ → Command → Type 0) → IsNext line command → NothingDone state old new command
     → new.sizes ≡ old.sizes → (first : List D) → DisksPlayed state first old → DisksRan state ⊤ IsNext first new
 undone_ran state old new line command IsNext next is sizes first played = inr (
   tt,

@@ -2,7 +2,7 @@
 use Rattle.std.proofs.Common.{ℕ, ◌≡◌, ◌<◌, Bool, true, false, List, [], ◌∷◌, length, Option, None, Some, Result, Ok, Err, String, refl, sym, subst, arith, inl, inr, ⊎_elim, ◌∙◌}
 use Rattle.std.specs.Prelude.{◌≢◌, IfSome}
 use Rattle.std.specs.declared.alloc.Global.{Global}
-use Rattle.rs_io.specs.Fault.{Rose}
+use Rattle.rs_io.specs.Fault.{CountRose}
 use Rattle.rs_io.specs.ReadAll.{ReadsAll}
 use Rattle.rs_io.specs.declared.reading.ReadAllError.{ReadAllError}
 use Rattle.rs_io.specs.declared.reading.ReadAllError.TheVariants.{ReadFault as SourceFailed, TooLong as OverLimit, Memory as NoMemory}
@@ -23,7 +23,7 @@ use Rattle.rs_io.specs.Put.{Puts}
 use Rattle.rs_io.specs.declared.sink.SinkError.{SinkError}
 use Rattle.rs_io.specs.declared.sink.SinkError.TheVariants.{Failed, Memory as NoRoom}
 use Rattle.set_program.specs.Causes.{of_read, of_sink}
-use Rattle.set_program.specs.Headline.{Asks, AsksNothing, AsksRun, Ends, EndsRun, EndsTask, EndsUnrun, HasNoFault, IsFaulty, IsOneOf, IsReadable, IsScriptOf, limit, status_of, usage}
+use Rattle.set_program.specs.Headline.{Asks, AsksNothing, AsksRun, Ends, EndsRun, EndsTask, EndsWithoutRun, HasNoFault, IsFaulty, IsOneOf, IsReadable, IsScriptOf, limit, status_of, usage}
 use Rattle.set_program.specs.declared.words.Task.{Task}
 use Rattle.set_program.specs.declared.words.Task.TheVariants.{Run, Chaos}
 use Rattle.set_program.specs.Left.{IfSet}
@@ -44,7 +44,7 @@ read_stops left rest held OverLimit reads = (Keeps-same held, over left rest rea
 
 -- nothing is run, since the source has no script
 pub source_stops : (words : List (String Global)) (left rest old new : Option (List ℕ)) (stop : Stop) → AsksRun words → ReadsSource left rest old new (Err stop)
-    → EndsUnrun words left rest old new (Err stop)
+    → EndsWithoutRun words left rest old new (Err stop)
 source_stops words left rest old new Usage asks reads = absurd reads
 source_stops words left rest old new NoScript asks reads = (asks, reads)
 source_stops words left rest old new ReadFault asks reads = (asks, reads)
@@ -55,7 +55,7 @@ source_stops words left rest old new WriteFault asks reads = inr (asks, reads)
 
 -- the words ask for nothing
 pub usage_stops : (words : List (String Global)) (left rest old new : Option (List ℕ)) (error : SinkError) → AsksNothing words → Puts old new (Err error) usage
-    → EndsUnrun words left rest old new (Err (of_sink error))
+    → EndsWithoutRun words left rest old new (Err (of_sink error))
 usage_stops words left rest old new Failed none (count, put) = inl (none, (count, tt, put))
 usage_stops words left rest old new NoRoom none kept = kept
 
@@ -84,10 +84,10 @@ pub run_ends : {D : Type 0} (words : List (String Global)) (left rest old new : 
 run_ends words left rest old new task read ended (World set) asks is runs = (task, asks, (read, is, runs.0, runs.1))
 run_ends words left rest old new task read ended (Parts events disks) asks is (none, kept, one) = (none, ⊎_elim no_memory failed one)
   where
-    no_memory : ended ≡ Err Memory → EndsUnrun words left rest old new ended
+    no_memory : ended ≡ Err Memory → EndsWithoutRun words left rest old new ended
     no_memory same = rw same kept
 
-    failed : ended ≡ Err DiskFault → EndsUnrun words left rest old new ended
+    failed : ended ≡ Err DiskFault → EndsWithoutRun words left rest old new ended
     failed same = rw same (kept, (read, (task, asks, is)))
 
 -- ---- what holds of what is left
@@ -100,7 +100,7 @@ safe_here law (Parts events disks) sizes defined = tt
 -- ---- a readable script is run
 
 -- a fault has its cause
-no_fault : (Steady : Type 0) (before now : ℕ) → HasNoFault Steady before now → ¬ Steady → Rose before now → ⊥
+no_fault : (Steady : Type 0) (before now : ℕ) → HasNoFault Steady before now → ¬ Steady → CountRose before now → ⊥
 no_fault Steady before now (inl steady) unsteady rose = unsteady steady
 no_fault Steady before now (inr still) unsteady rose = still rose
 
@@ -156,13 +156,13 @@ never P (Chaos seed events nodes) parts old new DiskFault set before ends = absu
 
 -- so nothing was run where a call ends otherwise
 only_unrun : {D : Type 0} (P : Type 0) (words : List (String Global)) (left rest old new : Option (List ℕ)) (stop : Stop) (outcome : Left D)
-    → ends_before stop ≡ true → (EndsUnrun words left rest old new (Err stop) → P) → Ends words left rest old new (Err stop) outcome → P
+    → ends_before stop ≡ true → (EndsWithoutRun words left rest old new (Err stop) → P) → Ends words left rest old new (Err stop) outcome → P
 only_unrun P words left rest old new stop (World set) before unrun (task, asks, (read, is, sizes, ends)) = never P task read.parts old new stop set before ends
 only_unrun P words left rest old new stop (Parts events disks) before unrun (none, ends) = unrun ends
 
 pub completes : {D : Type 0} (words : List (String Global)) (left rest old new : Option (List ℕ)) (ended : Result (Unit {0}) Stop) (outcome : Left D)
     (SteadySource SteadySink : Type 0) (reads reads' writes writes' : ℕ)
-    → Ends words left rest old new ended outcome → (status_of ended ≡ 4 → Rose reads reads') → (status_of ended ≡ 5 → Rose writes writes')
+    → Ends words left rest old new ended outcome → (status_of ended ≡ 4 → CountRose reads reads') → (status_of ended ≡ 5 → CountRose writes writes')
     → (SteadySource → status_of ended ≢ 4) → (SteadySink → status_of ended ≢ 5)
     → AsksRun words → HasNoFault SteadySource reads reads' → HasNoFault SteadySink writes writes'
     → IfSome left (λ bytes. IsReadable bytes → IsOneOf (0 ∷ 1 ∷ 7 ∷ []) (status_of ended))
@@ -184,7 +184,7 @@ completes words left rest old new (Err TooLong) outcome SteadySource SteadySink 
 -- ---- a generated script is run
 
 pub completes_chaos : {D : Type 0} (words : List (String Global)) (left rest old new : Option (List ℕ)) (ended : Result (Unit {0}) Stop) (outcome : Left D) (SteadySink : Type 0) (writes writes' : ℕ)
-    → Ends words left rest old new ended outcome → (status_of ended ≡ 5 → Rose writes writes') → (SteadySink → status_of ended ≢ 5)
+    → Ends words left rest old new ended outcome → (status_of ended ≡ 5 → CountRose writes writes') → (SteadySink → status_of ended ≢ 5)
     → (seed events nodes : ℕ) → Asks words (Chaos seed events nodes) → HasNoFault SteadySink writes writes' → IsOneOf (0 ∷ 1 ∷ 7 ∷ []) (status_of ended)
 unfolding ends_before
 completes_chaos words left rest old new (Ok done) outcome SteadySink writes writes' ends write_fault steady_sink seed events nodes asks sink = refl

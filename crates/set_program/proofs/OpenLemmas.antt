@@ -14,7 +14,7 @@ use Rattle.fault_script.specs.declared.script.Part.{Part}
 use Rattle.fault_script.specs.declared.script.Script.{Script}
 use Rattle.fault_script.specs.Script.{lines_in, sizes_of}
 use Rattle.set_world.specs.World.{Set, opening_set}
-use Rattle.set_world.specs.Disks.{AllStand, Opens, OneRose}
+use Rattle.set_world.specs.Disks.{AllStand, Opens, OneFaultCounted}
 use Rattle.set_program.specs.declared.outcome.Left.{Left}
 use Rattle.set_program.specs.declared.outcome.Left.TheVariants.{World, Parts}
 use Rattle.set_program.specs.declared.stop.Stop.{Stop}
@@ -24,7 +24,7 @@ use Rattle.set_program.specs.declared.words.Task.TheVariants.{Run, Chaos}
 use Rattle.set_program.specs.Asking.{OpensScript, RunsScript}
 use Rattle.set_program.specs.Causes.{of_file}
 use Rattle.set_program.specs.Disks.{DisksPlay, DisksPlayed, DisksRan}
-use Rattle.set_program.specs.Steps.{GoOn, IsNextOf, line_of}
+use Rattle.set_program.specs.Steps.{DisksGoOn, IsNextOf, line_of}
 use Rattle.set_program.specs.Headline.{AreOrdersOf, Asks, ComesNext, Ends, EndsTask, IsAsked, IsScriptOf, IsUnarmed, LeavesDisks, status_of, status_of_stop}
 use Rattle.set_program.specs.Left.{disks_of}
 use Rattle.set_program.proofs.DisksLemmas.{ran_as}
@@ -33,7 +33,7 @@ use Rattle.set_program.proofs.PlayLemmas.{Keeps-same, orders_of}
 -- ---- a set was opened, and went on
 
 -- the disks that it had ran
-opened_ran : {D : Type 0} (state : D → State) (parts : List Part) (old new : Set D) (result : Result (Unit {0}) Stop) → old.history ≡ [] → GoOn state (lines_in parts) old new (result ≡ Err Memory)
+opened_ran : {D : Type 0} (state : D → State) (parts : List Part) (old new : Set D) (result : Result (Unit {0}) Stop) → old.history ≡ [] → DisksGoOn state (lines_in parts) old new (result ≡ Err Memory)
     → DisksRan state (status_of result ≡ 1) (ComesNext parts new.history) old.disks new
 opened_ran {D} state parts old new result none goes =
     ran_as state (result ≡ Err Memory) (status_of result ≡ 1) (IsNextOf (lines_in parts) old.history new.history) (ComesNext parts new.history) old.disks new
@@ -52,7 +52,7 @@ opened_ran {D} state parts old new result none goes =
         )
 
 pub set_leaves : {D : Type 0} (state : D → State) (read : Script) (handed : List D) (old new : Set D) (result : Result (Unit {0}) Stop)
-    → old.history ≡ [] → old.sizes ≡ sizes_of read → new.sizes ≡ old.sizes → Opens state read.nodes ⊥ handed old.disks → GoOn state (lines_in read.parts) old new (result ≡ Err Memory)
+    → old.history ≡ [] → old.sizes ≡ sizes_of read → new.sizes ≡ old.sizes → Opens state read.nodes ⊥ handed old.disks → DisksGoOn state (lines_in read.parts) old new (result ≡ Err Memory)
     → OpensScript state read handed (status_of result) (World new)
 set_leaves {D} state read handed old new result none sizes same opens goes = (
   old.disks,
@@ -120,7 +120,7 @@ when_failed state words left rest old new handed ended (Parts events disks) ends
 
 pub disk_failed : {D : Type 0} (state : D → State) (words : List (String Global)) (left rest old new : Option (List ℕ)) (handed : List D) (ended : Result (Unit {0}) Stop) (outcome : Left D)
     → Ends words left rest old new ended outcome → LeavesDisks state words left rest handed (status_of ended) outcome → status_of ended ≡ 7
-    → (read : Script) × IsAsked words left rest read × OneRose state (2 * read.nodes) handed (disks_of outcome)
+    → (read : Script) × IsAsked words left rest read × OneFaultCounted state (2 * read.nodes) handed (disks_of outcome)
 disk_failed state words left rest old new handed ended outcome ends leaves seven =
     let failed = when_failed state words left rest old new handed ended outcome ends leaves seven in
     (failed.0, failed.1, failed.2.cause seven)

@@ -19,14 +19,14 @@ use Rattle.set_model.specs.Run.{AreSizes, Run, Sizes, after, opening, run}
 use Rattle.set_model.specs.Safety.{Answers}
 use Rattle.set_model.specs.Stores.{done}
 use Rattle.set_model.specs.World.{World, Step, Task, acts, takes, nothing, step, task, touched_node}
-use Rattle.node_core.specs.Acting.{DisksLeft, Runs, is_disk_fail}
+use Rattle.node_core.specs.Acting.{DisksLeft, RunsWithoutOrders, is_disk_fail}
 use Rattle.node_core.proofs.PuttingLemmas.{left_runs, runs_none}
-use Rattle.set_world.specs.Disks.{AtTouched, DisksUndone, IsServed, OneChanged, Opens}
+use Rattle.set_world.specs.Disks.{AtTouchedNode, DisksUndone, WasUsed, OneChanged, Opens}
 use Rattle.set_world.specs.World.{Set}
 use Rattle.set_world.proofs.ActingLemmas.{plan_is, step_is}
 use Rattle.set_world.proofs.DisksOpenLemmas.{there_too}
 use Rattle.set_world.proofs.NodesLemmas.{named}
-use Rattle.set_program.specs.Counts.{FailedSoOften, FailuresCount, FaultsAreArmed, FaultsHaveCauses, OfNode, OneRoseOfTwo, OrdersAre, OrdersCount, failures_at}
+use Rattle.set_program.specs.Counts.{FailedAtLeast, FailuresCount, FaultsAreArmed, FaultsHaveCauses, OfNode, EitherFaultCounted, OrdersAre, OrdersCount, failures_at}
 use Rattle.set_program.specs.Disks.{DisksPlay, DisksRan}
 use Rattle.set_program.specs.Headline.{ComesNext, IsUnarmed, LeavesDisks}
 use Rattle.set_program.specs.Left.{IfSet}
@@ -106,10 +106,10 @@ pub record NodeRan (number : ℕ) (world : World) (events : List Event) (j j' c 
   pub opened_checkpoints : State
   pub last_journal : State
   pub last_checkpoints : State
-  pub journal_served : IsServed j opened_journal
-  pub checkpoints_served : IsServed c opened_checkpoints
+  pub journal_served : WasUsed j opened_journal
+  pub checkpoints_served : WasUsed c opened_checkpoints
   pub played : NodePlay number world events opened_journal last_journal opened_checkpoints last_checkpoints
-  pub undone : Runs ⊥ last_journal j' last_checkpoints c'
+  pub undone : RunsWithoutOrders ⊥ last_journal j' last_checkpoints c'
 
 at_all : {A : Type 0} (xs : List A) (i : ℕ) → i < length xs → (x : A) × (slice_get xs i ≡ Some x)
 at_all xs i within = elim (slice_get_cases xs i).1 [ inl found ↦ (found.0, found.2) | inr past ↦ absurd (omega (arith, within, past.0)) ]
@@ -117,7 +117,7 @@ at_all xs i within = elim (slice_get_cases xs i).1 [ inl found ↦ (found.0, fou
 -- behind the last event no order was given to them
 module _ {D : Type 0} (state : D → State) (command : Command) (last left : List D) (number : ℕ) (j c : State) (has : NodeHas state number last j c) where
   abbrev pub RunsOn : Type 0
-  RunsOn = (j' : State) × (c' : State) × NodeHas state number left j' c' × Runs ⊥ j j' c c'
+  RunsOn = (j' : State) × (c' : State) × NodeHas state number left j' c' × RunsWithoutOrders ⊥ j j' c c'
 
   left_alone : left ≡ last → RunsOn
   left_alone same = (j, c, subst (λ l. NodeHas state number l j c) (sym same) has, runs_none j c)
@@ -130,7 +130,7 @@ module _ {D : Type 0} (state : D → State) (command : Command) (last left : Lis
     | inr other ↦ (j, c, unchanged_there state (DisksLeft command) touched number last left j c one has (apart touched number other), runs_none j c)
   ]
 
-  by_task : (what : Task) → AtTouched what None last left (λ n. OneChanged state (DisksLeft command) n last left) → RunsOn
+  by_task : (what : Task) → AtTouchedNode what None last left (λ n. OneChanged state (DisksLeft command) n last left) → RunsOn
   by_task (acts touched) one = by_one touched one
   by_task (takes message) one = by_one message.to one
   by_task nothing none = left_alone none.1
@@ -143,7 +143,7 @@ module _ {D : Type 0} (state : D → State) (command : Command) (last left : Lis
 pub record RanTo {D : Type 0} (state : D → State) (opened : List D) (set : Set D) : Type 0 where
   pub last : List D
   pub played : DisksPlay state (opening set.sizes).world set.history opened last
-  pub behind : (number : ℕ) (j c : State) → NodeHas state number last j c → (j' : State) × (c' : State) × NodeHas state number set.disks j' c' × Runs ⊥ j j' c c'
+  pub behind : (number : ℕ) (j c : State) → NodeHas state number last j c → (j' : State) × (c' : State) × NodeHas state number set.disks j' c' × RunsWithoutOrders ⊥ j j' c c'
 
 ran_to : {D : Type 0} (state : D → State) (OutOfMemory : Type 0) (IsNext : ℕ → Command → Type 0) (opened : List D) (set : Set D) → DisksRan state OutOfMemory IsNext opened set → RanTo state opened set
 ran_to state OutOfMemory IsNext opened set (inl played) = record {
@@ -198,7 +198,7 @@ node_ran {D} state handed opened set opens ran number within = record {
     events = node_played state (opening set.sizes).world set.history opened ran.last number (state first.0) (state second.0)
         (record { journal = first.0; checkpoints = second.0; journal_at = first.1; checkpoints_at = second.1; journal_is = refl; checkpoints_is = refl }) ran.played
 
-    behind : (j' : State) × (c' : State) × NodeHas state number set.disks j' c' × Runs ⊥ events.0 j' events.1 c'
+    behind : (j' : State) × (c' : State) × NodeHas state number set.disks j' c' × RunsWithoutOrders ⊥ events.0 j' events.1 c'
     behind = ran.behind number events.0 events.1 events.2
 
 -- ---- what that tells
@@ -218,7 +218,7 @@ of_node state handed left number So Other tells of = record {
 }
 
 module _ (number : ℕ) (sizes : Sizes) (events : List Event) (j j' c c' : State) (ran : NodeRan number (opening sizes).world events j j' c c') where
-  pub failures_ran : FailedSoOften (failures_at number (opening sizes).world events) j j' c c'
+  pub failures_ran : FailedAtLeast (failures_at number (opening sizes).world events) j j' c c'
   failures_ran = failed_wider (failures_at number (opening sizes).world events) j ran.opened_journal ran.last_journal j' c ran.opened_checkpoints ran.last_checkpoints c'
       ran.journal_served.faults ran.checkpoints_served.faults ran.undone.fails.journal_faults ran.undone.fails.checkpoint_faults
       (failures_counted number (opening sizes).world events ran.opened_journal ran.last_journal ran.opened_checkpoints ran.last_checkpoints ran.played)
@@ -231,7 +231,7 @@ module _ (number : ℕ) (sizes : Sizes) (events : List Event) (j j' c c' : State
   here : (place : ℕ) (event : Event) (answer : Reply) → Answers sizes events place number event answer → AnswersHere (opening sizes) events place number event answer
   here place event answer is = record { event_is = is.event_is; touches = is.touches; reply_is = is.reply_is }
 
-  pub fault_ran : (place : ℕ) (event : Event) → Answers sizes events place number event (Refused DiskFailed) → OneRoseOfTwo j j' c c'
+  pub fault_ran : (place : ℕ) (event : Event) → Answers sizes events place number event (Refused DiskFailed) → EitherFaultCounted j j' c c'
   fault_ran place event is = rose_wider j ran.opened_journal ran.last_journal j' c ran.opened_checkpoints ran.last_checkpoints c'
       ran.journal_served.faults ran.checkpoints_served.faults ran.undone.fails.journal_faults ran.undone.fails.checkpoint_faults
       (fault_caused number (opening sizes) events ran.opened_journal ran.last_journal ran.opened_checkpoints ran.last_checkpoints ran.played place event (here place event (Refused DiskFailed) is))
@@ -260,7 +260,7 @@ module _ {D : Type 0} (state : D → State) (handed : List D) (many : length han
     pub failures_left : (outcome : Left D) → IfSet outcome (λ set. AreSizes set.sizes) → LeavesDisks state words left rest handed status outcome → IfSet outcome (FailuresCount state handed)
     failures_left (Parts events disks) sizes leaves = tt
     failures_left (Ran set) sizes (read, asked, (opened, opens, ran)) = λ number less.
-        of_node state handed set.disks number (NodeRan number (opening set.sizes).world set.history) (FailedSoOften (failures_at number (opening set.sizes).world set.history))
+        of_node state handed set.disks number (NodeRan number (opening set.sizes).world set.history) (FailedAtLeast (failures_at number (opening set.sizes).world set.history))
         (λ j j' c c' node. failures_ran number set.sizes set.history j j' c c' node) (ran_of opened set sizes opens (ran_to state (status ≡ 1) (ComesNext read.parts set.history) opened set ran) number less)
 
     pub orders_left : (outcome : Left D) → IfSet outcome (λ set. AreSizes set.sizes) → LeavesDisks state words left rest handed status outcome → IfSet outcome (OrdersCount state handed)
@@ -272,7 +272,7 @@ module _ {D : Type 0} (state : D → State) (handed : List D) (many : length han
     pub causes_left : (outcome : Left D) → IfSet outcome (λ set. AreSizes set.sizes) → LeavesDisks state words left rest handed status outcome → IfSet outcome (FaultsHaveCauses state handed)
     causes_left (Parts events disks) sizes leaves = tt
     causes_left (Ran set) sizes (read, asked, (opened, opens, ran)) = λ place number event less is.
-        of_node state handed set.disks number (NodeRan number (opening set.sizes).world set.history) OneRoseOfTwo
+        of_node state handed set.disks number (NodeRan number (opening set.sizes).world set.history) EitherFaultCounted
         (λ j j' c c' node. fault_ran number set.sizes set.history j j' c c' node place event is) (ran_of opened set sizes opens (ran_to state (status ≡ 1) (ComesNext read.parts set.history) opened set ran) number less)
 
     pub armed_left : (outcome : Left D) → IfSet outcome (λ set. AreSizes set.sizes) → IfSet outcome (λ set. IsRun set.sizes set.history) → LeavesDisks state words left rest handed status outcome

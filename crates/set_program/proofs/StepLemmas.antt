@@ -10,7 +10,7 @@ use Rattle.set_model.specs.declared.reply.Reply.{Reply}
 use Rattle.set_model.specs.Run.{Sizes, run}
 use Rattle.set_model.proofs.RunLemmas.{run-append}
 use Rattle.set_world.specs.World.{Set}
-use Rattle.set_world.specs.Disks.{IsStep, IsUndone}
+use Rattle.set_world.specs.Disks.{IsStep, NothingDone}
 use Rattle.set_program.specs.Steps.{Adds, GoesOn, IsNextOf, Stepped, SteppedSome, line_of, reply_to}
 use Rattle.set_program.proofs.DisksLemmas.{ran_as, step_played, undone_ran}
 
@@ -151,7 +151,7 @@ line_untold state line command reply old new is sizes = record {
 }
 
 -- it isn't played
-pub line_undone : {D : Type 0} (state : D → State) (line : ℕ) (command : Command) (old new : Set D) → IsUndone state old new command → new.sizes ≡ old.sizes
+pub line_undone : {D : Type 0} (state : D → State) (line : ℕ) (command : Command) (old new : Set D) → NothingDone state old new command → new.sizes ≡ old.sizes
     → SteppedSome state ((line, command) ∷ []) old new
 line_undone state line command old new is sizes = record {
   sizes = sizes;

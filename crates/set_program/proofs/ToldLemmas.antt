@@ -13,7 +13,7 @@ use Rattle.fault_script.specs.Script.{lines_in}
 use Rattle.set_world.specs.World.{Set}
 use Rattle.set_program.specs.declared.stop.Stop.{Stop}
 use Rattle.set_program.specs.declared.stop.Stop.TheVariants.{Memory, Usage, Script as NoScript, ReadFault, WriteFault, TooLong, DiskFault}
-use Rattle.set_program.specs.Headline.{EndsTold, GoesSomeWay, summary_put}
+use Rattle.set_program.specs.Headline.{EndsWithSummary, FollowsInPart, summary_put}
 use Rattle.set_program.specs.Plays.{PutsText}
 use Rattle.set_program.specs.Steps.{Adds, Stepped, SteppedSome, line_of}
 use Rattle.set_program.proofs.PlayLemmas.{follows_so, orders_of}
@@ -34,9 +34,9 @@ stepped_some state lines old new before after stepped = record {
 added_all : (lines : List (ℕ × Command)) (old new : List Event) → old ≡ [] → (adds : Adds lines old new) → new ≡ adds.added
 added_all lines old new none adds = adds.events ∙ ap (λ (es : List Event). es ++ adds.added) none
 
-pub some_way : {D : Type 0} (state : D → State) (parts : List Part) (old new : Set D) → old.history ≡ [] → SteppedSome state (lines_in parts) old new → GoesSomeWay parts new.history
+pub some_way : {D : Type 0} (state : D → State) (parts : List Part) (old new : Set D) → old.history ≡ [] → SteppedSome state (lines_in parts) old new → FollowsInPart parts new.history
 some_way state parts old new none some =
-    subst (λ (es : List Event). GoesSomeWay parts es) (sym (added_all some.played old.history new.history none some.adds)) (record {
+    subst (λ (es : List Event). FollowsInPart parts es) (sym (added_all some.played old.history new.history none some.adds)) (record {
       lines = lines_in parts;
       follows = orders_of parts;
       front = some.adds.lines_are
@@ -65,7 +65,7 @@ module _ {D : Type 0} (state : D → State) (parts : List Part) (old new : Set D
   follows : map line_of new.history ≡ lines_in parts
   follows = ap (map line_of) (added_all (lines_in parts) old.history new.history none stepped.adds) ∙ stepped.adds.lines_are
 
-  pub told_ends : (held now : Option (List ℕ)) (result : Result (Unit {0}) Stop) → PutsText held now (summary_put new) result → EndsTold parts held now result new
+  pub told_ends : (held now : Option (List ℕ)) (result : Result (Unit {0}) Stop) → PutsText held now (summary_put new) result → EndsWithSummary parts held now result new
   told_ends held now (Ok done) put = (follows_so parts new.history follows, put)
   told_ends held now (Err Memory) kept = (some_way state parts old new none (stepped_some state (lines_in parts) old new [] after stepped), kept)
   told_ends held now (Err WriteFault) (count, put) = (follows_so parts new.history follows, (count, tt, put))

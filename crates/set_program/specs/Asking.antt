@@ -15,27 +15,33 @@ use Rattle.set_program.specs.declared.stop.Stop.{Stop}
 use Rattle.set_program.specs.declared.stop.Stop.TheVariants.{Memory, Usage, Script as NoScript, ReadFault, WriteFault, TooLong, DiskFault}
 use Rattle.set_program.specs.declared.words.Task.{Task}
 use Rattle.set_program.specs.Disks.{DisksRan}
-use Rattle.set_program.specs.Headline.{AnyFront, Asks, ComesNext, EndsTask, EndsUnrun, IsFaulty, IsOneOf, IsRead, IsScriptOf, PutsFront, limit}
+use Rattle.set_program.specs.Headline.{AnyPrefix, Asks, ComesNext, EndsTask, EndsWithoutRun, IsFaulty, IsOneOf, IsRead, IsScriptOf, PutsPrefix, limit}
 
 -- the words ask for this task and its script, or nothing is run
-abbrev pub Reads : List (String Global) → Option (List ℕ) → Option (List ℕ) → Option (List ℕ) → Option (List ℕ) → Result (Task × Script) Stop → Type 0
+abbrev pub Reads : List (String Global) → Option (List ℕ) → Option (List ℕ) → Option (List ℕ)
+    → Option (List ℕ) → Result (Task × Script) Stop → Type 0
 Reads words left rest old new (Ok (task, read)) = Asks words task × IsScriptOf task left rest read
-Reads words left rest old new (Err stop) = EndsUnrun words left rest old new (Err stop)
+Reads words left rest old new (Err stop) = EndsWithoutRun words left rest old new (Err stop)
 
 -- the source's script, or why there is none
-abbrev pub ReadsSource : Option (List ℕ) → Option (List ℕ) → Option (List ℕ) → Option (List ℕ) → Result Script Stop → Type 0
+abbrev pub ReadsSource : Option (List ℕ) → Option (List ℕ) → Option (List ℕ) → Option (List ℕ)
+    → Result Script Stop → Type 0
 ReadsSource left rest old new (Ok read) = IsRead left rest read
 ReadsSource left rest old new (Err Usage) = ⊥
-ReadsSource left rest old new (Err NoScript) = (fault : ScriptFault) × IsFaulty left rest fault × Appends old new (fault_text fault)
+ReadsSource left rest old new (Err NoScript) =
+    (fault : ScriptFault) × IsFaulty left rest fault × Appends old new (fault_text fault)
 ReadsSource left rest old new (Err ReadFault) = Keeps old new
 ReadsSource left rest old new (Err TooLong) = Keeps old new × IfSome left (λ bytes. limit < length bytes)
 ReadsSource left rest old new (Err DiskFault) = ⊥
 ReadsSource left rest old new (Err Memory) = Keeps old new
-ReadsSource left rest old new (Err WriteFault) = (fault : ScriptFault) × IsFaulty left rest fault × PutsFront AnyFront old new [] (fault_text fault)
+ReadsSource left rest old new (Err WriteFault) =
+    (fault : ScriptFault) × IsFaulty left rest fault × PutsPrefix AnyPrefix old new [] (fault_text fault)
 
 -- a set of the script's sizes was run, or it couldn't be opened
-abbrev pub RunsScript : {D : Type 0} → Task → Script → Option (List ℕ) → Option (List ℕ) → Result (Unit {0}) Stop → Left D → Type 0
-RunsScript task read old new ended (World set) = (set.sizes ≡ sizes_of read) × EndsTask task read.parts old new ended set
+abbrev pub RunsScript : {D : Type 0} → Task → Script → Option (List ℕ) → Option (List ℕ)
+    → Result (Unit {0}) Stop → Left D → Type 0
+RunsScript task read old new ended (World set) =
+    (set.sizes ≡ sizes_of read) × EndsTask task read.parts old new ended set
 RunsScript task read old new ended (Parts events disks) =
     (events.items ≡ []) × Keeps old new × ((ended ≡ Err Memory) ⊎ (ended ≡ Err DiskFault))
 

@@ -7,27 +7,30 @@ use Rattle.set_model.specs.Run.{opening, run}
 use Rattle.set_model.specs.World.{World, step, task}
 use Rattle.node_core.specs.Acting.{DisksActed}
 use Rattle.set_world.specs.World.{Set}
-use Rattle.set_world.specs.Disks.{AtTouched, DisksUndone, OneChanged}
+use Rattle.set_world.specs.Disks.{AtTouchedNode, DisksUndone, OneChanged}
 
--- An event changes the two disks of its node, and no others: a store fails only where one of them does, and only a crash and a
--- `diskfail` give them orders. An event without a node changes none.
+-- An event changes the two disks of its node, and no others: a store fails only where one of them does, and
+-- only a crash and a `diskfail` give them orders. An event without a node changes none.
 abbrev pub DisksStep : {D : Type 0} → (D → State) → World → Event → List D → List D → Type 0
 DisksStep state world event old new =
-    AtTouched (task world event.command) event.failed old new
-    (λ number. OneChanged state (DisksActed event.command (step world event).reply (IsSome event.failed)) number old new)
+    AtTouchedNode (task world event.command) event.failed old new
+    (λ number.
+    OneChanged state (DisksActed event.command (step world event).reply (IsSome event.failed)) number old new)
 
 -- events, each at the world that it meets
 abbrev pub DisksPlay : {D : Type 0} → (D → State) → World → List Event → List D → List D → Type 0
 DisksPlay state world [] old new = new ≡ old
 DisksPlay {D} state world (event ∷ later) old new =
-    (between : List D) × DisksStep state world event old between × DisksPlay state (step world event).world later between new
+    (between : List D) × DisksStep state world event old between
+    × DisksPlay state (step world event).world later between new
 
 -- from these disks a set came by its events to those that it has
 abbrev pub DisksPlayed : {D : Type 0} → (D → State) → List D → Set D → Type 0
 DisksPlayed state first set = DisksPlay state (opening set.sizes).world set.history first set.disks
 
 -- from them by its events, and then by a command of the next line, which wasn't done
-pub record DisksBegan {D : Type 0} (state : D → State) (IsNext : ℕ → Command → Type 0) (first : List D) (set : Set D) : Type 0 where
+pub record DisksBegan {D : Type 0} (state : D → State) (IsNext : ℕ → Command → Type 0) (first : List D)
+    (set : Set D) : Type 0 where
   pub last : List D
   pub played : DisksPlay state (opening set.sizes).world set.history first last
   pub line : ℕ

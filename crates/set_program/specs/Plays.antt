@@ -11,7 +11,7 @@ use Rattle.fault_script.specs.Script.{lines_in}
 use Rattle.transcript.specs.Replies.{line_text, text}
 use Rattle.set_program.specs.declared.stop.Stop.{Stop}
 use Rattle.set_program.specs.declared.stop.Stop.TheVariants.{Memory, Usage, Script as NoScript, ReadFault, WriteFault, TooLong, DiskFault}
-use Rattle.set_program.specs.Headline.{AnyFront, GoesToAPoint, Nothing, PutsReplies}
+use Rattle.set_program.specs.Headline.{AnyPrefix, StopsAtAPoint, NoPrefix, PutsReplies}
 use Rattle.set_program.specs.Steps.{Adds, GoesOn, line_of}
 
 -- ---- texts
@@ -30,8 +30,8 @@ PutsText held now piece (Err DiskFault) = ⊥
 -- replies are put one after another
 abbrev pub PutsEach : Option (List ℕ) → Option (List ℕ) → List (ℕ × Reply) → Result (Unit {0}) Stop → Type 0
 PutsEach held now replies (Ok done) = Appends held now (flat_map line_text replies)
-PutsEach held now replies (Err Memory) = PutsReplies Nothing held now replies
-PutsEach held now replies (Err WriteFault) = PutsReplies AnyFront held now replies
+PutsEach held now replies (Err Memory) = PutsReplies NoPrefix held now replies
+PutsEach held now replies (Err WriteFault) = PutsReplies AnyPrefix held now replies
 PutsEach held now replies (Err Usage) = ⊥
 PutsEach held now replies (Err NoScript) = ⊥
 PutsEach held now replies (Err ReadFault) = ⊥
@@ -41,14 +41,16 @@ PutsEach held now replies (Err DiskFault) = ⊥
 -- ---- a part
 
 -- its lines are played, and then their replies put
-pub record PlayedPart (sizes : Sizes) (lines : List (ℕ × Command)) (held now : Option (List ℕ)) (old new : List Event) : Type 0 where
+pub record PlayedPart (sizes : Sizes) (lines : List (ℕ × Command)) (held now : Option (List ℕ))
+    (old new : List Event) : Type 0 where
   pub adds : Adds lines old new
   pub replies : List (ℕ × Reply)
   pub told : GoesOn sizes old new replies
   pub put : Appends held now (flat_map line_text replies)
 
 -- some first lines are played, and some first replies put: none before all lines are played
-pub record CutPart (sizes : Sizes) (MayBe : ℕ → Type 0) (lines : List (ℕ × Command)) (held now : Option (List ℕ)) (old new : List Event) : Type 0 where
+pub record CutPart (sizes : Sizes) (MayBe : ℕ → Type 0) (lines : List (ℕ × Command))
+    (held now : Option (List ℕ)) (old new : List Event) : Type 0 where
   pub played : List (ℕ × Command)
   pub later : List (ℕ × Command)
   pub lines_are : lines ≡ played ++ later
@@ -58,10 +60,11 @@ pub record CutPart (sizes : Sizes) (MayBe : ℕ → Type 0) (lines : List (ℕ �
   pub put : PutsReplies MayBe held now replies
   pub waits : (later ≡ []) ⊎ Keeps held now
 
-abbrev pub PlaysPart : Sizes → List (ℕ × Command) → Option (List ℕ) → Option (List ℕ) → List Event → List Event → Result (Unit {0}) Stop → Type 0
+abbrev pub PlaysPart : Sizes → List (ℕ × Command) → Option (List ℕ) → Option (List ℕ) → List Event
+    → List Event → Result (Unit {0}) Stop → Type 0
 PlaysPart sizes lines held now old new (Ok done) = PlayedPart sizes lines held now old new
-PlaysPart sizes lines held now old new (Err Memory) = CutPart sizes Nothing lines held now old new
-PlaysPart sizes lines held now old new (Err WriteFault) = CutPart sizes AnyFront lines held now old new
+PlaysPart sizes lines held now old new (Err Memory) = CutPart sizes NoPrefix lines held now old new
+PlaysPart sizes lines held now old new (Err WriteFault) = CutPart sizes AnyPrefix lines held now old new
 PlaysPart sizes lines held now old new (Err Usage) = ⊥
 PlaysPart sizes lines held now old new (Err NoScript) = ⊥
 PlaysPart sizes lines held now old new (Err ReadFault) = ⊥
@@ -71,14 +74,16 @@ PlaysPart sizes lines held now old new (Err DiskFault) = ⊥
 -- ---- all parts
 
 -- all parts are played, and their replies are put
-pub record Played (sizes : Sizes) (parts : List Part) (held now : Option (List ℕ)) (events : List Event) : Type 0 where
+pub record Played (sizes : Sizes) (parts : List Part) (held now : Option (List ℕ))
+    (events : List Event) : Type 0 where
   pub lines_are : map line_of events ≡ lines_in parts
   pub put : Appends held now (text (run sizes events))
 
-abbrev pub Plays : Sizes → List Part → Option (List ℕ) → Option (List ℕ) → List Event → Result (Unit {0}) Stop → Type 0
+abbrev pub Plays : Sizes → List Part → Option (List ℕ) → Option (List ℕ) → List Event
+    → Result (Unit {0}) Stop → Type 0
 Plays sizes parts held now events (Ok done) = Played sizes parts held now events
-Plays sizes parts held now events (Err Memory) = GoesToAPoint sizes Nothing parts held now events
-Plays sizes parts held now events (Err WriteFault) = GoesToAPoint sizes AnyFront parts held now events
+Plays sizes parts held now events (Err Memory) = StopsAtAPoint sizes NoPrefix parts held now events
+Plays sizes parts held now events (Err WriteFault) = StopsAtAPoint sizes AnyPrefix parts held now events
 Plays sizes parts held now events (Err Usage) = ⊥
 Plays sizes parts held now events (Err NoScript) = ⊥
 Plays sizes parts held now events (Err ReadFault) = ⊥

@@ -29,20 +29,22 @@ pub record Adds (lines : List (ℕ × Command)) (old new : List Event) : Type 0 
   pub lines_are : map line_of added ≡ lines
 
 -- some first of these lines are played, and this one comes next
-pub record IsNextOf (lines : List (ℕ × Command)) (old new : List Event) (line : ℕ) (command : Command) : Type 0 where
+pub record IsNextOf (lines : List (ℕ × Command)) (old new : List Event) (line : ℕ)
+    (command : Command) : Type 0 where
   pub played : List (ℕ × Command)
   pub later : List (ℕ × Command)
   pub lines_are : lines ≡ played ++ (line, command) ∷ later
   pub adds : Adds played old new
 
 -- disks that played up to here go on so by the lines
-abbrev pub GoOn : {D : Type 0} → (D → State) → List (ℕ × Command) → Set D → Set D → Type 0 → Type 0
-GoOn {D} state lines old new OutOfMemory =
+abbrev pub DisksGoOn : {D : Type 0} → (D → State) → List (ℕ × Command) → Set D → Set D → Type 0 → Type 0
+DisksGoOn {D} state lines old new OutOfMemory =
     (first : List D) → DisksPlayed state first old
     → DisksRan state OutOfMemory (IsNextOf lines old.history new.history) first new
 
 -- the lines are played, and their replies kept behind earlier ones
-pub record Stepped {D : Type 0} (state : D → State) (lines : List (ℕ × Command)) (old new : Set D) (before after : List (ℕ × Reply)) : Type 0 where
+pub record Stepped {D : Type 0} (state : D → State) (lines : List (ℕ × Command)) (old new : Set D)
+    (before after : List (ℕ × Reply)) : Type 0 where
   pub sizes : new.sizes ≡ old.sizes
   pub adds : Adds lines old.history new.history
   pub replies : List (ℕ × Reply)
@@ -51,15 +53,17 @@ pub record Stepped {D : Type 0} (state : D → State) (lines : List (ℕ × Comm
   pub disks : (first : List D) → DisksPlayed state first old → DisksPlayed state first new
 
 -- some first lines are played
-pub record SteppedSome {D : Type 0} (state : D → State) (lines : List (ℕ × Command)) (old new : Set D) : Type 0 where
+pub record SteppedSome {D : Type 0} (state : D → State) (lines : List (ℕ × Command))
+    (old new : Set D) : Type 0 where
   pub sizes : new.sizes ≡ old.sizes
   pub played : List (ℕ × Command)
   pub later : List (ℕ × Command)
   pub lines_are : lines ≡ played ++ later
   pub adds : Adds played old.history new.history
-  pub disks : GoOn state lines old new ⊤
+  pub disks : DisksGoOn state lines old new ⊤
 
 -- all of them, or with no memory left some
-abbrev pub Steps : {D : Type 0} → (D → State) → List (ℕ × Command) → Set D → Set D → List (ℕ × Reply) → List (ℕ × Reply) → Result (Unit {0}) AllocError → Type 0
+abbrev pub Steps : {D : Type 0} → (D → State) → List (ℕ × Command) → Set D → Set D → List (ℕ × Reply)
+    → List (ℕ × Reply) → Result (Unit {0}) AllocError → Type 0
 Steps state lines old new before after (Ok done) = Stepped state lines old new before after
 Steps state lines old new before after (Err error) = SteppedSome state lines old new

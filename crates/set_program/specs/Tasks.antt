@@ -3,7 +3,8 @@
 --     run                        the script of the source is run
 --     chaos SEED EVENTS NODES    a generated script is run, and its summary put
 --
--- SEED, EVENTS and NODES are one to twenty decimal digits: a number of 64 bits, one up to 5,000, and one from 1 to 7.
+-- SEED, EVENTS and NODES are one to twenty decimal digits: a number of 64 bits, one up to 5,000, and one from
+-- 1 to 7.
 use Rattle.std.specs.Prelude.{ℕ, ⊤, ◌≤◌, ◌&&◌, nat_le, nat_lt, List, [], ◌∷◌, length, Option, None, Some, codes, if◌then◌else◌}
 use Rattle.std.specs.Char.{is_ascii_digit}
 use Rattle.std.specs.List.{list_all}
@@ -28,14 +29,16 @@ with_numbers (Some seed) None nodes = None
 with_numbers None events nodes = None
 
 abbrev pub chaos_of : (seed events nodes : List ℕ) → Option Task
-chaos_of seed events nodes = with_numbers (number_word 0 18446744073709551615 seed) (number_word 0 5000 events) (number_word 1 7 nodes)
+chaos_of seed events nodes =
+    with_numbers (number_word 0 18446744073709551615 seed) (number_word 0 5000 events) (number_word 1 7 nodes)
 
 abbrev pub task_of : List (List ℕ) → Option Task
 task_of [] = None
 task_of (name ∷ []) = if bytes_eq name (codes "run") then Some Run else None
 task_of (name ∷ seed ∷ []) = None
 task_of (name ∷ seed ∷ events ∷ []) = None
-task_of (name ∷ seed ∷ events ∷ nodes ∷ []) = if bytes_eq name (codes "chaos") then chaos_of seed events nodes else None
+task_of (name ∷ seed ∷ events ∷ nodes ∷ []) =
+    if bytes_eq name (codes "chaos") then chaos_of seed events nodes else None
 task_of (name ∷ seed ∷ events ∷ nodes ∷ more ∷ others) = None
 
 -- what is generated has at most 5,000 events, in a set of 1 to 7 nodes

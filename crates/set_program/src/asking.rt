@@ -1,7 +1,7 @@
 // The script that the words ask for.
 ghost use Rattle.std.specs.Prelude.{◌≡◌, ◌≢◌, ◌≤◌, length, true, IfOk, IsErrOf, OnOk, Err, Ok};
 ghost use Rattle.std.specs.List.{list_all};
-ghost use Rattle.rs_io.specs.Fault.{HasCause, Rose};
+ghost use Rattle.rs_io.specs.Fault.{HasCause, CountRose};
 ghost use Rattle.set_model.specs.Run.{AreSizes};
 ghost use Rattle.fault_script.specs.Script.{is_part_for, lines_in, script, sizes_of};
 ghost use Rattle.transcript.specs.Faults.{fault_text};
@@ -31,14 +31,15 @@ pub fn read_script<S: Source, K: Sink>(
     source: &mut S,
     sink: &mut K,
 ) -> Result<(Task, Script), Stop>
-    ensures reads { Reads words.now (S.left source.old) (S.left source.new) (K.held sink.old) (K.held sink.new) result }
+    ensures reads { Reads words.now (S.left source.old) (S.left source.new) (K.held sink.old)
+        (K.held sink.new) result }
     ensures sizes { IfOk result (λ asked. AreSizes (sizes_of asked.1)) }
     ensures fits { IfOk result (λ asked. list_all (is_part_for asked.1.nodes) asked.1.parts ≡ true) }
     ensures few { IfOk result (λ asked. length (lines_in asked.1.parts) ≤ 200000) }
     ensures unread { ¬ AsksRun words.now → source.new ≡ source.old }
     ensures unput { OnOk result (sink.new ≡ sink.old) }
-    ensures read_fault { status_of result ≡ 4 → Rose (S.faults source.old) (S.faults source.new) }
-    ensures write_fault { status_of result ≡ 5 → Rose (K.faults sink.old) (K.faults sink.new) }
+    ensures read_fault { status_of result ≡ 4 → CountRose (S.faults source.old) (S.faults source.new) }
+    ensures write_fault { status_of result ≡ 5 → CountRose (K.faults sink.old) (K.faults sink.new) }
     ensures steady_source { S.steady source.old → status_of result ≢ 4 }
     ensures steady_sink { K.steady sink.old → status_of result ≢ 5 }
     ensures no_disk { status_of result ≢ 7 }
@@ -75,13 +76,14 @@ fn source_script<S: Source, K: Sink>(
     source: &mut S,
     sink: &mut K,
 ) -> Result<Script, Stop>
-    ensures reads { ReadsSource (S.left source.old) (S.left source.new) (K.held sink.old) (K.held sink.new) result }
+    ensures reads { ReadsSource (S.left source.old) (S.left source.new) (K.held sink.old)
+        (K.held sink.new) result }
     ensures sizes { IfOk result (λ read. AreSizes (sizes_of read)) }
     ensures fits { IfOk result (λ read. list_all (is_part_for read.nodes) read.parts ≡ true) }
     ensures few { IfOk result (λ read. length (lines_in read.parts) ≤ 200000) }
     ensures unput { OnOk result (sink.new ≡ sink.old) }
-    ensures read_fault { status_of result ≡ 4 → Rose (S.faults source.old) (S.faults source.new) }
-    ensures write_fault { status_of result ≡ 5 → Rose (K.faults sink.old) (K.faults sink.new) }
+    ensures read_fault { status_of result ≡ 4 → CountRose (S.faults source.old) (S.faults source.new) }
+    ensures write_fault { status_of result ≡ 5 → CountRose (K.faults sink.old) (K.faults sink.new) }
     ensures steady_source { S.steady source.old → status_of result ≢ 4 }
     ensures steady_sink { K.steady sink.old → status_of result ≢ 5 }
     ensures no_disk { status_of result ≢ 7 }

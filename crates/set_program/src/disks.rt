@@ -13,7 +13,8 @@ const DISKS: usize = 100;
 /// As many empty disks in memory as a set is given.
 pub fn empty_disks(alloc: Global) -> Mem<Vec<MemDisk>>
     ensures len { IfOk result (λ disks. vec_len disks ≡ 100) }
-    ensures empty { IfOk result (λ disks. All (λ (disk : MemDisk). IsEmpty (state_of disk).file) disks.items) }
+    ensures empty { IfOk result (λ disks.
+        All (λ (disk : MemDisk). IsEmpty (state_of disk).file) disks.items) }
 {
     let mut disks = Vec::with_capacity(alloc, DISKS)?;
     for place in 0..DISKS {

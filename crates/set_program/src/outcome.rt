@@ -41,15 +41,15 @@ impl<D: Disk> Outcome<D> {
 
 impl<D: Disk> Left<D> {
     /// A set is sound and stands on its disks: a fact for proofs, which costs nothing.
-    pub(crate) fn is_sound(&self)
+    pub(crate) fn recall_sound(&self)
         ensures sizes { IfSet self.now (λ set. AreSizes set.sizes) }
         ensures run { IfSet self.now (λ set. IsRun set.sizes set.history) }
         ensures stands { IfSet self.now (AllStand D.state) }
     {
         match self {
             Left::World(world) => {
-                world.is_run();
-                world.stands();
+                world.recall_run();
+                world.recall_stands();
             }
             Left::Parts(..) => {}
         }

@@ -3,7 +3,7 @@ ghost use Rattle.std.specs.Prelude.{◌≡◌, ◌≢◌, ◌+◌, ◌≤◌, tr
 ghost use Rattle.std.specs.List.{AllPass};
 ghost use Rattle.rs_io.specs.Fault.{HasCause};
 ghost use Rattle.fault_script.specs.Script.{is_part_for, lines_of, lines_in};
-ghost use Rattle.set_program.specs.Steps.{GoOn};
+ghost use Rattle.set_program.specs.Steps.{DisksGoOn};
 ghost use Rattle.set_program.specs.Plays.{Plays, PlaysPart};
 
 use crate::replies::put_replies;
@@ -30,7 +30,7 @@ pub fn play<K: Sink, D: Disk, R: Threads + Sync>(
     requires fits { AllPass (is_part_for world.old.sizes.nodes) parts }
     ensures plays { Plays world.old.sizes parts (K.held sink.old) (K.held sink.new) world.new.history result }
     ensures sizes { world.new.sizes ≡ world.old.sizes }
-    ensures disks { GoOn D.state (lines_in parts) world.old world.new (result ≡ Err Stop.Memory) }
+    ensures disks { DisksGoOn D.state (lines_in parts) world.old world.new (result ≡ Err Stop.Memory) }
     ensures cause { HasCause (K.faults sink.old) (K.faults sink.new) (IsErrOf result Stop.WriteFault) }
     ensures steady { K.steady sink.old → K.steady sink.new × (result ≢ Err Stop.WriteFault) }
 {
@@ -43,8 +43,8 @@ pub fn play<K: Sink, D: Disk, R: Threads + Sync>(
     Ok(())
 }
 
-/// The replies of a block are put behind it, when all its lines are played. `replies` and `text` serve all parts with their
-/// memory.
+/// The replies of a block are put behind it, when all its lines are played. `replies` and `text` serve all
+/// parts with their memory.
 fn play_part<K: Sink, D: Disk, R: Threads + Sync>(
     rt: &R,
     part: Part,
@@ -55,9 +55,10 @@ fn play_part<K: Sink, D: Disk, R: Threads + Sync>(
 ) -> Result<(), Stop>
     requires few { length world.old.history + length (lines_of part) ≤ 200000 }
     requires fits { is_part_for world.old.sizes.nodes part ≡ true }
-    ensures plays { PlaysPart world.old.sizes (lines_of part) (K.held sink.old) (K.held sink.new) world.old.history world.new.history result }
+    ensures plays { PlaysPart world.old.sizes (lines_of part) (K.held sink.old)
+        (K.held sink.new) world.old.history world.new.history result }
     ensures sizes { world.new.sizes ≡ world.old.sizes }
-    ensures disks { GoOn D.state (lines_of part) world.old world.new (result ≡ Err Stop.Memory) }
+    ensures disks { DisksGoOn D.state (lines_of part) world.old world.new (result ≡ Err Stop.Memory) }
     ensures cause { HasCause (K.faults sink.old) (K.faults sink.new) (IsErrOf result Stop.WriteFault) }
     ensures steady { K.steady sink.old → K.steady sink.new × (result ≢ Err Stop.WriteFault) }
 {

@@ -31,7 +31,8 @@ pub fn step_parts<D: Disk, R: Threads + Sync>(
     Ok(())
 }
 
-/// Plays a part, and keeps its replies in the order in which they are given. The threads of a block run one after another.
+/// Plays a part, and keeps its replies in the order in which they are given. The threads of a block run
+/// one after another.
 pub fn step_part<D: Disk, R: Threads + Sync>(
     rt: &R,
     part: Part,
@@ -89,7 +90,8 @@ fn step_line<D: Disk, R: Threads + Sync>(
 ) -> Mem<()>
     requires few { length world.old.history < 200000 }
     requires fits { is_for world.old.sizes.nodes command ≡ true }
-    ensures { Steps D.state ((line, command) ∷ []) world.old world.new replies.old.items replies.new.items result }
+    ensures { Steps D.state
+        ((line, command) ∷ []) world.old world.new replies.old.items replies.new.items result }
 {
     match world.take(rt, line, command) {
         Ok(reply) => {

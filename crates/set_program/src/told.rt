@@ -5,9 +5,9 @@ ghost use Rattle.rs_io.specs.Fault.{HasCause};
 ghost use Rattle.fault_script.specs.Script.{is_part_for, lines_in};
 ghost use Rattle.set_model.specs.Run.{run};
 ghost use Rattle.transcript.specs.Summaries.{summary_text};
-ghost use Rattle.set_program.specs.Headline.{EndsTask, EndsTold, summary_put};
+ghost use Rattle.set_program.specs.Headline.{EndsTask, EndsWithSummary, summary_put};
 ghost use Rattle.set_program.specs.Plays.{PutsText};
-ghost use Rattle.set_program.specs.Steps.{GoOn};
+ghost use Rattle.set_program.specs.Steps.{DisksGoOn};
 
 use crate::play::play;
 use crate::steps::step_parts;
@@ -23,8 +23,8 @@ use std::alloc::Global;
 use std::thread::Threads;
 use transcript::{Summary, write_summary};
 
-/// Plays the parts of a script as a task asks: it puts each reply, or only the summary of the run. An error says why it stopped
-/// before the end.
+/// Plays the parts of a script as a task asks: it puts each reply, or only the summary of the run. An error
+/// says why it stopped before the end.
 pub fn play_task<K: Sink, D: Disk, R: Threads + Sync>(
     rt: &R,
     alloc: Global,
@@ -38,7 +38,7 @@ pub fn play_task<K: Sink, D: Disk, R: Threads + Sync>(
     requires fits { AllPass (is_part_for world.old.sizes.nodes) parts }
     ensures ends { EndsTask task parts (K.held sink.old) (K.held sink.new) result world.new }
     ensures sizes { world.new.sizes ≡ world.old.sizes }
-    ensures disks { GoOn D.state (lines_in parts) world.old world.new (result ≡ Err Stop.Memory) }
+    ensures disks { DisksGoOn D.state (lines_in parts) world.old world.new (result ≡ Err Stop.Memory) }
     ensures cause { HasCause (K.faults sink.old) (K.faults sink.new) (IsErrOf result Stop.WriteFault) }
     ensures steady { K.steady sink.old → K.steady sink.new × (result ≢ Err Stop.WriteFault) }
 {
@@ -59,9 +59,9 @@ fn play_told<K: Sink, D: Disk, R: Threads + Sync>(
     requires start { world.old.history ≡ [] }
     requires few { length (lines_in parts) ≤ 200000 }
     requires fits { AllPass (is_part_for world.old.sizes.nodes) parts }
-    ensures ends { EndsTold parts (K.held sink.old) (K.held sink.new) result world.new }
+    ensures ends { EndsWithSummary parts (K.held sink.old) (K.held sink.new) result world.new }
     ensures sizes { world.new.sizes ≡ world.old.sizes }
-    ensures disks { GoOn D.state (lines_in parts) world.old world.new (result ≡ Err Stop.Memory) }
+    ensures disks { DisksGoOn D.state (lines_in parts) world.old world.new (result ≡ Err Stop.Memory) }
     ensures cause { HasCause (K.faults sink.old) (K.faults sink.new) (IsErrOf result Stop.WriteFault) }
     ensures steady { K.steady sink.old → K.steady sink.new × (result ≢ Err Stop.WriteFault) }
 {

@@ -17,8 +17,8 @@ use Rattle.set_model.specs.World.{World, Task, acts, takes, nothing, actor, task
 use Rattle.node_core.specs.declared.done.Done.{Done}
 use Rattle.node_core.specs.Acting.{AreSame, DisksActed, DisksLeft, Follows, is_here}
 use Rattle.rs_disk.specs.State.{State}
-use Rattle.set_world.specs.Acting.{OneOf, DisksSo, ActedSo, TookSo, UnchangedSo}
-use Rattle.set_world.specs.Disks.{AtTouched}
+use Rattle.set_world.specs.Acting.{ChangesAt, NodeDisks, NodeActed, NodeTook, NodeUnchanged}
+use Rattle.set_world.specs.Disks.{AtTouchedNode}
 use Rattle.set_world.specs.World.{Acts, event_of, nodes_in}
 use Rattle.set_world.proofs.DiskLemmas.{disks_of_acted, disks_of_took, undelivered}
 use Rattle.set_world.proofs.NodesLemmas.{get_in, nodes_set, nodes_long, same_nodes}
@@ -44,7 +44,7 @@ followed world command what plan after came has is follows settles = record {
 }
 
 pub acts_of : {D : Type 0} (state : D → State) (number : ℕ) (messages : List Message) (command : Command) (old new : List (Node × D × D)) (came : Done)
-    → task (record { nodes = nodes_in old; messages = messages }) command ≡ acts number → OneOf number (ActedSo state (length old) (length messages) command came) old new
+    → task (record { nodes = nodes_in old; messages = messages }) command ≡ acts number → ChangesAt number (NodeActed state (length old) (length messages) command came) old new
     → Acts (record { nodes = nodes_in old; messages = messages }) command (nodes_in new) came
 acts_of state number messages command old new came is acted =
     subst (λ nodes. Acts world command nodes came) (sym (ap nodes_in acted.list ∙ nodes_set old number acted.after))
@@ -63,7 +63,7 @@ acts_of state number messages command old new came is acted =
         ∙ ap (λ found. not came.kept || (is_restart command && passes_first came.failed && option_map_or is_in_doubt found false)) there ∙ acted.so.settles
 
 pub acts_taken : {D : Type 0} (state : D → State) (messages : List Message) (message : Message) (command : Command) (old new : List (Node × D × D)) (came : Done)
-    → task (record { nodes = nodes_in old; messages = messages }) command ≡ takes message → came.kept ≡ false → OneOf message.to (TookSo state (length messages) message came) old new
+    → task (record { nodes = nodes_in old; messages = messages }) command ≡ takes message → came.kept ≡ false → ChangesAt message.to (NodeTook state (length messages) message came) old new
     → Acts (record { nodes = nodes_in old; messages = messages }) command (nodes_in new) came
 acts_taken state messages message command old new came is kept took =
     subst (λ nodes. Acts world command nodes came) (sym (ap nodes_in took.list ∙ nodes_set old message.to took.after))
@@ -94,59 +94,59 @@ acts_nothing world command came is reply sent failed kept = record {
 -- ---- what a call of a node answers
 
 pub own_acts : {D : Type 0} (state : D → State) (number next : ℕ) (messages : List Message) (command : Command) (old new : List (Node × D × D)) (result : Result Done AllocError)
-    → task (record { nodes = nodes_in old; messages = messages }) command ≡ acts number → next ≡ length messages → IfOk result (λ done. OneOf number (ActedSo state (length old) next command done) old new)
+    → task (record { nodes = nodes_in old; messages = messages }) command ≡ acts number → next ≡ length messages → IfOk result (λ done. ChangesAt number (NodeActed state (length old) next command done) old new)
     → IfOk result (λ done. Acts (record { nodes = nodes_in old; messages = messages }) command (nodes_in new) done)
 own_acts state number next messages command old new (Err why) is long acted = tt
 own_acts state number next messages command old new (Ok done) is long acted =
-    acts_of state number messages command old new done is (subst (λ n. OneOf number (ActedSo state (length old) n command done) old new) long acted)
+    acts_of state number messages command old new done is (subst (λ n. ChangesAt number (NodeActed state (length old) n command done) old new) long acted)
 
 pub own_disks : {D : Type 0} (state : D → State) (number next : ℕ) (messages : List Message) (command : Command) (old new : List (Node × D × D)) (result : Result Done AllocError)
-    → task (record { nodes = nodes_in old; messages = messages }) command ≡ acts number → IfOk result (λ done. OneOf number (ActedSo state (length old) next command done) old new)
-    → IfOk result (λ done. AtTouched (task (record { nodes = nodes_in old; messages = messages }) command) done.failed old new (λ n. OneOf n (DisksSo state (DisksActed command done.reply (IsSome done.failed))) old new))
+    → task (record { nodes = nodes_in old; messages = messages }) command ≡ acts number → IfOk result (λ done. ChangesAt number (NodeActed state (length old) next command done) old new)
+    → IfOk result (λ done. AtTouchedNode (task (record { nodes = nodes_in old; messages = messages }) command) done.failed old new (λ n. ChangesAt n (NodeDisks state (DisksActed command done.reply (IsSome done.failed))) old new))
 own_disks state number next messages command old new (Err why) is acted = tt
 own_disks state number next messages command old new (Ok done) is acted =
-    subst (λ t. AtTouched t done.failed old new (λ n. OneOf n (DisksSo state (DisksActed command done.reply (IsSome done.failed))) old new)) (sym is)
+    subst (λ t. AtTouchedNode t done.failed old new (λ n. ChangesAt n (NodeDisks state (DisksActed command done.reply (IsSome done.failed))) old new)) (sym is)
     (disks_of_acted state number (length old) next command old new done acted)
 
 pub taken_acts : {D : Type 0} (state : D → State) (next : ℕ) (messages : List Message) (message : Message) (command : Command) (old new : List (Node × D × D)) (result : Result Done AllocError)
     → task (record { nodes = nodes_in old; messages = messages }) command ≡ takes message → next ≡ length messages → IfOk result (λ done. done.kept ≡ false)
-    → IfOk result (λ done. OneOf message.to (TookSo state next message done) old new)
+    → IfOk result (λ done. ChangesAt message.to (NodeTook state next message done) old new)
     → IfOk result (λ done. Acts (record { nodes = nodes_in old; messages = messages }) command (nodes_in new) done)
 taken_acts state next messages message command old new (Err why) is long kept took = tt
 taken_acts state next messages message command old new (Ok done) is long kept took =
-    acts_taken state messages message command old new done is kept (subst (λ n. OneOf message.to (TookSo state n message done) old new) long took)
+    acts_taken state messages message command old new done is kept (subst (λ n. ChangesAt message.to (NodeTook state n message done) old new) long took)
 
 pub taken_disks : {D : Type 0} (state : D → State) (next : ℕ) (messages : List Message) (message : Message) (command : Command) (old new : List (Node × D × D)) (result : Result Done AllocError)
-    → task (record { nodes = nodes_in old; messages = messages }) command ≡ takes message → is_here command ≡ false → IfOk result (λ done. OneOf message.to (TookSo state next message done) old new)
-    → IfOk result (λ done. AtTouched (task (record { nodes = nodes_in old; messages = messages }) command) done.failed old new (λ n. OneOf n (DisksSo state (DisksActed command done.reply (IsSome done.failed))) old new))
+    → task (record { nodes = nodes_in old; messages = messages }) command ≡ takes message → is_here command ≡ false → IfOk result (λ done. ChangesAt message.to (NodeTook state next message done) old new)
+    → IfOk result (λ done. AtTouchedNode (task (record { nodes = nodes_in old; messages = messages }) command) done.failed old new (λ n. ChangesAt n (NodeDisks state (DisksActed command done.reply (IsSome done.failed))) old new))
 taken_disks state next messages message command old new (Err why) is none took = tt
 taken_disks state next messages message command old new (Ok done) is none took =
-    subst (λ t. AtTouched t done.failed old new (λ n. OneOf n (DisksSo state (DisksActed command done.reply (IsSome done.failed))) old new)) (sym is)
+    subst (λ t. AtTouchedNode t done.failed old new (λ n. ChangesAt n (NodeDisks state (DisksActed command done.reply (IsSome done.failed))) old new)) (sym is)
     (disks_of_took state message.to next message command old new done none took)
 
 -- no such message was sent
-pub nobody_disks : {A : Type 0} (world : World) (command : Command) (came : Done) (old : List A) (At : ℕ → Type 0) → task world command ≡ nothing → came.failed ≡ None → AtTouched (task world command) came.failed old old At
-nobody_disks world command came old At is failed = subst (λ t. AtTouched t came.failed old old At) (sym is) (failed, refl)
+pub nobody_disks : {A : Type 0} (world : World) (command : Command) (came : Done) (old : List A) (At : ℕ → Type 0) → task world command ≡ nothing → came.failed ≡ None → AtTouchedNode (task world command) came.failed old old At
+nobody_disks world command came old At is failed = subst (λ t. AtTouchedNode t came.failed old old At) (sym is) (failed, refl)
 
 -- memory ran out
 pub own_undone : {D : Type 0} (state : D → State) (world : World) (number : ℕ) (command : Command) (old new : List (Node × D × D)) (result : Result Done AllocError)
-    → task world command ≡ acts number → OnErr result (OneOf number (UnchangedSo state (DisksLeft command)) old new)
-    → OnErr result (AtTouched (task world command) None old new (λ n. OneOf n (UnchangedSo state (DisksLeft command)) old new))
+    → task world command ≡ acts number → OnErr result (ChangesAt number (NodeUnchanged state (DisksLeft command)) old new)
+    → OnErr result (AtTouchedNode (task world command) None old new (λ n. ChangesAt n (NodeUnchanged state (DisksLeft command)) old new))
 own_undone state world number command old new (Ok done) is undone = tt
 own_undone state world number command old new (Err why) is undone =
-    subst (λ t. AtTouched t None old new (λ n. OneOf n (UnchangedSo state (DisksLeft command)) old new)) (sym is) undone
+    subst (λ t. AtTouchedNode t None old new (λ n. ChangesAt n (NodeUnchanged state (DisksLeft command)) old new)) (sym is) undone
 
 pub taken_undone : {D : Type 0} (state : D → State) (world : World) (message : Message) (command : Command) (old new : List (Node × D × D)) (result : Result Done AllocError)
-    → task world command ≡ takes message → is_here command ≡ false → OnErr result (OneOf message.to (UnchangedSo state AreSame) old new)
-    → OnErr result (AtTouched (task world command) None old new (λ n. OneOf n (UnchangedSo state (DisksLeft command)) old new))
+    → task world command ≡ takes message → is_here command ≡ false → OnErr result (ChangesAt message.to (NodeUnchanged state AreSame) old new)
+    → OnErr result (AtTouchedNode (task world command) None old new (λ n. ChangesAt n (NodeUnchanged state (DisksLeft command)) old new))
 taken_undone state world message command old new (Ok done) is none undone = tt
 taken_undone state world message command old new (Err why) is none undone =
-    subst (λ t. AtTouched t None old new (λ n. OneOf n (UnchangedSo state (DisksLeft command)) old new)) (sym is)
+    subst (λ t. AtTouchedNode t None old new (λ n. ChangesAt n (NodeUnchanged state (DisksLeft command)) old new)) (sym is)
     (undelivered state message.to command old new none undone)
 
 -- the nodes are as they were
 pub nodes_still : {D : Type 0} (state : D → State) (Disks : State → State → State → State → Type 0) (what : Task) (nodes new : List (Node × D × D))
-    → AtTouched what None nodes new (λ n. OneOf n (UnchangedSo state Disks) nodes new) → nodes_in new ≡ nodes_in nodes
+    → AtTouchedNode what None nodes new (λ n. ChangesAt n (NodeUnchanged state Disks) nodes new) → nodes_in new ≡ nodes_in nodes
 nodes_still state Disks (acts number) nodes new one = ap nodes_in one.list ∙ same_nodes nodes number one.before one.after one.there one.so.node
 nodes_still state Disks (takes message) nodes new one = ap nodes_in one.list ∙ same_nodes nodes message.to one.before one.after one.there one.so.node
 nodes_still state Disks nothing nodes new (none, same) = ap nodes_in same

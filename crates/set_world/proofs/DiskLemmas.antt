@@ -15,9 +15,9 @@ use Rattle.set_model.specs.Run.{Sizes, run}
 use Rattle.set_model.specs.World.{World, Task, acts, takes, nothing, step, task}
 use Rattle.repl_msg.specs.declared.message.Message.{Message}
 use Rattle.node_core.specs.declared.done.Done.{Done}
-use Rattle.node_core.specs.Acting.{AreSame, DisksActed, DisksLeft, Runs, is_here, orders_after}
-use Rattle.set_world.specs.Acting.{OneOf, DisksSo, ActedSo, TookSo, UnchangedSo, StandsOn, NodesStand}
-use Rattle.set_world.specs.Disks.{OneChanged, AtTouched, IsStep, IsUndone, StandsThere, AllStand}
+use Rattle.node_core.specs.Acting.{AreSame, DisksActed, DisksLeft, RunsWithoutOrders, is_here, orders_after}
+use Rattle.set_world.specs.Acting.{ChangesAt, NodeDisks, NodeActed, NodeTook, NodeUnchanged, NodeStands, EachNodeStands}
+use Rattle.set_world.specs.Disks.{OneChanged, AtTouchedNode, IsStep, NothingDone, StandsAtNumber, AllStand}
 use Rattle.set_world.specs.World.{Set, disks_in, nodes_in, event_of}
 
 two_more : (k : ℕ) → 2 * suc k ≡ suc (suc (2 * k))
@@ -45,7 +45,7 @@ set_disks (first ∷ nodes) idle (suc k) before after there =
     ∙ ap (λ n. slice_set (slice_set (disks_in (first ∷ nodes) ++ idle) n after.1) (suc (suc (2 * k + 1))) after.2) (sym (two_more k))
     ∙ ap (λ n. slice_set (slice_set (disks_in (first ∷ nodes) ++ idle) (2 * suc k) after.1) n after.2) (sym (one_more k))
 
-pub one_changed : {D : Type 0} (state : D → State) (Changed : State → State → State → State → Type 0) (number : ℕ) (old new : List (Node × D × D)) (idle : List D) → OneOf number (DisksSo state Changed) old new
+pub one_changed : {D : Type 0} (state : D → State) (Changed : State → State → State → State → Type 0) (number : ℕ) (old new : List (Node × D × D)) (idle : List D) → ChangesAt number (NodeDisks state Changed) old new
     → OneChanged state Changed number (disks_in old ++ idle) (disks_in new ++ idle)
 one_changed state Changed number old new idle one = record {
   journal = one.before.1;
@@ -60,22 +60,22 @@ one_changed state Changed number old new idle one = record {
 
 -- the disks of the set, where those of its nodes are so
 all_touched : {D : Type 0} (state : D → State) (Changed : State → State → State → State → Type 0) (what : Task) (failed : Option ℕ) (old new : List (Node × D × D)) (idle : List D)
-    → AtTouched what failed old new (λ n. OneOf n (DisksSo state Changed) old new)
-    → AtTouched what failed (disks_in old ++ idle) (disks_in new ++ idle) (λ n. OneChanged state Changed n (disks_in old ++ idle) (disks_in new ++ idle))
+    → AtTouchedNode what failed old new (λ n. ChangesAt n (NodeDisks state Changed) old new)
+    → AtTouchedNode what failed (disks_in old ++ idle) (disks_in new ++ idle) (λ n. OneChanged state Changed n (disks_in old ++ idle) (disks_in new ++ idle))
 all_touched state Changed (acts number) failed old new idle one = one_changed state Changed number old new idle one
 all_touched state Changed (takes message) failed old new idle one = one_changed state Changed message.to old new idle one
 all_touched state Changed nothing failed old new idle (none, same) = (none, ap (λ l. disks_in l ++ idle) same)
 
 -- the same of what is known of it there
-pub touched_so : {A : Type 0} (what : Task) (failed : Option ℕ) (old new : List A) (At Other : ℕ → Type 0) → ((number : ℕ) → At number → Other number) → AtTouched what failed old new At
-    → AtTouched what failed old new Other
+pub touched_so : {A : Type 0} (what : Task) (failed : Option ℕ) (old new : List A) (At Other : ℕ → Type 0) → ((number : ℕ) → At number → Other number) → AtTouchedNode what failed old new At
+    → AtTouchedNode what failed old new Other
 touched_so (acts number) failed old new At Other then one = then number one
 touched_so (takes message) failed old new At Other then one = then message.to one
 touched_so nothing failed old new At Other then none = none
 
 -- ---- one of a list
 
-pub one_of : {A : Type 0} (So : A → A → Type 0) (list : List A) (k : ℕ) (d after : A) → k < length list → So (slice_index_or list k d) after → OneOf k So list (slice_set list k after)
+pub one_of : {A : Type 0} (So : A → A → Type 0) (list : List A) (k : ℕ) (d after : A) → k < length list → So (slice_index_or list k d) after → ChangesAt k So list (slice_set list k after)
 one_of So list k d after within so = record {
   before = slice_index_or list k d;
   after = after;
@@ -85,16 +85,16 @@ one_of So list k d after within so = record {
 }
 
 pub done_at : {A : Type 0} (So : Done → A → A → Type 0) (list : List A) (k : ℕ) (d after : A) (result : Result Done AllocError) → k < length list
-    → IfOk result (λ done. So done (slice_index_or list k d) after) → IfOk result (λ done. OneOf k (So done) list (slice_set list k after))
+    → IfOk result (λ done. So done (slice_index_or list k d) after) → IfOk result (λ done. ChangesAt k (So done) list (slice_set list k after))
 done_at So list k d after (Err why) within so = tt
 done_at So list k d after (Ok done) within so = one_of (So done) list k d after within so
 
 pub undone_at : {A : Type 0} (So : A → A → Type 0) (list : List A) (k : ℕ) (d after : A) (result : Result Done AllocError) → k < length list
-    → OnErr result (So (slice_index_or list k d) after) → OnErr result (OneOf k So list (slice_set list k after))
+    → OnErr result (So (slice_index_or list k d) after) → OnErr result (ChangesAt k So list (slice_set list k after))
 undone_at So list k d after (Ok done) within so = tt
 undone_at So list k d after (Err why) within so = one_of So list k d after within so
 
-changed_so : {A : Type 0} (So Other : A → A → Type 0) (number : ℕ) (old new : List A) → ((before after : A) → So before after → Other before after) → OneOf number So old new → OneOf number Other old new
+changed_so : {A : Type 0} (So Other : A → A → Type 0) (number : ℕ) (old new : List A) → ((before after : A) → So before after → Other before after) → ChangesAt number So old new → ChangesAt number Other old new
 changed_so So Other number old new then one = record { before = one.before; after = one.after; there = one.there; list = one.list; so = then one.before one.after one.so }
 
 -- ---- on the disks of each node stands what it is
@@ -106,21 +106,21 @@ set_each P (first ∷ xs) zero x each is (suc n) y there = each (suc n) y there
 set_each P (first ∷ xs) (suc k) x each is zero y there = each zero y there
 set_each P (first ∷ xs) (suc k) x each is (suc n) y there = set_each P xs k x (λ m z at. each (suc m) z at) is n y there
 
-still_stand : {D : Type 0} (state : D → State) (So : Node × D × D → Node × D × D → Type 0) (number : ℕ) (old new : List (Node × D × D)) → ((before after : Node × D × D) → So before after → StandsOn state after)
-    → OneOf number So old new → NodesStand state old → NodesStand state new
+still_stand : {D : Type 0} (state : D → State) (So : Node × D × D → Node × D × D → Type 0) (number : ℕ) (old new : List (Node × D × D)) → ((before after : Node × D × D) → So before after → NodeStands state after)
+    → ChangesAt number So old new → EachNodeStands state old → EachNodeStands state new
 still_stand state So number old new stands one each n node there =
-    set_each (StandsOn state) old number one.after each (stands one.before one.after one.so) n node (ap (λ l. slice_get l n) (sym one.list) ∙ there)
+    set_each (NodeStands state) old number one.after each (stands one.before one.after one.so) n node (ap (λ l. slice_get l n) (sym one.list) ∙ there)
 
 pub stand_acted : {D : Type 0} (state : D → State) (number size next : ℕ) (command : Command) (old new : List (Node × D × D)) (result : Result Done AllocError)
-    → IfOk result (λ done. OneOf number (ActedSo state size next command done) old new) → OnErr result (OneOf number (UnchangedSo state (DisksLeft command)) old new) → NodesStand state old
-    → NodesStand state new
-stand_acted state number size next command old new (Ok done) ok err = still_stand state (ActedSo state size next command done) number old new (λ before after so. so.stands) ok
-stand_acted state number size next command old new (Err why) ok err = still_stand state (UnchangedSo state (DisksLeft command)) number old new (λ before after so. so.stands) err
+    → IfOk result (λ done. ChangesAt number (NodeActed state size next command done) old new) → OnErr result (ChangesAt number (NodeUnchanged state (DisksLeft command)) old new) → EachNodeStands state old
+    → EachNodeStands state new
+stand_acted state number size next command old new (Ok done) ok err = still_stand state (NodeActed state size next command done) number old new (λ before after so. so.stands) ok
+stand_acted state number size next command old new (Err why) ok err = still_stand state (NodeUnchanged state (DisksLeft command)) number old new (λ before after so. so.stands) err
 
 pub stand_took : {D : Type 0} (state : D → State) (number next : ℕ) (message : Message) (old new : List (Node × D × D)) (result : Result Done AllocError)
-    → IfOk result (λ done. OneOf number (TookSo state next message done) old new) → OnErr result (OneOf number (UnchangedSo state AreSame) old new) → NodesStand state old → NodesStand state new
-stand_took state number next message old new (Ok done) ok err = still_stand state (TookSo state next message done) number old new (λ before after so. so.stands) ok
-stand_took state number next message old new (Err why) ok err = still_stand state (UnchangedSo state AreSame) number old new (λ before after so. so.stands) err
+    → IfOk result (λ done. ChangesAt number (NodeTook state next message done) old new) → OnErr result (ChangesAt number (NodeUnchanged state AreSame) old new) → EachNodeStands state old → EachNodeStands state new
+stand_took state number next message old new (Ok done) ok err = still_stand state (NodeTook state next message done) number old new (λ before after so. so.stands) ok
+stand_took state number next message old new (Err why) ok err = still_stand state (NodeUnchanged state AreSame) number old new (λ before after so. so.stands) err
 
 -- the node of a number, among those with their disks
 found : {D : Type 0} (nodes : List (Node × D × D)) (k : ℕ) (node : Node) → slice_get (nodes_in nodes) k ≡ Some node → (item : Node × D × D) × (slice_get nodes k ≡ Some item) × (item.0 ≡ node)
@@ -129,10 +129,10 @@ found (first ∷ nodes) zero node there = (first, refl, same_Some first.0 node t
 found (first ∷ nodes) (suc k) node there = found nodes k node there
 
 pub all_stand : {D : Type 0} (state : D → State) (sizes : Sizes) (history : List Event) (items : List (Node × D × D)) (idle : List D) (messages : List Message)
-    → (run sizes history).world ≡ record { nodes = nodes_in items; messages = messages } → NodesStand state items → AllStand state (record { sizes = sizes; history = history; disks = disks_in items ++ idle })
+    → (run sizes history).world ≡ record { nodes = nodes_in items; messages = messages } → EachNodeStands state items → AllStand state (record { sizes = sizes; history = history; disks = disks_in items ++ idle })
 all_stand {D} state sizes history items idle messages is each number node there =
     let item = found items number node (ap (λ (w : World). slice_get w.nodes number) (sym is) ∙ there) in
-    subst (λ n. StandsThere state number n (disks_in items ++ idle)) item.2 (record {
+    subst (λ n. StandsAtNumber state number n (disks_in items ++ idle)) item.2 (record {
       journal = item.0.1;
       checkpoints = item.0.2;
       journal_at = journal_of items idle number item.0 item.1;
@@ -152,7 +152,7 @@ checkpoint_quiet (commands.Deliver message) reply orders none = refl
 checkpoint_quiet (commands.DeliverLatest from to) reply orders none = refl
 checkpoint_quiet command reply orders none = absurd (cc none)
 
-pub delivered_disks : (command : Command) (reply : Reply) (Fault : Type 0) (j j' c c' : State) → is_here command ≡ false → Runs Fault j j' c c' → DisksActed command reply Fault j j' c c'
+pub delivered_disks : (command : Command) (reply : Reply) (Fault : Type 0) (j j' c c' : State) → is_here command ≡ false → RunsWithoutOrders Fault j j' c c' → DisksActed command reply Fault j j' c c'
 delivered_disks command reply Fault j j' c c' none runs = record {
   fails = runs.fails;
   journal_armed = λ other. runs.journal_armed;
@@ -166,25 +166,25 @@ left_delivered (commands.Deliver message) j j' c c' none same = same
 left_delivered (commands.DeliverLatest from to) j j' c c' none same = same
 left_delivered command j j' c c' none same = absurd (cc none)
 
-pub undelivered : {D : Type 0} (state : D → State) (number : ℕ) (command : Command) (old new : List (Node × D × D)) → is_here command ≡ false → OneOf number (UnchangedSo state AreSame) old new
-    → OneOf number (UnchangedSo state (DisksLeft command)) old new
+pub undelivered : {D : Type 0} (state : D → State) (number : ℕ) (command : Command) (old new : List (Node × D × D)) → is_here command ≡ false → ChangesAt number (NodeUnchanged state AreSame) old new
+    → ChangesAt number (NodeUnchanged state (DisksLeft command)) old new
 undelivered state number command old new none one =
-    changed_so (UnchangedSo state AreSame) (UnchangedSo state (DisksLeft command)) number old new
+    changed_so (NodeUnchanged state AreSame) (NodeUnchanged state (DisksLeft command)) number old new
     (λ before after so. record {
       node = so.node;
       stands = so.stands;
       disks = left_delivered command (state before.1) (state after.1) (state before.2) (state after.2) none so.disks;
     }) one
 
-pub disks_of_acted : {D : Type 0} (state : D → State) (number size next : ℕ) (command : Command) (old new : List (Node × D × D)) (done : Done) → OneOf number (ActedSo state size next command done) old new
-    → OneOf number (DisksSo state (DisksActed command done.reply (IsSome done.failed))) old new
+pub disks_of_acted : {D : Type 0} (state : D → State) (number size next : ℕ) (command : Command) (old new : List (Node × D × D)) (done : Done) → ChangesAt number (NodeActed state size next command done) old new
+    → ChangesAt number (NodeDisks state (DisksActed command done.reply (IsSome done.failed))) old new
 disks_of_acted state number size next command old new done one =
-    changed_so (ActedSo state size next command done) (DisksSo state (DisksActed command done.reply (IsSome done.failed))) number old new (λ before after so. so.disks) one
+    changed_so (NodeActed state size next command done) (NodeDisks state (DisksActed command done.reply (IsSome done.failed))) number old new (λ before after so. so.disks) one
 
-pub disks_of_took : {D : Type 0} (state : D → State) (number next : ℕ) (message : Message) (command : Command) (old new : List (Node × D × D)) (done : Done) → is_here command ≡ false → OneOf number (TookSo state next message done) old new
-    → OneOf number (DisksSo state (DisksActed command done.reply (IsSome done.failed))) old new
+pub disks_of_took : {D : Type 0} (state : D → State) (number next : ℕ) (message : Message) (command : Command) (old new : List (Node × D × D)) (done : Done) → is_here command ≡ false → ChangesAt number (NodeTook state next message done) old new
+    → ChangesAt number (NodeDisks state (DisksActed command done.reply (IsSome done.failed))) old new
 disks_of_took state number next message command old new done none one =
-    changed_so (TookSo state next message done) (DisksSo state (DisksActed command done.reply (IsSome done.failed))) number old new
+    changed_so (NodeTook state next message done) (NodeDisks state (DisksActed command done.reply (IsSome done.failed))) number old new
     (λ before after so. delivered_disks command done.reply (IsSome done.failed) (state before.1) (state after.1) (state before.2) (state after.2) none so.runs) one
 
 -- ---- the disks of the set
@@ -193,15 +193,15 @@ module _ {D : Type 0} (state : D → State) (sizes : Sizes) (history : List Even
     (is : (run sizes history).world ≡ record { nodes = nodes_in items; messages = messages }) where
   -- by the node that the command touches
   touched : (failed : Option ℕ) (Changed : State → State → State → State → Type 0)
-      → AtTouched (task (record { nodes = nodes_in items; messages = messages }) command) failed items new (λ n. OneOf n (DisksSo state Changed) items new)
-      → AtTouched (task (run sizes history).world command) failed (disks_in items ++ idle) (disks_in new ++ idle)
+      → AtTouchedNode (task (record { nodes = nodes_in items; messages = messages }) command) failed items new (λ n. ChangesAt n (NodeDisks state Changed) items new)
+      → AtTouchedNode (task (run sizes history).world command) failed (disks_in items ++ idle) (disks_in new ++ idle)
       (λ n. OneChanged state Changed n (disks_in items ++ idle) (disks_in new ++ idle))
   touched failed Changed changed =
-      subst (λ w. AtTouched (task w command) failed (disks_in items ++ idle) (disks_in new ++ idle) (λ n. OneChanged state Changed n (disks_in items ++ idle) (disks_in new ++ idle))) (sym is)
+      subst (λ w. AtTouchedNode (task w command) failed (disks_in items ++ idle) (disks_in new ++ idle) (λ n. OneChanged state Changed n (disks_in items ++ idle) (disks_in new ++ idle))) (sym is)
       (all_touched state Changed (task (record { nodes = nodes_in items; messages = messages }) command) failed items new idle changed)
 
   pub is_step : (later : List Event) (line : ℕ) (came : Done) → later ≡ history ++ event_of line command came ∷ [] → came.reply ≡ (step (run sizes history).world (event_of line command came)).reply
-      → AtTouched (task (record { nodes = nodes_in items; messages = messages }) command) came.failed items new (λ n. OneOf n (DisksSo state (DisksActed command came.reply (IsSome came.failed))) items new)
+      → AtTouchedNode (task (record { nodes = nodes_in items; messages = messages }) command) came.failed items new (λ n. ChangesAt n (NodeDisks state (DisksActed command came.reply (IsSome came.failed))) items new)
       → IsStep state (record { sizes = sizes; history = history; disks = disks_in items ++ idle }) (record { sizes = sizes; history = later; disks = disks_in new ++ idle }) line command came.reply
   is_step later line came more reply changed = record {
     event = event_of line command came;
@@ -213,14 +213,14 @@ module _ {D : Type 0} (state : D → State) (sizes : Sizes) (history : List Even
   }
 
   pub is_undone : (later : List Event) → later ≡ history
-      → AtTouched (task (record { nodes = nodes_in items; messages = messages }) command) None items new (λ n. OneOf n (UnchangedSo state (DisksLeft command)) items new)
-      → IsUndone state (record { sizes = sizes; history = history; disks = disks_in items ++ idle }) (record { sizes = sizes; history = later; disks = disks_in new ++ idle }) command
+      → AtTouchedNode (task (record { nodes = nodes_in items; messages = messages }) command) None items new (λ n. ChangesAt n (NodeUnchanged state (DisksLeft command)) items new)
+      → NothingDone state (record { sizes = sizes; history = history; disks = disks_in items ++ idle }) (record { sizes = sizes; history = later; disks = disks_in new ++ idle }) command
   is_undone later same one = record {
     history = same;
     disks = inr (touched None (DisksLeft command)
-        (touched_so (task (record { nodes = nodes_in items; messages = messages }) command) None items new (λ n. OneOf n (UnchangedSo state (DisksLeft command)) items new)
-        (λ n. OneOf n (DisksSo state (DisksLeft command)) items new)
-        (λ n. changed_so (UnchangedSo state (DisksLeft command)) (DisksSo state (DisksLeft command)) n items new (λ before after so. so.disks)) one));
+        (touched_so (task (record { nodes = nodes_in items; messages = messages }) command) None items new (λ n. ChangesAt n (NodeUnchanged state (DisksLeft command)) items new)
+        (λ n. ChangesAt n (NodeDisks state (DisksLeft command)) items new)
+        (λ n. changed_so (NodeUnchanged state (DisksLeft command)) (NodeDisks state (DisksLeft command)) n items new (λ before after so. so.disks)) one));
   }
 
 -- ---- the same, of the nodes and the messages as a step finds them
@@ -231,19 +231,19 @@ module _ {D : Type 0} (state : D → State) (sizes : Sizes) (history : List Even
   world_is = is ∙ (λ i. record { nodes = nodes_in (sym same i); messages = sym same_messages i })
 
   pub stepped : (later : List Event) (line : ℕ) (came : Done) → later ≡ history ++ event_of line command came ∷ [] → came.reply ≡ (step (run sizes history).world (event_of line command came)).reply
-      → AtTouched (task (record { nodes = nodes_in nodes; messages = now }) command) came.failed nodes new (λ n. OneOf n (DisksSo state (DisksActed command came.reply (IsSome came.failed))) nodes new)
+      → AtTouchedNode (task (record { nodes = nodes_in nodes; messages = now }) command) came.failed nodes new (λ n. ChangesAt n (NodeDisks state (DisksActed command came.reply (IsSome came.failed))) nodes new)
       → IsStep state (record { sizes = sizes; history = history; disks = disks_in items ++ idle }) (record { sizes = sizes; history = later; disks = disks_in new ++ idle }) line command came.reply
   stepped later line came more reply changed =
       subst (λ (l : List (Node × D × D)). IsStep state (record { sizes = sizes; history = history; disks = disks_in l ++ idle }) (record { sizes = sizes; history = later; disks = disks_in new ++ idle }) line command came.reply) same
       (is_step state sizes history nodes new idle now command world_is later line came more reply changed)
 
   pub undone : (later : List Event) → later ≡ history
-      → AtTouched (task (record { nodes = nodes_in nodes; messages = now }) command) None nodes new (λ n. OneOf n (UnchangedSo state (DisksLeft command)) nodes new)
-      → IsUndone state (record { sizes = sizes; history = history; disks = disks_in items ++ idle }) (record { sizes = sizes; history = later; disks = disks_in new ++ idle }) command
+      → AtTouchedNode (task (record { nodes = nodes_in nodes; messages = now }) command) None nodes new (λ n. ChangesAt n (NodeUnchanged state (DisksLeft command)) nodes new)
+      → NothingDone state (record { sizes = sizes; history = history; disks = disks_in items ++ idle }) (record { sizes = sizes; history = later; disks = disks_in new ++ idle }) command
   undone later still one =
-      subst (λ (l : List (Node × D × D)). IsUndone state (record { sizes = sizes; history = history; disks = disks_in l ++ idle }) (record { sizes = sizes; history = later; disks = disks_in new ++ idle }) command) same
+      subst (λ (l : List (Node × D × D)). NothingDone state (record { sizes = sizes; history = history; disks = disks_in l ++ idle }) (record { sizes = sizes; history = later; disks = disks_in new ++ idle }) command) same
       (is_undone state sizes history nodes new idle now command world_is later still one)
 
 -- nothing was done, and no disk was touched
-pub untouched : {D : Type 0} (state : D → State) (old new : Set D) (command : Command) → new.history ≡ old.history → new.disks ≡ old.disks → IsUndone state old new command
+pub untouched : {D : Type 0} (state : D → State) (old new : Set D) (command : Command) → new.history ≡ old.history → new.disks ≡ old.disks → NothingDone state old new command
 untouched state old new command history disks = record { history = history; disks = inl disks }

@@ -5,15 +5,15 @@ use Rattle.std.proofs.Math.Seq.{drop-append_seam, drop-append-add}
 use Rattle.std.proofs.lemmas.Option.{same_Some}
 use Rattle.rs_disk.specs.State.{State}
 use Rattle.set_model.specs.Node.{Node}
-use Rattle.node_core.specs.Acting.{Runs}
-use Rattle.set_world.specs.Acting.{NodesStand, StandsOn}
-use Rattle.set_world.specs.Disks.{IsServed, Opens, TwoBack, TwoRun}
+use Rattle.node_core.specs.Acting.{RunsWithoutOrders}
+use Rattle.set_world.specs.Acting.{EachNodeStands, NodeStands}
+use Rattle.set_world.specs.Disks.{WasUsed, Opens, TwoDisksReturned, TwoDisksRan}
 use Rattle.set_world.specs.World.{disks_in}
 
 -- ---- disks that were left alone
 
-served_same : {D : Type 0} (state : D → State) (x y : D) → x ≡ y → IsServed (state x) (state y)
-served_same state x y same = subst (λ z. IsServed (state x) (state z)) same (record { faults = omega arith; steady = λ steady. steady; armed = λ armed. armed; orders = refl })
+served_same : {D : Type 0} (state : D → State) (x y : D) → x ≡ y → WasUsed (state x) (state y)
+served_same state x y same = subst (λ z. WasUsed (state x) (state z)) same (record { faults = omega arith; steady = λ steady. steady; armed = λ armed. armed; orders = refl })
 
 pub opens_none : {D : Type 0} (state : D → State) (nodes : ℕ) (Fault : Type 0) (disks : List D) → (Fault → ⊥) → Opens state nodes Fault disks disks
 opens_none state nodes Fault disks none = record {
@@ -52,7 +52,7 @@ disks_long (node ∷ nodes) = let rest : length (disks_in nodes) ≡ 2 * length 
 
 -- ---- one node more
 
-served_then : (a b c : State) → IsServed a b → IsServed b c → IsServed a c
+served_then : (a b c : State) → WasUsed a b → WasUsed b c → WasUsed a c
 served_then a b c one two = record {
   faults = let first : a.faults ≤ b.faults = one.faults in let second : b.faults ≤ c.faults = two.faults in omega (arith, first, second);
   steady = λ steady. two.steady (one.steady steady);
@@ -60,23 +60,23 @@ served_then a b c one two = record {
   orders = two.orders ∙ one.orders;
 }
 
-served_journal : (Fault : Type 0) (j j' c c' : State) → Runs Fault j j' c c' → IsServed j j'
+served_journal : (Fault : Type 0) (j j' c c' : State) → RunsWithoutOrders Fault j j' c c' → WasUsed j j'
 served_journal Fault j j' c c' runs = record { faults = runs.fails.journal_faults; steady = runs.fails.journal_steady; armed = runs.journal_armed; orders = runs.journal_orders }
 
-served_checkpoints : (Fault : Type 0) (j j' c c' : State) → Runs Fault j j' c c' → IsServed c c'
+served_checkpoints : (Fault : Type 0) (j j' c c' : State) → RunsWithoutOrders Fault j j' c c' → WasUsed c c'
 served_checkpoints Fault j j' c c' runs = record { faults = runs.fails.checkpoint_faults; steady = runs.fails.checkpoint_steady; armed = runs.checkpoints_armed; orders = runs.checkpoints_orders }
 
 -- behind the same disks
-served_behind : {D : Type 0} (state : D → State) (front : List D) (j c j' c' : D) (rest : List D) (place : ℕ) (x y : D) → IsServed (state j) (state j') → IsServed (state c) (state c')
-    → slice_get (front ++ j ∷ c ∷ rest) place ≡ Some x → slice_get (front ++ j' ∷ c' ∷ rest) place ≡ Some y → IsServed (state x) (state y)
-served_behind state [] j c j' c' rest zero x y one two at at_too = subst (λ a. IsServed (state a) (state y)) (same_Some j x at) (subst (λ b. IsServed (state j) (state b)) (same_Some j' y at_too) one)
-served_behind state [] j c j' c' rest (suc zero) x y one two at at_too = subst (λ a. IsServed (state a) (state y)) (same_Some c x at) (subst (λ b. IsServed (state c) (state b)) (same_Some c' y at_too) two)
+served_behind : {D : Type 0} (state : D → State) (front : List D) (j c j' c' : D) (rest : List D) (place : ℕ) (x y : D) → WasUsed (state j) (state j') → WasUsed (state c) (state c')
+    → slice_get (front ++ j ∷ c ∷ rest) place ≡ Some x → slice_get (front ++ j' ∷ c' ∷ rest) place ≡ Some y → WasUsed (state x) (state y)
+served_behind state [] j c j' c' rest zero x y one two at at_too = subst (λ a. WasUsed (state a) (state y)) (same_Some j x at) (subst (λ b. WasUsed (state j) (state b)) (same_Some j' y at_too) one)
+served_behind state [] j c j' c' rest (suc zero) x y one two at at_too = subst (λ a. WasUsed (state a) (state y)) (same_Some c x at) (subst (λ b. WasUsed (state c) (state b)) (same_Some c' y at_too) two)
 served_behind state [] j c j' c' rest (suc (suc place)) x y one two at at_too = served_same state x y (same_Some x y (sym at ∙ at_too))
 served_behind state (first ∷ front) j c j' c' rest zero x y one two at at_too = served_same state x y (same_Some x y (sym at ∙ at_too))
 served_behind state (first ∷ front) j c j' c' rest (suc place) x y one two at at_too = served_behind state front j c j' c' rest place x y one two at at_too
 
 module _ {D : Type 0} (state : D → State) (number : ℕ) (Fault : Type 0) (old : List D) (nodes : List (Node × D × D)) (disks : List D) (journal' checkpoints' : D) (rest : List D)
-    (so_far : Opens state number ⊥ old (disks_in nodes ++ disks)) (many : length nodes ≡ number) (two : TwoRun state Fault disks journal' checkpoints' rest) where
+    (so_far : Opens state number ⊥ old (disks_in nodes ++ disks)) (many : length nodes ≡ number) (two : TwoDisksRan state Fault disks journal' checkpoints' rest) where
   abbrev front : List D
   front = disks_in nodes
 
@@ -146,7 +146,7 @@ opens_wide state number nodes Fault old new more opens = record {
 
 -- a node is opened
 pub opens_more : {D : Type 0} (state : D → State) (number : ℕ) (old : List D) (nodes later : List (Node × D × D)) (node : Node × D × D) (disks rest : List D) → Opens state number ⊥ old (disks_in nodes ++ disks)
-    → length nodes ≡ number → TwoRun state ⊥ disks node.1 node.2 rest → later ≡ nodes ++ node ∷ [] → Opens state (number + 1) ⊥ old (disks_in later ++ rest)
+    → length nodes ≡ number → TwoDisksRan state ⊥ disks node.1 node.2 rest → later ≡ nodes ++ node ∷ [] → Opens state (number + 1) ⊥ old (disks_in later ++ rest)
 opens_more {D} state number old nodes later node disks rest so_far many two is =
     subst (λ (l : List D). Opens state (number + 1) ⊥ old l) (sym back) (opens_next state number ⊥ old nodes disks node.1 node.2 rest so_far many two)
   where
@@ -159,7 +159,7 @@ opens_more {D} state number old nodes later node disks rest so_far many two is =
 
 -- a node couldn't be opened
 pub opens_refused : {D : Type 0} (state : D → State) (number nodes : ℕ) (Fault : Type 0) (old : List D) (so_many : List (Node × D × D)) (disks back given : List D) → Opens state number ⊥ old (disks_in so_many ++ disks)
-    → length so_many ≡ number → number < nodes → (node : Node) → TwoBack state node Fault disks back → given ≡ disks_in so_many ++ back → Opens state nodes Fault old given
+    → length so_many ≡ number → number < nodes → (node : Node) → TwoDisksReturned state node Fault disks back → given ≡ disks_in so_many ++ back → Opens state nodes Fault old given
 opens_refused {D} state number nodes Fault old so_many disks back given so_far many more node two is =
     subst (λ (l : List D). Opens state nodes Fault old l) (sym (is ∙ ap (λ l. disks_in so_many ++ l) two.back))
     (opens_wide state (number + 1) nodes Fault old (disks_in so_many ++ two.journal' ∷ two.checkpoints' ∷ two.rest) (omega (arith, more))
@@ -173,9 +173,9 @@ each_more P [] x each is (suc n) y there = absurd (cc there)
 each_more P (first ∷ xs) x each is zero y there = each zero y there
 each_more P (first ∷ xs) x each is (suc n) y there = each_more P xs x (λ m z at. each (suc m) z at) is n y there
 
-pub none_stand : {D : Type 0} (state : D → State) → NodesStand state []
+pub none_stand : {D : Type 0} (state : D → State) → EachNodeStands state []
 none_stand state number node there = absurd (cc there)
 
-pub more_stand : {D : Type 0} (state : D → State) (nodes later : List (Node × D × D)) (node : Node × D × D) → NodesStand state nodes → StandsOn state node → later ≡ nodes ++ node ∷ [] → NodesStand state later
+pub more_stand : {D : Type 0} (state : D → State) (nodes later : List (Node × D × D)) (node : Node × D × D) → EachNodeStands state nodes → NodeStands state node → later ≡ nodes ++ node ∷ [] → EachNodeStands state later
 more_stand state nodes later node each stands is number item there =
-    each_more (StandsOn state) nodes node each stands number item (ap (λ l. slice_get l number) (sym is) ∙ there)
+    each_more (NodeStands state) nodes node each stands number item (ap (λ l. slice_get l number) (sym is) ∙ there)

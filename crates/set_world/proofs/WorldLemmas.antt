@@ -17,8 +17,8 @@ use Rattle.node_core.specs.declared.done.Done.{Done}
 use Rattle.node_state.specs.Bounds.{IsBounded, IsNumbered}
 use Rattle.set_model.specs.Taking.{CanTake}
 use Rattle.rs_disk.specs.State.{State}
-use Rattle.set_world.specs.Acting.{MayAct, OneOf, UnchangedSo}
-use Rattle.set_world.specs.Disks.{AtTouched}
+use Rattle.set_world.specs.Acting.{MayAct, ChangesAt, NodeUnchanged}
+use Rattle.set_world.specs.Disks.{AtTouchedNode}
 use Rattle.set_world.specs.Pool.{Pool, IsBetweenNodes}
 use Rattle.set_world.specs.World.{IsReached, IsStanding, Acts, event_of, nodes_in}
 use Rattle.set_world.proofs.ActingLemmas.{nodes_still}
@@ -227,7 +227,7 @@ lent_node sizes history items pool stands number d within = ap (λ (w : World). 
 
 pub stands_still : {D : Type 0} (state : D → State) (Disks : State → State → State → State → Type 0) (sizes : Sizes) (history later : List Event) (items nodes new : List (Node × D × D)) (old pool : Pool) (what : Task)
     → IsStanding sizes history (nodes_in items) old → nodes ≡ items → pool.nodes ≡ old.nodes → pool.messages ≡ old.messages → later ≡ history
-    → AtTouched what None nodes new (λ n. OneOf n (UnchangedSo state Disks) nodes new) → IsStanding sizes later (nodes_in new) pool
+    → AtTouchedNode what None nodes new (λ n. ChangesAt n (NodeUnchanged state Disks) nodes new) → IsStanding sizes later (nodes_in new) pool
 stands_still state Disks sizes history later items nodes new old pool what stands same size messages still undone = record {
   reached = subst (λ l. IsReached sizes l (nodes_in new) pool.messages) (sym still)
       (subst (λ l. IsReached sizes history l pool.messages) (sym here) (subst (λ l. IsReached sizes history (nodes_in items) l) (sym messages) stands.reached));

@@ -15,7 +15,7 @@ use Rattle.set_world.specs.Pool.{Pool}
 use Rattle.set_world.specs.World.{nodes_in}
 
 -- what stands at this place changed so, and nothing else in the list
-pub record OneOf {A : Type 0} (number : ℕ) (So : A → A → Type 0) (old new : List A) : Type 0 where
+pub record ChangesAt {A : Type 0} (number : ℕ) (So : A → A → Type 0) (old new : List A) : Type 0 where
   pub before : A
   pub after : A
   pub there : slice_get old number ≡ Some before
@@ -23,36 +23,44 @@ pub record OneOf {A : Type 0} (number : ℕ) (So : A → A → Type 0) (old new 
   pub so : So before after
 
 -- the two disks of a node changed so
-abbrev pub DisksSo : {D : Type 0} → (D → State) → (State → State → State → State → Type 0) → Node × D × D → Node × D × D → Type 0
-DisksSo state Changed old new = Changed (state old.1) (state new.1) (state old.2) (state new.2)
+abbrev pub NodeDisks : {D : Type 0} → (D → State) → (State → State → State → State → Type 0) → Node × D × D
+    → Node × D × D → Type 0
+NodeDisks state Changed old new = Changed (state old.1) (state new.1) (state old.2) (state new.2)
 
 -- a node of a set of so many did a command
-abbrev pub ActedSo : {D : Type 0} → (D → State) → ℕ → ℕ → Command → Done → Node × D × D → Node × D × D → Type 0
-ActedSo state size next command done old new =
-    Acted (row size next done.kept old.0 command) command old.0 new.0 (state old.1) (state new.1) (state old.2) (state new.2) done
+abbrev pub NodeActed : {D : Type 0} → (D → State) → ℕ → ℕ → Command → Done → Node × D × D
+    → Node × D × D → Type 0
+NodeActed state size next command done old new =
+    Acted (row size next done.kept old.0 command) command old.0 new.0 (state old.1) (state new.1)
+    (state old.2) (state new.2) done
 
 -- a node took a message
-abbrev pub TookSo : {D : Type 0} → (D → State) → ℕ → Message → Done → Node × D × D → Node × D × D → Type 0
-TookSo state next message done old new = Took (deliver next old.0 message) new.0 (state old.1) (state new.1) (state old.2) (state new.2) done
+abbrev pub NodeTook : {D : Type 0} → (D → State) → ℕ → Message → Done → Node × D × D → Node × D × D → Type 0
+NodeTook state next message done old new =
+    Took (deliver next old.0 message) new.0 (state old.1) (state new.1) (state old.2) (state new.2) done
 
 -- a node is as it was, and its disks are left so
-abbrev pub UnchangedSo : {D : Type 0} → (D → State) → (State → State → State → State → Type 0) → Node × D × D → Node × D × D → Type 0
-UnchangedSo state Disks old new =
+abbrev pub NodeUnchanged : {D : Type 0} → (D → State) → (State → State → State → State → Type 0)
+    → Node × D × D → Node × D × D → Type 0
+NodeUnchanged state Disks old new =
     Unchanged Disks old.0 new.0 (state old.1) (state new.1) (state old.2) (state new.2)
 
 -- on its disks stands what the node is
-abbrev pub StandsOn : {D : Type 0} → (D → State) → Node × D × D → Type 0
-StandsOn state node = Stands node.0 (state node.1) (state node.2)
+abbrev pub NodeStands : {D : Type 0} → (D → State) → Node × D × D → Type 0
+NodeStands state node = Stands node.0 (state node.1) (state node.2)
 
 -- and so for each of these nodes
-abbrev pub NodesStand : {D : Type 0} → (D → State) → List (Node × D × D) → Type 0
-NodesStand {D} state nodes = (number : ℕ) (node : Node × D × D) → slice_get nodes number ≡ Some node → StandsOn state node
+abbrev pub EachNodeStands : {D : Type 0} → (D → State) → List (Node × D × D) → Type 0
+EachNodeStands {D} state nodes =
+    (number : ℕ) (node : Node × D × D) → slice_get nodes number ≡ Some node → NodeStands state node
 
--- every command can be done: the nodes and the messages are within their bounds, and each message can be taken by its receiver
+-- every command can be done: the nodes and the messages are within their bounds, and each message can be
+-- taken by its receiver
 pub record MayAct {D : Type 0} (nodes : List (Node × D × D)) (pool : Pool) : Type 0 where
   pub size : pool.nodes ≡ length nodes
   pub few : length nodes ≤ 50
   pub bounds : (number : ℕ) (node : Node) → slice_get (nodes_in nodes) number ≡ Some node → IsBounded node
   pub next : IsNumbered (length pool.messages)
-  pub messages : (message : Message) (node : Node) → Contains pool.messages message → slice_get (nodes_in nodes) message.to ≡ Some node → node.up ≡ true → CanTake node message
+  pub messages : (message : Message) (node : Node) → Contains pool.messages message
+      → slice_get (nodes_in nodes) message.to ≡ Some node → node.up ≡ true → CanTake node message
   pub between : (message : Message) → Contains pool.messages message → message.to < length nodes

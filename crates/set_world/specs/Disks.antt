@@ -1,6 +1,6 @@
 -- What opening a set and each of its steps do to its disks.
 use Rattle.std.specs.Prelude.{◌≡◌, ◌⊎◌, ◌<◌, ◌≤◌, ◌+◌, ◌*◌, ◌++◌, ◌∷◌, [], ℕ, IsSome, IsTrue, List, Option, None, Some, length, drop, slice_get, slice_set}
-use Rattle.rs_io.specs.Fault.{Rose}
+use Rattle.rs_io.specs.Fault.{CountRose}
 use Rattle.rs_disk.specs.State.{State}
 use Rattle.member_config.specs.declared.config.Config.{Config}
 use Rattle.set_model.specs.declared.command.Command.{Command}
@@ -9,14 +9,15 @@ use Rattle.set_model.specs.declared.reply.Reply.{Reply}
 use Rattle.set_model.specs.Node.{Node, opening_node}
 use Rattle.set_model.specs.Run.{run}
 use Rattle.set_model.specs.World.{Task, World, acts, takes, nothing, step, task}
-use Rattle.node_core.specs.Acting.{DisksActed, DisksLeft, Runs}
+use Rattle.node_core.specs.Acting.{DisksActed, DisksLeft, RunsWithoutOrders}
 use Rattle.node_core.specs.Stands.{Stands}
 use Rattle.set_world.specs.World.{Set}
 
 -- ---- the two disks of one node
 
 -- Of all disks only the two of this node changed, and so.
-pub record OneChanged {D : Type 0} (state : D → State) (Changed : State → State → State → State → Type 0) (number : ℕ) (old new : List D) : Type 0 where
+pub record OneChanged {D : Type 0} (state : D → State) (Changed : State → State → State → State → Type 0)
+    (number : ℕ) (old new : List D) : Type 0 where
   pub journal : D
   pub journal' : D
   pub checkpoints : D
@@ -26,15 +27,16 @@ pub record OneChanged {D : Type 0} (state : D → State) (Changed : State → St
   pub disks : new ≡ slice_set (slice_set old (2 * number) journal') (2 * number + 1) checkpoints'
   pub changed : Changed (state journal) (state journal') (state checkpoints) (state checkpoints')
 
--- What an event does with this task, by the node that it touches. Where no such message was sent no node is touched: no store fails
--- then, and the list is as it was.
-abbrev pub AtTouched : {A : Type 0} → Task → Option ℕ → List A → List A → (ℕ → Type 0) → Type 0
-AtTouched (acts number) failed old new At = At number
-AtTouched (takes message) failed old new At = At message.to
-AtTouched nothing failed old new At = (failed ≡ None) × (new ≡ old)
+-- What an event does with this task, by the node that it touches. Where no such message was sent no node is
+-- touched: no store fails then, and the list is as it was.
+abbrev pub AtTouchedNode : {A : Type 0} → Task → Option ℕ → List A → List A → (ℕ → Type 0) → Type 0
+AtTouchedNode (acts number) failed old new At = At number
+AtTouchedNode (takes message) failed old new At = At message.to
+AtTouchedNode nothing failed old new At = (failed ≡ None) × (new ≡ old)
 
 -- on the two disks of a node of this number stands what the node is
-pub record StandsThere {D : Type 0} (state : D → State) (number : ℕ) (node : Node) (disks : List D) : Type 0 where
+pub record StandsAtNumber {D : Type 0} (state : D → State) (number : ℕ) (node : Node)
+    (disks : List D) : Type 0 where
   pub journal : D
   pub checkpoints : D
   pub journal_at : slice_get disks (2 * number) ≡ Some journal
@@ -45,55 +47,59 @@ pub record StandsThere {D : Type 0} (state : D → State) (number : ℕ) (node :
 abbrev pub AllStand : {D : Type 0} → (D → State) → Set D → Type 0
 AllStand state set =
     (number : ℕ) (node : Node) → slice_get (run set.sizes set.history).world.nodes number ≡ Some node
-    → StandsThere state number node set.disks
+    → StandsAtNumber state number node set.disks
 
 -- ---- a step
 
--- One event more stands in the history, of this line and command. It is answered as the model says. Of all disks only those of the
--- node that it touches changed, and as their calls say.
-pub record IsStep {D : Type 0} (state : D → State) (old new : Set D) (line : ℕ) (command : Command) (reply : Reply) : Type 0 where
+-- One event more stands in the history, of this line and command. It is answered as the model says. Of all
+-- disks only those of the node that it touches changed, and as their calls say.
+pub record IsStep {D : Type 0} (state : D → State) (old new : Set D) (line : ℕ) (command : Command)
+    (reply : Reply) : Type 0 where
   pub event : Event
   pub line_is : event.line ≡ line
   pub command_is : event.command ≡ command
   pub history : new.history ≡ old.history ++ event ∷ []
   pub reply_is : reply ≡ (step (run old.sizes old.history).world event).reply
-  pub disks : AtTouched (task (run old.sizes old.history).world command) event.failed old.disks new.disks
+  pub disks : AtTouchedNode (task (run old.sizes old.history).world command) event.failed old.disks new.disks
       (λ number. OneChanged state (DisksActed command reply (IsSome event.failed)) number old.disks new.disks)
 
--- A command that wasn't done used at most the disks of the node that it would have touched, and leaves them as
--- such a command does.
+-- A command that wasn't done used at most the disks of the node that it would have touched, and leaves them
+-- as such a command does.
 abbrev pub DisksUndone : {D : Type 0} → (D → State) → World → Command → List D → List D → Type 0
 DisksUndone state world command old new =
     (new ≡ old)
-    ⊎ AtTouched (task world command) None old new (λ number. OneChanged state (DisksLeft command) number old new)
+    ⊎ AtTouchedNode (task world command) None old new
+    (λ number. OneChanged state (DisksLeft command) number old new)
 
 -- Nothing was done: memory ran out, or the history is full.
-pub record IsUndone {D : Type 0} (state : D → State) (old new : Set D) (command : Command) : Type 0 where
+pub record NothingDone {D : Type 0} (state : D → State) (old new : Set D) (command : Command) : Type 0 where
   pub history : new.history ≡ old.history
   pub disks : DisksUndone state (run old.sizes old.history).world command old.disks new.disks
 
 -- ---- two disks on which a node is opened
 
 -- The first two disks of a list became these, and the rest stays.
-pub record TwoRun {D : Type 0} (state : D → State) (Fault : Type 0) (old : List D) (journal' checkpoints' : D) (rest : List D) : Type 0 where
+pub record TwoDisksRan {D : Type 0} (state : D → State) (Fault : Type 0) (old : List D)
+    (journal' checkpoints' : D) (rest : List D) : Type 0 where
   pub journal : D
   pub checkpoints : D
   pub first : old ≡ journal ∷ checkpoints ∷ rest
-  pub runs : Runs Fault (state journal) (state journal') (state checkpoints) (state checkpoints')
+  pub runs : RunsWithoutOrders Fault (state journal) (state journal') (state checkpoints) (state checkpoints')
 
 -- They stand in their places again, and on them stands this node.
-pub record TwoBack {D : Type 0} (state : D → State) (node : Node) (Fault : Type 0) (old new : List D) : Type 0 where
+pub record TwoDisksReturned {D : Type 0} (state : D → State) (node : Node) (Fault : Type 0)
+    (old new : List D) : Type 0 where
   pub journal' : D
   pub checkpoints' : D
   pub rest : List D
   pub back : new ≡ journal' ∷ checkpoints' ∷ rest
-  pub two : TwoRun state Fault old journal' checkpoints' rest
+  pub two : TwoDisksRan state Fault old journal' checkpoints' rest
   pub stands : Stands node (state journal') (state checkpoints')
 
 -- ---- the opening of a set
 
 -- a disk that was used: no order was given to it
-pub record IsServed (old new : State) : Type 0 where
+pub record WasUsed (old new : State) : Type 0 where
   pub faults : old.faults ≤ new.faults
   pub steady : IsTrue old.is_steady → IsTrue new.is_steady
   pub armed : IsTrue new.is_armed → IsTrue old.is_armed
@@ -102,23 +108,25 @@ pub record IsServed (old new : State) : Type 0 where
 -- on the disks of each of so many nodes stands what it is as a set with this configuration begins
 abbrev pub AllBegin : {D : Type 0} → (D → State) → Config → ℕ → List D → Type 0
 AllBegin state config count disks =
-    (number : ℕ) → number < count → StandsThere state number (opening_node config number) disks
+    (number : ℕ) → number < count → StandsAtNumber state number (opening_node config number) disks
 
 -- the count of one of the first disks rose
-abbrev pub OneRose : {D : Type 0} → (D → State) → ℕ → List D → List D → Type 0
-OneRose {D} state first old new =
-    (place : ℕ) × (before : D) × (after : D) × (place < first) × (slice_get old place ≡ Some before) × (slice_get new place ≡ Some after)
-    × Rose (state before).faults (state after).faults
+abbrev pub OneFaultCounted : {D : Type 0} → (D → State) → ℕ → List D → List D → Type 0
+OneFaultCounted {D} state first old new =
+    (place : ℕ) × (before : D) × (after : D) × (place < first) × (slice_get old place ≡ Some before)
+    × (slice_get new place ≡ Some after)
+    × CountRose (state before).faults (state after).faults
 
--- Nodes were opened on the first disks, two for each, and the others stay. A fault comes only where one of the first ones failed,
--- and on steady disks only where one was armed.
-pub record Opens {D : Type 0} (state : D → State) (nodes : ℕ) (Fault : Type 0) (old new : List D) : Type 0 where
+-- Nodes were opened on the first disks, two for each, and the others stay. A fault comes only where one of
+-- the first ones failed, and on steady disks only where one was armed.
+pub record Opens {D : Type 0} (state : D → State) (nodes : ℕ) (Fault : Type 0)
+    (old new : List D) : Type 0 where
   pub count : length new ≡ length old
   pub idle : drop (2 * nodes) new ≡ drop (2 * nodes) old
   pub each :
       (place : ℕ) (before after : D) → slice_get old place ≡ Some before → slice_get new place ≡ Some after
-      → IsServed (state before) (state after)
-  pub cause : Fault → OneRose state (2 * nodes) old new
+      → WasUsed (state before) (state after)
+  pub cause : Fault → OneFaultCounted state (2 * nodes) old new
   pub only_armed :
       Fault → ((place : ℕ) (disk : D) → slice_get old place ≡ Some disk → IsTrue (state disk).is_steady)
       → (place : ℕ) × (disk : D) × (slice_get old place ≡ Some disk) × IsTrue (state disk).is_armed

@@ -16,12 +16,14 @@ slot_of from to = from * 64 + to
 -- the newest message from one node to another is the one at this place; or there is none
 abbrev pub IsNewest : List Message → ℕ → ℕ → Option ℕ → Type 0
 IsNewest messages from to None = latest_between messages from to ≡ None
-IsNewest messages from to (Some place) = (place < length messages) × (latest_between messages from to ≡ slice_get messages place)
+IsNewest messages from to (Some place) =
+    (place < length messages) × (latest_between messages from to ≡ slice_get messages place)
 
 pub record IsIndexed (nodes : ℕ) (messages : List Message) (newest : List (Option ℕ)) : Type 0 where
   pub few : nodes ≤ 50
   pub size : length newest ≡ nodes * 64
-  pub each : (from to : ℕ) → from < nodes → to < nodes → IsNewest messages from to (slice_index_or newest (slot_of from to) None)
+  pub each : (from to : ℕ) → from < nodes → to < nodes
+      → IsNewest messages from to (slice_index_or newest (slot_of from to) None)
 
 -- it is between nodes of a set of so many
 pub record IsBetweenNodes (nodes : ℕ) (message : Message) : Type 0 where

@@ -29,7 +29,8 @@ disks_in [] = []
 disks_in (node ∷ nodes) = node.1 ∷ node.2 ∷ disks_in nodes
 
 -- The history is a run that is defined, and the nodes and messages are those of its last world.
-pub record IsReached (sizes : Sizes) (history : List Event) (nodes : List Node) (messages : List Message) : Type 0 where
+pub record IsReached (sizes : Sizes) (history : List Event) (nodes : List Node)
+    (messages : List Message) : Type 0 where
   pub sizes_are : AreSizes sizes
   pub defined : IsRun sizes history
   pub world : (run sizes history).world ≡ record { nodes = nodes; messages = messages }
@@ -44,7 +45,10 @@ event_of line command done = record { line = line; command = command; failed = d
 -- what a command came to is the model's step of its event, which fits
 pub record Acts (world : World) (command : Command) (nodes : List Node) (done : Done) : Type 0 where
   pub stepped : (line : ℕ) → step world (event_of line command done)
-      ≡ record { reply = done.reply; world = record { nodes = nodes; messages = world.messages ++ done.sent.items } }
+      ≡ record {
+        reply = done.reply;
+        world = record { nodes = nodes; messages = world.messages ++ done.sent.items };
+      }
   pub reached : (line : ℕ) → plan_reaches (event_plan world (event_of line command done)) done.failed ≡ true
   pub settled : (line : ℕ) → (not done.kept || settles_doubt world (event_of line command done)) ≡ true
 

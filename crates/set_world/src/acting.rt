@@ -5,8 +5,8 @@ ghost use Rattle.set_model.specs.Taking.{CanTake};
 ghost use Rattle.set_model.specs.World.{task};
 ghost use Rattle.node_state.specs.Bounds.{IsBounded, IsNumbered};
 ghost use Rattle.node_core.specs.Acting.{AreSame, DisksActed, DisksLeft, is_here};
-ghost use Rattle.set_world.specs.Acting.{ActedSo, DisksSo, MayAct, NodesStand, OneOf, TookSo, UnchangedSo};
-ghost use Rattle.set_world.specs.Disks.{AtTouched};
+ghost use Rattle.set_world.specs.Acting.{NodeActed, NodeDisks, MayAct, EachNodeStands, ChangesAt, NodeTook, NodeUnchanged};
+ghost use Rattle.set_world.specs.Disks.{AtTouchedNode};
 ghost use Rattle.set_world.specs.World.{Acts, nodes_in};
 
 use crate::command::{actor, delivered};
@@ -19,8 +19,8 @@ use set_model::{Command, Refusal, Reply};
 use std::alloc::Global;
 use std::thread::Threads;
 
-/// Does a command: its node does it, or the receiver takes the message that it delivers. Out of memory leaves that node as
-/// it was.
+/// Does a command: its node does it, or the receiver takes the message that it delivers. Out of memory leaves
+/// that node as it was.
 pub(crate) fn act<D: Disk, R: Threads + Sync>(
     nodes: &mut [Node<D>],
     alloc: Global,
@@ -30,12 +30,18 @@ pub(crate) fn act<D: Disk, R: Threads + Sync>(
 ) -> Mem<Done>
     requires may { MayAct nodes.old pool.now }
     requires command { is_for pool.now.nodes command.now ≡ true }
-    ensures ok { IfOk result (λ done. Acts (record { nodes = nodes_in nodes.old; messages = pool.now.messages }) command.now (nodes_in nodes.new) done) }
-    ensures disks { IfOk result (λ done. AtTouched (task (record { nodes = nodes_in nodes.old; messages = pool.now.messages }) command.now) done.failed nodes.old nodes.new (λ number. OneOf number (DisksSo D.state (DisksActed command.now done.reply (IsSome done.failed))) nodes.old nodes.new)) }
-    ensures err { OnErr result (AtTouched
-        (task (record { nodes = nodes_in nodes.old; messages = pool.now.messages }) command.now) None nodes.old nodes.new
-        (λ number. OneOf number (UnchangedSo D.state (DisksLeft command.now)) nodes.old nodes.new)) }
-    ensures stand { NodesStand D.state nodes.old → NodesStand D.state nodes.new }
+    ensures ok { IfOk result (λ done.
+        Acts (record { nodes = nodes_in nodes.old; messages = pool.now.messages }) command.now
+        (nodes_in nodes.new) done) }
+    ensures disks { IfOk result (λ done.
+        AtTouchedNode (task (record { nodes = nodes_in nodes.old; messages = pool.now.messages }) command.now)
+        done.failed nodes.old nodes.new (λ number. ChangesAt number
+        (NodeDisks D.state (DisksActed command.now done.reply (IsSome done.failed))) nodes.old nodes.new)) }
+    ensures err { OnErr result (AtTouchedNode
+        (task (record { nodes = nodes_in nodes.old; messages = pool.now.messages }) command.now) None
+        nodes.old nodes.new
+        (λ number. ChangesAt number (NodeUnchanged D.state (DisksLeft command.now)) nodes.old nodes.new)) }
+    ensures stand { EachNodeStands D.state nodes.old → EachNodeStands D.state nodes.new }
     ensures len { length nodes.new ≡ length nodes.old }
 {
     let next = pool.len() as u64;
@@ -58,12 +64,15 @@ fn act_on<D: Disk, R: Threads + Sync>(
 ) -> Mem<Done>
     requires known { number < length nodes.old }
     requires size { length nodes.old < 2 ^ 32 }
-    requires bounds { (n : ℕ) (node : Standing) → slice_get (nodes_in nodes.old) n ≡ Some node → IsBounded node }
+    requires bounds { (n : ℕ) (node : Standing) → slice_get (nodes_in nodes.old) n ≡ Some node
+        → IsBounded node }
     requires next { IsNumbered next }
     requires here { is_here command.now ≡ true }
     requires within { is_within command.now ≡ true }
-    ensures ok { IfOk result (λ done. OneOf number (ActedSo D.state (length nodes.old) next command.now done) nodes.old nodes.new) }
-    ensures err { OnErr result (OneOf number (UnchangedSo D.state (DisksLeft command.now)) nodes.old nodes.new) }
+    ensures ok { IfOk result (λ done.
+        ChangesAt number (NodeActed D.state (length nodes.old) next command.now done) nodes.old nodes.new) }
+    ensures err { OnErr result
+        (ChangesAt number (NodeUnchanged D.state (DisksLeft command.now)) nodes.old nodes.new) }
     ensures len { length nodes.new ≡ length nodes.old }
 {
     let size = nodes.len() as u32;
@@ -78,12 +87,16 @@ fn take_at<D: Disk, R: Threads + Sync>(
     message: &Message,
 ) -> Mem<Done>
     requires known { message.now.to < length nodes.old }
-    requires bounds { (n : ℕ) (node : Standing) → slice_get (nodes_in nodes.old) n ≡ Some node → IsBounded node }
+    requires bounds { (n : ℕ) (node : Standing) → slice_get (nodes_in nodes.old) n ≡ Some node
+        → IsBounded node }
     requires next { IsNumbered next }
-    requires message { (node : Standing) → slice_get (nodes_in nodes.old) message.now.to ≡ Some node → node.up ≡ true → CanTake node message.now }
-    ensures ok { IfOk result (λ done. OneOf message.now.to (TookSo D.state next message.now done) nodes.old nodes.new) }
+    requires message { (node : Standing) → slice_get (nodes_in nodes.old) message.now.to ≡ Some node
+        → node.up ≡ true → CanTake node message.now }
+    ensures ok { IfOk result (λ done.
+        ChangesAt message.now.to (NodeTook D.state next message.now done) nodes.old nodes.new) }
     ensures unkept { IfOk result (λ done. done.kept ≡ false) }
-    ensures err { OnErr result (OneOf message.now.to (UnchangedSo D.state AreSame) nodes.old nodes.new) }
+    ensures err { OnErr result
+        (ChangesAt message.now.to (NodeUnchanged D.state AreSame) nodes.old nodes.new) }
     ensures len { length nodes.new ≡ length nodes.old }
 {
     nodes[message.to as usize].take(rt, next, message)

@@ -51,9 +51,11 @@ pub(crate) fn actor(command: &Command) -> Option<u32>
 /// The message that a command delivers; none, where no such message was sent.
 pub(crate) fn delivered<'a>(pool: &'a Pool, command: &Command) -> Option<&'a Message>
     requires command { is_for pool.now.nodes command.now ≡ true }
-    ensures some { IfSome result (λ message. (world : World) → world.messages ≡ pool.now.messages → is_here command.now ≡ false → task world command.now ≡ takes message.now) }
+    ensures some { IfSome result (λ message. (world : World) → world.messages ≡ pool.now.messages
+        → is_here command.now ≡ false → task world command.now ≡ takes message.now) }
     ensures sent { IfSome result (λ message. Contains pool.now.messages message.now) }
-    ensures none { IfNone result ((world : World) → world.messages ≡ pool.now.messages → is_here command.now ≡ false → task world command.now ≡ nothing) }
+    ensures none { IfNone result ((world : World) → world.messages ≡ pool.now.messages
+        → is_here command.now ≡ false → task world command.now ≡ nothing) }
 {
     match command {
         Command::Deliver { message } => pool.get(*message),
@@ -63,21 +65,21 @@ pub(crate) fn delivered<'a>(pool: &'a Pool, command: &Command) -> Option<&'a Mes
 }
 
 /// What a command brings is sound at every level: a fact for proofs, which costs nothing.
-pub(crate) fn brings_sound(command: &Command)
+pub(crate) fn recall_sound_write(command: &Command)
     ensures { IfSome (write_of command.now) IsSoundWrite }
 {
     match command {
-        Command::Insert { document, .. } => document.is_sound(),
+        Command::Insert { document, .. } => document.recall_sound(),
         Command::Replace { id, document, .. } => {
-            id.is_sound();
-            document.is_sound();
+            id.recall_sound();
+            document.recall_sound();
         }
         Command::Update { id, operators, .. } => {
-            id.is_sound();
-            operators.is_sound();
+            id.recall_sound();
+            operators.recall_sound();
         }
-        Command::Delete { id, .. } => id.is_sound(),
-        Command::Begin { op, .. } => op.is_sound(),
+        Command::Delete { id, .. } => id.recall_sound(),
+        Command::Begin { op, .. } => op.recall_sound(),
         _ => {}
     }
 }

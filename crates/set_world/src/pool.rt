@@ -30,7 +30,11 @@ impl Model for Pool {
 
     ghost use Rattle.set_world.specs.Pool.{IsIndexed};
 
-    ghost view = { λ p. record { nodes = p.nodes; messages = p.messages.items; spare = vec_capacity p.messages - vec_len p.messages } };
+    ghost view = { λ p. record {
+      nodes = p.nodes;
+      messages = p.messages.items;
+      spare = vec_capacity p.messages - vec_len p.messages;
+    } };
 
     ghost invariant = { λ p. IsIndexed p.nodes p.messages.items p.newest.items };
 }
@@ -80,7 +84,8 @@ impl Pool {
     pub(crate) fn latest(&self, from: u32, to: u32) -> Option<&Message>
         requires sender { from < self.now.nodes }
         requires receiver { to < self.now.nodes }
-        ensures some { IfSome result (λ message. latest_between self.now.messages from to ≡ Some message.now) }
+        ensures some { IfSome result (λ message.
+            latest_between self.now.messages from to ≡ Some message.now) }
         ensures none { IfNone result (latest_between self.now.messages from to ≡ None) }
         ensures sent { IfSome result (λ message. Contains self.now.messages message.now) }
     {

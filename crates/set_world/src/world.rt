@@ -3,13 +3,13 @@ ghost use Rattle.rs_disk.specs.File.{IsEmpty};
 ghost use Rattle.set_model.specs.Limits.{IsRun, is_for};
 ghost use Rattle.set_model.specs.Run.{AreSizes, run};
 ghost use Rattle.set_world.specs.declared.error.StepError.{StepError as AStepError};
-ghost use Rattle.set_world.specs.Disks.{AllStand, IsStep, IsUndone, Opens};
+ghost use Rattle.set_world.specs.Disks.{AllStand, IsStep, NothingDone, Opens};
 ghost use Rattle.set_world.specs.World.{nodes_in, opening_set};
 ghost use Rattle.record_file.specs.declared.error.FileError.TheVariants.{Disk};
 
 use crate::StepError;
 use crate::acting::act;
-use crate::command::brings_sound;
+use crate::command::recall_sound_write;
 use crate::opening::{first_config, give_back, open_nodes};
 use crate::pool::Pool;
 use node_core::{Done, Node};
@@ -27,8 +27,9 @@ const MOST_EVENTS: usize = 4_294_967_295;
 /// No event sends more messages.
 const MOST_SENT: usize = 7;
 
-/// A replica set: its nodes on their disks, every message that was sent, and the events that led there. Contracts see the
-/// events and the disks: the nodes and the messages are those of the last world of the events' run.
+/// A replica set: its nodes on their disks, every message that was sent, and the events that led there.
+/// Contracts see the events and the disks: the nodes and the messages are those of the last world of
+/// the events' run.
 #[derive(Drop)]
 pub struct World<D: Disk> {
     alloc: Global,
@@ -51,21 +52,27 @@ impl<D: Disk> Model for World<D> {
 
     ghost coded = { Prim.hlevel (codes, event.the_row.coded) };
 
-    ghost use Rattle.set_world.specs.Acting.{NodesStand};
+    ghost use Rattle.set_world.specs.Acting.{EachNodeStands};
     ghost use Rattle.set_world.specs.World.{CanTakeBack, IsStanding};
 
-    ghost view = { λ w. record { sizes = record { nodes = w.size; members = w.members }; history = w.history.items; disks = disks_in w.nodes.items ++ w.idle.items } };
+    ghost view = { λ w. record {
+      sizes = record { nodes = w.size; members = w.members };
+      history = w.history.items;
+      disks = disks_in w.nodes.items ++ w.idle.items;
+    } };
 
-    ghost invariant = { λ w. IsStanding (record { nodes = w.size; members = w.members }) w.history.items (nodes_in w.nodes.items) w.pool × CanTakeBack (vec_len w.nodes) w.idle × NodesStand D.state w.nodes.items };
+    ghost invariant = { λ w. IsStanding (record { nodes = w.size; members = w.members }) w.history.items
+        (nodes_in w.nodes.items) w.pool
+        × CanTakeBack (vec_len w.nodes) w.idle × EachNodeStands D.state w.nodes.items };
 }
 
 impl<D: Disk> World<D> {
-    /// A set of so many nodes, of which the first are members, on 100 empty disks. Its nodes are opened in order of number,
-    /// each on the next two disks: its journal, and then its checkpoints.
+    /// A set of so many nodes, of which the first are members, on 100 empty disks. Its nodes are opened in
+    /// order of number, each on the next two disks: its journal, and then its checkpoints.
     ///
     /// # Errors
-    /// `Disk` where a disk of one of the nodes failed, and `Memory` where memory ran out. Either hands back the
-    /// disks, each in its place, and on them still stand the nodes as the set begins.
+    /// `Disk` where a disk of one of the nodes failed, and `Memory` where memory ran out. Either hands back
+    /// the disks, each in its place, and on them still stand the nodes as the set begins.
     #[tactic(auto, using(crate::proofs::OpenLemmas::begins))]
     pub fn open(
         alloc: Global,
@@ -79,7 +86,8 @@ impl<D: Disk> World<D> {
         ensures sizes { IfOk result (λ world. world.sizes ≡ record { nodes = nodes; members = members }) }
         ensures history { IfOk result (λ world. world.history ≡ []) }
         ensures opened { IfOk result (λ world. Opens D.state nodes ⊥ disks.items world.disks) }
-        ensures refused { IfErr result (λ refused. Opens D.state nodes (refused.1 ≡ Disk) disks.items refused.0.items) }
+        ensures refused { IfErr result (λ refused.
+            Opens D.state nodes (refused.1 ≡ Disk) disks.items refused.0.items) }
         ensures handed_back { IfErr result (λ refused. AllStand D.state
             (opening_set (record { nodes = nodes; members = members }) refused.0.items)) }
     {
@@ -107,13 +115,13 @@ impl<D: Disk> World<D> {
         }
     }
 
-    /// Does one command, and adds its event, of this line, to the history. A store that fails is no error: the event says
-    /// which one did.
+    /// Does one command, and adds its event, of this line, to the history. A store that fails is no error:
+    /// the event says which one did.
     ///
     /// # Errors
-    /// `HistoryFull` where the history has 4,294,967,295 events: nothing is done. `Memory` where memory ran out: the
-    /// nodes, the messages, the history and the disks' files are as they were. Only a restart may have opened its
-    /// node's disks anew.
+    /// `HistoryFull` where the history has 4,294,967,295 events: nothing is done. `Memory` where memory ran
+    /// out: the nodes, the messages, the history and the disks' files are as they were. Only a restart may
+    /// have opened its node's disks anew.
     pub fn step<R: Threads + Sync>(
         &mut self,
         rt: &R,
@@ -124,7 +132,7 @@ impl<D: Disk> World<D> {
         ensures step { IfOk result (λ reply. IsStep D.state self.old self.new line command.now reply) }
         ensures full { IsErrOf result AStepError.HistoryFull ↔ length self.old.history ≡ 4294967295 }
         ensures untouched { IsErrOf result AStepError.HistoryFull → self.new ≡ self.old }
-        ensures err { OnErr result (IsUndone D.state self.old self.new command.now) }
+        ensures err { OnErr result (NothingDone D.state self.old self.new command.now) }
         ensures sizes { self.new.sizes ≡ self.old.sizes }
     {
         // Before the copy, for which memory may run out.
@@ -149,7 +157,7 @@ impl<D: Disk> World<D> {
         ensures step { IfOk result (λ reply. IsStep D.state self.old self.new line command reply) }
         ensures full { IsErrOf result AStepError.HistoryFull ↔ length self.old.history ≡ 4294967295 }
         ensures untouched { IsErrOf result AStepError.HistoryFull → self.new ≡ self.old }
-        ensures err { OnErr result (IsUndone D.state self.old self.new command) }
+        ensures err { OnErr result (NothingDone D.state self.old self.new command) }
         ensures sizes { self.new.sizes ≡ self.old.sizes }
     {
         if self.history.len() >= MOST_EVENTS {
@@ -157,7 +165,7 @@ impl<D: Disk> World<D> {
         }
         numbers_stay_small();
         messages_can_be_taken();
-        brings_sound(&command);
+        recall_sound_write(&command);
         self.history.reserve(1)?;
         self.pool.reserve(MOST_SENT)?;
         let Done {
@@ -212,7 +220,8 @@ impl<D: Disk> World<D> {
         &self.history
     }
 
-    /// Lends the node of this number, as it is in the last world of the history. The set has to have a node of that number.
+    /// Lends the node of this number, as it is in the last world of the history. The set has to have a node
+    /// of that number.
     pub fn node(&self, node: u32) -> &Node<D>
         requires { node < self.now.sizes.nodes }
         ensures { slice_get (run self.now.sizes self.now.history).world.nodes node ≡ Some result.now.0 }
@@ -228,15 +237,16 @@ impl<D: Disk> World<D> {
         &self.nodes
     }
 
-    /// On the nodes' disks stands what they are in the last world: a fact for callers' proofs, which costs nothing.
-    pub fn stands(&self)
+    /// On the nodes' disks stands what they are in the last world: a fact for callers' proofs,
+    /// which costs nothing.
+    pub fn recall_stands(&self)
         ensures { AllStand D.state self.now }
     {
         let _ = &self.nodes;
     }
 
     /// The history is a run that is defined: a fact for callers' proofs, which costs nothing.
-    pub fn is_run(&self)
+    pub fn recall_run(&self)
         ensures sizes { AreSizes self.now.sizes }
         ensures run { IsRun self.now.sizes self.now.history }
     {

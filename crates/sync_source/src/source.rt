@@ -9,7 +9,7 @@ use member_config::Config;
 use rs_optime::OpTime;
 use thiserror::Error;
 
-/// What was heard of a member: its last optime, and whether it is primary.
+/// What was last heard of a member: its last visible optime, and whether it is primary.
 #[derive(Clone, Copy, Debug, PartialEq, Eq)]
 pub struct Known {
     /// The number of the member.
@@ -18,14 +18,14 @@ pub struct Known {
     pub primary: bool,
 }
 
-/// No member goes further than the node.
+/// No member from which the node may fetch is known to have a later last optime than the node.
 #[derive(Clone, Copy, Debug, PartialEq, Eq, Error)]
 #[error("no member goes further")]
 pub struct NoSource;
 
-/// The member that a node fetches from: the lowest number among the other members whose last optime is later than `last`.
-/// Where the configuration doesn't allow chaining, only a primary counts. Where `known` names a member twice, the first
-/// counts. `NoSource` where there is no such member.
+/// The member that a node fetches from: the lowest number among the other members whose last optime is later
+/// than `last`. Where the configuration doesn't allow chaining, only a primary counts. Where `known` names a
+/// member twice, the first counts. `NoSource` where there is no such member.
 pub fn choose(config: &Config, own: u32, last: OpTime, known: &[Known]) -> Result<u32, NoSource>
     ensures { result_ok result ≡ lowest (words.sources_of config.now own last (heard_of known.now)) }
 {

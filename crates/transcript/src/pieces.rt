@@ -41,7 +41,8 @@ pub fn write_counted(
     at: OpTime,
     out: &mut String,
 ) -> Mem<()>
-    ensures { OnOk result (string_bytes out.new ≡ string_bytes out.old ++ (words.now ++ decimal count ++ between.now ++ optime_text at)) }
+    ensures { OnOk result (string_bytes out.new
+        ≡ string_bytes out.old ++ (words.now ++ decimal count ++ between.now ++ optime_text at)) }
 {
     out.push_str(words)?;
     write_number(count, out)?;
@@ -57,7 +58,8 @@ pub fn write_counted_behind(
     count: u64,
     out: &mut String,
 ) -> Mem<()>
-    ensures { OnOk result (string_bytes out.new ≡ string_bytes out.old ++ (words.now ++ optime_text at ++ between.now ++ decimal count)) }
+    ensures { OnOk result (string_bytes out.new
+        ≡ string_bytes out.old ++ (words.now ++ optime_text at ++ between.now ++ decimal count)) }
 {
     out.push_str(words)?;
     write_optime(at, out)?;
@@ -67,7 +69,8 @@ pub fn write_counted_behind(
 
 /// Appends two numbers, with words before each.
 pub fn write_pair(words: &str, first: u64, between: &str, second: u32, out: &mut String) -> Mem<()>
-    ensures { OnOk result (string_bytes out.new ≡ string_bytes out.old ++ (words.now ++ decimal first ++ between.now ++ decimal second)) }
+    ensures { OnOk result (string_bytes out.new
+        ≡ string_bytes out.old ++ (words.now ++ decimal first ++ between.now ++ decimal second)) }
 {
     out.push_str(words)?;
     write_number(first, out)?;

@@ -8,7 +8,7 @@ use crate::entries::{write_documents, write_entries};
 use crate::lost::write_rolled;
 use crate::pieces::{write_at, write_counted, write_counted_behind, write_number, write_pair};
 use crate::refusal::{ignored_name, vote_refusal_name, write_refusal};
-use crate::state::{write_config, write_points, write_standing};
+use crate::state::{write_config, write_points, write_state};
 use bson_doc::Mem;
 use doc_text::write_document;
 use set_model::Reply;
@@ -126,7 +126,7 @@ fn write_node(reply: &Reply, out: &mut String) -> Mem<()>
             config,
             rollback,
         } => {
-            write_standing(*role, *term, *vote, out)?;
+            write_state(*role, *term, *vote, out)?;
             write_points(*last, *durable, *applied, *commit, out)?;
             write_config(*config, *rollback, out)
         }
@@ -151,7 +151,8 @@ fn write_node(reply: &Reply, out: &mut String) -> Mem<()>
 
 /// What a node asks for, in which term, the first message's number, and how many were sent.
 fn write_asked(words: &str, term: u64, first: u64, count: u32, out: &mut String) -> Mem<()>
-    ensures { OnOk result (string_bytes out.new ≡ string_bytes out.old ++ (words.now ++ decimal term ++ codes " sent m" ++ decimal first ++ codes " " ++ decimal count)) }
+    ensures { OnOk result (string_bytes out.new ≡ string_bytes out.old
+        ++ (words.now ++ decimal term ++ codes " sent m" ++ decimal first ++ codes " " ++ decimal count)) }
 {
     out.push_str(words)?;
     write!(out, "{term}")?;

@@ -14,5 +14,6 @@ pub fn a_prune_is_not_seen()
 /// After `back_to`, a read shows what the earlier of the two optimes showed.
 #[tactic(auto, using(crate::proofs::LawLemmas::back_to_shows))]
 pub fn going_back_shows_the_earlier()
-    ensures { (past : Past) (at read : OpTime) → shown read (back_to at past).versions ≡ shown (earlier_of read at) past.versions }
+    ensures { (past : Past) (at read : OpTime)
+        → shown read (back_to at past).versions ≡ shown (earlier_of read at) past.versions }
 {}

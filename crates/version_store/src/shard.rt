@@ -16,8 +16,8 @@ use std::alloc::Global;
 use std::collections::{BTreeMap, BTreeSet};
 use std::marker::Model;
 
-/// The documents of one shard, by collection and then by key, so that no look-up makes a key. A shard has a number, and
-/// knows how many shards there are: a document belongs to it where `shard_of` gives that number.
+/// The documents of one shard, by collection and then by key, so that no look-up makes a key. A shard has a
+/// number, and knows how many shards there are: a document belongs to it where `shard_of` gives that number.
 #[derive(Drop)]
 pub struct Shard {
     alloc: Global,
@@ -35,9 +35,14 @@ impl Model for Shard {
 
     ghost coded = { shard_code };
 
-    ghost view = { λ s. record { number = s.number; count = s.count; collections = collections_of s.collections.entries } };
+    ghost view = { λ s.
+        record { number = s.number; count = s.count; collections = collections_of s.collections.entries } };
 
-    ghost invariant = { λ s. HasItsOwn (record { number = s.number; count = s.count; collections = collections_of s.collections.entries }) };
+    ghost invariant = { λ s. HasItsOwn (record {
+      number = s.number;
+      count = s.count;
+      collections = collections_of s.collections.entries;
+    }) };
 }
 
 impl Shard {
@@ -61,7 +66,8 @@ impl Shard {
         self.history(ns, id)?.latest()
     }
 
-    /// The newest version of a document at or before an optime. None where that is a deletion, or there is none.
+    /// The newest version of a document at or before an optime. None where that is a deletion, or
+    /// there is none.
     pub fn read_at(&self, ns: &str, id: &IdKey, at: OpTime) -> Option<&Doc>
         ensures shown { option_copied result ≡ shown at (past_of self.now (ns.now, id.now)).versions }
         ensures rising { IsRising (past_of self.now (ns.now, id.now)).versions }
@@ -70,14 +76,16 @@ impl Shard {
     }
 
     pub(crate) fn history(&self, ns: &str, id: &IdKey) -> Option<&History>
-        ensures { MatchOption result (past_of self.now (ns.now, id.now) ≡ no_past) (λ history. past_of self.now (ns.now, id.now) ≡ history.now) }
+        ensures { MatchOption result (past_of self.now (ns.now, id.now) ≡ no_past)
+            (λ history. past_of self.now (ns.now, id.now) ≡ history.now) }
     {
         self.collection(ns)?.history(id)
     }
 
     pub(crate) fn hold(&mut self, ns: &str, id: &IdKey, writer: u32) -> Mem<()>
         requires { BelongsTo self.old.number self.old.count (ns.now, id.now) }
-        ensures ok { OnOk result (ChangesOf self.old self.new (ns.now, id.now) (held_by (past_of self.old (ns.now, id.now)) (Some writer))) }
+        ensures ok { OnOk result (ChangesOf self.old self.new (ns.now, id.now)
+            (held_by (past_of self.old (ns.now, id.now)) (Some writer))) }
         ensures err { OnErr result (self.new ≡ self.old) }
     {
         if let Some(collection) = self.collections.get_mut(ns) {
@@ -92,7 +100,8 @@ impl Shard {
 
     pub(crate) fn release(&mut self, ns: &str, id: &IdKey)
         requires { BelongsTo self.old.number self.old.count (ns.now, id.now) }
-        ensures { ChangesOf self.old self.new (ns.now, id.now) (held_by (past_of self.old (ns.now, id.now)) None) }
+        ensures { ChangesOf self.old self.new (ns.now, id.now)
+            (held_by (past_of self.old (ns.now, id.now)) None) }
     {
         let Some(collection) = self.collections.get_mut(ns) else {
             return;
@@ -103,8 +112,10 @@ impl Shard {
     /// Adds a version of a document of the shard's, newer than each that it has. None is a deletion.
     pub fn put(&mut self, ns: Text, id: IdKey, at: OpTime, doc: Option<Doc>) -> Mem<()>
         requires own { BelongsTo self.old.number self.old.count (ns, id) }
-        requires later { All (λ version. is_before version.at at ≡ true) (past_of self.old (ns, id)).versions }
-        ensures ok { OnOk result (ChangesOf self.old self.new (ns, id) (with_version (past_of self.old (ns, id)) (record { at = at; doc = doc }))) }
+        requires later { All (λ version. is_before version.at at ≡ true)
+            (past_of self.old (ns, id)).versions }
+        ensures ok { OnOk result (ChangesOf self.old self.new (ns, id)
+            (with_version (past_of self.old (ns, id)) (record { at = at; doc = doc }))) }
         ensures err { OnErr result (self.new ≡ self.old) }
     {
         self.put_in(ns.as_str(), id, at, doc)
@@ -113,8 +124,10 @@ impl Shard {
     /// `put` with the collection's name by reference.
     pub fn put_in(&mut self, ns: &str, id: IdKey, at: OpTime, doc: Option<Doc>) -> Mem<()>
         requires own { BelongsTo self.old.number self.old.count (ns.now, id) }
-        requires later { All (λ version. is_before version.at at ≡ true) (past_of self.old (ns.now, id)).versions }
-        ensures ok { OnOk result (ChangesOf self.old self.new (ns.now, id) (with_version (past_of self.old (ns.now, id)) (record { at = at; doc = doc }))) }
+        requires later { All (λ version. is_before version.at at ≡ true)
+            (past_of self.old (ns.now, id)).versions }
+        ensures ok { OnOk result (ChangesOf self.old self.new (ns.now, id)
+            (with_version (past_of self.old (ns.now, id)) (record { at = at; doc = doc }))) }
         ensures err { OnErr result (self.new ≡ self.old) }
     {
         if let Some(collection) = self.collections.get_mut(ns) {
@@ -150,7 +163,8 @@ impl Shard {
 
     /// Adds the places of the documents that a read at an optime shows.
     pub(crate) fn add_places(&self, at: OpTime, places: &mut BTreeSet<(Text, IdKey)>) -> Mem<()>
-        ensures places { OnOk result (AddsPlaces places.old places.new (λ place. is_shown at (past_of self.now place))) }
+        ensures places { OnOk result (AddsPlaces places.old places.new (λ place.
+            is_shown at (past_of self.now place))) }
         ensures own { HasItsOwn self.now }
     {
         for (name, collection) in &self.collections {
@@ -160,7 +174,8 @@ impl Shard {
     }
 
     fn collection(&self, ns: &str) -> Option<&Collection>
-        ensures { MatchOption result (documents_of self.now.collections ns.now ≡ []) (λ c. documents_of self.now.collections ns.now ≡ c.now) }
+        ensures { MatchOption result (documents_of self.now.collections ns.now ≡ [])
+            (λ c. documents_of self.now.collections ns.now ≡ c.now) }
     {
         self.collections.get(ns)
     }

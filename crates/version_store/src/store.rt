@@ -98,7 +98,8 @@ impl VersionStore {
         self.history(ns, id)?.latest()
     }
 
-    /// The newest version of a document at or before an optime. None where that is a deletion, or there is none.
+    /// The newest version of a document at or before an optime. None where that is a deletion, or
+    /// there is none.
     pub fn read_at(&self, ns: &str, id: &IdKey, at: OpTime) -> Option<&Doc>
         ensures shown { option_copied result ≡ shown_at self.now (ns.now, id.now) at }
         ensures rising { IsRising (versions_at self.now (ns.now, id.now)) }
@@ -131,10 +132,13 @@ impl VersionStore {
         }
     }
 
-    /// Lets a writer hold a document. `Held` where another writer holds it. Either error leaves the store as it was.
+    /// Lets a writer hold a document. `Held` where another writer holds it. Either error leaves the store
+    /// as it was.
     pub fn hold(&mut self, ns: &str, id: &IdKey, writer: u32) -> Result<(), HoldError>
-        ensures ok { OnOk result (Changes self.old self.new (ns.now, id.now) (held_by (past_at self.old (ns.now, id.now)) (Some writer))) }
-        ensures held { (other : ℕ) → IsErrOf result (HoldError.Held other) ↔ ((holder_at self.old (ns.now, id.now) ≡ Some other) × (other ≢ writer)) }
+        ensures ok { OnOk result (Changes self.old self.new (ns.now, id.now)
+            (held_by (past_at self.old (ns.now, id.now)) (Some writer))) }
+        ensures held { (other : ℕ) → IsErrOf result (HoldError.Held other)
+            ↔ ((holder_at self.old (ns.now, id.now) ≡ Some other) × (other ≢ writer)) }
         ensures err { OnErr result (self.new ≡ self.old) }
     {
         if let Some(other) = self.holder(ns, id)
@@ -152,7 +156,8 @@ impl VersionStore {
 
     /// Has nobody hold a document, whoever held it.
     pub fn release(&mut self, ns: &str, id: &IdKey)
-        ensures { Changes self.old self.new (ns.now, id.now) (held_by (past_at self.old (ns.now, id.now)) None) }
+        ensures { Changes self.old self.new (ns.now, id.now)
+            (held_by (past_at self.old (ns.now, id.now)) None) }
     {
         let place = shard_of(ns, id, self.count) as usize;
         let Some(shard) = self.shards.get_mut(place) else {
@@ -161,10 +166,12 @@ impl VersionStore {
         shard.release(ns, id);
     }
 
-    /// Adds a version of a document, newer than each that it has. None is a deletion. Out of memory leaves the store as it was.
+    /// Adds a version of a document, newer than each that it has. None is a deletion. Out of memory leaves
+    /// the store as it was.
     pub fn put(&mut self, ns: Text, id: IdKey, at: OpTime, doc: Option<Doc>) -> Mem<()>
         requires { All (λ version. is_before version.at at ≡ true) (versions_at self.old (ns, id)) }
-        ensures ok { OnOk result (Changes self.old self.new (ns, id) (with_version (past_at self.old (ns, id)) (record { at = at; doc = doc }))) }
+        ensures ok { OnOk result (Changes self.old self.new (ns, id)
+            (with_version (past_at self.old (ns, id)) (record { at = at; doc = doc }))) }
         ensures err { OnErr result (self.new ≡ self.old) }
     {
         self.put_in(ns.as_str(), id, at, doc)
@@ -173,7 +180,8 @@ impl VersionStore {
     /// The places of the documents that a read at an optime shows, in order of collection and key.
     pub fn keys_at(&self, at: OpTime) -> Mem<Vec<(Text, IdKey)>>
         ensures order { IfOk result (λ keys. IsStrictlySortedBy place_cmp keys.items) }
-        ensures shown { IfOk result (λ keys. (place : Place) → Contains keys.items place ↔ IsSome (shown_at self.now place at)) }
+        ensures shown { IfOk result (λ keys.
+            (place : Place) → Contains keys.items place ↔ IsSome (shown_at self.now place at)) }
     {
         let keys = listed(*self.shards.allocator(), self.places_at(at)?)?;
         Ok(keys)
@@ -193,8 +201,8 @@ impl VersionStore {
         self.cut(Cut::From(at));
     }
 
-    /// Drops the versions that no read at or after an optime can tell from none: those before the newest one at or
-    /// before it, and that one too where it is a deletion.
+    /// Drops the versions that no read at or after an optime can tell from none: those before the newest one
+    /// at or before it, and that one too where it is a deletion.
     pub fn prune(&mut self, at: OpTime)
         ensures dropped { ChangesEach self.old self.new (pruned at) }
     {
@@ -209,7 +217,8 @@ impl VersionStore {
         self.count
     }
 
-    /// Takes the shards out, in order of their numbers, so that threads may work on them: no shards where they are out already.
+    /// Takes the shards out, in order of their numbers, so that threads may work on them: no shards where
+    /// they are out already.
     pub fn take_shards(&mut self) -> Vec<Shard>
         ensures taken { result.items ≡ self.old.shards }
         ensures whole { AreAllOrNone self.old.count result.items }
@@ -237,7 +246,8 @@ impl VersionStore {
 
     fn put_in(&mut self, ns: &str, id: IdKey, at: OpTime, doc: Option<Doc>) -> Mem<()>
         requires { All (λ version. is_before version.at at ≡ true) (versions_at self.old (ns.now, id)) }
-        ensures ok { OnOk result (Changes self.old self.new (ns.now, id) (with_version (past_at self.old (ns.now, id)) (record { at = at; doc = doc }))) }
+        ensures ok { OnOk result (Changes self.old self.new (ns.now, id)
+            (with_version (past_at self.old (ns.now, id)) (record { at = at; doc = doc }))) }
         ensures err { OnErr result (self.new ≡ self.old) }
     {
         let place = shard_of(ns, &id, self.count) as usize;
@@ -249,7 +259,8 @@ impl VersionStore {
     }
 
     fn places_at(&self, at: OpTime) -> Mem<BTreeSet<(Text, IdKey)>>
-        ensures { IfOk result (λ places. (place : Place) → contains place_cmp places place ≡ is_some (shown_at self.now place at)) }
+        ensures { IfOk result (λ places.
+            (place : Place) → contains place_cmp places place ≡ is_some (shown_at self.now place at)) }
     {
         let mut places = BTreeSet::new(*self.shards.allocator());
         for shard in &self.shards {
@@ -259,13 +270,15 @@ impl VersionStore {
     }
 
     fn history(&self, ns: &str, id: &IdKey) -> Option<&History>
-        ensures { MatchOption result (past_at self.now (ns.now, id.now) ≡ no_past) (λ history. past_at self.now (ns.now, id.now) ≡ history.now) }
+        ensures { MatchOption result (past_at self.now (ns.now, id.now) ≡ no_past)
+            (λ history. past_at self.now (ns.now, id.now) ≡ history.now) }
     {
         self.shard(ns, id)?.history(ns, id)
     }
 
     fn shard(&self, ns: &str, id: &IdKey) -> Option<&Shard>
-        ensures { MatchOption result (past_at self.now (ns.now, id.now) ≡ no_past) (λ shard. past_of shard.now (ns.now, id.now) ≡ past_at self.now (ns.now, id.now)) }
+        ensures { MatchOption result (past_at self.now (ns.now, id.now) ≡ no_past)
+            (λ shard. past_of shard.now (ns.now, id.now) ≡ past_at self.now (ns.now, id.now)) }
     {
         self.shards.get(shard_of(ns, id, self.count) as usize)
     }

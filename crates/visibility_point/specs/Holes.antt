@@ -1,4 +1,5 @@
--- What happens to a log and its slots while the log is read: slots are opened and closed, and entries are written.
+-- What happens to a log and its slots while the log is read: slots are opened and closed, and
+-- entries are written.
 use Rattle.std.specs.Prelude.{ℕ, ◌<◌, ◌≤◌, ◌-◌, ◌^◌, List, [], ◌∷◌, All, ⊤, fold}
 use Rattle.std.specs.FinSet.{items}
 use Rattle.rs_optime.specs.declared.optime.OpTime.{OpTime}
@@ -12,7 +13,8 @@ pub record State : Type 0 where
   pub log : List Entry
   pub reserved : Reserved
 
--- Of a reservation, the term and the clock. An entry is written at an open slot, or past the mark, which its timestamp then raises
+-- Of a reservation, the term and the clock. An entry is written at an open slot, or past the mark, which its
+-- timestamp then raises
 pub data Action : Type 0 where
   Reserve : (term clock : ℕ) → Action
   Settle : (at : OpTime) → Action
@@ -23,21 +25,26 @@ pub data Action : Type 0 where
 
 -- what an action leaves, by the words of the calls' contracts
 abbrev pub after : State → Action → State
-after state (Reserve term clock) = record { log = state.log; reserved = opened state.reserved (next_slot state.reserved term clock) }
+after state (Reserve term clock) =
+    record { log = state.log; reserved = opened state.reserved (next_slot state.reserved term clock) }
 after state (Settle at) = record { log = state.log; reserved = closed state.reserved at }
 after state (Abort at) = record { log = state.log; reserved = closed state.reserved at }
 after state AbortAll = record { log = state.log; reserved = all_closed state.reserved }
 after state (WriteAtSlot entry) = record { log = with_entry state.log entry; reserved = state.reserved }
-after state (WritePast entry) = record { log = with_entry state.log entry; reserved = with_seen state.reserved entry.optime.ts }
+after state (WritePast entry) =
+    record { log = with_entry state.log entry; reserved = with_seen state.reserved entry.optime.ts }
 
--- what an action needs: that the mark can be passed, an open slot, a later timestamp, and that the log stays one
+-- what an action needs: that the mark can be passed, an open slot, a later timestamp, and that the
+-- log stays one
 abbrev pub IsAllowed : State → Action → Type 0
 IsAllowed state (Reserve term clock) = state.reserved.mark < 2 ^ 64 - 1
 IsAllowed state (Settle at) = ⊤
 IsAllowed state (Abort at) = ⊤
 IsAllowed state AbortAll = ⊤
-IsAllowed state (WriteAtSlot entry) = IsOpen state.reserved entry.optime × IsOplog (with_entry state.log entry)
-IsAllowed state (WritePast entry) = (state.reserved.mark < entry.optime.ts) × IsOplog (with_entry state.log entry)
+IsAllowed state (WriteAtSlot entry) =
+    IsOpen state.reserved entry.optime × IsOplog (with_entry state.log entry)
+IsAllowed state (WritePast entry) =
+    (state.reserved.mark < entry.optime.ts) × IsOplog (with_entry state.log entry)
 
 -- a list of actions, one after another
 abbrev pub run : State → List Action → State

@@ -1,5 +1,5 @@
-//! How far an oplog can be read while slots are open: up to the last entry before the first hole (MongoDB's architecture
-//! guide, "oplog holes").
+//! How far an oplog can be read while slots are open: up to the last entry before the first hole (MongoDB's
+//! architecture guide, "oplog holes").
 #![tactic(auto)]
 
 mod laws;

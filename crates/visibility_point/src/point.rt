@@ -8,13 +8,15 @@ use oplog_store::{OpenLog, Oplog};
 use optime_slots::Slots;
 use rs_optime::OpTime;
 
-/// The optime of the last entry before the earliest open slot, or ZERO. Without an open slot it is the last entry's.
+/// The optime of the last entry before the earliest open slot, or ZERO. Without an open slot it is
+/// the last entry's.
 #[tactic(auto, using(crate::proofs::Least::whole_is_visible, crate::proofs::Least::items_again))]
 pub fn visible(slots: &Slots, log: &Oplog) -> OpTime
     ensures point { result ≡ seen.visible log.now.entries (items slots.now.slots) }
 
     // The slots may be listed in any order.
-    ensures any_order { (listed : List OpTime) → from_list listed ≡ slots.now.slots → result ≡ seen.visible log.now.entries listed }
+    ensures any_order { (listed : List OpTime) → from_list listed ≡ slots.now.slots
+        → result ≡ seen.visible log.now.entries listed }
 {
     match slots.least() {
         None => log.last(),

@@ -29,9 +29,9 @@ returns-clause-laid c =
 pub returns-clause-fits : goal.returns-clause-fits
 returns-clause-fits c = record {
   short = c.requires.short;
-  text = c.is_utf8.ensures;
+  text = c.recall_utf8.ensures;
   key = c.requires.key;
-  sound = c.is_sound.ensures;
+  sound = c.recall_sound.ensures;
   spelling = record {
     spelled = refl;
     in_bytes = omega (arith, length-value_bytes (document c.args.document.now), c.requires.bytes);

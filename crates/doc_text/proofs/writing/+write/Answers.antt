@@ -52,4 +52,4 @@ write_fields-returns-clause-written t c =
 pub write_fields-returns-clause-lawful : goal.write_fields-returns-clause-lawful
 write_fields-returns-clause-lawful t c =
     let end = fields_from-end c.args.fields.now c.loop-place.place (omega (arith, c.loop-place-test.false, c.len-place-end.ensures.count)) in
-    always c.push_str-2.result (IsLawful (document c.args.fields.now)) (c.is_sound.ensures.0, c.loop-place.invariant.lawful (rw end tt))
+    always c.push_str-2.result (IsLawful (document c.args.fields.now)) (c.recall_sound.ensures.0, c.loop-place.invariant.lawful (rw end tt))

@@ -20,14 +20,14 @@ append_other-requires-clause-clean c =
     let id = codes "_id" ∷ [] in
     let out = c.loop-place.whole in
     let so_far = named (λ f. join out (kept id no_fields f)) _ _ _ _ c.in_ok-from_str-2.field-0 _ c.in-Some.ensures c.in_ok-from_str-2.ensures c.loop-place.invariant in
-    λ stays. (kept-next id no_fields out (fields_from (c.loop-place.place + 1) c.args.doc.now) _ c.in_ok-from_str-2.field-0 (tree_of c.in-Some.value.now) so_far (IsDocument-id_first (tree_of c.args.id.now) c.args.doc.now c.is_sound.ensures.0) stays).0
+    λ stays. (kept-next id no_fields out (fields_from (c.loop-place.place + 1) c.args.doc.now) _ c.in_ok-from_str-2.field-0 (tree_of c.in-Some.value.now) so_far (IsDocument-id_first (tree_of c.args.id.now) c.args.doc.now c.recall_sound.ensures.0) stays).0
 
 pub append_other-requires-clause-new : goal.append_other-requires-clause-new
 append_other-requires-clause-new c =
     let id = codes "_id" ∷ [] in
     let out = c.loop-place.whole in
     let so_far = named (λ f. join out (kept id no_fields f)) _ _ _ _ c.in_ok-from_str-2.field-0 _ c.in-Some.ensures c.in_ok-from_str-2.ensures c.loop-place.invariant in
-    λ stays. (kept-next id no_fields out (fields_from (c.loop-place.place + 1) c.args.doc.now) _ c.in_ok-from_str-2.field-0 (tree_of c.in-Some.value.now) so_far (IsDocument-id_first (tree_of c.args.id.now) c.args.doc.now c.is_sound.ensures.0) stays).1
+    λ stays. (kept-next id no_fields out (fields_from (c.loop-place.place + 1) c.args.doc.now) _ c.in_ok-from_str-2.field-0 (tree_of c.in-Some.value.now) so_far (IsDocument-id_first (tree_of c.args.id.now) c.args.doc.now c.recall_sound.ensures.0) stays).1
 
 pub loop-place-preserved : goal.loop-place-preserved
 loop-place-preserved c =
@@ -43,4 +43,4 @@ pub returns : goal.returns
 returns c =
     let past = fields_from-end c.args.doc.now c.loop-place.place (omega (arith, c.len-place-end.ensures.count)) in
     sym (join-nothing c.loop-place.whole) ∙ ap (λ f. join c.loop-place.whole (kept (codes "_id" ∷ []) no_fields f)) (sym past) ∙ c.loop-place.invariant
-    ∙ ap (λ f. field (codes "_id") (tree_of c.args.id.now) f) (others-without c.args.doc.now c.is_sound.ensures.0)
+    ∙ ap (λ f. field (codes "_id") (tree_of c.args.id.now) f) (others-without c.args.doc.now c.recall_sound.ensures.0)

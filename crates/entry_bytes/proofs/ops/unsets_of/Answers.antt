@@ -9,4 +9,4 @@ returns-then-not-are_marks c = λ names law same. cc (are_marks-marks names law,
 pub returns : goal.returns
 returns c =
     let yes : are_marks c.args.unsets.now ≡ true = cc in
-    rw c.in_ok-names_in.ensures (AreUnsets-names_in c.args.unsets.now c.is_sound.ensures.0 yes, marks-names_in c.args.unsets.now yes)
+    rw c.in_ok-names_in.ensures (AreUnsets-names_in c.args.unsets.now c.recall_sound.ensures.0 yes, marks-names_in c.args.unsets.now yes)

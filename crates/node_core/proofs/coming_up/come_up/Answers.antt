@@ -5,7 +5,7 @@ use Rattle.set_model.specs.Node.{Node}
 use Rattle.set_model.specs.Stores.{storing}
 use Rattle.node_core.specs.Acting.{Follows}
 use Rattle.node_core.specs.Coming.{IsFound, settled}
-use Rattle.node_core.specs.Down.{down_node, left_in, seen_node}
+use Rattle.node_core.specs.Down.{down_node, down_state, seen_node}
 use Rattle.node_core.proofs.PuttingLemmas.{runs_then}
 use Rattle.node_core.proofs.ReopeningLemmas.{found_settles, goes_up, lies_on, reopened, stands_checkpoints}
 use Rattle.node_core.proofs.coming_up.come_up.Goals as goal
@@ -16,21 +16,21 @@ on_err (Err error) P holds = holds
 
 pub open_both-requires-clause-checkpoints : goal.open_both-requires-clause-checkpoints
 open_both-requires-clause-checkpoints g c =
-    stands_checkpoints (down_node c.args.state.now.node (left_in c.args.left.now)) (g.D.Disk.state c.args.disks.now.journal.0) (g.D.Disk.state c.args.disks.now.checkpoints)
+    stands_checkpoints (down_node c.args.state.now.node (down_state c.args.left.now)) (g.D.Disk.state c.args.disks.now.journal.0) (g.D.Disk.state c.args.disks.now.checkpoints)
     c.requires.lies.stands
 
 pub prepare-requires-clause-found : goal.prepare-requires-clause-found
 prepare-requires-clause-found g c κs within =
-    let node = down_node c.args.state.now.node (left_in c.args.left.now) in
+    let node = down_node c.args.state.now.node (down_state c.args.left.now) in
     subst (λ (n : ℕ). IsFound (settled node n c.in-Ok.found) c.in-Ok.found) (sym c.open_both.ensures.count)
     (found_settles node c.args.disks.now.count (g.D.Disk.state c.args.disks.now.journal.0) (g.D.Disk.state c.open_both.new.disks.journal.0)
     (g.D.Disk.state c.args.disks.now.checkpoints) (g.D.Disk.state c.open_both.new.disks.checkpoints) c.in-Ok.found c.requires.lies c.in-Ok.ensures.read).0
 
 pub returns-in_err-prepared-in-Ok-clause-left : goal.returns-in_err-prepared-in-Ok-clause-left
 returns-in_err-prepared-in-Ok-clause-left g c =
-    let node = down_node c.args.state.now.node (left_in c.args.left.now) in
+    let node = down_node c.args.state.now.node (down_state c.args.left.now) in
     on_err c.from_residual.result _
-    (lies_on c.args.up.now c.args.state.now.node (left_in c.args.left.now) c.args.disks.now.count c.open_both.new.disks.count
+    (lies_on c.args.up.now c.args.state.now.node (down_state c.args.left.now) c.args.disks.now.count c.open_both.new.disks.count
     (g.D.Disk.state c.args.disks.now.journal.0) (g.D.Disk.state c.open_both.new.disks.journal.0)
     (g.D.Disk.state c.args.disks.now.checkpoints) (g.D.Disk.state c.open_both.new.disks.checkpoints)
     c.requires.down c.open_both.ensures.count c.requires.lies (c.open_both.ensures.stands node c.requires.lies.stands))
@@ -44,9 +44,9 @@ returns-in_err-prepared-in-Ok-clause-reopened g c =
 
 pub go_up-requires-clause-well : goal.go_up-requires-clause-well
 go_up-requires-clause-well g c =
-    let node = down_node c.args.state.now.node (left_in c.args.left.now) in
+    let node = down_node c.args.state.now.node (down_state c.args.left.now) in
     let prepared = c.in_ok-prepared-in-Ok.prepared in
-    (goes_up node (down_node c.args.state.now.node (left_in prepared.left)) c.args.disks.now.count prepared.count c.in-Ok.found
+    (goes_up node (down_node c.args.state.now.node (down_state prepared.left)) c.args.disks.now.count prepared.count c.in-Ok.found
     (g.D.Disk.state c.args.disks.now.journal.0) (g.D.Disk.state c.open_both.new.disks.journal.0)
     (g.D.Disk.state c.args.disks.now.checkpoints) (g.D.Disk.state c.open_both.new.disks.checkpoints)
     c.requires.lies c.in-Ok.ensures.read (c.in_ok-prepared-in-Ok.ensures.left ∙ ap (λ (n : ℕ). settled node n c.in-Ok.found) c.open_both.ensures.count)
@@ -54,9 +54,9 @@ go_up-requires-clause-well g c =
 
 pub go_up-requires-clause-rests : goal.go_up-requires-clause-rests
 go_up-requires-clause-rests g c =
-    let node = down_node c.args.state.now.node (left_in c.args.left.now) in
+    let node = down_node c.args.state.now.node (down_state c.args.left.now) in
     let prepared = c.in_ok-prepared-in-Ok.prepared in
-    (goes_up node (down_node c.args.state.now.node (left_in prepared.left)) c.args.disks.now.count prepared.count c.in-Ok.found
+    (goes_up node (down_node c.args.state.now.node (down_state prepared.left)) c.args.disks.now.count prepared.count c.in-Ok.found
     (g.D.Disk.state c.args.disks.now.journal.0) (g.D.Disk.state c.open_both.new.disks.journal.0)
     (g.D.Disk.state c.args.disks.now.checkpoints) (g.D.Disk.state c.open_both.new.disks.checkpoints)
     c.requires.lies c.in-Ok.ensures.read (c.in_ok-prepared-in-Ok.ensures.left ∙ ap (λ (n : ℕ). settled node n c.in-Ok.found) c.open_both.ensures.count)
@@ -64,9 +64,9 @@ go_up-requires-clause-rests g c =
 
 pub returns-in_ok-prepared-in-Ok-clause-follows : goal.returns-in_ok-prepared-in-Ok-clause-follows
 returns-in_ok-prepared-in-Ok-clause-follows g c =
-    let node = down_node c.args.state.now.node (left_in c.args.left.now) in
+    let node = down_node c.args.state.now.node (down_state c.args.left.now) in
     let prepared = c.in_ok-prepared-in-Ok in
-    subst (λ (n : Node). Follows (storing node (recovered n)) (seen_node c.go_up.new.up c.go_up.new.state.node (left_in c.go_up.new.left)) c.go_up.result)
+    subst (λ (n : Node). Follows (storing node (recovered n)) (seen_node c.go_up.new.up c.go_up.new.state.node (down_state c.go_up.new.left)) c.go_up.result)
     (prepared.ensures.left ∙ ap (λ (b : Bool). settled_doubt node c.args.left.now.doubt b) (sym (c.go_up.ensures.kept ∙ prepared.ensures.kept)))
     (c.go_up.ensures.follows node)
 
@@ -78,8 +78,8 @@ returns-in_ok-prepared-in-Ok-clause-runs g c =
 
 pub returns-in-Err-Memory-clause-left : goal.returns-in-Err-Memory-clause-left
 returns-in-Err-Memory-clause-left g c =
-    let node = down_node c.args.state.now.node (left_in c.args.left.now) in
-    lies_on c.args.up.now c.args.state.now.node (left_in c.args.left.now) c.args.disks.now.count c.open_both.new.disks.count
+    let node = down_node c.args.state.now.node (down_state c.args.left.now) in
+    lies_on c.args.up.now c.args.state.now.node (down_state c.args.left.now) c.args.disks.now.count c.open_both.new.disks.count
     (g.D.Disk.state c.args.disks.now.journal.0) (g.D.Disk.state c.open_both.new.disks.journal.0)
     (g.D.Disk.state c.args.disks.now.checkpoints) (g.D.Disk.state c.open_both.new.disks.checkpoints)
     c.requires.down c.open_both.ensures.count c.requires.lies (c.open_both.ensures.stands node c.requires.lies.stands)
@@ -92,8 +92,8 @@ returns-in-Err-Memory-clause-reopened g c =
 
 pub returns-in-Err-Disk-clause-rests : goal.returns-in-Err-Disk-clause-rests
 returns-in-Err-Disk-clause-rests g c =
-    let node = down_node c.args.state.now.node (left_in c.args.left.now) in
-    lies_on c.args.up.now c.args.state.now.node (left_in c.args.left.now) c.args.disks.now.count c.open_both.new.disks.count
+    let node = down_node c.args.state.now.node (down_state c.args.left.now) in
+    lies_on c.args.up.now c.args.state.now.node (down_state c.args.left.now) c.args.disks.now.count c.open_both.new.disks.count
     (g.D.Disk.state c.args.disks.now.journal.0) (g.D.Disk.state c.open_both.new.disks.journal.0)
     (g.D.Disk.state c.args.disks.now.checkpoints) (g.D.Disk.state c.open_both.new.disks.checkpoints)
     c.requires.down c.open_both.ensures.count c.requires.lies (c.open_both.ensures.stands node c.requires.lies.stands)

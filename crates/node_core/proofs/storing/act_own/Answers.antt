@@ -1,7 +1,7 @@
 use Rattle.std.proofs.Common.{◌∙◌, false, subst}
 use Rattle.set_model.specs.Node.{Node}
 use Rattle.set_model.specs.Rows.{row}
-use Rattle.node_core.specs.Resting.{Rests}
+use Rattle.node_core.specs.OnDisks.{UpOnDisks}
 use Rattle.node_core.proofs.CarryLemmas.{err_both, err_on, long_only}
 use Rattle.node_core.proofs.DoesLemmas.{MayPut, row_does, turn_kept}
 use Rattle.node_core.proofs.PuttingLemmas.{rests_same, same_then}
@@ -33,7 +33,7 @@ returns-clause-left g c =
     let plan = row c.args.nodes c.args.next false old c.args.command.now in
     let disks = c.carry_out.new.disks in
     err_both c.carry_out.result _ _ _ c.carry_out.ensures.long c.carry_out.ensures.left
-    (λ long left. subst (λ (n : Node). Rests n disks.count (g.D.Disk.state disks.journal.0) (g.D.Disk.state disks.checkpoints))
+    (λ long left. subst (λ (n : Node). UpOnDisks n disks.count (g.D.Disk.state disks.journal.0) (g.D.Disk.state disks.checkpoints))
     (c.start.ensures.quiet (long_only c.args.command.now c.in_ok-turn.turn new plan old.records old.stable c.in_ok-turn.ensures.turn
     (row_does c.args.nodes c.args.next old c.args.command.now c.requires.own) long)) left)
 

@@ -2,7 +2,7 @@ use Rattle.std.proofs.Common.{ap, sym, subst, Err}
 use Rattle.record_file.specs.declared.error.FileError.{FileError}
 use Rattle.node_core.specs.Putting.{EndsFrom, plan_of}
 use Rattle.node_state.specs.declared.turn.Turn.{Turn}
-use Rattle.node_core.specs.declared.storing.Ended.TheVariants.{Broken}
+use Rattle.node_core.specs.declared.storing.Ended.TheVariants.{StoreFailed}
 use Rattle.node_core.proofs.CarryLemmas.{ends_here, goes_on, leaves_broken, leaves_whole, rests_on}
 use Rattle.node_core.proofs.PuttingLemmas.{runs_as}
 use Rattle.node_core.proofs.storing.carry_on.Goals as goal
@@ -32,7 +32,7 @@ returns-in-Ok-clause-runs g c =
 pub returns-in-Err-Disk-clause-ends : goal.returns-in-Err-Disk-clause-ends
 returns-in-Err-Disk-clause-ends g c =
     let old = c.args.state.now.node in
-    subst (λ (t : Turn). EndsFrom 1 (plan_of t old) old (Broken c.in-Storing.item 1)) (sym c.in-Storing.is)
+    subst (λ (t : Turn). EndsFrom 1 (plan_of t old) old (StoreFailed c.in-Storing.item 1)) (sym c.in-Storing.is)
     (ends_here 1 c.in-Storing.item c.in-Storing.then old)
 
 pub returns-in-Err-Disk-clause-leaves : goal.returns-in-Err-Disk-clause-leaves
@@ -42,7 +42,7 @@ returns-in-Err-Disk-clause-leaves g c =
     let k = g.D.Disk.state c.put.new.self.checkpoints in
     leaves_broken c.in-Storing.item 1 old c.put.new.self.count j k c.in-Err-Disk.ensures.puts.uncounted
     (c.in-Err-Disk.ensures.puts.broken (ap (λ (e : FileError). Err e) c.in-Err-Disk.field-0-is))
-    c.can_store.ensures.well c.can_store.ensures.doubtful
+    c.recall_can_store.ensures.well c.recall_can_store.ensures.doubtful
 
 pub returns-in-Err-Disk-clause-runs : goal.returns-in-Err-Disk-clause-runs
 returns-in-Err-Disk-clause-runs g c =

@@ -1,10 +1,10 @@
 use Rattle.std.proofs.Common.{ap, sym, subst, inr, arith, Err}
 use Rattle.record_file.specs.Files.{spare}
 use Rattle.record_file.specs.declared.error.FileError.{FileError}
-use Rattle.node_core.specs.Putting.{EndsFrom, IsLong, plan_of}
+use Rattle.node_core.specs.Putting.{EndsFrom, BeginsUnreserved, plan_of}
 use Rattle.node_state.specs.Ready.{IsReadyTurn}
 use Rattle.node_state.specs.declared.turn.Turn.{Turn}
-use Rattle.node_core.specs.declared.storing.Ended.TheVariants.{Broken}
+use Rattle.node_core.specs.declared.storing.Ended.TheVariants.{StoreFailed}
 use Rattle.node_core.proofs.CarryLemmas.{ends_here, goes_on, leaves_broken, rests_on, room_on}
 use Rattle.node_core.proofs.PuttingLemmas.{runs_as, runs_then}
 use Rattle.node_core.proofs.storing.carry_out.Goals as goal
@@ -46,13 +46,13 @@ returns-in-Err-Memory-clause-runs g c =
 
 pub returns-in-Err-Memory-clause-long : goal.returns-in-Err-Memory-clause-long
 returns-in-Err-Memory-clause-long g c =
-    subst (λ (t : Turn). IsLong t) (sym c.in-Storing.is)
+    subst (λ (t : Turn). BeginsUnreserved t) (sym c.in-Storing.is)
     (λ short. c.in-Err-Memory.ensures.room short (omega (arith, c.requires.room)) (ap (λ (e : FileError). Err e) c.in-Err-Memory.field-0-is))
 
 pub returns-in-Err-Disk-clause-ends : goal.returns-in-Err-Disk-clause-ends
 returns-in-Err-Disk-clause-ends g c =
     let old = c.args.state.now.node in
-    subst (λ (t : Turn). EndsFrom 0 (plan_of t old) old (Broken c.in-Storing.item 0)) (sym c.in-Storing.is)
+    subst (λ (t : Turn). EndsFrom 0 (plan_of t old) old (StoreFailed c.in-Storing.item 0)) (sym c.in-Storing.is)
     (ends_here 0 c.in-Storing.item c.in-Storing.then old)
 
 pub returns-in-Err-Disk-clause-leaves : goal.returns-in-Err-Disk-clause-leaves
@@ -62,7 +62,7 @@ returns-in-Err-Disk-clause-leaves g c =
     let k = g.D.Disk.state c.put.new.self.checkpoints in
     leaves_broken c.in-Storing.item 0 old c.put.new.self.count j k c.in-Err-Disk.ensures.puts.uncounted
     (c.in-Err-Disk.ensures.puts.broken (ap (λ (e : FileError). Err e) c.in-Err-Disk.field-0-is))
-    c.can_store.ensures.well c.can_store.ensures.doubtful
+    c.recall_can_store.ensures.well c.recall_can_store.ensures.doubtful
 
 pub returns-in-Err-Disk-clause-runs : goal.returns-in-Err-Disk-clause-runs
 returns-in-Err-Disk-clause-runs g c =

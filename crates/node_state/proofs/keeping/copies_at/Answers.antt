@@ -9,7 +9,7 @@ use Rattle.node_state.proofs.keeping.copies_at.Goals.{in-Some+in_ok-copy+in_ok-p
 
 pub new-requires : goal.new-requires
 new-requires c =
-    subst (All IsLawful) (sym c.loop-at.invariant) (entries_at-more c.args.ledger.now.node.log (take c.loop-at.at-index c.args.optimes.now) c.is_sound.ensures.node.oplog.lawful)
+    subst (All IsLawful) (sym c.loop-at.invariant) (entries_at-more c.args.ledger.now.node.log (take c.loop-at.at-index c.args.optimes.now) c.recall_sound.ensures.node.oplog.lawful)
 
 pub loop-at-preserved : goal.loop-at-preserved
 loop-at-preserved c =

@@ -34,19 +34,19 @@ returns-clause-complete_chaos g c =
 pub returns-clause-orders : goal.returns-clause-orders
 returns-clause-orders g c =
     let many : length c.args.disks.items ≡ 100 = search rules in
-    orders_left g.D.Disk.state c.args.disks.items many c.args.words.now (g.S.Source.left c.args.source.now) (g.S.Source.left c.run-ended.new.source) _ c.run-ended.result.1 c.is_sound.ensures.sizes c.run-ended.ensures.disks
+    orders_left g.D.Disk.state c.args.disks.items many c.args.words.now (g.S.Source.left c.args.source.now) (g.S.Source.left c.run-ended.new.source) _ c.run-ended.result.1 c.recall_sound.ensures.sizes c.run-ended.ensures.disks
 
 pub returns-clause-failures : goal.returns-clause-failures
 returns-clause-failures g c =
     let many : length c.args.disks.items ≡ 100 = search rules in
-    failures_left g.D.Disk.state c.args.disks.items many c.args.words.now (g.S.Source.left c.args.source.now) (g.S.Source.left c.run-ended.new.source) _ c.run-ended.result.1 c.is_sound.ensures.sizes c.run-ended.ensures.disks
+    failures_left g.D.Disk.state c.args.disks.items many c.args.words.now (g.S.Source.left c.args.source.now) (g.S.Source.left c.run-ended.new.source) _ c.run-ended.result.1 c.recall_sound.ensures.sizes c.run-ended.ensures.disks
 
 pub returns-clause-fault_cause : goal.returns-clause-fault_cause
 returns-clause-fault_cause g c =
     let many : length c.args.disks.items ≡ 100 = search rules in
-    causes_left g.D.Disk.state c.args.disks.items many c.args.words.now (g.S.Source.left c.args.source.now) (g.S.Source.left c.run-ended.new.source) _ c.run-ended.result.1 c.is_sound.ensures.sizes c.run-ended.ensures.disks
+    causes_left g.D.Disk.state c.args.disks.items many c.args.words.now (g.S.Source.left c.args.source.now) (g.S.Source.left c.run-ended.new.source) _ c.run-ended.result.1 c.recall_sound.ensures.sizes c.run-ended.ensures.disks
 
 pub returns-clause-fault_armed : goal.returns-clause-fault_armed
 returns-clause-fault_armed g c =
     let many : length c.args.disks.items ≡ 100 = search rules in
-    armed_left g.D.Disk.state c.args.disks.items many c.args.words.now (g.S.Source.left c.args.source.now) (g.S.Source.left c.run-ended.new.source) _ c.run-ended.result.1 c.is_sound.ensures.sizes c.is_sound.ensures.run c.run-ended.ensures.disks
+    armed_left g.D.Disk.state c.args.disks.items many c.args.words.now (g.S.Source.left c.args.source.now) (g.S.Source.left c.run-ended.new.source) _ c.run-ended.result.1 c.recall_sound.ensures.sizes c.recall_sound.ensures.run c.run-ended.ensures.disks

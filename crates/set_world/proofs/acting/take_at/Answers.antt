@@ -1,5 +1,5 @@
 use Rattle.node_core.specs.Acting.{AreSame}
-use Rattle.set_world.specs.Acting.{TookSo, UnchangedSo}
+use Rattle.set_world.specs.Acting.{NodeTook, NodeUnchanged}
 use Rattle.set_world.proofs.DiskLemmas.{done_at, undone_at}
 use Rattle.set_world.proofs.NodesLemmas.{node_at}
 use Rattle.set_world.proofs.acting.take_at.Goals as goal
@@ -12,7 +12,7 @@ take-requires-clause-message g c κs within = c.requires.message _ (node_at c.ar
 
 pub returns-clause-ok : goal.returns-clause-ok
 returns-clause-ok g c =
-    done_at (TookSo g.D.Disk.state c.args.next c.args.message.now) c.args.nodes.now c.args.message.now.to c.index-nodes-message.result c.take.new.self c.take.result c.requires.known c.take.ensures.ok
+    done_at (NodeTook g.D.Disk.state c.args.next c.args.message.now) c.args.nodes.now c.args.message.now.to c.index-nodes-message.result c.take.new.self c.take.result c.requires.known c.take.ensures.ok
 
 pub returns-clause-err : goal.returns-clause-err
-returns-clause-err g c = undone_at (UnchangedSo g.D.Disk.state AreSame) c.args.nodes.now c.args.message.now.to c.index-nodes-message.result c.take.new.self c.take.result c.requires.known c.take.ensures.err
+returns-clause-err g c = undone_at (NodeUnchanged g.D.Disk.state AreSame) c.args.nodes.now c.args.message.now.to c.index-nodes-message.result c.take.new.self c.take.result c.requires.known c.take.ensures.err

@@ -5,7 +5,7 @@ use Rattle.rs_disk.specs.File.{IsEmpty}
 use Rattle.set_model.specs.World.{nodes_from}
 use Rattle.set_world.specs.World.{disks_in, nodes_in}
 use Rattle.set_model.specs.Node.{Node, opening_node}
-use Rattle.set_world.specs.Acting.{NodesStand}
+use Rattle.set_world.specs.Acting.{EachNodeStands}
 use Rattle.set_world.specs.Disks.{Opens}
 use Rattle.set_world.proofs.BeginLemmas.{all_back, all_empty}
 use Rattle.set_world.proofs.DisksOpenLemmas.{more_stand, none_stand, opens_more, opens_none, opens_refused, opens_wide}
@@ -24,7 +24,7 @@ loop-number-init g c =
       omega arith,
       refl,
       c.requires.empty,
-      subst (λ (nodes : List (Node × D × D)). NodesStand g.D.Disk.state nodes) (sym none) (none_stand g.D.Disk.state),
+      subst (λ (nodes : List (Node × D × D)). EachNodeStands g.D.Disk.state nodes) (sym none) (none_stand g.D.Disk.state),
       subst (λ (nodes : List (Node × D × D)). Opens g.D.Disk.state 0 ⊥ c.args.disks.now.items (disks_in nodes ++ c.args.disks.now.items)) (sym none)
           (opens_none g.D.Disk.state 0 ⊥ c.args.disks.now.items (λ never. never)),
     )

@@ -2,7 +2,7 @@ use Rattle.std.proofs.Common.{◌≡◌, ◌≤◌, ◌+◌, ◌*◌, ◌++◌, 
 use Rattle.std.specs.Prelude.{All}
 use Rattle.rs_disk.specs.File.{IsEmpty}
 use Rattle.set_model.specs.World.{nodes_from}
-use Rattle.set_world.specs.Acting.{NodesStand}
+use Rattle.set_world.specs.Acting.{EachNodeStands}
 use Rattle.set_world.specs.Disks.{Opens}
 use Rattle.set_world.specs.World.{disks_in, nodes_in}
 use Rattle.set_world.proofs.opening.open_nodes.Given as goal
@@ -14,5 +14,5 @@ invariant-loop-number g l =
     × (vec_len l.nodes ≡ l.number) × (l.count ≤ vec_capacity l.nodes)
     × (vec_len l.disks + 2 * l.number ≡ vec_len l.fn.disks) × (vec_capacity l.disks ≡ vec_capacity l.fn.disks)
     × All (λ disk. IsEmpty (g.D.Disk.state disk).file) l.disks.items
-    × NodesStand g.D.Disk.state l.nodes.items
+    × EachNodeStands g.D.Disk.state l.nodes.items
     × Opens g.D.Disk.state l.number ⊥ l.fn.disks.items (disks_in l.nodes.items ++ l.disks.items)

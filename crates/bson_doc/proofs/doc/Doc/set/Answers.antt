@@ -10,7 +10,7 @@ invariant_of-self c =
     let place = sym (rw (c.deref.ensures.value, c.as_str-2.ensures) at c.place_of.ensures) ∙ c.in-Some.is in
     let first = first_place c.args.name c.self.inside.fields.items c.in-Some.place c.index_mut.result.now place in
     let new = with_set-at c.args.name c.self.inside.fields.items c.in-Some.place c.index_mut.result.now (record { name = c.args.name; value = c.args.value }) first (named_so first) in
-    rw new (IsSound-with_set _ _ _ c.self.invariant clean c.is_utf8.ensures c.is_sound.ensures)
+    rw new (IsSound-with_set _ _ _ c.self.invariant clean c.recall_utf8.ensures c.recall_sound.ensures)
 
 pub append-requires-clause-new : goal.append-requires-clause-new
 append-requires-clause-new c =

@@ -18,13 +18,13 @@ pub loop-left-smaller : goal.loop-left-smaller
 loop-left-smaller g c =
     let some : 0 < c.min.result = omega (arith, c.min.ensures, c.loop-left-test.true) in
     let within : c.min.result ≤ c.loop-left.left = omega (arith, c.min.ensures) in
-    so_far_less c.args.self.now c.loop-left.self c.args.count c.loop-left.left c.min.result c.in_ok-left.field-0 c.is_sound.ensures.node.oplog.order c.loop-left.invariant some within c.in_ok-left.ensures.count
+    so_far_less c.args.self.now c.loop-left.self c.args.count c.loop-left.left c.min.result c.in_ok-left.field-0 c.recall_sound.ensures.node.oplog.order c.loop-left.invariant some within c.in_ok-left.ensures.count
 
 pub loop-left-preserved : goal.loop-left-preserved
 loop-left-preserved g c =
     let some : 0 < c.min.result = omega (arith, c.min.ensures, c.loop-left-test.true) in
     let within : c.min.result ≤ c.loop-left.left = omega (arith, c.min.ensures) in
-    so_far_more c.args.self.now c.loop-left.self c.apply_next.new.self c.args.count c.loop-left.left c.min.result c.in_ok-left.field-0 c.is_sound.ensures.node.oplog.order c.loop-left.invariant some within
+    so_far_more c.args.self.now c.loop-left.self c.apply_next.new.self c.args.count c.loop-left.left c.min.result c.in_ok-left.field-0 c.recall_sound.ensures.node.oplog.order c.loop-left.invariant some within
     c.in_ok-left.ensures.count c.in_ok-left.ensures.ok
 
 pub returns-clause-ok : goal.returns-clause-ok

@@ -2,7 +2,7 @@ use Rattle.std.proofs.Common.{◌≡◌, ◌∙◌, ◌-◌, Some, ap, length, s
 use Rattle.std.specs.Prelude.{slice_get}
 use Rattle.std.proofs.lemmas.List.{take_min}
 use Rattle.batch_applier.specs.Applied.{HasApplied}
-use Rattle.oplog_store.specs.Places.{Holed}
+use Rattle.oplog_store.specs.Places.{LogWithHoles}
 use Rattle.repl_msg.specs.Logs.{log_behind}
 use Rattle.node_ledger.specs.contracts.ledger.Ledger.{the_view}
 use Rattle.node_ledger.specs.Ledger.{Ledger as Seen, applied_at, applied_with}
@@ -19,7 +19,7 @@ pub invariant_of-self-2 : goal.invariant_of-self-2
 invariant_of-self-2 c c' =
     let role = rw (← c'.self.view_is) at c'.requires.role in
     let behind : c'.after-entries.result.now ≡ log_behind c'.self.inside.applied c'.self.inside.log.entries =
-    c'.after-entries.ensures ∙ ap (log_behind c'.self.inside.applied) (c'.settled.ensures ∙ ap (λ (l : Holed). l.settled) c'.gather.ensures) in
+    c'.after-entries.ensures ∙ ap (log_behind c'.self.inside.applied) (c'.settled.ensures ∙ ap (λ (l : LogWithHoles). l.settled) c'.gather.ensures) in
     let same : take c'.min.result c'.after-entries.result.now ≡ batch_of c'.args.most c'.self.inside.applied c'.self.inside.log.entries =
     ap (λ n. take n c'.after-entries.result.now) c'.min.ensures ∙ take_min c'.args.most c'.after-entries.result.now ∙ ap (λ l. take c'.args.most l) behind in
     rw c'.gather.ensures
@@ -30,7 +30,7 @@ invariant_of-self-2 c c' =
 pub returns-clause-ok : goal.returns-clause-ok
 returns-clause-ok c c' =
     let behind : c'.after-entries.result.now ≡ log_behind c'.self.inside.applied c'.self.inside.log.entries =
-    c'.after-entries.ensures ∙ ap (log_behind c'.self.inside.applied) (c'.settled.ensures ∙ ap (λ (l : Holed). l.settled) c'.gather.ensures) in
+    c'.after-entries.ensures ∙ ap (log_behind c'.self.inside.applied) (c'.settled.ensures ∙ ap (λ (l : LogWithHoles). l.settled) c'.gather.ensures) in
     let same : take c'.min.result c'.after-entries.result.now ≡ batch_of c'.args.most c'.self.inside.applied c'.self.inside.log.entries =
     ap (λ n. take n c'.after-entries.result.now) c'.min.ensures ∙ take_min c'.args.most c'.after-entries.result.now ∙ ap (λ l. take c'.args.most l) behind in
     let at = applied_is c'.self.inside.applied (batch_of c'.args.most c'.self.inside.applied c'.self.inside.log.entries) c'.in-Some.last.now

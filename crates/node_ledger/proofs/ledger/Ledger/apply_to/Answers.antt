@@ -10,13 +10,13 @@ use Rattle.node_ledger.proofs.ledger.Ledger.apply_to.Goals as goal
 pub apply_batches-done-requires-clause-there : goal.apply_batches-done-requires-clause-there
 apply_batches-done-requires-clause-there g c κs within =
     let old = c.args.self.now.node in
-    rw (c.count_unapplied-count.ensures.same, c.count_unapplied-count.ensures.count) (count_there old.applied c.args.to old.log c.is_sound.ensures.node.oplog.order)
+    rw (c.count_unapplied-count.ensures.same, c.count_unapplied-count.ensures.count) (count_there old.applied c.args.to old.log c.recall_sound.ensures.node.oplog.order)
 
 pub unapply-requires-clause-kept : goal.unapply-requires-clause-kept
 unapply-requires-clause-kept g c =
     let old = c.args.self.now in
     subst (λ (l : Seen). is_before c.applied-start.result l.node.stable ≡ false) (sym c.apply_batches-done.ensures.begun.1)
-    (rw (c.count_unapplied-count.ensures.same, c.applied-start.ensures) (stable_applied old.node c.is_sound.ensures.node c.requires))
+    (rw (c.count_unapplied-count.ensures.same, c.applied-start.ensures) (stable_applied old.node c.recall_sound.ensures.node c.requires))
 
 pub unapply-requires-clause-applied : goal.unapply-requires-clause-applied
 unapply-requires-clause-applied g c =
@@ -30,5 +30,5 @@ returns-else-is_err-clause-ok g c =
     let count = c.count_unapplied-count.result in
     on_ok c.apply_batches-done.result
     (λ done. done ∙ ap (λ (l : Seen). applied_with l (take count (log_behind l.node.applied l.node.log))) c.count_unapplied-count.ensures.same
-    ∙ ap (λ o. applied_at old o) (applied_up_to old.node.applied c.args.to old.node.log count c.is_sound.ensures.node.oplog.order c.count_unapplied-count.ensures.count))
+    ∙ ap (λ o. applied_at old o) (applied_up_to old.node.applied c.args.to old.node.log count c.recall_sound.ensures.node.oplog.order c.count_unapplied-count.ensures.count))
     c.apply_batches-done.ensures.ok

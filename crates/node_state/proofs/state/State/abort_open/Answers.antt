@@ -6,4 +6,4 @@ pub invariant_of-self : goal.invariant_of-self
 invariant_of-self c =
     let s = c.self.inside in
     let aborted = c.abort.ensures.node in
-    coherent-aborted s.ledger.node c.abort.new.self.node (rest_in s) c.args.writer aborted.0 s.tally s.unkept.optimes aborted.3 c.is_sound.ensures.node c.self.invariant
+    coherent-aborted s.ledger.node c.abort.new.self.node (rest_in s) c.args.writer aborted.0 s.tally s.unjournaled.optimes aborted.3 c.recall_sound.ensures.node c.self.invariant

@@ -3,8 +3,8 @@ use Rattle.rs_optime.proofs.Optimes.{at_most_refl}
 use Rattle.oplog_entry.specs.declared.entry.Entry.{Entry}
 use Rattle.repl_msg.specs.Fetching.{continues}
 use Rattle.set_model.specs.Points.{last_point}
-use Rattle.node_tables.specs.Unkept.{Optimes, with_optime}
-use Rattle.node_state.specs.Standing.{Standing}
+use Rattle.node_tables.specs.Unjournaled.{Optimes, with_optime}
+use Rattle.node_state.specs.StateView.{StateView}
 use Rattle.node_state.specs.Seen.{seen_node}
 use Rattle.set_model.specs.Taking.{CanTakeEntries}
 use Rattle.node_state.proofs.Inside.{rest_in}
@@ -14,28 +14,28 @@ use Rattle.node_state.proofs.state.State.append.Goals as goal
 pub append-requires-clause-oplog : goal.append-requires-clause-oplog
 append-requires-clause-oplog c =
     fetched_oplog (seen_node c.self.inside.ledger.node (rest_in c.self.inside)) c.self.inside.ledger.node.term c.args.reply c.into_entries.result.items c.into_entries.ensures.entries
-    (subst (λ (s : Standing). CanTakeEntries s.node s.node.term c.args.reply) (sym c.self.view_is) c.requires.fetched)
-    (ap (λ (s : Standing). continues (last_point s.node) c.args.reply) c.self.view_is ∙ c.requires.base)
-    c.is_sound.ensures.node.oplog
+    (subst (λ (s : StateView). CanTakeEntries s.node s.node.term c.args.reply) (sym c.self.view_is) c.requires.fetched)
+    (ap (λ (s : StateView). continues (last_point s.node) c.args.reply) c.self.view_is ∙ c.requires.base)
+    c.recall_sound.ensures.node.oplog
 
 pub append-requires-clause-later : goal.append-requires-clause-later
 append-requires-clause-later c =
     fetched_later (seen_node c.self.inside.ledger.node (rest_in c.self.inside)) c.self.inside.ledger.node.term c.args.reply c.into_entries.result.items (last_point c.self.inside.ledger.node) c.into_entries.ensures.entries
-    (subst (λ (s : Standing). CanTakeEntries s.node s.node.term c.args.reply) (sym c.self.view_is) c.requires.fetched)
-    (ap (λ (s : Standing). continues (last_point s.node) c.args.reply) c.self.view_is ∙ c.requires.base)
+    (subst (λ (s : StateView). CanTakeEntries s.node s.node.term c.args.reply) (sym c.self.view_is) c.requires.fetched)
+    (ap (λ (s : StateView). continues (last_point s.node) c.args.reply) c.self.view_is ∙ c.requires.base)
     (at_most_refl (last_point c.self.inside.ledger.node))
 
 pub append-requires-clause-small : goal.append-requires-clause-small
 append-requires-clause-small c =
     fetched_small (seen_node c.self.inside.ledger.node (rest_in c.self.inside)) c.self.inside.ledger.node.term c.args.reply c.into_entries.result.items c.into_entries.ensures.entries
-    (subst (λ (s : Standing). CanTakeEntries s.node s.node.term c.args.reply) (sym c.self.view_is) c.requires.fetched)
-    (ap (λ (s : Standing). continues (last_point s.node) c.args.reply) c.self.view_is ∙ c.requires.base)
-    c.is_sound.ensures.node.documents
+    (subst (λ (s : StateView). CanTakeEntries s.node s.node.term c.args.reply) (sym c.self.view_is) c.requires.fetched)
+    (ap (λ (s : StateView). continues (last_point s.node) c.args.reply) c.self.view_is ∙ c.requires.base)
+    c.recall_sound.ensures.node.documents
 
 pub invariant_of-self : goal.invariant_of-self
 invariant_of-self c =
-    coherent-appended c.self.inside.ledger.node c.append.new.self.node (rest_in c.self.inside) c.args.reply c.into_entries.result.items c.self.inside.tally c.self.inside.unkept.optimes c.note_all.new.unkept.optimes
-    c.into_entries.ensures.entries c.append.ensures.node (ap (λ (u : Optimes). u.optimes) c.note_all.ensures ∙ ap (λ (list : List Entry). fold with_optime c.self.inside.unkept.optimes (map (λ (e : Entry). e.optime) list)) c.as_slice.ensures.entries)
-    (subst (λ (s : Standing). CanTakeEntries s.node s.node.term c.args.reply) (sym c.self.view_is) c.requires.fetched)
-    (ap (λ (s : Standing). continues (last_point s.node) c.args.reply) c.self.view_is ∙ c.requires.base)
-    c.is_sound.ensures.node.oplog c.self.invariant
+    coherent-appended c.self.inside.ledger.node c.append.new.self.node (rest_in c.self.inside) c.args.reply c.into_entries.result.items c.self.inside.tally c.self.inside.unjournaled.optimes c.note_all.new.unjournaled.optimes
+    c.into_entries.ensures.entries c.append.ensures.node (ap (λ (u : Optimes). u.optimes) c.note_all.ensures ∙ ap (λ (list : List Entry). fold with_optime c.self.inside.unjournaled.optimes (map (λ (e : Entry). e.optime) list)) c.as_slice.ensures.entries)
+    (subst (λ (s : StateView). CanTakeEntries s.node s.node.term c.args.reply) (sym c.self.view_is) c.requires.fetched)
+    (ap (λ (s : StateView). continues (last_point s.node) c.args.reply) c.self.view_is ∙ c.requires.base)
+    c.recall_sound.ensures.node.oplog c.self.invariant

@@ -6,7 +6,7 @@ use Rattle.set_model.specs.declared.reply.Reply.TheVariants as reply
 use Rattle.node_state.specs.Coherent.{IsCoherent}
 use Rattle.node_ledger.specs.Ledger.{Ledger, applied_after}
 use Rattle.node_state.specs.Seen.{seen_node}
-use Rattle.node_state.specs.Standing.{Standing}
+use Rattle.node_state.specs.StateView.{StateView}
 use Rattle.node_state.proofs.Inside.{rest_in}
 use Rattle.node_state.proofs.KeepLemmas.{apply-done}
 use Rattle.node_state.proofs.CoherentLemmas.{coherent-applied}
@@ -16,13 +16,13 @@ use Rattle.node_state.proofs.state.State.apply_batch.Goals as goal
 pub invariant_of-self-2 : goal.invariant_of-self-2
 invariant_of-self-2 g c =
     let s = c.self.inside in
-    subst (λ (l : Ledger). IsCoherent (seen_node l.node (rest_in s)) s.tally s.unkept.optimes) (sym c.in_ok-count.ensures.ok)
-    (coherent-applied (seen_node s.ledger.node (rest_in s)) s.tally s.unkept.optimes (applied_after s.ledger.node.applied (next_batch s.ledger.node)) c.self.invariant)
+    subst (λ (l : Ledger). IsCoherent (seen_node l.node (rest_in s)) s.tally s.unjournaled.optimes) (sym c.in_ok-count.ensures.ok)
+    (coherent-applied (seen_node s.ledger.node (rest_in s)) s.tally s.unjournaled.optimes (applied_after s.ledger.node.applied (next_batch s.ledger.node)) c.self.invariant)
 
 pub returns-clause-turn : goal.returns-clause-turn
 returns-clause-turn g c =
     let s = c.self.inside in
-    let not = subst (λ (x : Standing). is_primary x.node.role ≡ false) (sym c.self.view_is) c.requires.role in
+    let not = subst (λ (x : StateView). is_primary x.node.role ≡ false) (sym c.self.view_is) c.requires.role in
     says_means c.answered.result (reply.Applied c.in_ok-count.count c.applied-to.result) (seen_node c.apply.new.self.node (rest_in s)) (finished (apply c.args.self.now.node)) c.answered.ensures
-    (ap (λ (x : Standing). finished (apply x.node)) (sym c.self.view_is)
+    (ap (λ (x : StateView). finished (apply x.node)) (sym c.self.view_is)
     ∙ ap finished (apply-done s.ledger c.apply.new.self (rest_in s) c.in_ok-count.count c.applied-to.result not c.in_ok-count.ensures.ok c.in_ok-count.ensures.count c.if-count-eq0.false c.applied-to.ensures))

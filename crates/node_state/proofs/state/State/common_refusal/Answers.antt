@@ -1,26 +1,26 @@
 use Rattle.std.proofs.Common.{◌≡◌, ◌∙◌, ◌<◌, ◌≤◌, ap, subst, nat_lt, length, ℕ}
 use Rattle.oplog_entry.specs.Visible.{log_up_to}
 use Rattle.repl_msg.specs.Logs.{log_behind}
-use Rattle.node_state.specs.Standing.{Standing}
+use Rattle.node_state.specs.StateView.{StateView}
 use Rattle.node_state.proofs.TellLemmas.{refused_many, refused_few, told_behind}
 use Rattle.node_state.proofs.state.State.common_refusal.Goals as goal
 
 pub returns-then-count_between-gt-MOST_OPTIMES-clause-refusal : goal.returns-then-count_between-gt-MOST_OPTIMES-clause-refusal
 returns-then-count_between-gt-MOST_OPTIMES-clause-refusal c =
     let node = c.args.self.now.node in
-    let count : c.count_between.result ≡ length (log_behind c.args.after (log_up_to c.visible_then-visible.result node.log)) =
-    c.count_between.ensures.count ∙ ap (λ (s : Standing). length (log_behind c.args.after (log_up_to c.visible_then-visible.result s.node.log))) c.self.view_is in
-    refused_many node c.args.term c.args.after (log_behind c.args.after (log_up_to c.visible_then-visible.result node.log)) c.is_below.result
-    (c.is_below.ensures ∙ ap (λ (s : Standing). nat_lt s.node.term c.args.term) c.self.view_is)
-    (told_behind c.is_below.result node c.visible_then-visible.result c.args.after c.is_sound.ensures.sound.oplog c.visible_then-visible.ensures)
+    let count : c.count_between.result ≡ length (log_behind c.args.after (log_up_to c.visible_after_term-visible.result node.log)) =
+    c.count_between.ensures.count ∙ ap (λ (s : StateView). length (log_behind c.args.after (log_up_to c.visible_after_term-visible.result s.node.log))) c.self.view_is in
+    refused_many node c.args.term c.args.after (log_behind c.args.after (log_up_to c.visible_after_term-visible.result node.log)) c.is_below.result
+    (c.is_below.ensures ∙ ap (λ (s : StateView). nat_lt s.node.term c.args.term) c.self.view_is)
+    (told_behind c.is_below.result node c.visible_after_term-visible.result c.args.after c.recall_sound.ensures.sound.oplog c.visible_after_term-visible.ensures)
     (subst (λ (n : ℕ). 20000 < n) count c.if-count_between-gt-MOST_OPTIMES.true)
 
 pub returns-clause-refusal : goal.returns-clause-refusal
 returns-clause-refusal c =
     let node = c.args.self.now.node in
-    let count : c.count_between.result ≡ length (log_behind c.args.after (log_up_to c.visible_then-visible.result node.log)) =
-    c.count_between.ensures.count ∙ ap (λ (s : Standing). length (log_behind c.args.after (log_up_to c.visible_then-visible.result s.node.log))) c.self.view_is in
-    refused_few node c.args.term c.args.after (log_behind c.args.after (log_up_to c.visible_then-visible.result node.log)) c.is_below.result
-    (c.is_below.ensures ∙ ap (λ (s : Standing). nat_lt s.node.term c.args.term) c.self.view_is)
-    (told_behind c.is_below.result node c.visible_then-visible.result c.args.after c.is_sound.ensures.sound.oplog c.visible_then-visible.ensures)
+    let count : c.count_between.result ≡ length (log_behind c.args.after (log_up_to c.visible_after_term-visible.result node.log)) =
+    c.count_between.ensures.count ∙ ap (λ (s : StateView). length (log_behind c.args.after (log_up_to c.visible_after_term-visible.result s.node.log))) c.self.view_is in
+    refused_few node c.args.term c.args.after (log_behind c.args.after (log_up_to c.visible_after_term-visible.result node.log)) c.is_below.result
+    (c.is_below.ensures ∙ ap (λ (s : StateView). nat_lt s.node.term c.args.term) c.self.view_is)
+    (told_behind c.is_below.result node c.visible_after_term-visible.result c.args.after c.recall_sound.ensures.sound.oplog c.visible_after_term-visible.ensures)
     (subst (λ (n : ℕ). n ≤ 20000) count c.if-count_between-gt-MOST_OPTIMES.false)

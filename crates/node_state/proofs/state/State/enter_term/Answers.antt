@@ -9,7 +9,7 @@ use Rattle.node_state.proofs.state.State.enter_term.Goals as goal
 pub invariant_of-self : goal.invariant_of-self
 invariant_of-self c =
     rw c.new.ensures
-    (coherent-entered c.self.inside.ledger.node c.set_term.new.self.node (rest_in c.self.inside) c.with-self-inside.result.list c.args.term c.args.vote c.self.inside.tally c.self.inside.unkept.optimes
+    (coherent-entered c.self.inside.ledger.node c.set_term.new.self.node (rest_in c.self.inside) c.with-self-inside.result.list c.args.term c.args.vote c.self.inside.tally c.self.inside.unjournaled.optimes
     (ap (λ (l : Ledger). l.node) c.set_term.ensures ∙ ap (λ (l : Ledger). record l.node { term = c.args.term }) c.step_down.ensures)
     (ap (λ (r : Records). r.list) c.with-self-inside.ensures ∙ ap (records_after c.self.inside.records.list) c.requires.item)
-    c.is_sound.ensures.node c.requires.vote c.self.invariant)
+    c.recall_sound.ensures.node c.requires.vote c.self.invariant)

@@ -2,7 +2,7 @@ use Rattle.std.proofs.Common.{◌≡◌, ◌≤◌, ap, subst, arith, false, len
 use Rattle.set_model.specs.Elections.{candidate}
 use Rattle.set_model.specs.Votes.{asks}
 use Rattle.node_state.specs.Seen.{seen_node}
-use Rattle.node_state.specs.Standing.{Standing}
+use Rattle.node_state.specs.StateView.{StateView}
 use Rattle.node_state.proofs.Inside.{rest_in}
 use Rattle.node_state.proofs.VoterLemmas.{few_asked}
 use Rattle.node_state.proofs.state.State.go_on_campaign.Goals as goal
@@ -11,7 +11,7 @@ pub overflow_cast-count : goal.overflow_cast-count
 overflow_cast-count c =
     let long : c.len-count.result ≡ length c.args.sent.items = omega arith in
     let few : length (asks (candidate c.args.self.now.node) false) ≤ 50 =
-    subst (λ (s : Standing). length (asks (candidate s.node) false) ≤ 50) c.self.view_is
+    subst (λ (s : StateView). length (asks (candidate s.node) false) ≤ 50) c.self.view_is
     (few_asked (candidate (seen_node c.self.inside.ledger.node (rest_in c.self.inside))) false c.self.invariant.config) in
     let same : length c.args.sent.items ≡ length (asks (candidate c.args.self.now.node) false) = ap length c.requires.ready.sent_is in
     omega (arith, long, few, same)

@@ -1,6 +1,6 @@
 use Rattle.std.proofs.Common.{◌∙◌, ap, sym}
 use Rattle.repl_msg.specs.Logs.{has_entry}
-use Rattle.node_state.specs.Standing.{Standing}
+use Rattle.node_state.specs.StateView.{StateView}
 use Rattle.node_state.proofs.FoundLemmas.{has_looked_up}
 use Rattle.node_state.proofs.state.State.has.Goals as goal
 
@@ -8,4 +8,4 @@ pub returns : goal.returns
 returns c =
     c.is_some.ensures
     ∙ sym (has_looked_up c.entry_at.result (λ x. x.now) c.self.inside.ledger.node.log c.args.at c.entry_at.ensures.found c.entry_at.ensures.none)
-    ∙ ap (λ (s : Standing). has_entry s.node.log c.args.at) c.self.view_is
+    ∙ ap (λ (s : StateView). has_entry s.node.log c.args.at) c.self.view_is

@@ -7,5 +7,5 @@ use Rattle.node_state.proofs.state.State.has_won.Goals as goal
 
 pub invariant_of-self : goal.invariant_of-self
 invariant_of-self c =
-    coherent-role c.self.inside.ledger.node c.set_role.new.self.node (rest_in c.self.inside) Draining c.self.inside.unkept.optimes
+    coherent-role c.self.inside.ledger.node c.set_role.new.self.node (rest_in c.self.inside) Draining c.self.inside.unjournaled.optimes
     (ap (λ (l : Ledger). l.node) c.set_role.ensures) (λ same. cc same) c.self.invariant

@@ -3,7 +3,7 @@ use Rattle.node_tables.specs.declared.records.Records.{Records}
 use Rattle.node_state.specs.Coherent.{IsCoherent}
 use Rattle.node_ledger.specs.Ledger.{Ledger}
 use Rattle.node_state.specs.Seen.{seen_node}
-use Rattle.node_state.specs.Standing.{Standing}
+use Rattle.node_state.specs.StateView.{StateView}
 use Rattle.node_state.proofs.Inside.{rest_in}
 use Rattle.node_state.proofs.KeepLemmas.{checkpoint-coherent, checkpoint-later, checkpoint-applied}
 use Rattle.node_state.proofs.state.State.keep_documents.Goals as goal
@@ -12,13 +12,13 @@ pub prune-requires : goal.prune-requires
 prune-requires c =
     let s = c.self.inside in
     record {
-      later = checkpoint-later (seen_node s.ledger.node (rest_in s)) c.args.self.now.node c.args.item.now c.args.at (ap (λ (x : Standing). x.node) c.self.view_is) c.requires.ready c.self.invariant.points.stable c.is_sound.ensures.node.stable;
-      applied = checkpoint-applied (seen_node s.ledger.node (rest_in s)) c.args.self.now.node c.args.item.now c.args.at (ap (λ (x : Standing). x.node) c.self.view_is) c.requires.ready;
+      later = checkpoint-later (seen_node s.ledger.node (rest_in s)) c.args.self.now.node c.args.item.now c.args.at (ap (λ (x : StateView). x.node) c.self.view_is) c.requires.ready c.self.invariant.points.stable c.recall_sound.ensures.node.stable;
+      applied = checkpoint-applied (seen_node s.ledger.node (rest_in s)) c.args.self.now.node c.args.item.now c.args.at (ap (λ (x : StateView). x.node) c.self.view_is) c.requires.ready;
     }
 
 pub invariant_of-self : goal.invariant_of-self
 invariant_of-self c =
     let s = c.self.inside in
-    subst (λ (l : Ledger). IsCoherent (seen_node l.node (record (rest_in s) { records = c.with-self-inside.result.list })) s.tally s.unkept.optimes) (sym c.prune.ensures)
-    (subst (λ (r : Records). IsCoherent (record (seen_node s.ledger.node (rest_in s)) { records = r.list; stable = c.args.at }) s.tally s.unkept.optimes) (sym c.with-self-inside.ensures)
-    (checkpoint-coherent (seen_node s.ledger.node (rest_in s)) c.args.self.now.node c.args.item.now c.args.at s.tally s.unkept.optimes (ap (λ (x : Standing). x.node) c.self.view_is) c.requires.ready c.self.invariant))
+    subst (λ (l : Ledger). IsCoherent (seen_node l.node (record (rest_in s) { records = c.with-self-inside.result.list })) s.tally s.unjournaled.optimes) (sym c.prune.ensures)
+    (subst (λ (r : Records). IsCoherent (record (seen_node s.ledger.node (rest_in s)) { records = r.list; stable = c.args.at }) s.tally s.unjournaled.optimes) (sym c.with-self-inside.ensures)
+    (checkpoint-coherent (seen_node s.ledger.node (rest_in s)) c.args.self.now.node c.args.item.now c.args.at s.tally s.unjournaled.optimes (ap (λ (x : StateView). x.node) c.self.view_is) c.requires.ready c.self.invariant))

@@ -1,7 +1,7 @@
 use Rattle.std.proofs.Common.{◌≡◌, ◌∙◌, ap, sym, subst, List}
 use Rattle.rs_optime.specs.declared.optime.OpTime.{OpTime}
 use Rattle.oplog_entry.specs.declared.entry.Op.TheVariants.{Noop}
-use Rattle.node_tables.specs.Unkept.{Optimes, with_optime}
+use Rattle.node_tables.specs.Unjournaled.{Optimes, with_optime}
 use Rattle.set_model.specs.Points.{next_optime}
 use Rattle.node_state.specs.Coherent.{IsCoherent}
 use Rattle.node_ledger.specs.Ledger.{Ledger}
@@ -12,8 +12,8 @@ use Rattle.node_state.proofs.state.State.log_noop.Goals as goal
 
 pub invariant_of-self : goal.invariant_of-self
 invariant_of-self c =
-    let added : c.add.new.self.optimes ≡ with_optime c.self.inside.unkept.optimes (next_optime c.self.inside.ledger.node) =
-    ap (λ (u : Optimes). u.optimes) c.add.ensures ∙ ap (with_optime c.self.inside.unkept.optimes) c.append_noop-at.ensures.at in
+    let added : c.add.new.self.optimes ≡ with_optime c.self.inside.unjournaled.optimes (next_optime c.self.inside.ledger.node) =
+    ap (λ (u : Optimes). u.optimes) c.add.ensures ∙ ap (with_optime c.self.inside.unjournaled.optimes) c.append_noop-at.ensures.at in
     subst (λ (optimes : List OpTime). IsCoherent (seen_node c.append_noop-at.new.self.node (rest_in c.self.inside)) c.self.inside.tally optimes) (sym added)
-    (coherent-logged c.self.inside.ledger.node c.append_noop-at.new.self.node (rest_in c.self.inside) Noop c.self.inside.tally c.self.inside.unkept.optimes
-    (ap (λ (l : Ledger). l.node) c.append_noop-at.ensures.ok) c.is_sound.ensures.node c.is_sound-2.ensures.node c.self.invariant)
+    (coherent-logged c.self.inside.ledger.node c.append_noop-at.new.self.node (rest_in c.self.inside) Noop c.self.inside.tally c.self.inside.unjournaled.optimes
+    (ap (λ (l : Ledger). l.node) c.append_noop-at.ensures.ok) c.recall_sound.ensures.node c.recall_sound-2.ensures.node c.self.invariant)

@@ -3,11 +3,11 @@ use Rattle.std.specs.Prelude.{IfOk}
 use Rattle.repl_msg.specs.Logs.{log_behind}
 use Rattle.set_model.specs.Reads.{local_documents}
 use Rattle.set_model.specs.Rollback.{lost_documents}
-use Rattle.node_state.specs.Standing.{Standing}
+use Rattle.node_state.specs.StateView.{StateView}
 use Rattle.node_state.proofs.state.State.lost_behind.Goals as goal
 
 pub returns-clause-lost : goal.returns-clause-lost
 returns-clause-lost c =
     subst (λ value. IfOk c.listed.result (λ lost. lost ≡ value))
-    (c.in_ok-lost_behind.ensures.lost ∙ ap (λ (s : Standing). lost_documents (local_documents s.node) (log_behind c.args.point s.node.log)) c.self.view_is)
+    (c.in_ok-lost_behind.ensures.lost ∙ ap (λ (s : StateView). lost_documents (local_documents s.node) (log_behind c.args.point s.node.log)) c.self.view_is)
     c.listed.ensures

@@ -2,7 +2,7 @@ use Rattle.std.proofs.Common.{◌≡◌, ◌∙◌, ap, subst, IfOk}
 use Rattle.set_model.specs.Disk.{next_entries}
 use Rattle.node_state.specs.Flushing.{entries_at}
 use Rattle.node_state.specs.Seen.{seen_node}
-use Rattle.node_state.specs.Standing.{Standing}
+use Rattle.node_state.specs.StateView.{StateView}
 use Rattle.node_state.proofs.FoundLemmas.{next_entries-at}
 use Rattle.node_state.proofs.Inside.{rest_in}
 use Rattle.node_state.proofs.state.State.next_entries.Goals as goal
@@ -12,6 +12,6 @@ returns-clause-list c =
     let s = c.self.inside in
     let found : entries_at s.ledger.node.log c.deref.result.now ≡ next_entries c.args.self.now.node =
     ap (entries_at s.ledger.node.log) (c.deref.ensures.value ∙ c.in_ok-optimes.ensures.first)
-    ∙ next_entries-at (seen_node s.ledger.node (rest_in s)) s.unkept.optimes c.is_sound.ensures.node.oplog c.self.invariant.unkept
-    ∙ ap (λ (x : Standing). next_entries x.node) c.self.view_is in
+    ∙ next_entries-at (seen_node s.ledger.node (rest_in s)) s.unjournaled.optimes c.recall_sound.ensures.node.oplog c.self.invariant.unjournaled
+    ∙ ap (λ (x : StateView). next_entries x.node) c.self.view_is in
     subst (λ xs. IfOk c.copies_at.result (λ list. list ≡ xs)) found c.copies_at.ensures

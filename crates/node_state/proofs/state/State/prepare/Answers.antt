@@ -2,23 +2,23 @@ use Rattle.std.proofs.Common.{◌∙◌, ap, sym, subst, Bool, nat_lt, IfOk}
 use Rattle.repl_msg.specs.declared.message.Body.{Body}
 use Rattle.set_model.specs.Beats.{beat_told}
 use Rattle.set_model.specs.Deliver.{told}
-use Rattle.node_state.specs.Ahead.{Foretells}
-use Rattle.node_state.specs.Standing.{Standing}
-use Rattle.node_state.specs.declared.turn.Told.{Told}
+use Rattle.node_state.specs.Ahead.{IsPreparedFor}
+use Rattle.node_state.specs.StateView.{StateView}
+use Rattle.node_state.specs.declared.turn.MessageContinuation.{MessageContinuation}
 use Rattle.node_state.proofs.BodyLemmas.{common_of}
 use Rattle.node_state.proofs.state.State.prepare.Goals as goal
 
 pub prepare_common_told-requires-clause-common : goal.prepare_common_told-requires-clause-common
 prepare_common_told-requires-clause-common g c κs within =
     common_of c.args.self.now.node c.args.message.now c.is_below-raised.result c.in-CommonReply.after c.in-CommonReply.optimes c.in-CommonReply.visible c.requires.message c.in-CommonReply.is
-    (c.is_below-raised.ensures ∙ ap (λ (s : Standing). nat_lt s.node.term c.args.message.now.term) c.self.view_is)
+    (c.is_below-raised.ensures ∙ ap (λ (s : StateView). nat_lt s.node.term c.args.message.now.term) c.self.view_is)
 
 pub returns-in-Heartbeat-clause-told : goal.returns-in-Heartbeat-clause-told
 returns-in-Heartbeat-clause-told g c =
     subst
-    (λ (b : Body). IfOk c.prepare_beat.result (λ (t : Told). Foretells t (nat_lt c.args.self.now.node.term c.args.message.now.term) c.args.message.now.term (told c.args.next c.args.message.now.from c.args.message.now.term b) c.args.self.now.node c.args.self.now.node))
+    (λ (b : Body). IfOk c.prepare_beat.result (λ (t : MessageContinuation). IsPreparedFor t (nat_lt c.args.self.now.node.term c.args.message.now.term) c.args.message.now.term (told c.args.next c.args.message.now.from c.args.message.now.term b) c.args.self.now.node c.args.self.now.node))
     (sym c.in-Heartbeat.is)
     (subst
-    (λ (raised : Bool). IfOk c.prepare_beat.result (λ (t : Told). Foretells t raised c.args.message.now.term (λ node. beat_told c.args.next node c.args.message.now.from c.args.message.now.term c.in-Heartbeat.beat) c.args.self.now.node c.args.self.now.node))
-    (c.is_below-raised.ensures ∙ ap (λ (s : Standing). nat_lt s.node.term c.args.message.now.term) c.self.view_is)
+    (λ (raised : Bool). IfOk c.prepare_beat.result (λ (t : MessageContinuation). IsPreparedFor t raised c.args.message.now.term (λ node. beat_told c.args.next node c.args.message.now.from c.args.message.now.term c.in-Heartbeat.beat) c.args.self.now.node c.args.self.now.node))
+    (c.is_below-raised.ensures ∙ ap (λ (s : StateView). nat_lt s.node.term c.args.message.now.term) c.self.view_is)
     c.prepare_beat.ensures.told)

@@ -2,28 +2,28 @@ use Rattle.std.proofs.Common.{sym, subst, Bool, true, IfOk}
 use Rattle.repl_msg.specs.declared.message.Body.{Body}
 use Rattle.set_model.specs.Deliver.{told}
 use Rattle.set_model.specs.declared.reply.Ignored.TheVariants.{NotCandidate, NotPrimary}
-use Rattle.node_state.specs.Ahead.{Foretells, ahead}
-use Rattle.node_state.specs.Ready.{IsReadyTold}
-use Rattle.node_state.specs.declared.turn.Told.{Told}
-use Rattle.node_state.specs.declared.turn.Told.TheVariants.{Ignored}
+use Rattle.node_state.specs.Ahead.{IsPreparedFor, view_in_term}
+use Rattle.node_state.specs.Ready.{IsReadyMessage}
+use Rattle.node_state.specs.declared.turn.MessageContinuation.{MessageContinuation}
+use Rattle.node_state.specs.declared.turn.MessageContinuation.TheVariants.{Ignored}
 use Rattle.node_state.proofs.BodyLemmas.{is_higher, report_tells, vote_reply_tells}
 use Rattle.node_state.proofs.state.State.prepare_higher.Goals as goal
 
 pub returns-in-VoteReply-clause-told : goal.returns-in-VoteReply-clause-told
 returns-in-VoteReply-clause-told g c =
-    subst (λ (b : Body). Foretells (Ignored NotCandidate) true c.args.message.now.term (told c.args.next c.args.message.now.from c.args.message.now.term b) c.args.self.now.node c.args.self.now.node) (sym c.in-VoteReply.is)
+    subst (λ (b : Body). IsPreparedFor (Ignored NotCandidate) true c.args.message.now.term (told c.args.next c.args.message.now.from c.args.message.now.term b) c.args.self.now.node c.args.self.now.node) (sym c.in-VoteReply.is)
     (vote_reply_tells c.args.next c.args.message.now.from c.args.message.now.term c.in-VoteReply.asked c.in-VoteReply.dry c.in-VoteReply.refused c.args.self.now.node)
 
 pub returns-in-Report-clause-told : goal.returns-in-Report-clause-told
 returns-in-Report-clause-told g c =
-    subst (λ (b : Body). Foretells (Ignored NotPrimary) true c.args.message.now.term (told c.args.next c.args.message.now.from c.args.message.now.term b) c.args.self.now.node c.args.self.now.node) (sym c.in-Report.is)
+    subst (λ (b : Body). IsPreparedFor (Ignored NotPrimary) true c.args.message.now.term (told c.args.next c.args.message.now.from c.args.message.now.term b) c.args.self.now.node c.args.self.now.node) (sym c.in-Report.is)
     (report_tells c.args.next c.args.message.now.from c.args.message.now.term c.in-Report.config c.in-Report.durable c.args.self.now.node)
 
 pub returns-in_default : goal.returns-in_default
 returns-in_default g c = record {
-  told = subst (λ (b : Bool). IfOk c.prepare.result (λ (t : Told). Foretells t b c.args.message.now.term (told c.args.next c.args.message.now.from c.args.message.now.term c.args.message.now.body) c.args.self.now.node c.prepare.new.self.node))
+  told = subst (λ (b : Bool). IfOk c.prepare.result (λ (t : MessageContinuation). IsPreparedFor t b c.args.message.now.term (told c.args.next c.args.message.now.from c.args.message.now.term c.args.message.now.body) c.args.self.now.node c.prepare.new.self.node))
       (is_higher c.args.self.now.node.term c.args.message.now.term c.requires.higher) c.prepare.ensures.told;
-  ready = subst (λ (b : Bool). IfOk c.prepare.result (λ (t : Told). IsReadyTold t (ahead b c.args.message.now.term c.prepare.new.self)))
+  ready = subst (λ (b : Bool). IfOk c.prepare.result (λ (t : MessageContinuation). IsReadyMessage t (view_in_term b c.args.message.now.term c.prepare.new.self)))
       (is_higher c.args.self.now.node.term c.args.message.now.term c.requires.higher) c.prepare.ensures.ready;
   err = c.prepare.ensures.err;
 }

@@ -4,7 +4,7 @@ use Rattle.set_model.specs.Node.{Node}
 use Rattle.set_model.specs.Reconfig.{reconfig_refusal}
 use Rattle.set_model.specs.declared.role.Role.TheVariants.{Primary}
 use Rattle.node_state.specs.Seen.{seen_node}
-use Rattle.node_state.specs.Standing.{Standing}
+use Rattle.node_state.specs.StateView.{StateView}
 use Rattle.part_laws.specs.Points.{checked}
 use Rattle.node_state.proofs.ChangeLemmas.{refused_as}
 use Rattle.node_state.proofs.Inside.{rest_in}
@@ -21,7 +21,7 @@ returns-in-Ok c =
     let primary : s.ledger.node.role ≡ Primary = search rules in
     let is : checked c.args.nodes node c.args.config.now ≡ None =
     ap (λ (t : ℕ). refusal s.config c.args.config.now s.number c.args.nodes t s.progress s.durable s.commit) (sym c.term-term.ensures) ∙ c.in-Ok.ensures.ok in
-    refused_as c.args.nodes node c.args.config.now None primary is ∙ ap (λ (x : Standing). reconfig_refusal c.args.nodes x.node c.args.config.now) c.self.view_is
+    refused_as c.args.nodes node c.args.config.now None primary is ∙ ap (λ (x : StateView). reconfig_refusal c.args.nodes x.node c.args.config.now) c.self.view_is
 
 pub returns-in-Err : goal.returns-in-Err
 returns-in-Err c =
@@ -31,4 +31,4 @@ returns-in-Err c =
     let is : checked c.args.nodes node c.args.config.now ≡ Some c.in-Err.why =
     ap (λ (t : ℕ). refusal s.config c.args.config.now s.number c.args.nodes t s.progress s.durable s.commit) (sym c.term-term.ensures) ∙ c.in-Err.ensures.err in
     ap (λ why. Some why) c.refusal_of.ensures
-    ∙ refused_as c.args.nodes node c.args.config.now (Some c.in-Err.why) primary is ∙ ap (λ (x : Standing). reconfig_refusal c.args.nodes x.node c.args.config.now) c.self.view_is
+    ∙ refused_as c.args.nodes node c.args.config.now (Some c.in-Err.why) primary is ∙ ap (λ (x : StateView). reconfig_refusal c.args.nodes x.node c.args.config.now) c.self.view_is

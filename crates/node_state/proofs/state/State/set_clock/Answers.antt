@@ -9,5 +9,5 @@ use Rattle.node_state.proofs.state.State.set_clock.Goals as goal
 pub invariant_of-self : goal.invariant_of-self
 invariant_of-self c =
     let s = c.self.inside in
-    subst (λ (l : Ledger). IsCoherent (seen_node l.node (rest_in s)) s.tally s.unkept.optimes) (sym c.set_clock.ensures)
-    (coherent-clock (seen_node s.ledger.node (rest_in s)) s.tally s.unkept.optimes c.args.seconds c.self.invariant)
+    subst (λ (l : Ledger). IsCoherent (seen_node l.node (rest_in s)) s.tally s.unjournaled.optimes) (sym c.set_clock.ensures)
+    (coherent-clock (seen_node s.ledger.node (rest_in s)) s.tally s.unjournaled.optimes c.args.seconds c.self.invariant)

@@ -5,7 +5,7 @@ use Rattle.rs_optime.specs.declared.optime.OpTime.{OpTime}
 use Rattle.set_model.specs.Roles.{is_primary}
 use Rattle.node_state.specs.Reading.{level_of}
 use Rattle.node_state.specs.Seen.{seen_node}
-use Rattle.node_state.specs.Standing.{Standing}
+use Rattle.node_state.specs.StateView.{StateView}
 use Rattle.node_state.proofs.Inside.{rest_in}
 use Rattle.node_state.proofs.ReadingLemmas.{IsShownAt, latest_shown, at_shown}
 use Rattle.node_state.proofs.state.State.shown_point.Goals as goal
@@ -18,16 +18,16 @@ returns-in-Latest c =
       readable = record { kept = c.local_point.ensures.readable.kept; reached = c.local_point.ensures.readable.reached };
       shown = latest_shown (seen_node s.ledger.node (rest_in s)) c.args.level c.is_primary.result s.commit c.applied_point-applied.result c.local_point.result (c.in-Latest.ensures ∙ level_is) c.local_point.ensures.shown;
     } in
-    let there : IsShownAt c.args.self.now.node c.args.level c.local_point.result = subst (λ (x : Standing). IsShownAt x.node c.args.level c.local_point.result) c.self.view_is here in
+    let there : IsShownAt c.args.self.now.node c.args.level c.local_point.result = subst (λ (x : StateView). IsShownAt x.node c.args.level c.local_point.result) c.self.view_is here in
     record { readable = there.readable; shown = there.shown }
 
 pub returns-in-At : goal.returns-in-At
 returns-in-At c =
     let s = c.self.inside in
     let level_is = ap (λ (l : Level). shown_at l c.is_primary.result s.commit c.applied_point-applied.result) c.concern.ensures in
-    let primary_is = ap (λ (b : Bool). shown_at (level_of c.args.level) b s.commit c.applied_point-applied.result) (c.is_primary.ensures ∙ ap (λ (x : Standing). is_primary x.node.role) (sym c.self.view_is)) in
+    let primary_is = ap (λ (b : Bool). shown_at (level_of c.args.level) b s.commit c.applied_point-applied.result) (c.is_primary.ensures ∙ ap (λ (x : StateView). is_primary x.node.role) (sym c.self.view_is)) in
     let applied_is = ap (λ (o : OpTime). shown_at (level_of c.args.level) (is_primary s.ledger.node.role) s.commit o) c.applied_point-applied.ensures in
     let here : IsShownAt (seen_node s.ledger.node (rest_in s)) c.args.level c.in-At.at =
-    at_shown (seen_node s.ledger.node (rest_in s)) c.args.level c.in-At.at c.self.invariant.points.stable c.is_sound.ensures.node.stable (c.in-At.ensures ∙ level_is ∙ primary_is ∙ applied_is) in
-    let there : IsShownAt c.args.self.now.node c.args.level c.in-At.at = subst (λ (x : Standing). IsShownAt x.node c.args.level c.in-At.at) c.self.view_is here in
+    at_shown (seen_node s.ledger.node (rest_in s)) c.args.level c.in-At.at c.self.invariant.points.stable c.recall_sound.ensures.node.stable (c.in-At.ensures ∙ level_is ∙ primary_is ∙ applied_is) in
+    let there : IsShownAt c.args.self.now.node c.args.level c.in-At.at = subst (λ (x : StateView). IsShownAt x.node c.args.level c.in-At.at) c.self.view_is here in
     record { readable = there.readable; shown = there.shown }

@@ -5,7 +5,7 @@ use Rattle.set_model.specs.Node.{Node}
 use Rattle.set_model.specs.Stores.{in_doubt, stored, storing}
 use Rattle.set_model.specs.declared.store.Store.{Store}
 use Rattle.node_state.specs.Ready.{CanBeStored}
-use Rattle.node_state.specs.Told.{told_plan}
+use Rattle.node_state.specs.MessageContinuation.{message_plan}
 use Rattle.node_state.proofs.TakenLemmas.{taken_then}
 use Rattle.node_state.proofs.state.State.take_higher.Goals as goal
 
@@ -13,7 +13,7 @@ pub returns-clause-turn : goal.returns-clause-turn
 returns-clause-turn g c =
     subst
     (λ (item : Store). take_term c.args.self.now.node c.args.message.now.term (told c.args.next c.args.message.now.from c.args.message.now.term c.args.message.now.body)
-    ≡ storing (in_doubt c.prepare_higher.new.self.node item) (told_plan c.in_ok-told.told (in_new_term (stored c.prepare_higher.new.self.node item) c.args.message.now.term None)))
+    ≡ storing (in_doubt c.prepare_higher.new.self.node item) (message_plan c.in_ok-told.told (in_new_term (stored c.prepare_higher.new.self.node item) c.args.message.now.term None)))
     (sym c.vote_record.ensures)
     (taken_then c.in_ok-told.told c.args.message.now.term (told c.args.next c.args.message.now.from c.args.message.now.term c.args.message.now.body) c.args.self.now.node c.prepare_higher.new.self.node c.in_ok-told.ensures.told)
 

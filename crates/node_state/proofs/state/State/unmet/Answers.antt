@@ -6,7 +6,7 @@ use Rattle.write_concern.specs.declared.acks.Concern.{Concern}
 use Rattle.part_laws.specs.Concerns.{refusal_of}
 use Rattle.part_laws.proofs.RowLemmas.{concerns_agree}
 use Rattle.node_state.specs.Seen.{seen_node}
-use Rattle.node_state.specs.Standing.{Standing}
+use Rattle.node_state.specs.StateView.{StateView}
 use Rattle.node_state.proofs.Inside.{rest_in}
 use Rattle.node_state.proofs.state.State.unmet.Goals as goal
 
@@ -15,4 +15,4 @@ returns c =
     let node : Node = seen_node c.self.inside.ledger.node (rest_in c.self.inside) in
     c.refusal.ensures
     ∙ ap refusal_of (c.answer.ensures ∙ ap (λ (k : Concern). answered node.progress node.config node.number node.durable node.commit c.args.at k) c.concern.ensures)
-    ∙ concerns_agree node c.args.at c.args.asked ∙ ap (λ (s : Standing). unmet s.node c.args.at c.args.asked) c.self.view_is
+    ∙ concerns_agree node c.args.at c.args.asked ∙ ap (λ (s : StateView). unmet s.node c.args.at c.args.asked) c.self.view_is

@@ -2,7 +2,7 @@ use Rattle.std.proofs.Common.{◌∙◌, ap, sym, ℕ}
 use Rattle.rs_optime.specs.declared.optime.OpTime.{OpTime}
 use Rattle.repl_msg.specs.Votes.{refusal_of}
 use Rattle.set_model.specs.Votes.{vote_refusal}
-use Rattle.node_state.specs.Standing.{Standing}
+use Rattle.node_state.specs.StateView.{StateView}
 use Rattle.node_state.proofs.VoteLemmas.{granted_none, refused_some}
 use Rattle.node_state.proofs.state.State.vote_refusal.Goals as goal
 
@@ -12,7 +12,7 @@ returns-in-Ok c =
     granted_none _ _ _ (sym c.in-Ok.is ∙ c.decide.ensures)
     ∙ ap (λ (t : ℕ). refusal_of t s.vote (s.config.term, s.config.version) c.last.result c.args.ask.now) c.term.ensures
     ∙ ap (λ (at : OpTime). refusal_of s.ledger.node.term s.vote (s.config.term, s.config.version) at c.args.ask.now) c.last.ensures
-    ∙ ap (λ (n : Standing). vote_refusal n.node c.args.ask.now) c.self.view_is
+    ∙ ap (λ (n : StateView). vote_refusal n.node c.args.ask.now) c.self.view_is
 
 pub returns-in-Err : goal.returns-in-Err
 returns-in-Err c =
@@ -20,4 +20,4 @@ returns-in-Err c =
     refused_some _ _ _ (sym c.in-Err.is ∙ c.decide.ensures)
     ∙ ap (λ (t : ℕ). refusal_of t s.vote (s.config.term, s.config.version) c.last.result c.args.ask.now) c.term.ensures
     ∙ ap (λ (at : OpTime). refusal_of s.ledger.node.term s.vote (s.config.term, s.config.version) at c.args.ask.now) c.last.ensures
-    ∙ ap (λ (n : Standing). vote_refusal n.node c.args.ask.now) c.self.view_is
+    ∙ ap (λ (n : StateView). vote_refusal n.node c.args.ask.now) c.self.view_is

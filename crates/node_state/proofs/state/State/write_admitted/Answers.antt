@@ -1,6 +1,6 @@
 use Rattle.std.proofs.Common.{◌≡◌, ◌∙◌, ap, ap₂, sym, subst}
 use Rattle.set_model.specs.Points.{next_optime}
-use Rattle.node_tables.specs.Unkept.{Optimes, with_optime}
+use Rattle.node_tables.specs.Unjournaled.{Optimes, with_optime}
 use Rattle.node_state.specs.Coherent.{IsCoherent}
 use Rattle.node_state.specs.Seen.{seen_node}
 use Rattle.node_state.proofs.Inside.{rest_in}
@@ -10,7 +10,7 @@ use Rattle.node_state.proofs.state.State.write_admitted.Goals as goal
 pub invariant_of-self-in-Entry : goal.invariant_of-self-in-Entry
 invariant_of-self-in-Entry c =
     let s = c.self.inside in
-    let optimes : c.add.new.self.optimes ≡ with_optime s.unkept.optimes (next_optime s.ledger.node) =
+    let optimes : c.add.new.self.optimes ≡ with_optime s.unjournaled.optimes (next_optime s.ledger.node) =
     ap (λ (u : Optimes). u.optimes) c.add.ensures ∙ ap₂ with_optime c.reserve.ensures.optimes c.in_ok-at-in-Entry.ensures.at in
     subst (λ list. IsCoherent (seen_node c.write.new.self.node (rest_in s)) s.tally list) (sym optimes)
-    (coherent-logged s.ledger.node c.write.new.self.node (rest_in s) c.in-Entry.op s.tally s.unkept.optimes c.in_ok-at-in-Entry.ensures.ok c.is_sound.ensures.node c.is_sound-in-Entry.ensures.node c.self.invariant)
+    (coherent-logged s.ledger.node c.write.new.self.node (rest_in s) c.in-Entry.op s.tally s.unjournaled.optimes c.in_ok-at-in-Entry.ensures.ok c.recall_sound.ensures.node c.recall_sound-in-Entry.ensures.node c.self.invariant)

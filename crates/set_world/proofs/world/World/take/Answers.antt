@@ -4,8 +4,8 @@ use Rattle.set_model.specs.Limits.{is_for}
 use Rattle.set_model.specs.Run.{Sizes}
 use Rattle.set_model.specs.World.{task}
 use Rattle.node_core.specs.Acting.{DisksLeft}
-use Rattle.set_world.specs.Acting.{NodesStand}
-use Rattle.set_world.specs.Disks.{IsStep, IsUndone}
+use Rattle.set_world.specs.Acting.{EachNodeStands}
+use Rattle.set_world.specs.Disks.{IsStep, NothingDone}
 use Rattle.set_world.specs.World.{Set, disks_in, event_of, nodes_in}
 use Rattle.set_world.proofs.DiskLemmas.{stepped, undone, untouched}
 use Rattle.set_world.proofs.NodesLemmas.{whole}
@@ -24,7 +24,7 @@ add-requires-clause-room g c =
     let on : GoesOn (record { nodes = c.self.inside.size; members = c.self.inside.members }) c.self.inside.history.items c.reserve-2.new.self (nodes_in c.act.new.nodes) c.args.line c.args.command c.in-Ok.done =
     goes_on (record { nodes = c.self.inside.size; members = c.self.inside.members }) c.self.inside.history.items c.self.inside.nodes.items c.deref_mut.result.now c.self.inside.pool c.reserve-2.new.self
     c.self.invariant.0 c.deref_mut.ensures.value c.reserve-2.ensures.nodes c.reserve-2.ensures.messages c.numbers_stay_small.ensures
-    (nodes_in c.act.new.nodes) c.args.line c.args.command c.in-Ok.done c.in-Ok.ensures.ok short named c.brings_sound.ensures in
+    (nodes_in c.act.new.nodes) c.args.line c.args.command c.in-Ok.done c.in-Ok.ensures.ok short named c.recall_sound_write.ensures in
     let few : length c.in-Ok.done.sent.items ≤ 7 = on.room in
     let room : 7 ≤ c.reserve-2.new.self.spare = c.in_ok-reserve-2.ensures.room in
     omega (arith, few, room)
@@ -36,7 +36,7 @@ add-requires-clause-between g c =
     let on : GoesOn (record { nodes = c.self.inside.size; members = c.self.inside.members }) c.self.inside.history.items c.reserve-2.new.self (nodes_in c.act.new.nodes) c.args.line c.args.command c.in-Ok.done =
     goes_on (record { nodes = c.self.inside.size; members = c.self.inside.members }) c.self.inside.history.items c.self.inside.nodes.items c.deref_mut.result.now c.self.inside.pool c.reserve-2.new.self
     c.self.invariant.0 c.deref_mut.ensures.value c.reserve-2.ensures.nodes c.reserve-2.ensures.messages c.numbers_stay_small.ensures
-    (nodes_in c.act.new.nodes) c.args.line c.args.command c.in-Ok.done c.in-Ok.ensures.ok short named c.brings_sound.ensures in
+    (nodes_in c.act.new.nodes) c.args.line c.args.command c.in-Ok.done c.in-Ok.ensures.ok short named c.recall_sound_write.ensures in
     on.between
 
 pub invariant_of-self-2 : goal.invariant_of-self-2
@@ -49,9 +49,9 @@ invariant_of-self-2 g c =
     let on : GoesOn (record { nodes = c.self.inside.size; members = c.self.inside.members }) c.self.inside.history.items c.reserve-2.new.self (nodes_in c.act.new.nodes) c.args.line c.args.command c.in-Ok.done =
     goes_on (record { nodes = c.self.inside.size; members = c.self.inside.members }) c.self.inside.history.items c.self.inside.nodes.items c.deref_mut.result.now c.self.inside.pool c.reserve-2.new.self
     c.self.invariant.0 c.deref_mut.ensures.value c.reserve-2.ensures.nodes c.reserve-2.ensures.messages c.numbers_stay_small.ensures
-    (nodes_in c.act.new.nodes) c.args.line c.args.command c.in-Ok.done c.in-Ok.ensures.ok short named c.brings_sound.ensures in
+    (nodes_in c.act.new.nodes) c.args.line c.args.command c.in-Ok.done c.in-Ok.ensures.ok short named c.recall_sound_write.ensures in
     let items : c.push.new.self.items ≡ c.self.inside.history.items ++ event_of c.args.line c.args.command c.in-Ok.done ∷ [] = search rules in
-    rw same (on.stands c.add.new.self c.push.new.self.items items c.add.ensures.nodes c.add.ensures.messages, c.self.invariant.1, c.act.ensures.stand (subst (λ l. NodesStand g.D.Disk.state l) (sym c.deref_mut.ensures.value) c.self.invariant.2))
+    rw same (on.stands c.add.new.self c.push.new.self.items items c.add.ensures.nodes c.add.ensures.messages, c.self.invariant.1, c.act.ensures.stand (subst (λ l. EachNodeStands g.D.Disk.state l) (sym c.deref_mut.ensures.value) c.self.invariant.2))
 
 pub invariant_of-self-in-Err : goal.invariant_of-self-in-Err
 invariant_of-self-in-Err g c =
@@ -63,7 +63,7 @@ invariant_of-self-in-Err g c =
           c.deref_mut.result.now c.act.new.nodes c.self.inside.pool c.reserve-2.new.self (task (record { nodes = nodes_in c.deref_mut.result.now; messages = c.reserve-2.new.self.messages }) c.args.command)
           c.self.invariant.0 c.deref_mut.ensures.value c.reserve-2.ensures.nodes c.reserve-2.ensures.messages c.reserve.ensures.items c.in-Err.ensures.err,
       c.self.invariant.1,
-      c.act.ensures.stand (subst (λ l. NodesStand g.D.Disk.state l) (sym c.deref_mut.ensures.value) c.self.invariant.2),
+      c.act.ensures.stand (subst (λ l. EachNodeStands g.D.Disk.state l) (sym c.deref_mut.ensures.value) c.self.invariant.2),
     )
 
 pub returns-in_err-reserve-2-clause-err : goal.returns-in_err-reserve-2-clause-err
@@ -72,7 +72,7 @@ returns-in_err-reserve-2-clause-err g c =
     let disks : List g.row.D.Denot = disks_in c.self.inside.nodes.items ++ c.self.inside.idle.items in
     let now : Set g.row.D.Denot = record { sizes = sizes; history = c.reserve.new.self.items; disks = disks } in
     let p = err_from_is_err_and c.from_residual-in_err-reserve-2.result c.from_residual-in_err-reserve-2.ensures.1 in
-    rw p.1 (subst (λ (s : Set g.row.D.Denot). IsUndone g.D.Disk.state s now c.args.command) c.self.view_is
+    rw p.1 (subst (λ (s : Set g.row.D.Denot). NothingDone g.D.Disk.state s now c.args.command) c.self.view_is
     (untouched g.D.Disk.state (record { sizes = sizes; history = c.self.inside.history.items; disks = disks }) now c.args.command c.reserve.ensures.items refl))
 
 pub returns-in-Err-clause-err : goal.returns-in-Err-clause-err
@@ -85,7 +85,7 @@ returns-in-Err-clause-err g c =
       history = c.reserve.new.self.items;
       disks = disks_in (take c.self.inside.nodes.len (c.act.new.nodes ++ drop (length c.act.new.nodes) c.self.inside.nodes.items)) ++ c.self.inside.idle.items;
     } in
-    subst (λ (s : Set g.row.D.Denot). IsUndone g.D.Disk.state s now c.args.command) c.self.view_is
+    subst (λ (s : Set g.row.D.Denot). NothingDone g.D.Disk.state s now c.args.command) c.self.view_is
     (rw same (undone g.D.Disk.state (record { nodes = c.self.inside.size; members = c.self.inside.members }) c.self.inside.history.items c.self.inside.nodes.items c.deref_mut.result.now
     c.act.new.nodes c.self.inside.idle.items c.self.inside.pool.messages c.reserve-2.new.self.messages c.args.command c.self.invariant.0.reached.world c.deref_mut.ensures.value
     c.reserve-2.ensures.messages c.reserve.new.self.items c.reserve.ensures.items c.in-Err.ensures.err))
@@ -100,7 +100,7 @@ returns-clause-step g c =
     let on : GoesOn (record { nodes = c.self.inside.size; members = c.self.inside.members }) c.self.inside.history.items c.reserve-2.new.self (nodes_in c.act.new.nodes) c.args.line c.args.command c.in-Ok.done =
     goes_on (record { nodes = c.self.inside.size; members = c.self.inside.members }) c.self.inside.history.items c.self.inside.nodes.items c.deref_mut.result.now c.self.inside.pool c.reserve-2.new.self
     c.self.invariant.0 c.deref_mut.ensures.value c.reserve-2.ensures.nodes c.reserve-2.ensures.messages c.numbers_stay_small.ensures
-    (nodes_in c.act.new.nodes) c.args.line c.args.command c.in-Ok.done c.in-Ok.ensures.ok short named c.brings_sound.ensures in
+    (nodes_in c.act.new.nodes) c.args.line c.args.command c.in-Ok.done c.in-Ok.ensures.ok short named c.recall_sound_write.ensures in
     let items : c.push.new.self.items ≡ c.self.inside.history.items ++ event_of c.args.line c.args.command c.in-Ok.done ∷ [] = search rules in
     let now : Set g.row.D.Denot = record {
       sizes = record { nodes = c.self.inside.size; members = c.self.inside.members };
