@@ -1,8 +1,9 @@
-use Rattle.std.proofs.Common.{◌∙◌, subst, sym}
+use Rattle.std.proofs.Common.{◌∙◌, rules, subst, sym}
 use Rattle.std.specs.List.{AllPass}
 use Rattle.std.proofs.lemmas.List.Sums.{AllPass-from_list_all}
 use Rattle.fault_script.specs.Script.{is_part_for}
 use Rattle.set_model.specs.Run.{Sizes}
+use Rattle.set_world.specs.Disks.{Opens}
 use Rattle.set_program.proofs.OpenLemmas.{refused_leaves, refused_runs, set_leaves}
 use Rattle.set_program.proofs.set.run_script.Goals as goal
 
@@ -16,8 +17,9 @@ returns-in-Ok-clause-runs g c = (c.play_task-ended.ensures.sizes ∙ c.in-Ok.ens
 
 pub returns-in-Ok-clause-disks : goal.returns-in-Ok-clause-disks
 returns-in-Ok-clause-disks g c =
+    let opened : Opens g.D.Disk.state c.args.script.nodes ⊥ c.args.disks.items c.in-Ok.world.disks = search rules in
     set_leaves g.D.Disk.state c.args.script c.args.disks.items c.in-Ok.world c.play_task-ended.new.world c.play_task-ended.result
-    c.in-Ok.ensures.history c.in-Ok.ensures.sizes c.play_task-ended.ensures.sizes c.in-Ok.ensures.opened c.play_task-ended.ensures.disks
+    c.in-Ok.ensures.history c.in-Ok.ensures.sizes c.play_task-ended.ensures.sizes opened c.play_task-ended.ensures.disks
 
 pub returns-in-Err-clause-runs : goal.returns-in-Err-clause-runs
 returns-in-Err-clause-runs g c =
