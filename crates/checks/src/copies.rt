@@ -84,6 +84,70 @@ fn an_entry_is_copied_with_its_document(rt: HostRuntime) -> Result<(), Fail> {
     Ok(())
 }
 
+/// Whether an op puts the document with an array in the place of the one with the `_id` 5 in `t`.
+fn replaces(op: &Op) -> bool {
+    match op {
+        Op::Replace {
+            ns,
+            id: Value::Int32(5),
+            o,
+        } => ns.as_str() == "t" && is_nested(o),
+        _ => false,
+    }
+}
+
+#[test]
+fn a_replacement_is_copied(rt: HostRuntime) -> Result<(), Fail> {
+    let alloc = rt.alloc();
+    let op = Op::Replace {
+        ns: Text::from_str(alloc, "t")?,
+        id: Value::Int32(5),
+        o: nested(alloc)?,
+    };
+    let copy = op.copy()?;
+    drop(op);
+    assert!(rt; replaces(&copy));
+    Ok(())
+}
+
+/// Whether the long text is all there is.
+fn is_long_text(items: &Items) -> bool {
+    match items.at(0) {
+        Some(Value::Text(text)) => items.len() == 1 && text.as_str() == LONG,
+        _ => false,
+    }
+}
+
+/// Whether an op sets the array in the document with the `_id` 5 in `t`, and unsets the long name.
+fn changes(op: &Op) -> bool {
+    match op {
+        Op::Fields {
+            ns,
+            id: Value::Int32(5),
+            sets,
+            unsets,
+        } => ns.as_str() == "t" && is_nested(sets) && is_long_text(unsets),
+        _ => false,
+    }
+}
+
+#[test]
+fn a_change_of_fields_is_copied(rt: HostRuntime) -> Result<(), Fail> {
+    let alloc = rt.alloc();
+    let mut unsets = Items::new(alloc);
+    unsets.push(Value::Text(Text::from_str(alloc, LONG)?))?;
+    let op = Op::Fields {
+        ns: Text::from_str(alloc, "t")?,
+        id: Value::Int32(5),
+        sets: nested(alloc)?,
+        unsets,
+    };
+    let copy = op.copy()?;
+    drop(op);
+    assert!(rt; changes(&copy));
+    Ok(())
+}
+
 /// A configuration of one member.
 fn of_one(alloc: Global) -> Result<Config, Fail> {
     let mut members = MemberList::new(alloc);
@@ -125,11 +189,33 @@ fn a_configuration_is_copied_with_its_members(rt: HostRuntime) -> Result<(), Fai
 #[test]
 fn a_record_is_copied_with_its_configuration(rt: HostRuntime) -> Result<(), Fail> {
     let record = Record::Config(of_one(rt.alloc())?);
-    let found = match record.copy()? {
-        Record::Config(config) => is_of_one(&config),
+    let copy = record.copy()?;
+    drop(record);
+    let found = match &copy {
+        Record::Config(config) => is_of_one(config),
         _ => false,
     };
     assert!(rt; found);
+    Ok(())
+}
+
+/// Whether a record is of the one deletion, with this point.
+fn is_deletion_up_to(record: &Record, at: OpTime) -> bool {
+    match record {
+        Record::Entries { list, point } => is_deletion(list) && *point == at,
+        _ => false,
+    }
+}
+
+#[test]
+fn a_record_is_copied_with_its_entries(rt: HostRuntime) -> Result<(), Fail> {
+    let record = Record::Entries {
+        list: deletion(rt.alloc())?,
+        point: LATER,
+    };
+    let copy = record.copy()?;
+    drop(record);
+    assert!(rt; is_deletion_up_to(&copy, LATER));
     Ok(())
 }
 
@@ -153,6 +239,33 @@ fn a_message_is_copied_with_its_beat(rt: HostRuntime) -> Result<(), Fail> {
         _ => false,
     };
     assert!(rt; found);
+    Ok(())
+}
+
+/// Whether a body answers with the one optime `AT`, behind none and up to `LATER`.
+fn is_of_one_optime(body: &Body) -> bool {
+    match body {
+        Body::CommonReply {
+            after,
+            optimes,
+            visible,
+        } => *after == OpTime::ZERO && optimes.as_slice() == [AT].as_slice() && *visible == LATER,
+        _ => false,
+    }
+}
+
+#[test]
+fn an_answer_is_copied_with_its_optimes(rt: HostRuntime) -> Result<(), Fail> {
+    let mut optimes = OptimeList::new(rt.alloc());
+    optimes.push(AT)?;
+    let body = Body::CommonReply {
+        after: OpTime::ZERO,
+        optimes,
+        visible: LATER,
+    };
+    let copy = body.copy()?;
+    drop(body);
+    assert!(rt; is_of_one_optime(&copy));
     Ok(())
 }
 

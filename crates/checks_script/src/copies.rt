@@ -1,12 +1,13 @@
 // Copies of writes, commands, scripts, replies and summaries: memory suffices for each, and it says what was
 // copied, also when that is gone.
-use bson_doc::{Doc, Text, Value};
+use bson_doc::{Doc, IdKey, Text, Value};
 use doc_text::write_document;
 use doc_update::{Prepared, WriteOp};
 use fault_script::{Part, parse};
+use member_config::{Config, Member, MemberList};
 use oplog_entry::Op;
 use rs_optime::OpTime;
-use set_model::{Command, DocumentList, EntryList, Event, LostList, Reply};
+use set_model::{Command, DocumentList, EntryList, Event, LostList, ReadLevel, Reply};
 use std::alloc::Global;
 use std::test::Fail;
 use transcript::{NodePoints, Summary, write_reply, write_summary};
@@ -92,6 +93,111 @@ fn an_event_is_copied_with_its_command(rt: HostRuntime) -> Result<(), Fail> {
     }
 }
 
+/// Whether a command reads what has the `_id` "five" in `t`, as a majority has it, at the third node.
+fn reads(command: &Command) -> bool {
+    match command {
+        Command::Read {
+            node: 2,
+            level: ReadLevel::Majority,
+            collection,
+            id: Value::Text(id),
+        } => collection.as_str() == "t" && id.as_str() == "five",
+        _ => false,
+    }
+}
+
+#[test]
+fn a_read_is_copied_with_its_id(rt: HostRuntime) -> Result<(), Fail> {
+    let alloc = rt.alloc();
+    let command = Command::Read {
+        node: 2,
+        level: ReadLevel::Majority,
+        collection: Text::from_str(alloc, "t")?,
+        id: Value::Text(Text::from_str(alloc, "five")?),
+    };
+    let copy = command.copy()?;
+    drop(command);
+    assert!(rt; reads(&copy));
+    Ok(())
+}
+
+/// Whether a command gives the second node a configuration of the one member 5.
+fn is_change(command: &Command) -> bool {
+    match command {
+        Command::Reconfig { node: 1, config } => is_of_one(config),
+        _ => false,
+    }
+}
+
+fn is_of_one(config: &Config) -> bool {
+    match config.members.as_slice() {
+        [member] => member.number == 5 && config.version == 2,
+        _ => false,
+    }
+}
+
+#[test]
+fn a_reconfig_is_copied_with_its_members(rt: HostRuntime) -> Result<(), Fail> {
+    let mut members = MemberList::new(rt.alloc());
+    members.push(Member {
+        number: 5,
+        votes: true,
+        priority: 1,
+    })?;
+    let command = Command::Reconfig {
+        node: 1,
+        config: Config {
+            term: 1,
+            version: 2,
+            members,
+            chaining: true,
+        },
+    };
+    let copy = command.copy()?;
+    drop(command);
+    assert!(rt; is_change(&copy));
+    Ok(())
+}
+
+/// Whether a part is a line of this number that inserts a document.
+fn is_insert(part: &Part, line: u32) -> bool {
+    match part {
+        Part::Line(number, Command::Insert { .. }) => *number == line,
+        _ => false,
+    }
+}
+
+/// How many lines each of two threads has.
+fn lines_of_two(part: &Part) -> (usize, usize) {
+    let Part::Par(threads) = part else {
+        return (0, 0);
+    };
+    match threads.as_slice() {
+        [first, second] => (first.as_slice().len(), second.as_slice().len()),
+        _ => (0, 0),
+    }
+}
+
+/// The copies of the two parts of a script whose second one is a block.
+fn two_copied(alloc: Global, bytes: &[u8]) -> Result<(Part, Part), Fail> {
+    let Ok(script) = parse(alloc, bytes) else {
+        return Err(Fail::new("no script"));
+    };
+    match script.parts.as_slice() {
+        [first, second] => Ok((first.copy()?, second.copy()?)),
+        _ => Err(Fail::new("another script")),
+    }
+}
+
+#[test]
+fn a_part_is_copied(rt: HostRuntime) -> Result<(), Fail> {
+    let bytes = b"set 2\ninsert n0 t {_id: 1}\npar\nthread\nlog n0\nlog n1\nthread\nlog n1\nend";
+    let (line, block) = two_copied(rt.alloc(), bytes)?;
+    assert!(rt; is_insert(&line, 2));
+    assert_eq!(rt; lines_of_two(&block), (2, 1));
+    Ok(())
+}
+
 /// How many parts there are, and how many threads in the second one.
 fn counts(parts: &[Part]) -> (usize, usize) {
     match parts {
@@ -142,6 +248,23 @@ fn a_reply_is_copied(rt: HostRuntime) -> Result<(), Fail> {
     tells(alloc, Reply::Entries(entries), "7: entries 0\n")?;
     let lost = LostList::new(alloc);
     tells(alloc, Reply::Rolled(lost), "7: documents 0\n")
+}
+
+/// The document with the `_id` 1 in `t` was `{a: 5}`, and the one with the `_id` 2 was gone.
+#[test]
+fn lost_documents_are_copied(rt: HostRuntime) -> Result<(), Fail> {
+    let alloc = rt.alloc();
+    let mut lost = LostList::new(alloc);
+    let first = (Text::from_str(alloc, "t")?, IdKey::Number(1));
+    lost.push(first, Some(five(alloc)?))?;
+    let second = (Text::from_str(alloc, "t")?, IdKey::Number(2));
+    lost.push(second, None)?;
+    let copy = lost.copy()?;
+    drop(lost);
+    let mut text = String::new(alloc);
+    write_reply(7, &Reply::Rolled(copy), &mut text)?;
+    assert_eq!(rt; text.as_str(), "7: documents 2\n  t {a: 5}\n  t 2 gone\n");
+    Ok(())
 }
 
 #[test]

@@ -10,3 +10,5 @@ mod documents;
 mod ends;
 #[cfg(test)]
 mod running;
+#[cfg(test)]
+mod stepping;

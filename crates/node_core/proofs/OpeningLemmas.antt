@@ -1,7 +1,9 @@
 -- A node as the set begins, on two empty disks.
-use Rattle.std.proofs.Common.{◌≡◌, inl, ap, sym, subst, refl, ℕ, List, [], length, arith}
+use Rattle.std.proofs.Common.{◌≡◌, Err, inl, ap, sym, subst, refl, ℕ, List, [], length, arith}
 use Rattle.rs_disk.specs.File.{IsEmpty, contents}
 use Rattle.rs_disk.specs.State.{State}
+use Rattle.record_file.specs.Files.{OpensBy, first_steps}
+use Rattle.record_file.specs.declared.error.FileError.TheVariants.{Memory}
 use Rattle.member_config.specs.declared.config.Config.{Config}
 use Rattle.node_journal.specs.Files.{HasJournal, IsAtRest as JournalAtRest}
 use Rattle.checkpoint_store.specs.Checkpoint.{no_stable}
@@ -29,6 +31,11 @@ empty_journal state empty = no_records (contents state.file) empty.reads
 
 pub empty_checkpoint : (state : State) → IsEmpty state.file → HasCheckpoint (contents state.file) no_stable
 empty_checkpoint state empty = no_checkpoint (contents state.file) empty.reads
+
+-- an opening that is out of memory before its first call
+pub unopened_empty : (state : State) → IsEmpty state.file → OpensBy {T = Unit {0}} (Err Memory) state state
+unopened_empty state empty =
+    (first_steps, inl (omega (arith, ap length empty.reads), refl), ([], first_steps, refl, record { file = refl; past = refl }))
 
 -- on two empty disks stands the node as the set begins
 pub empty_stands : (config : Config) (number : ℕ) (j c : State) → IsEmpty j.file → IsEmpty c.file → Stands (opening_node config number) j c

@@ -13,7 +13,13 @@ abbrev pub checkpoints_after : {D : Type 0} → Result (Node × D × D) (D × D 
 checkpoints_after (Ok opened) = opened.2
 checkpoints_after (Err refused) = refused.1
 
+-- what an opening answers, but for the disks that it hands back
+abbrev pub answer_of :
+    {D : Type 0} → Result (Node × D × D) (D × D × FileError) → Result (Node × D × D) FileError
+answer_of (Ok opened) = Ok opened
+answer_of (Err refused) = Err refused.2
+
 -- a disk failed
-abbrev pub HasFailed : {D : Type 0} → Result (Node × D × D) (D × D × FileError) → Type 0
-HasFailed (Ok opened) = ⊥
-HasFailed (Err refused) = refused.2 ≡ Disk
+abbrev pub HasFailed : {T : Type 0} → Result T FileError → Type 0
+HasFailed (Ok value) = ⊥
+HasFailed (Err error) = error ≡ Disk

@@ -1,4 +1,4 @@
-ghost use Rattle.std.specs.Prelude.{◌≡◌, ◌⊎◌, ◌<◌, ℕ, [], None, true, false, length, if◌then◌else◌, IfOk, OnErr, IsSome, MatchOption};
+ghost use Rattle.std.specs.Prelude.{◌≡◌, ◌<◌, ℕ, [], None, true, false, length, if◌then◌else◌, IfOk, OnErr, IsSome, MatchOption};
 ghost use Rattle.std.specs.FinMap as maps;
 ghost use Rattle.bson_doc.specs.Place.{Place};
 ghost use Rattle.oplog_entry.specs.Docs.{docs};
@@ -15,12 +15,12 @@ ghost use Rattle.set_model.specs.Node.{down, opening_node};
 ghost use Rattle.set_model.specs.Points.{last_point};
 ghost use Rattle.set_model.specs.Reads.{local_documents};
 ghost use Rattle.set_model.specs.Rows.{row};
-ghost use Rattle.node_journal.specs.Files.{IsAtRest as JournalAtRest};
 ghost use Rattle.node_ledger.specs.Ledger.{IsReadable};
 ghost use Rattle.node_core.specs.Acting.{Acted, AreReopened, AreSame, DisksLeft, Follows, RunsWithoutOrders, Took, Unchanged, is_here};
 ghost use Rattle.node_state.specs.Bounds.{IsBounded, IsNumbered, is_own};
 ghost use Rattle.node_core.specs.Down.{down_node, down_state, seen_node};
-ghost use Rattle.node_core.specs.Nodes.{HasFailed, checkpoints_after, journal_after};
+ghost use Rattle.node_core.specs.Nodes.{HasFailed, answer_of, checkpoints_after, journal_after};
+ghost use Rattle.node_core.specs.Opening.{OpensInTurn};
 ghost use Rattle.node_core.specs.Putting.{EndsFrom, IsStoreFailed, LeavesOnDisks};
 ghost use Rattle.node_core.specs.OnDisks.{IsOnDisks};
 ghost use Rattle.node_core.specs.Stands.{Stands};
@@ -131,12 +131,10 @@ impl<D: Disk> Node<D> {
         ensures node { IfOk result (λ node. node.0 ≡ opening_node config.now number) }
         ensures stands { Stands (opening_node config.now number) (D.state (journal_after result))
             (D.state (checkpoints_after result)) }
-
-        // The journal is opened first.
-        ensures first { (checkpoints_after result ≡ checkpoint)
-            ⊎ JournalAtRest (D.state (journal_after result)) [] }
-        ensures runs { RunsWithoutOrders (HasFailed result) (D.state journal) (D.state (journal_after result))
+        ensures calls { OpensInTurn (answer_of result) (D.state journal) (D.state (journal_after result))
             (D.state checkpoint) (D.state (checkpoints_after result)) }
+        ensures runs { RunsWithoutOrders (HasFailed (answer_of result)) (D.state journal)
+            (D.state (journal_after result)) (D.state checkpoint) (D.state (checkpoints_after result)) }
     {
         let Ok(state) = State::open(alloc, number, config) else {
             return Err((journal, checkpoint, FileError::Memory));

@@ -17,10 +17,10 @@ use Rattle.set_model.specs.Run.{Run, after}
 use Rattle.set_model.specs.World.{World, Task, acts, takes, nothing, actor, step, task, touched_node}
 use Rattle.node_core.specs.Acting.{DisksActed, RunsWithoutOrders, is_here, orders_after}
 use Rattle.set_world.specs.Disks.{AtTouchedNode, OneChanged}
+use Rattle.set_world.specs.Went.{DisksPlay, DisksStep}
 use Rattle.set_world.proofs.DiskLemmas.{delivered_disks}
 use Rattle.set_world.proofs.FaultLemmas.{only_broken}
 use Rattle.set_program.specs.Counts.{FailedAtLeast, EitherFaultCounted, OrdersAre, failures_at, orders_behind}
-use Rattle.set_program.specs.Disks.{DisksPlay, DisksStep}
 
 -- ---- lists
 

@@ -1,33 +1,16 @@
 -- How a set's disks go on, event by event.
-use Rattle.std.proofs.Common.{ℕ, ◌≡◌, List, [], ◌∷◌, ◌++◌, refl, sym, subst, inl, inr}
-use Rattle.std.specs.Prelude.{IsSome, fold, ⊤}
+use Rattle.std.proofs.Common.{ℕ, ◌≡◌, List, [], ◌∷◌, ◌++◌, sym, subst, inl, inr}
+use Rattle.std.specs.Prelude.{⊤}
 use Rattle.rs_disk.specs.State.{State}
 use Rattle.set_model.specs.declared.command.Command.{Command}
 use Rattle.set_model.specs.declared.command.Event.{Event}
 use Rattle.set_model.specs.declared.reply.Reply.{Reply}
-use Rattle.set_model.specs.Run.{Run, Sizes, after, opening, run}
-use Rattle.set_model.specs.World.{World, step, task}
-use Rattle.node_core.specs.Acting.{DisksActed}
+use Rattle.set_model.specs.Run.{Sizes, opening, run}
 use Rattle.set_world.specs.World.{Set}
-use Rattle.set_world.specs.Disks.{AtTouchedNode, DisksUndone, IsStep, NothingDone, OneChanged}
-use Rattle.set_program.specs.Disks.{DisksPlay, DisksPlayed, DisksRan, DisksStep}
-
--- an event more is played
-play_more : {D : Type 0} (state : D → State) (so_far : Run) (events : List Event) (event : Event) (first old new : List D)
-    → DisksPlay state so_far.world events first old → DisksStep state (fold after so_far events).world event old new
-    → DisksPlay state so_far.world (events ++ event ∷ []) first new
-play_more {D} state so_far [] event first old new played more = (new, subst (λ (ds : List D). DisksStep state so_far.world event ds new) played more, refl)
-play_more state so_far (earlier ∷ events) event first old new played more =
-    (played.0, played.1, play_more state (after so_far earlier) events event played.0 old new played.2 more)
-
--- the disks of a command are those of its event
-of_event : {D : Type 0} (state : D → State) (world : World) (event : Event) (command : Command) (reply : Reply) (old new : List D)
-    → command ≡ event.command → reply ≡ (step world event).reply
-    → AtTouchedNode (task world command) event.failed old new (λ n. OneChanged state (DisksActed command reply (IsSome event.failed)) n old new)
-    → DisksStep state world event old new
-of_event state world event command reply old new command_is reply_is changed =
-    subst (λ (r : Reply). AtTouchedNode (task world event.command) event.failed old new (λ n. OneChanged state (DisksActed event.command r (IsSome event.failed)) n old new)) reply_is
-    (subst (λ (c : Command). AtTouchedNode (task world c) event.failed old new (λ n. OneChanged state (DisksActed c reply (IsSome event.failed)) n old new)) command_is changed)
+use Rattle.set_world.specs.Disks.{DisksUndone, IsStep, NothingDone}
+use Rattle.set_world.specs.Went.{DisksPlay}
+use Rattle.set_world.proofs.WentLemmas.{of_event, play_more}
+use Rattle.set_program.specs.Disks.{DisksPlayed, DisksRan}
 
 -- a set goes on by a step
 pub step_played : {D : Type 0} (state : D → State) (old new : Set D) (line : ℕ) (command : Command) (reply : Reply) → IsStep state old new line command reply

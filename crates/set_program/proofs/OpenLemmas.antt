@@ -15,6 +15,7 @@ use Rattle.fault_script.specs.declared.script.Script.{Script}
 use Rattle.fault_script.specs.Script.{lines_in, sizes_of}
 use Rattle.set_world.specs.World.{Set, opening_set}
 use Rattle.set_world.specs.Disks.{AllStand, Opens, OneFaultCounted}
+use Rattle.set_world.specs.Went.{DisksPlay}
 use Rattle.set_program.specs.declared.outcome.Left.{Left}
 use Rattle.set_program.specs.declared.outcome.Left.TheVariants.{World, Parts}
 use Rattle.set_program.specs.declared.stop.Stop.{Stop}
@@ -23,9 +24,9 @@ use Rattle.set_program.specs.declared.words.Task.{Task}
 use Rattle.set_program.specs.declared.words.Task.TheVariants.{Run, Chaos}
 use Rattle.set_program.specs.Asking.{OpensScript, RunsScript}
 use Rattle.set_program.specs.Causes.{of_file}
-use Rattle.set_program.specs.Disks.{DisksPlay, DisksPlayed, DisksRan}
+use Rattle.set_program.specs.Disks.{DisksPlayed, DisksRan}
 use Rattle.set_program.specs.Steps.{DisksGoOn, IsNextOf, line_of}
-use Rattle.set_program.specs.Headline.{AreOrdersOf, Asks, ComesNext, Ends, EndsTask, IsAsked, IsScriptOf, IsUnarmed, LeavesDisks, status_of, status_of_stop}
+use Rattle.set_program.specs.Headline.{AreOrdersOf, Asks, ComesNext, Ends, EndsTask, IsAsked, IsScriptOf, IsUnarmed, LeavesDisks, opening_error, status_of, status_of_stop}
 use Rattle.set_program.specs.Left.{disks_of}
 use Rattle.set_program.proofs.DisksLemmas.{ran_as}
 use Rattle.set_program.proofs.PlayLemmas.{Keeps-same, orders_of}
@@ -52,33 +53,24 @@ opened_ran {D} state parts old new result none goes =
         )
 
 pub set_leaves : {D : Type 0} (state : D → State) (read : Script) (handed : List D) (old new : Set D) (result : Result (Unit {0}) Stop)
-    → old.history ≡ [] → old.sizes ≡ sizes_of read → new.sizes ≡ old.sizes → Opens state read.nodes ⊥ handed old.disks → DisksGoOn state (lines_in read.parts) old new (result ≡ Err Memory)
+    → old.history ≡ [] → old.sizes ≡ sizes_of read → new.sizes ≡ old.sizes → Opens state read.nodes (Ok tt) handed old.disks → DisksGoOn state (lines_in read.parts) old new (result ≡ Err Memory)
     → OpensScript state read handed (status_of result) (World new)
 set_leaves {D} state read handed old new result none sizes same opens goes = (
   old.disks,
-  subst (λ (n : ℕ). Opens state n ⊥ handed old.disks) (sym (ap (λ (s : Sizes). s.nodes) (same ∙ sizes))) opens,
+  subst (λ (n : ℕ). Opens state n (Ok tt) handed old.disks) (sym (ap (λ (s : Sizes). s.nodes) (same ∙ sizes))) opens,
   opened_ran state read.parts old new result none goes,
 )
 
 -- ---- it couldn't be opened
 
-with_fault : {D : Type 0} (state : D → State) (nodes : ℕ) (P Q : Type 0) (old new : List D) → (Q → P) → Opens state nodes P old new → Opens state nodes Q old new
-with_fault state nodes P Q old new back opens = record {
-  count = opens.count;
-  idle = opens.idle;
-  each = opens.each;
-  cause = λ fault. opens.cause (back fault);
-  only_armed = λ fault. opens.only_armed (back fault);
-}
-
 refuses : {D : Type 0} (state : D → State) (read : Script) (handed : List D) (error : FileError) (events : Vec Event Global) (disks : Vec D Global)
-    → Opens state read.nodes (error ≡ Disk) handed disks.items → AllStand state (opening_set (sizes_of read) disks.items)
+    → Opens state read.nodes (Err error) handed disks.items → AllStand state (opening_set (sizes_of read) disks.items)
     → OpensScript state read handed (status_of_stop (of_file error)) (Parts events disks)
-refuses state read handed Disk events disks opens stand = (refl, with_fault state read.nodes (Disk ≡ Disk) (7 ≡ 7) handed disks.items (λ seven. refl) opens, stand)
-refuses state read handed NoBytes events disks opens stand = (refl, with_fault state read.nodes (NoBytes ≡ Disk) (1 ≡ 7) handed disks.items (λ seven. absurd (cc seven)) opens, stand)
+refuses state read handed Disk events disks opens stand = (refl, opens, stand)
+refuses state read handed NoBytes events disks opens stand = (refl, opens, stand)
 
 pub refused_leaves : {D : Type 0} (state : D → State) (read : Script) (handed : List D) (error : FileError) (stop : Stop) (events : Vec Event Global) (disks : Vec D Global)
-    → stop ≡ of_file error → Opens state read.nodes (error ≡ Disk) handed disks.items → AllStand state (opening_set (sizes_of read) disks.items)
+    → stop ≡ of_file error → Opens state read.nodes (Err error) handed disks.items → AllStand state (opening_set (sizes_of read) disks.items)
     → OpensScript state read handed (status_of_stop stop) (Parts events disks)
 refused_leaves state read handed error stop events disks is opens stand =
     subst (λ (s : Stop). OpensScript state read handed (status_of_stop s) (Parts events disks)) (sym is) (refuses state read handed error events disks opens stand)
@@ -113,7 +105,7 @@ not_opening (Chaos seed events nodes) parts old new (Err DiskFault) set ends sev
 -- what holds of the opening of a script's set holds where a disk failed
 when_failed : {D : Type 0} (state : D → State) (words : List (String Global)) (left rest old new : Option (List ℕ)) (handed : List D) (ended : Result (Unit {0}) Stop) (outcome : Left D)
     → Ends words left rest old new ended outcome → LeavesDisks state words left rest handed (status_of ended) outcome → status_of ended ≡ 7
-    → (read : Script) × IsAsked words left rest read × Opens state read.nodes (status_of ended ≡ 7) handed (disks_of outcome)
+    → (read : Script) × IsAsked words left rest read × Opens state read.nodes (Err (opening_error (status_of ended))) handed (disks_of outcome)
 when_failed state words left rest old new handed ended (World set) (task, asks, (read, is, sizes, runs)) leaves seven = absurd (not_opening task read.parts old new ended set runs seven)
 when_failed state words left rest old new handed ended (Parts events disks) ends (inl (other, same)) seven = absurd (other seven)
 when_failed state words left rest old new handed ended (Parts events disks) ends (inr (one, (read, asked, opens, stand))) seven = (read, asked, opens)
@@ -123,7 +115,7 @@ pub disk_failed : {D : Type 0} (state : D → State) (words : List (String Globa
     → (read : Script) × IsAsked words left rest read × OneFaultCounted state (2 * read.nodes) handed (disks_of outcome)
 disk_failed state words left rest old new handed ended outcome ends leaves seven =
     let failed = when_failed state words left rest old new handed ended outcome ends leaves seven in
-    (failed.0, failed.1, failed.2.cause seven)
+    (failed.0, failed.1, failed.2.cause (ap opening_error seven))
 
 pub unarmed_at : {D : Type 0} (state : D → State) (handed : List D) → All (λ (disk : D). IsUnarmed (state disk)) handed → (place : ℕ) (disk : D) → slice_get handed place ≡ Some disk → IsUnarmed (state disk)
 unarmed_at {D} state handed unarmed place disk at =
@@ -134,5 +126,5 @@ pub none_failed : {D : Type 0} (state : D → State) (words : List (String Globa
     → Ends words left rest old new ended outcome → LeavesDisks state words left rest handed (status_of ended) outcome → All (λ (disk : D). IsUnarmed (state disk)) handed → status_of ended ≢ 7
 none_failed {D} state words left rest old new handed ended outcome ends leaves unarmed seven =
     let failed = when_failed state words left rest old new handed ended outcome ends leaves seven in
-    let armed = failed.2.only_armed seven (λ place disk at. (unarmed_at state handed unarmed place disk at).0) in
-    (unarmed_at state handed unarmed armed.0 armed.1 armed.2).1 armed.3
+    let armed = failed.2.only_armed (ap opening_error seven) (λ place disk within at. (unarmed_at state handed unarmed place disk at).0) in
+    (unarmed_at state handed unarmed armed.0 armed.1 armed.3).1 armed.4

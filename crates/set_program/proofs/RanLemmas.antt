@@ -1,7 +1,7 @@
 -- What the disks of a node went through in a whole run: they were opened, then each event did its part, and maybe a command that
 -- wasn't done.
 use Rattle.std.proofs.Common.{◌≡◌, ◌∙◌, ◌<◌, ◌≤◌, ◌+◌, ◌*◌, ◌&&◌, inl, inr, ap, sym, subst, refl, arith, ℕ, zero, suc, Bool, true, nat_lt, None, Some, IsTrue, IsSome, List, [], ◌∷◌, Option, String, length, slice_get}
-use Rattle.std.specs.Prelude.{All}
+use Rattle.std.specs.Prelude.{All, Ok}
 use Rattle.std.specs.declared.alloc.Global.{Global}
 use Rattle.std.proofs.lemmas.Bool.{cases_Bool, cases_order}
 use Rattle.std.proofs.lemmas.Option.{same_Some, slice_get_cases}
@@ -22,12 +22,13 @@ use Rattle.set_model.specs.World.{World, Step, Task, acts, takes, nothing, step,
 use Rattle.node_core.specs.Acting.{DisksLeft, RunsWithoutOrders, is_disk_fail}
 use Rattle.node_core.proofs.PuttingLemmas.{left_runs, runs_none}
 use Rattle.set_world.specs.Disks.{AtTouchedNode, DisksUndone, WasUsed, OneChanged, Opens}
+use Rattle.set_world.specs.Went.{DisksPlay}
 use Rattle.set_world.specs.World.{Set}
 use Rattle.set_world.proofs.ActingLemmas.{plan_is, step_is}
 use Rattle.set_world.proofs.DisksOpenLemmas.{there_too}
 use Rattle.set_world.proofs.NodesLemmas.{named}
 use Rattle.set_program.specs.Counts.{FailedAtLeast, FailuresCount, FaultsAreArmed, FaultsHaveCauses, OfNode, EitherFaultCounted, OrdersAre, OrdersCount, failures_at}
-use Rattle.set_program.specs.Disks.{DisksPlay, DisksRan}
+use Rattle.set_program.specs.Disks.{DisksRan}
 use Rattle.set_program.specs.Headline.{ComesNext, IsUnarmed, LeavesDisks}
 use Rattle.set_program.specs.Left.{IfSet}
 use Rattle.set_program.specs.declared.outcome.Left.{Left}
@@ -157,7 +158,7 @@ ran_to state OutOfMemory IsNext opened set (inr (out, began)) = record {
   behind = λ number j c has. undone_there state began.command began.last set.disks number j c has (run set.sizes set.history).world began.undone;
 }
 
-pub node_ran : {D : Type 0} (state : D → State) (handed opened : List D) (set : Set D) → Opens state set.sizes.nodes ⊥ handed opened → RanTo state opened set → (number : ℕ) → 2 * number + 1 < length handed
+pub node_ran : {D : Type 0} (state : D → State) (handed opened : List D) (set : Set D) → Opens state set.sizes.nodes (Ok tt) handed opened → RanTo state opened set → (number : ℕ) → 2 * number + 1 < length handed
     → OfNode state handed set.disks number (NodeRan number (opening set.sizes).world set.history)
 node_ran {D} state handed opened set opens ran number within = record {
   journal = journal.0;
@@ -251,7 +252,7 @@ module _ (number : ℕ) (sizes : Sizes) (events : List Event) (j j' c c' : State
 -- ---- what a call leaves
 
 module _ {D : Type 0} (state : D → State) (handed : List D) (many : length handed ≡ 100) where
-  ran_of : (opened : List D) (set : Set D) → AreSizes set.sizes → Opens state set.sizes.nodes ⊥ handed opened → RanTo state opened set → (number : ℕ) → number < set.sizes.nodes
+  ran_of : (opened : List D) (set : Set D) → AreSizes set.sizes → Opens state set.sizes.nodes (Ok tt) handed opened → RanTo state opened set → (number : ℕ) → number < set.sizes.nodes
       → OfNode state handed set.disks number (NodeRan number (opening set.sizes).world set.history)
   ran_of opened set sizes opens ran number less =
       node_ran state handed opened set opens ran number (let most : set.sizes.nodes ≤ 7 = sizes.most in omega (arith, less, most, many))

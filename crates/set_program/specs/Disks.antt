@@ -1,28 +1,11 @@
 -- What a run does to the set's disks.
-use Rattle.std.specs.Prelude.{◌≡◌, ◌⊎◌, ℕ, IsSome, List, [], ◌∷◌}
+use Rattle.std.specs.Prelude.{◌⊎◌, ℕ, List}
 use Rattle.rs_disk.specs.State.{State}
 use Rattle.set_model.specs.declared.command.Command.{Command}
-use Rattle.set_model.specs.declared.command.Event.{Event}
 use Rattle.set_model.specs.Run.{opening, run}
-use Rattle.set_model.specs.World.{World, step, task}
-use Rattle.node_core.specs.Acting.{DisksActed}
 use Rattle.set_world.specs.World.{Set}
-use Rattle.set_world.specs.Disks.{AtTouchedNode, DisksUndone, OneChanged}
-
--- An event changes the two disks of its node, and no others: a store fails only where one of them does, and
--- only a crash and a `diskfail` give them orders. An event without a node changes none.
-abbrev pub DisksStep : {D : Type 0} → (D → State) → World → Event → List D → List D → Type 0
-DisksStep state world event old new =
-    AtTouchedNode (task world event.command) event.failed old new
-    (λ number.
-    OneChanged state (DisksActed event.command (step world event).reply (IsSome event.failed)) number old new)
-
--- events, each at the world that it meets
-abbrev pub DisksPlay : {D : Type 0} → (D → State) → World → List Event → List D → List D → Type 0
-DisksPlay state world [] old new = new ≡ old
-DisksPlay {D} state world (event ∷ later) old new =
-    (between : List D) × DisksStep state world event old between
-    × DisksPlay state (step world event).world later between new
+use Rattle.set_world.specs.Disks.{DisksUndone}
+use Rattle.set_world.specs.Went.{DisksPlay}
 
 -- from these disks a set came by its events to those that it has
 abbrev pub DisksPlayed : {D : Type 0} → (D → State) → List D → Set D → Type 0

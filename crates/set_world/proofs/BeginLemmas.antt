@@ -1,11 +1,12 @@
 -- On the disks of a set that couldn't be opened stands what its nodes are as it begins.
 use Rattle.std.proofs.Common.{◌≡◌, ◌∙◌, ◌<◌, ◌≤◌, ◌+◌, ◌*◌, ◌-◌, inl, inr, ap, sym, subst, refl, arith, ℕ, zero, suc, Some, length, List, [], ◌∷◌, ◌++◌, slice_get}
-use Rattle.std.specs.Prelude.{All}
+use Rattle.std.specs.Prelude.{All, Result}
 use Rattle.std.proofs.lemmas.Bool.{cases_order}
 use Rattle.std.proofs.lemmas.List.Elements.{All-get_or}
 use Rattle.std.proofs.lemmas.Option.{get_or_from_slice_get, same_Some, slice_get_cases}
 use Rattle.rs_disk.specs.File.{IsEmpty}
 use Rattle.rs_disk.specs.State.{State}
+use Rattle.record_file.specs.declared.error.FileError.{FileError}
 use Rattle.member_config.specs.declared.config.Config.{Config}
 use Rattle.member_config.specs.Config.{first_config}
 use Rattle.set_model.specs.Node.{Node, opening_node}
@@ -84,9 +85,9 @@ stands_behind state front tail m k node long stands = record {
   stands = stands.stands;
 }
 
-module _ {D : Type 0} (state : D → State) (config : Config) (number : ℕ) (Fault : Type 0) (so_many : List (Node × D × D)) (disks back : List D)
+module _ {D : Type 0} (state : D → State) (config : Config) (number : ℕ) (ended : Result (Unit {0}) FileError) (so_many : List (Node × D × D)) (disks back : List D)
     (nodes_are : nodes_in so_many ≡ nodes_from config 0 number) (many : length so_many ≡ number) (stand : EachNodeStands state so_many)
-    (two : TwoDisksReturned state (opening_node config number) Fault disks back) (empty : AreEmpty state disks) where
+    (two : TwoDisksReturned state (opening_node config number) ended disks back) (empty : AreEmpty state disks) where
   abbrev whole : List D
   whole = disks_in so_many ++ back
 

@@ -1,5 +1,5 @@
 -- The disks of nodes, two for each, in order of number.
-use Rattle.std.proofs.Common.{◌≡◌, ◌∙◌, ◌<◌, ◌+◌, ◌*◌, inl, inr, ap, sym, subst, refl, arith, ℕ, zero, suc, false, Option, None, Some, Result, Ok, Err, length, List, [], ◌∷◌, ◌++◌, slice_get, slice_set, slice_index_or}
+use Rattle.std.proofs.Common.{◌≡◌, ◌∙◌, ◌<◌, ◌+◌, ◌*◌, inl, inr, ap, sym, subst, refl, arith, ℕ, zero, suc, Bool, false, Option, None, Some, Result, Ok, Err, length, List, [], ◌∷◌, ◌++◌, slice_get, slice_set, slice_index_or}
 use Rattle.std.specs.Prelude.{IfOk, OnErr, IsSome}
 use Rattle.std.specs.declared.alloc.AllocError.{AllocError}
 use Rattle.std.proofs.lemmas.Option.{slice_get-get_or, same_Some}
@@ -128,9 +128,9 @@ found [] k node there = absurd (cc there)
 found (first ∷ nodes) zero node there = (first, refl, same_Some first.0 node there)
 found (first ∷ nodes) (suc k) node there = found nodes k node there
 
-pub all_stand : {D : Type 0} (state : D → State) (sizes : Sizes) (history : List Event) (items : List (Node × D × D)) (idle : List D) (messages : List Message)
-    → (run sizes history).world ≡ record { nodes = nodes_in items; messages = messages } → EachNodeStands state items → AllStand state (record { sizes = sizes; history = history; disks = disks_in items ++ idle })
-all_stand {D} state sizes history items idle messages is each number node there =
+pub all_stand : {D : Type 0} (state : D → State) (sizes : Sizes) (history : List Event) (items : List (Node × D × D)) (idle opened : List D) (kept : Bool) (messages : List Message)
+    → (run sizes history).world ≡ record { nodes = nodes_in items; messages = messages } → EachNodeStands state items → AllStand state (record { sizes = sizes; history = history; disks = disks_in items ++ idle; opened = opened; whole = kept })
+all_stand {D} state sizes history items idle opened kept messages is each number node there =
     let item = found items number node (ap (λ (w : World). slice_get w.nodes number) (sym is) ∙ there) in
     subst (λ n. StandsAtNumber state number n (disks_in items ++ idle)) item.2 (record {
       journal = item.0.1;
@@ -189,7 +189,7 @@ disks_of_took state number next message command old new done none one =
 
 -- ---- the disks of the set
 
-module _ {D : Type 0} (state : D → State) (sizes : Sizes) (history : List Event) (items new : List (Node × D × D)) (idle : List D) (messages : List Message) (command : Command)
+module _ {D : Type 0} (state : D → State) (sizes : Sizes) (history : List Event) (items new : List (Node × D × D)) (idle opened : List D) (kept : Bool) (messages : List Message) (command : Command)
     (is : (run sizes history).world ≡ record { nodes = nodes_in items; messages = messages }) where
   -- by the node that the command touches
   touched : (failed : Option ℕ) (Changed : State → State → State → State → Type 0)
@@ -202,7 +202,7 @@ module _ {D : Type 0} (state : D → State) (sizes : Sizes) (history : List Even
 
   pub is_step : (later : List Event) (line : ℕ) (came : Done) → later ≡ history ++ event_of line command came ∷ [] → came.reply ≡ (step (run sizes history).world (event_of line command came)).reply
       → AtTouchedNode (task (record { nodes = nodes_in items; messages = messages }) command) came.failed items new (λ n. ChangesAt n (NodeDisks state (DisksActed command came.reply (IsSome came.failed))) items new)
-      → IsStep state (record { sizes = sizes; history = history; disks = disks_in items ++ idle }) (record { sizes = sizes; history = later; disks = disks_in new ++ idle }) line command came.reply
+      → IsStep state (record { sizes = sizes; history = history; disks = disks_in items ++ idle; opened = opened; whole = kept }) (record { sizes = sizes; history = later; disks = disks_in new ++ idle; opened = opened; whole = kept }) line command came.reply
   is_step later line came more reply changed = record {
     event = event_of line command came;
     line_is = refl;
@@ -214,7 +214,7 @@ module _ {D : Type 0} (state : D → State) (sizes : Sizes) (history : List Even
 
   pub is_undone : (later : List Event) → later ≡ history
       → AtTouchedNode (task (record { nodes = nodes_in items; messages = messages }) command) None items new (λ n. ChangesAt n (NodeUnchanged state (DisksLeft command)) items new)
-      → NothingDone state (record { sizes = sizes; history = history; disks = disks_in items ++ idle }) (record { sizes = sizes; history = later; disks = disks_in new ++ idle }) command
+      → NothingDone state (record { sizes = sizes; history = history; disks = disks_in items ++ idle; opened = opened; whole = kept }) (record { sizes = sizes; history = later; disks = disks_in new ++ idle; opened = opened; whole = false }) command
   is_undone later same one = record {
     history = same;
     disks = inr (touched None (DisksLeft command)
@@ -225,24 +225,24 @@ module _ {D : Type 0} (state : D → State) (sizes : Sizes) (history : List Even
 
 -- ---- the same, of the nodes and the messages as a step finds them
 
-module _ {D : Type 0} (state : D → State) (sizes : Sizes) (history : List Event) (items nodes new : List (Node × D × D)) (idle : List D) (messages now : List Message) (command : Command)
+module _ {D : Type 0} (state : D → State) (sizes : Sizes) (history : List Event) (items nodes new : List (Node × D × D)) (idle opened : List D) (kept : Bool) (messages now : List Message) (command : Command)
     (is : (run sizes history).world ≡ record { nodes = nodes_in items; messages = messages }) (same : nodes ≡ items) (same_messages : now ≡ messages) where
   world_is : (run sizes history).world ≡ record { nodes = nodes_in nodes; messages = now }
   world_is = is ∙ (λ i. record { nodes = nodes_in (sym same i); messages = sym same_messages i })
 
   pub stepped : (later : List Event) (line : ℕ) (came : Done) → later ≡ history ++ event_of line command came ∷ [] → came.reply ≡ (step (run sizes history).world (event_of line command came)).reply
       → AtTouchedNode (task (record { nodes = nodes_in nodes; messages = now }) command) came.failed nodes new (λ n. ChangesAt n (NodeDisks state (DisksActed command came.reply (IsSome came.failed))) nodes new)
-      → IsStep state (record { sizes = sizes; history = history; disks = disks_in items ++ idle }) (record { sizes = sizes; history = later; disks = disks_in new ++ idle }) line command came.reply
+      → IsStep state (record { sizes = sizes; history = history; disks = disks_in items ++ idle; opened = opened; whole = kept }) (record { sizes = sizes; history = later; disks = disks_in new ++ idle; opened = opened; whole = kept }) line command came.reply
   stepped later line came more reply changed =
-      subst (λ (l : List (Node × D × D)). IsStep state (record { sizes = sizes; history = history; disks = disks_in l ++ idle }) (record { sizes = sizes; history = later; disks = disks_in new ++ idle }) line command came.reply) same
-      (is_step state sizes history nodes new idle now command world_is later line came more reply changed)
+      subst (λ (l : List (Node × D × D)). IsStep state (record { sizes = sizes; history = history; disks = disks_in l ++ idle; opened = opened; whole = kept }) (record { sizes = sizes; history = later; disks = disks_in new ++ idle; opened = opened; whole = kept }) line command came.reply) same
+      (is_step state sizes history nodes new idle opened kept now command world_is later line came more reply changed)
 
   pub undone : (later : List Event) → later ≡ history
       → AtTouchedNode (task (record { nodes = nodes_in nodes; messages = now }) command) None nodes new (λ n. ChangesAt n (NodeUnchanged state (DisksLeft command)) nodes new)
-      → NothingDone state (record { sizes = sizes; history = history; disks = disks_in items ++ idle }) (record { sizes = sizes; history = later; disks = disks_in new ++ idle }) command
+      → NothingDone state (record { sizes = sizes; history = history; disks = disks_in items ++ idle; opened = opened; whole = kept }) (record { sizes = sizes; history = later; disks = disks_in new ++ idle; opened = opened; whole = false }) command
   undone later still one =
-      subst (λ (l : List (Node × D × D)). NothingDone state (record { sizes = sizes; history = history; disks = disks_in l ++ idle }) (record { sizes = sizes; history = later; disks = disks_in new ++ idle }) command) same
-      (is_undone state sizes history nodes new idle now command world_is later still one)
+      subst (λ (l : List (Node × D × D)). NothingDone state (record { sizes = sizes; history = history; disks = disks_in l ++ idle; opened = opened; whole = kept }) (record { sizes = sizes; history = later; disks = disks_in new ++ idle; opened = opened; whole = false }) command) same
+      (is_undone state sizes history nodes new idle opened kept now command world_is later still one)
 
 -- nothing was done, and no disk was touched
 pub untouched : {D : Type 0} (state : D → State) (old new : Set D) (command : Command) → new.history ≡ old.history → new.disks ≡ old.disks → NothingDone state old new command

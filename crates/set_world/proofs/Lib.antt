@@ -5,5 +5,7 @@ pub mod DisksOpenLemmas
 pub mod FaultLemmas
 pub mod NodesLemmas
 mod OpenLemmas
+pub mod PointedLemmas
 mod PoolLemmas
+pub mod WentLemmas
 mod WorldLemmas

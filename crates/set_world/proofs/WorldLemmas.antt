@@ -146,6 +146,11 @@ module _ {D : Type 0} (sizes : Sizes) (history : List Event) (nodes : List (Node
   pub may_act : InEveryRun MessagesCanBeTaken → MayAct nodes pool
   may_act taking = record {
     size = size ∙ stands.size ∙ sym count;
+    some =
+        let one : 1 ≤ sizes.members = stands.reached.sizes_are.one in
+        let within : sizes.members ≤ sizes.nodes = stands.reached.sizes_are.within in
+        let same : length nodes ≡ sizes.nodes = count in
+        omega (arith, one, within, same);
     few =
         let few : length (nodes_in nodes) ≤ 7 = few_nodes sizes history (nodes_in nodes) pool.messages reached_now law in
         let same : length (nodes_in nodes) ≡ length nodes = nodes_long nodes in
@@ -236,3 +241,25 @@ stands_still state Disks sizes history later items nodes new old pool what stand
   where
     here : nodes_in new ≡ nodes_in items
     here = nodes_still state Disks what nodes new undone ∙ ap nodes_in same
+
+-- ---- the node that a command touches
+
+-- each receiver is a node of the set, and there is one
+pub receivers : {D : Type 0} (sizes : Sizes) (history : List Event) (items : List (Node × D × D)) (pool : Pool) → IsStanding sizes history (nodes_in items) pool → InEveryRun NumbersStaySmall
+    → (0 < pool.nodes) × ((message : Message) → Contains pool.messages message → message.to < pool.nodes)
+receivers sizes history items pool stands law = (
+  (let one : 1 ≤ sizes.members = stands.reached.sizes_are.one in let within : sizes.members ≤ sizes.nodes = stands.reached.sizes_are.within in let size = stands.size in omega (arith, one, within, size)),
+  λ message sent.
+      let less : message.to < length (nodes_in items) = between sizes history (nodes_in items) pool.messages stands.reached law message sent in
+      let same : length (nodes_in items) ≡ sizes.nodes = as_many sizes history (nodes_in items) pool.messages stands.reached law in
+      let size = stands.size in
+      omega (arith, less, same, size),
+)
+
+-- ---- the command of a step
+
+-- it is for the nodes of the last world
+pub named_there : {D : Type 0} (sizes : Sizes) (history : List Event) (items : List (Node × D × D)) (pool : Pool) → IsStanding sizes history (nodes_in items) pool → InEveryRun NumbersStaySmall
+    → (command : Command) → is_for sizes.nodes command ≡ true → is_for (length (run sizes history).world.nodes) command ≡ true
+named_there sizes history items pool stands law command named =
+    subst (λ n. is_for n command ≡ true) (sym (ap (λ (w : World). length w.nodes) stands.reached.world ∙ as_many sizes history (nodes_in items) pool.messages stands.reached law)) named

@@ -58,6 +58,7 @@ EachNodeStands {D} state nodes =
 -- taken by its receiver
 pub record MayAct {D : Type 0} (nodes : List (Node × D × D)) (pool : Pool) : Type 0 where
   pub size : pool.nodes ≡ length nodes
+  pub some : 1 ≤ length nodes
   pub few : length nodes ≤ 50
   pub bounds : (number : ℕ) (node : Node) → slice_get (nodes_in nodes) number ≡ Some node → IsBounded node
   pub next : IsNumbered (length pool.messages)

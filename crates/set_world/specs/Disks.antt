@@ -1,7 +1,9 @@
 -- What opening a set and each of its steps do to its disks.
-use Rattle.std.specs.Prelude.{◌≡◌, ◌⊎◌, ◌<◌, ◌≤◌, ◌+◌, ◌*◌, ◌++◌, ◌∷◌, [], ℕ, IsSome, IsTrue, List, Option, None, Some, length, drop, slice_get, slice_set}
+use Rattle.std.specs.Prelude.{◌≡◌, ◌⊎◌, ◌<◌, ◌≤◌, ◌+◌, ◌*◌, ◌++◌, ◌∷◌, [], ℕ, IsSome, IsTrue, List, Option, None, Some, Result, Ok, Err, length, drop, slice_get, slice_set}
 use Rattle.rs_io.specs.Fault.{CountRose}
 use Rattle.rs_disk.specs.State.{State}
+use Rattle.record_file.specs.declared.error.FileError.{FileError}
+use Rattle.record_file.specs.declared.error.FileError.TheVariants.{Memory}
 use Rattle.member_config.specs.declared.config.Config.{Config}
 use Rattle.set_model.specs.declared.command.Command.{Command}
 use Rattle.set_model.specs.declared.command.Event.{Event}
@@ -10,6 +12,8 @@ use Rattle.set_model.specs.Node.{Node, opening_node}
 use Rattle.set_model.specs.Run.{run}
 use Rattle.set_model.specs.World.{Task, World, acts, takes, nothing, step, task}
 use Rattle.node_core.specs.Acting.{DisksActed, DisksLeft, RunsWithoutOrders}
+use Rattle.node_core.specs.Nodes.{HasFailed}
+use Rattle.node_core.specs.Opening.{OpensInTurn}
 use Rattle.node_core.specs.Stands.{Stands}
 use Rattle.set_world.specs.World.{Set}
 
@@ -78,22 +82,24 @@ pub record NothingDone {D : Type 0} (state : D → State) (old new : Set D) (com
 
 -- ---- two disks on which a node is opened
 
--- The first two disks of a list became these, and the rest stays.
-pub record TwoDisksRan {D : Type 0} (state : D → State) (Fault : Type 0) (old : List D)
+-- The first two disks of a list became these by an opening that ended so, and the rest stays.
+pub record TwoDisksRan {D : Type 0} (state : D → State) (ended : Result (Unit {0}) FileError) (old : List D)
     (journal' checkpoints' : D) (rest : List D) : Type 0 where
   pub journal : D
   pub checkpoints : D
   pub first : old ≡ journal ∷ checkpoints ∷ rest
-  pub runs : RunsWithoutOrders Fault (state journal) (state journal') (state checkpoints) (state checkpoints')
+  pub calls : OpensInTurn ended (state journal) (state journal') (state checkpoints) (state checkpoints')
+  pub runs : RunsWithoutOrders (HasFailed ended) (state journal) (state journal') (state checkpoints)
+      (state checkpoints')
 
 -- They stand in their places again, and on them stands this node.
-pub record TwoDisksReturned {D : Type 0} (state : D → State) (node : Node) (Fault : Type 0)
-    (old new : List D) : Type 0 where
+pub record TwoDisksReturned {D : Type 0} (state : D → State) (node : Node)
+    (ended : Result (Unit {0}) FileError) (old new : List D) : Type 0 where
   pub journal' : D
   pub checkpoints' : D
   pub rest : List D
   pub back : new ≡ journal' ∷ checkpoints' ∷ rest
-  pub two : TwoDisksRan state Fault old journal' checkpoints' rest
+  pub two : TwoDisksRan state ended old journal' checkpoints' rest
   pub stands : Stands node (state journal') (state checkpoints')
 
 -- ---- the opening of a set
@@ -117,16 +123,48 @@ OneFaultCounted {D} state first old new =
     × (slice_get new place ≡ Some after)
     × CountRose (state before).faults (state after).faults
 
+-- the two disks of a node of this number, before and after its opening, which ended so
+pub record OpenedAt {D : Type 0} (state : D → State) (ended : Result (Unit {0}) FileError) (number : ℕ)
+    (old new : List D) : Type 0 where
+  pub journal : D
+  pub journal' : D
+  pub checkpoints : D
+  pub checkpoints' : D
+  pub journal_was : slice_get old (2 * number) ≡ Some journal
+  pub journal_is : slice_get new (2 * number) ≡ Some journal'
+  pub checkpoints_was : slice_get old (2 * number + 1) ≡ Some checkpoints
+  pub checkpoints_is : slice_get new (2 * number + 1) ≡ Some checkpoints'
+  pub calls : OpensInTurn ended (state journal) (state journal') (state checkpoints) (state checkpoints')
+
+-- all nodes below this number were opened
+abbrev pub AllOpened : {D : Type 0} → (D → State) → ℕ → List D → List D → Type 0
+AllOpened state count old new = (number : ℕ) → number < count → OpenedAt state (Ok tt) number old new
+
+-- The nodes were opened in order of number. Where that ended in an error, memory ran out before the first
+-- opening, or all nodes below one were opened, and at this one the error came: the disks behind its own are
+-- as they were.
+abbrev pub OpenedInTurn : {D : Type 0} → (D → State) → ℕ → Result (Unit {0}) FileError → List D → List D
+    → Type 0
+OpenedInTurn state nodes (Ok done) old new = AllOpened state nodes old new
+OpenedInTurn state nodes (Err error) old new =
+    ((error ≡ Memory) × (new ≡ old))
+    ⊎ ((opened : ℕ) × (opened < nodes) × AllOpened state opened old new
+    × OpenedAt state (Err error) opened old new
+    × (drop (2 * (opened + 1)) new ≡ drop (2 * (opened + 1)) old))
+
 -- Nodes were opened on the first disks, two for each, and the others stay. A fault comes only where one of
--- the first ones failed, and on steady disks only where one was armed.
-pub record Opens {D : Type 0} (state : D → State) (nodes : ℕ) (Fault : Type 0)
+-- the first ones failed, and where these are steady only if one of them was armed.
+pub record Opens {D : Type 0} (state : D → State) (nodes : ℕ) (ended : Result (Unit {0}) FileError)
     (old new : List D) : Type 0 where
   pub count : length new ≡ length old
   pub idle : drop (2 * nodes) new ≡ drop (2 * nodes) old
+  pub in_turn : OpenedInTurn state nodes ended old new
   pub each :
       (place : ℕ) (before after : D) → slice_get old place ≡ Some before → slice_get new place ≡ Some after
       → WasUsed (state before) (state after)
-  pub cause : Fault → OneFaultCounted state (2 * nodes) old new
-  pub only_armed :
-      Fault → ((place : ℕ) (disk : D) → slice_get old place ≡ Some disk → IsTrue (state disk).is_steady)
-      → (place : ℕ) × (disk : D) × (slice_get old place ≡ Some disk) × IsTrue (state disk).is_armed
+  pub cause : HasFailed ended → OneFaultCounted state (2 * nodes) old new
+  pub only_armed : HasFailed ended
+      → ((place : ℕ) (disk : D) → place < 2 * nodes → slice_get old place ≡ Some disk
+      → IsTrue (state disk).is_steady)
+      → (place : ℕ) × (disk : D) × (place < 2 * nodes) × (slice_get old place ≡ Some disk)
+      × IsTrue (state disk).is_armed

@@ -1,4 +1,6 @@
 pub mod Acting
 pub mod Disks
+pub mod Points
 pub mod Pool
+pub mod Went
 pub mod World

@@ -1,5 +1,5 @@
 -- The set as it stands, the events that led there, and its disks.
-use Rattle.std.specs.Prelude.{◌≡◌, ◌≤◌, ◌+◌, ◌*◌, ℕ, Vec, vec_len, vec_capacity, true, not, ◌||◌, List, [], ◌∷◌, ◌++◌, length, map}
+use Rattle.std.specs.Prelude.{Bool, ◌≡◌, ◌≤◌, ◌+◌, ◌*◌, ℕ, Vec, vec_len, vec_capacity, true, not, ◌||◌, List, [], ◌∷◌, ◌++◌, length, map}
 use Rattle.std.specs.declared.alloc.Global.{Global}
 use Rattle.set_model.specs.declared.command.Command.{Command}
 use Rattle.set_model.specs.declared.command.Event.{Event}
@@ -16,10 +16,14 @@ pub record Set (D : Type 0) : Type 0 where
   pub history : List Event
   -- those of the nodes, each its journal and then its checkpoints, and then those without a node
   pub disks : List D
+  -- the same, as the opening left them
+  pub opened : List D
+  -- no step has run out of memory while it used its node's disks
+  pub whole : Bool
 
 -- a set as it begins, on these disks
 abbrev pub opening_set : {D : Type 0} → Sizes → List D → Set D
-opening_set sizes disks = record { sizes = sizes; history = []; disks = disks }
+opening_set sizes disks = record { sizes = sizes; history = []; disks = disks; opened = disks; whole = true }
 
 abbrev pub nodes_in : {D : Type 0} → List (Node × D × D) → List Node
 nodes_in nodes = map (λ node. node.0) nodes

@@ -9,6 +9,7 @@ mod acting;
 mod command;
 mod error;
 mod opening;
+mod points;
 mod pool;
 mod world;
 

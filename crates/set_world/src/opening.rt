@@ -1,11 +1,10 @@
 // The nodes of a set, opened on its first disks and closed again.
-ghost use Rattle.std.specs.Prelude.{◌≡◌, ◌<◌, ◌≤◌, ◌+◌, ◌*◌, ◌++◌, ◌∷◌, [], All, vec_len, vec_capacity, IfErr, IfOk, None, OnErr, OnOk};
+ghost use Rattle.std.specs.Prelude.{◌≡◌, ◌<◌, ◌≤◌, ◌+◌, ◌*◌, ◌++◌, ◌∷◌, [], All, vec_len, vec_capacity, Err, IfErr, IfOk, None, Ok, OnErr, OnOk};
 ghost use Rattle.rs_disk.specs.File.{IsEmpty};
 ghost use Rattle.member_config.specs.Config.{first_config as begins_with};
 ghost use Rattle.member_config.specs.Rule.{rule};
 ghost use Rattle.set_model.specs.Node.{opening_node};
 ghost use Rattle.set_model.specs.World.{nodes_from};
-ghost use Rattle.record_file.specs.declared.error.FileError.TheVariants.{Disk as IsDisk};
 ghost use Rattle.set_world.specs.Acting.{EachNodeStands, NodeStands};
 ghost use Rattle.set_world.specs.Disks.{AllBegin, Opens, TwoDisksReturned, TwoDisksRan};
 ghost use Rattle.set_world.specs.World.{CanTakeBack, disks_in, nodes_in};
@@ -60,9 +59,9 @@ pub(crate) fn open_nodes<D: Disk>(
     ensures room { IfOk result (λ nodes. CanTakeBack (vec_len nodes) disks.new) }
     ensures stand { IfOk result (λ nodes. EachNodeStands D.state nodes.items) }
     ensures opened { IfOk result (λ nodes.
-        Opens D.state count ⊥ disks.old.items (disks_in nodes.items ++ disks.new.items)) }
+        Opens D.state count (Ok tt) disks.old.items (disks_in nodes.items ++ disks.new.items)) }
     ensures refused { IfErr result (λ error.
-        Opens D.state count (error ≡ IsDisk) disks.old.items disks.new.items) }
+        Opens D.state count (Err error) disks.old.items disks.new.items) }
     ensures handed_back { OnErr result (AllBegin D.state config.now count disks.new.items) }
 {
     let mut nodes = Vec::with_capacity(alloc, count as usize)?;
@@ -91,9 +90,10 @@ fn open_next<D: Disk>(
     requires empty { All (λ (disk : D). IsEmpty (D.state disk).file) disks.old.items }
     ensures node { IfOk result (λ node. node.0 ≡ opening_node config.now number) }
     ensures stands { IfOk result (NodeStands D.state) }
-    ensures two { IfOk result (λ node. TwoDisksRan D.state ⊥ disks.old.items node.1 node.2 disks.new.items) }
+    ensures two { IfOk result (λ node.
+        TwoDisksRan D.state (Ok tt) disks.old.items node.1 node.2 disks.new.items) }
     ensures back { IfErr result (λ error. TwoDisksReturned D.state (opening_node config.now number)
-        (error ≡ IsDisk) disks.old.items disks.new.items) }
+        (Err error) disks.old.items disks.new.items) }
     ensures fewer { OnOk result (vec_len disks.new + 2 ≡ vec_len disks.old) }
     ensures all { OnErr result (vec_len disks.new ≡ vec_len disks.old) }
     ensures capacity { vec_capacity disks.new ≡ vec_capacity disks.old }

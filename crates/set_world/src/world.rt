@@ -1,16 +1,18 @@
-ghost use Rattle.std.specs.Prelude.{◌≡◌, ◌<◌, ◌↔◌, [], true, All, length, vec_len, IfErr, IfOk, IsErrOf, OnErr, Some, slice_get};
+ghost use Rattle.std.specs.Prelude.{◌≡◌, ◌<◌, ◌≤◌, ◌↔◌, [], true, All, length, vec_len, Err, IfErr, IfOk, IsErrOf, Ok, OnErr, OnOk, Some, slice_get};
 ghost use Rattle.rs_disk.specs.File.{IsEmpty};
 ghost use Rattle.set_model.specs.Limits.{IsRun, is_for};
+ghost use Rattle.set_model.specs.Pointed.{pointed};
 ghost use Rattle.set_model.specs.Run.{AreSizes, run};
+ghost use Rattle.set_model.specs.World.{touched_node};
 ghost use Rattle.set_world.specs.declared.error.StepError.{StepError as AStepError};
 ghost use Rattle.set_world.specs.Disks.{AllStand, IsStep, NothingDone, Opens};
+ghost use Rattle.set_world.specs.Went.{DisksWent};
 ghost use Rattle.set_world.specs.World.{nodes_in, opening_set};
-ghost use Rattle.record_file.specs.declared.error.FileError.TheVariants.{Disk};
 
 use crate::StepError;
-use crate::acting::act;
 use crate::command::recall_sound_write;
 use crate::opening::{first_config, give_back, open_nodes};
+use crate::points::{Points, act, touched};
 use crate::pool::Pool;
 use node_core::{Done, Node};
 use record_file::FileError;
@@ -19,6 +21,7 @@ use safety_laws::{configs_are_lawful, messages_can_be_taken, numbers_stay_small}
 use set_model::{Command, Event, Reply};
 use std::alloc::Global;
 use std::marker::Model;
+use std::snapshot::Snapshot;
 use std::thread::Threads;
 
 /// A history has at most so many events.
@@ -38,8 +41,14 @@ pub struct World<D: Disk> {
     nodes: Vec<Node<D>>,
     pool: Pool,
     history: Vec<Event>,
+    points: Points,
     /// The disks without a node.
     idle: Vec<D>,
+    /// No step has run out of memory while it used its node's disks.
+    whole: bool,
+    /// The nodes and the other disks as they were opened, for proofs alone.
+    first_nodes: Snapshot<Vec<Node<D>>>,
+    first_idle: Snapshot<Vec<D>>,
 }
 
 impl<D: Disk> Model for World<D> {
@@ -53,17 +62,31 @@ impl<D: Disk> Model for World<D> {
     ghost coded = { Prim.hlevel (codes, event.the_row.coded) };
 
     ghost use Rattle.set_world.specs.Acting.{EachNodeStands};
+    ghost use Rattle.set_world.specs.Points.{ArePointed};
+    ghost use Rattle.set_world.specs.Went.{DisksWent};
     ghost use Rattle.set_world.specs.World.{CanTakeBack, IsStanding};
 
     ghost view = { λ w. record {
       sizes = record { nodes = w.size; members = w.members };
       history = w.history.items;
       disks = disks_in w.nodes.items ++ w.idle.items;
+      opened = disks_in w.first_nodes.value.items ++ w.first_idle.value.items;
+      whole = w.whole;
     } };
 
-    ghost invariant = { λ w. IsStanding (record { nodes = w.size; members = w.members }) w.history.items
-        (nodes_in w.nodes.items) w.pool
-        × CanTakeBack (vec_len w.nodes) w.idle × EachNodeStands D.state w.nodes.items };
+    ghost invariant = { λ w. IsStanding (record {
+      nodes = w.size;
+      members = w.members;
+    }) w.history.items (nodes_in w.nodes.items) w.pool
+        × CanTakeBack (vec_len w.nodes) w.idle × EachNodeStands D.state w.nodes.items
+        × ArePointed (record { nodes = w.size; members = w.members }) w.history.items w.points
+        × DisksWent D.state (record {
+          sizes = record { nodes = w.size; members = w.members };
+          history = w.history.items;
+          disks = disks_in w.nodes.items ++ w.idle.items;
+          opened = disks_in w.first_nodes.value.items ++ w.first_idle.value.items;
+          whole = w.whole;
+        }) };
 }
 
 impl<D: Disk> World<D> {
@@ -73,7 +96,7 @@ impl<D: Disk> World<D> {
     /// # Errors
     /// `Disk` where a disk of one of the nodes failed, and `Memory` where memory ran out. Either hands back
     /// the disks, each in its place, and on them still stand the nodes as the set begins.
-    #[tactic(auto, using(crate::proofs::OpenLemmas::begins))]
+    #[tactic(auto, using(crate::proofs::OpenLemmas::begins, crate::proofs::PointedLemmas::pointed_first))]
     pub fn open(
         alloc: Global,
         nodes: u32,
@@ -85,9 +108,11 @@ impl<D: Disk> World<D> {
         requires empty { All (λ (disk : D). IsEmpty (D.state disk).file) disks.items }
         ensures sizes { IfOk result (λ world. world.sizes ≡ record { nodes = nodes; members = members }) }
         ensures history { IfOk result (λ world. world.history ≡ []) }
-        ensures opened { IfOk result (λ world. Opens D.state nodes ⊥ disks.items world.disks) }
+        ensures opened { IfOk result (λ world. Opens D.state nodes (Ok tt) disks.items world.disks) }
+        ensures first { IfOk result (λ world. world.opened ≡ world.disks) }
+        ensures whole { IfOk result (λ world. world.whole ≡ true) }
         ensures refused { IfErr result (λ refused.
-            Opens D.state nodes (refused.1 ≡ Disk) disks.items refused.0.items) }
+            Opens D.state nodes (Err refused.1) disks.items refused.0.items) }
         ensures handed_back { IfErr result (λ refused. AllStand D.state
             (opening_set (record { nodes = nodes; members = members }) refused.0.items)) }
     {
@@ -100,17 +125,29 @@ impl<D: Disk> World<D> {
             Ok(config) => config,
             Err(_) => return Err((disks, FileError::Memory)),
         };
+        let points = match Points::new(alloc, nodes) {
+            Ok(points) => points,
+            Err(_) => return Err((disks, FileError::Memory)),
+        };
         let mut idle = disks;
         match open_nodes(alloc, nodes, &config, &mut idle) {
-            Ok(opened) => Ok(World {
-                alloc,
-                size: nodes,
-                members,
-                nodes: opened,
-                pool,
-                history: Vec::new(alloc),
-                idle,
-            }),
+            Ok(opened) => {
+                let first_nodes = Snapshot::of(&opened);
+                let first_idle = Snapshot::of(&idle);
+                Ok(World {
+                    alloc,
+                    size: nodes,
+                    members,
+                    nodes: opened,
+                    pool,
+                    history: Vec::new(alloc),
+                    points,
+                    idle,
+                    whole: true,
+                    first_nodes,
+                    first_idle,
+                })
+            }
             Err(error) => Err((idle, error)),
         }
     }
@@ -134,6 +171,8 @@ impl<D: Disk> World<D> {
         ensures untouched { IsErrOf result AStepError.HistoryFull → self.new ≡ self.old }
         ensures err { OnErr result (NothingDone D.state self.old self.new command.now) }
         ensures sizes { self.new.sizes ≡ self.old.sizes }
+        ensures opened { self.new.opened ≡ self.old.opened }
+        ensures whole { OnOk result (self.new.whole ≡ self.old.whole) }
     {
         // Before the copy, for which memory may run out.
         if self.history.len() >= MOST_EVENTS {
@@ -159,6 +198,8 @@ impl<D: Disk> World<D> {
         ensures untouched { IsErrOf result AStepError.HistoryFull → self.new ≡ self.old }
         ensures err { OnErr result (NothingDone D.state self.old self.new command) }
         ensures sizes { self.new.sizes ≡ self.old.sizes }
+        ensures opened { self.new.opened ≡ self.old.opened }
+        ensures whole { OnOk result (self.new.whole ≡ self.old.whole) }
     {
         if self.history.len() >= MOST_EVENTS {
             return Err(StepError::HistoryFull);
@@ -173,10 +214,18 @@ impl<D: Disk> World<D> {
             sent,
             failed,
             kept,
-        } = match act(&mut self.nodes, self.alloc, rt, &self.pool, &command) {
+        } = match act(
+            &mut self.nodes,
+            &mut self.points,
+            self.alloc,
+            rt,
+            &self.pool,
+            &command,
+        ) {
             Ok(done) => done,
             Err(_) => {
                 drop(command);
+                self.whole = false;
                 return Err(StepError::Memory);
             }
         };
@@ -206,11 +255,22 @@ impl<D: Disk> World<D> {
             nodes,
             pool: _pool,
             history,
+            points: _points,
             idle,
+            whole: _whole,
+            first_nodes: _first_nodes,
+            first_idle: _first_idle,
         } = self;
         let mut disks = idle;
         give_back(nodes, &mut disks);
         (history, disks)
+    }
+
+    /// How many nodes it has.
+    pub fn size(&self) -> u32
+        ensures { result ≡ self.now.sizes.nodes }
+    {
+        self.size
     }
 
     /// What was done, oldest first.
@@ -237,6 +297,41 @@ impl<D: Disk> World<D> {
         &self.nodes
     }
 
+    /// The most entries that a node has had committed in any world so far: those of its log up to its
+    /// commit point. It is 0 of what isn't a node of the set.
+    pub fn point_of(&self, node: u32) -> u64
+        ensures { result ≡ pointed self.now.sizes self.now.history node }
+    {
+        self.points.of(node)
+    }
+
+    /// The node that a command would touch now: its own, or the receiver of the message that it delivers.
+    /// It is node 0 where no such message was sent.
+    pub fn touched(&self, command: &Command) -> u32
+        requires command { is_for self.now.sizes.nodes command.now ≡ true }
+        ensures touched { result ≡ touched_node (run self.now.sizes self.now.history).world command.now }
+        ensures known { result < self.now.sizes.nodes }
+    {
+        numbers_stay_small();
+        touched(&self.pool, command)
+    }
+
+    /// Whether no step has run out of memory while it used its node's disks. The disks are then those that
+    /// the events leave, and no others.
+    pub fn is_whole(&self) -> bool
+        ensures { result ≡ self.now.whole }
+    {
+        self.whole
+    }
+
+    /// What the events did to the disks since the set was opened: a fact for callers' proofs, which costs
+    /// nothing.
+    pub fn went(&self)
+        ensures { DisksWent D.state self.now }
+    {
+        let _ = &self.nodes;
+    }
+
     /// On the nodes' disks stands what they are in the last world: a fact for callers' proofs,
     /// which costs nothing.
     pub fn recall_stands(&self)
@@ -249,6 +344,7 @@ impl<D: Disk> World<D> {
     pub fn recall_run(&self)
         ensures sizes { AreSizes self.now.sizes }
         ensures run { IsRun self.now.sizes self.now.history }
+        ensures short { length self.now.history ≤ 4294967295 }
     {
         let _ = &self.nodes;
     }

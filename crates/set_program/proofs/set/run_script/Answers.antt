@@ -1,4 +1,4 @@
-use Rattle.std.proofs.Common.{◌∙◌, rules, subst, sym}
+use Rattle.std.proofs.Common.{◌∙◌, Ok, rules, subst, sym}
 use Rattle.std.specs.List.{AllPass}
 use Rattle.std.proofs.lemmas.List.Sums.{AllPass-from_list_all}
 use Rattle.fault_script.specs.Script.{is_part_for}
@@ -17,7 +17,7 @@ returns-in-Ok-clause-runs g c = (c.play_task-ended.ensures.sizes ∙ c.in-Ok.ens
 
 pub returns-in-Ok-clause-disks : goal.returns-in-Ok-clause-disks
 returns-in-Ok-clause-disks g c =
-    let opened : Opens g.D.Disk.state c.args.script.nodes ⊥ c.args.disks.items c.in-Ok.world.disks = search rules in
+    let opened : Opens g.D.Disk.state c.args.script.nodes (Ok tt) c.args.disks.items c.in-Ok.world.disks = search rules in
     set_leaves g.D.Disk.state c.args.script c.args.disks.items c.in-Ok.world c.play_task-ended.new.world c.play_task-ended.result
     c.in-Ok.ensures.history c.in-Ok.ensures.sizes c.play_task-ended.ensures.sizes opened c.play_task-ended.ensures.disks
 

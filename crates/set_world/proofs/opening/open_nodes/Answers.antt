@@ -1,6 +1,6 @@
-use Rattle.std.proofs.Common.{◌≡◌, ◌∙◌, ◌≤◌, ◌+◌, ◌*◌, ◌++◌, [], List, ap, arith, length, refl, rules, subst, sym, vec_len, vec_capacity}
+use Rattle.std.proofs.Common.{◌≡◌, ◌∙◌, ◌≤◌, ◌+◌, ◌*◌, ◌++◌, [], Err, List, Ok, ap, arith, length, refl, rules, subst, sym, vec_len, vec_capacity}
 use Rattle.std.proofs.lemmas.Result.{err_from_is_err_and}
-use Rattle.record_file.specs.declared.error.FileError.TheVariants.{Disk}
+use Rattle.record_file.specs.declared.error.FileError.TheVariants.{Memory}
 use Rattle.rs_disk.specs.File.{IsEmpty}
 use Rattle.set_model.specs.World.{nodes_from}
 use Rattle.set_world.specs.World.{disks_in, nodes_in}
@@ -8,7 +8,7 @@ use Rattle.set_model.specs.Node.{Node, opening_node}
 use Rattle.set_world.specs.Acting.{EachNodeStands}
 use Rattle.set_world.specs.Disks.{Opens}
 use Rattle.set_world.proofs.BeginLemmas.{all_back, all_empty}
-use Rattle.set_world.proofs.DisksOpenLemmas.{more_stand, none_stand, opens_more, opens_none, opens_refused, opens_wide}
+use Rattle.set_world.proofs.DisksOpenLemmas.{more_stand, none_stand, opens_more, opens_none, opens_nothing, opens_refused}
 use Rattle.set_world.proofs.OpenLemmas.{nodes_more, all_behind}
 use Rattle.set_world.proofs.opening.open_nodes.Goals as goal
 
@@ -25,8 +25,8 @@ loop-number-init g c =
       refl,
       c.requires.empty,
       subst (λ (nodes : List (Node × D × D)). EachNodeStands g.D.Disk.state nodes) (sym none) (none_stand g.D.Disk.state),
-      subst (λ (nodes : List (Node × D × D)). Opens g.D.Disk.state 0 ⊥ c.args.disks.now.items (disks_in nodes ++ c.args.disks.now.items)) (sym none)
-          (opens_none g.D.Disk.state 0 ⊥ c.args.disks.now.items (λ never. never)),
+      subst (λ (nodes : List (Node × D × D)). Opens g.D.Disk.state 0 (Ok tt) c.args.disks.now.items (disks_in nodes ++ c.args.disks.now.items)) (sym none)
+          (opens_none g.D.Disk.state c.args.disks.now.items),
     )
 
 pub loop-number-preserved : goal.loop-number-preserved
@@ -53,8 +53,13 @@ loop-number-preserved g c =
 pub returns-in-Err-clause-refused : goal.returns-in-Err-clause-refused
 returns-in-Err-clause-refused g c =
     let many : length c.loop-number.nodes.items ≡ vec_len c.loop-number.nodes = search rules in
-    opens_refused g.D.Disk.state c.loop-number.number c.args.count (c.in-Err.error ≡ Disk) c.args.disks.now.items c.loop-number.nodes.items c.loop-number.disks.items c.open_next.new.disks.items c.give_back.new.disks.items
+    opens_refused g.D.Disk.state c.loop-number.number c.args.count c.in-Err.error c.args.disks.now.items c.loop-number.nodes.items c.loop-number.disks.items c.open_next.new.disks.items c.give_back.new.disks.items
     c.loop-number.invariant.7 (many ∙ c.loop-number.invariant.1) c.loop-number-test.true (opening_node c.args.config.now c.loop-number.number) c.in-Err.ensures.back c.give_back.ensures.items
+
+pub returns-in_err-nodes-clause-refused : goal.returns-in_err-nodes-clause-refused
+returns-in_err-nodes-clause-refused g c =
+    let is : c.from_residual.result ≡ Err Memory = search rules in
+    rw is (opens_nothing g.D.Disk.state c.args.count c.args.disks.now.items)
 
 pub returns-in_err-nodes-clause-handed_back : goal.returns-in_err-nodes-clause-handed_back
 returns-in_err-nodes-clause-handed_back g c =
@@ -68,7 +73,7 @@ returns-in-Err-clause-handed_back g c =
     let many : length c.loop-number.nodes.items ≡ vec_len c.loop-number.nodes = search rules in
     let long : length c.loop-number.disks.items ≡ vec_len c.loop-number.disks = search rules in
     let left : vec_len c.loop-number.disks + 2 * c.loop-number.number ≡ vec_len c.args.disks.now = so_far.3 in
-    all_back g.D.Disk.state c.args.config.now c.loop-number.number (c.in-Err.error ≡ Disk) c.loop-number.nodes.items c.loop-number.disks.items c.open_next.new.disks.items
+    all_back g.D.Disk.state c.args.config.now c.loop-number.number (Err c.in-Err.error) c.loop-number.nodes.items c.loop-number.disks.items c.open_next.new.disks.items
     so_far.0 (many ∙ so_far.1) so_far.6 c.in-Err.ensures.back so_far.5 c.args.count c.give_back.new.disks.items c.give_back.ensures.items (omega (arith, c.requires.enough, left, long))
 
 pub returns-clause-nodes : goal.returns-clause-nodes
@@ -80,4 +85,7 @@ returns-clause-nodes g c =
 
 pub returns-clause-opened : goal.returns-clause-opened
 returns-clause-opened g c =
-    opens_wide g.D.Disk.state c.loop-number.number c.args.count ⊥ c.args.disks.now.items (disks_in c.loop-number.nodes.items ++ c.loop-number.disks.items) c.loop-number.auto.number-end c.loop-number.invariant.7
+    let least : c.args.count ≤ c.loop-number.number = c.loop-number-test.false in
+    let most : c.loop-number.number ≤ c.args.count = c.loop-number.auto.number-end in
+    let all : c.loop-number.number ≡ c.args.count = omega (arith, least, most) in
+    subst (λ n. Opens g.D.Disk.state n (Ok tt) c.args.disks.now.items (disks_in c.loop-number.nodes.items ++ c.loop-number.disks.items)) all c.loop-number.invariant.7

@@ -1,4 +1,4 @@
-use Rattle.std.proofs.Common.{◌≡◌, ◌≤◌, ◌+◌, ◌*◌, ◌++◌, vec_len, vec_capacity}
+use Rattle.std.proofs.Common.{Ok, ◌≡◌, ◌≤◌, ◌+◌, ◌*◌, ◌++◌, vec_len, vec_capacity}
 use Rattle.std.specs.Prelude.{All}
 use Rattle.rs_disk.specs.File.{IsEmpty}
 use Rattle.set_model.specs.World.{nodes_from}
@@ -15,4 +15,4 @@ invariant-loop-number g l =
     × (vec_len l.disks + 2 * l.number ≡ vec_len l.fn.disks) × (vec_capacity l.disks ≡ vec_capacity l.fn.disks)
     × All (λ disk. IsEmpty (g.D.Disk.state disk).file) l.disks.items
     × EachNodeStands g.D.Disk.state l.nodes.items
-    × Opens g.D.Disk.state l.number ⊥ l.fn.disks.items (disks_in l.nodes.items ++ l.disks.items)
+    × Opens g.D.Disk.state l.number (Ok tt) l.fn.disks.items (disks_in l.nodes.items ++ l.disks.items)

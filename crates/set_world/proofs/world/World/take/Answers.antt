@@ -1,4 +1,4 @@
-use Rattle.std.proofs.Common.{◌≡◌, ◌∙◌, ◌<◌, ◌≤◌, ◌++◌, ◌∷◌, [], true, List, ap, refl, sym, subst, rules, arith, length, take, drop}
+use Rattle.std.proofs.Common.{◌≡◌, ◌∙◌, ◌<◌, ◌≤◌, ◌++◌, ◌∷◌, [], false, true, List, ap, refl, sym, subst, rules, arith, length, take, drop}
 use Rattle.std.proofs.lemmas.Result.{err_from_is_err_and}
 use Rattle.set_model.specs.Limits.{is_for}
 use Rattle.set_model.specs.Run.{Sizes}
@@ -8,14 +8,22 @@ use Rattle.set_world.specs.Acting.{EachNodeStands}
 use Rattle.set_world.specs.Disks.{IsStep, NothingDone}
 use Rattle.set_world.specs.World.{Set, disks_in, event_of, nodes_in}
 use Rattle.set_world.proofs.DiskLemmas.{stepped, undone, untouched}
-use Rattle.set_world.proofs.NodesLemmas.{whole}
-use Rattle.set_world.proofs.WorldLemmas.{GoesOn, acts_now, goes_on, stands_still}
+use Rattle.set_world.proofs.NodesLemmas.{nodes_long, whole}
+use Rattle.set_world.proofs.PointedLemmas.{kept_on, raised_on}
+use Rattle.set_world.proofs.WentLemmas.{went_step, went_undone}
+use Rattle.set_world.proofs.WorldLemmas.{GoesOn, acts_now, as_many, goes_on, named_there, stands_still}
 use Rattle.set_world.proofs.world.World.take.Goals as goal
 
 pub act-requires-clause-may : goal.act-requires-clause-may
 act-requires-clause-may g c κs within =
     acts_now (record { nodes = c.self.inside.size; members = c.self.inside.members }) c.self.inside.history.items c.self.inside.nodes.items c.deref_mut.result.now c.self.inside.pool c.reserve-2.new.self
     c.self.invariant.0 c.deref_mut.ensures.value c.reserve-2.ensures.nodes c.reserve-2.ensures.messages c.numbers_stay_small.ensures c.messages_can_be_taken.ensures
+
+pub act-requires-clause-points : goal.act-requires-clause-points
+act-requires-clause-points g c κs within =
+    c.self.invariant.3.size
+    ∙ sym (as_many (record { nodes = c.self.inside.size; members = c.self.inside.members }) c.self.inside.history.items (nodes_in c.self.inside.nodes.items) c.self.inside.pool.messages c.self.invariant.0.reached c.numbers_stay_small.ensures)
+    ∙ nodes_long c.self.inside.nodes.items ∙ ap length (sym c.deref_mut.ensures.value)
 
 pub add-requires-clause-room : goal.add-requires-clause-room
 add-requires-clause-room g c =
@@ -51,10 +59,26 @@ invariant_of-self-2 g c =
     c.self.invariant.0 c.deref_mut.ensures.value c.reserve-2.ensures.nodes c.reserve-2.ensures.messages c.numbers_stay_small.ensures
     (nodes_in c.act.new.nodes) c.args.line c.args.command c.in-Ok.done c.in-Ok.ensures.ok short named c.recall_sound_write.ensures in
     let items : c.push.new.self.items ≡ c.self.inside.history.items ++ event_of c.args.line c.args.command c.in-Ok.done ∷ [] = search rules in
-    rw same (on.stands c.add.new.self c.push.new.self.items items c.add.ensures.nodes c.add.ensures.messages, c.self.invariant.1, c.act.ensures.stand (subst (λ l. EachNodeStands g.D.Disk.state l) (sym c.deref_mut.ensures.value) c.self.invariant.2))
+    let stands = on.stands c.add.new.self c.push.new.self.items items c.add.ensures.nodes c.add.ensures.messages in
+    rw same (
+      stands,
+      c.self.invariant.1,
+      c.act.ensures.stand (subst (λ l. EachNodeStands g.D.Disk.state l) (sym c.deref_mut.ensures.value) c.self.invariant.2),
+      raised_on (record { nodes = c.self.inside.size; members = c.self.inside.members }) c.self.inside.history.items c.push.new.self.items c.self.inside.nodes.items c.deref_mut.result.now c.act.new.nodes
+          c.self.inside.pool.messages c.reserve-2.new.self.messages c.args.line c.args.command c.in-Ok.done c.self.inside.points c.act.new.points
+          c.self.invariant.3 c.self.invariant.0.reached.world c.deref_mut.ensures.value c.reserve-2.ensures.messages items (ap (λ w. w.nodes) stands.reached.world) c.in-Ok.ensures.raised,
+      went_step g.D.Disk.state (record { sizes = record { nodes = c.self.inside.size; members = c.self.inside.members }; history = c.self.inside.history.items; disks = disks_in c.self.inside.nodes.items ++ c.self.inside.idle.items; opened = disks_in c.self.inside.first_nodes.value.items ++ c.self.inside.first_idle.value.items; whole = c.self.inside.whole })
+          (record { sizes = record { nodes = c.self.inside.size; members = c.self.inside.members }; history = c.push.new.self.items; disks = disks_in c.act.new.nodes ++ c.self.inside.idle.items; opened = disks_in c.self.inside.first_nodes.value.items ++ c.self.inside.first_idle.value.items; whole = c.self.inside.whole })
+          c.args.line c.args.command c.in-Ok.done.reply
+          (stepped g.D.Disk.state (record { nodes = c.self.inside.size; members = c.self.inside.members }) c.self.inside.history.items c.self.inside.nodes.items c.deref_mut.result.now
+          c.act.new.nodes c.self.inside.idle.items (disks_in c.self.inside.first_nodes.value.items ++ c.self.inside.first_idle.value.items) c.self.inside.whole c.self.inside.pool.messages c.reserve-2.new.self.messages c.args.command c.self.invariant.0.reached.world c.deref_mut.ensures.value
+          c.reserve-2.ensures.messages c.push.new.self.items c.args.line c.in-Ok.done items on.reply c.in-Ok.ensures.disks)
+          refl refl refl c.self.invariant.4,
+    )
 
 pub invariant_of-self-in-Err : goal.invariant_of-self-in-Err
 invariant_of-self-in-Err g c =
+    let named : is_for c.self.inside.size c.args.command ≡ true = search rules in
     let long : length c.self.inside.nodes.items ≡ c.self.inside.nodes.len = search rules in
     let same : take c.self.inside.nodes.len (c.act.new.nodes ++ drop (length c.act.new.nodes) c.self.inside.nodes.items) ≡ c.act.new.nodes =
     whole c.act.new.nodes c.self.inside.nodes.items c.self.inside.nodes.len (c.act.ensures.len ∙ ap length c.deref_mut.ensures.value) long in
@@ -64,16 +88,27 @@ invariant_of-self-in-Err g c =
           c.self.invariant.0 c.deref_mut.ensures.value c.reserve-2.ensures.nodes c.reserve-2.ensures.messages c.reserve.ensures.items c.in-Err.ensures.err,
       c.self.invariant.1,
       c.act.ensures.stand (subst (λ l. EachNodeStands g.D.Disk.state l) (sym c.deref_mut.ensures.value) c.self.invariant.2),
+      kept_on (record { nodes = c.self.inside.size; members = c.self.inside.members }) c.self.inside.history.items c.reserve.new.self.items c.self.inside.points c.act.new.points
+          c.self.invariant.3 c.reserve.ensures.items c.in-Err.ensures.kept,
+      went_undone g.D.Disk.state (record { sizes = record { nodes = c.self.inside.size; members = c.self.inside.members }; history = c.self.inside.history.items; disks = disks_in c.self.inside.nodes.items ++ c.self.inside.idle.items; opened = disks_in c.self.inside.first_nodes.value.items ++ c.self.inside.first_idle.value.items; whole = c.self.inside.whole })
+          (record { sizes = record { nodes = c.self.inside.size; members = c.self.inside.members }; history = c.reserve.new.self.items; disks = disks_in c.act.new.nodes ++ c.self.inside.idle.items; opened = disks_in c.self.inside.first_nodes.value.items ++ c.self.inside.first_idle.value.items; whole = false })
+          c.args.command
+          (undone g.D.Disk.state (record { nodes = c.self.inside.size; members = c.self.inside.members }) c.self.inside.history.items c.self.inside.nodes.items c.deref_mut.result.now
+          c.act.new.nodes c.self.inside.idle.items (disks_in c.self.inside.first_nodes.value.items ++ c.self.inside.first_idle.value.items) c.self.inside.whole c.self.inside.pool.messages c.reserve-2.new.self.messages c.args.command c.self.invariant.0.reached.world c.deref_mut.ensures.value
+          c.reserve-2.ensures.messages c.reserve.new.self.items c.reserve.ensures.items c.in-Err.ensures.err)
+          (named_there (record { nodes = c.self.inside.size; members = c.self.inside.members }) c.self.inside.history.items c.self.inside.nodes.items c.self.inside.pool c.self.invariant.0 c.numbers_stay_small.ensures c.args.command named)
+          refl refl refl c.self.invariant.4,
     )
 
 pub returns-in_err-reserve-2-clause-err : goal.returns-in_err-reserve-2-clause-err
 returns-in_err-reserve-2-clause-err g c =
     let sizes : Sizes = record { nodes = c.self.inside.size; members = c.self.inside.members } in
     let disks : List g.row.D.Denot = disks_in c.self.inside.nodes.items ++ c.self.inside.idle.items in
-    let now : Set g.row.D.Denot = record { sizes = sizes; history = c.reserve.new.self.items; disks = disks } in
+    let opened : List g.row.D.Denot = disks_in c.self.inside.first_nodes.value.items ++ c.self.inside.first_idle.value.items in
+    let now : Set g.row.D.Denot = record { sizes = sizes; history = c.reserve.new.self.items; disks = disks; opened = opened; whole = c.self.inside.whole } in
     let p = err_from_is_err_and c.from_residual-in_err-reserve-2.result c.from_residual-in_err-reserve-2.ensures.1 in
     rw p.1 (subst (λ (s : Set g.row.D.Denot). NothingDone g.D.Disk.state s now c.args.command) c.self.view_is
-    (untouched g.D.Disk.state (record { sizes = sizes; history = c.self.inside.history.items; disks = disks }) now c.args.command c.reserve.ensures.items refl))
+    (untouched g.D.Disk.state (record { sizes = sizes; history = c.self.inside.history.items; disks = disks; opened = opened; whole = c.self.inside.whole }) now c.args.command c.reserve.ensures.items refl))
 
 pub returns-in-Err-clause-err : goal.returns-in-Err-clause-err
 returns-in-Err-clause-err g c =
@@ -84,10 +119,12 @@ returns-in-Err-clause-err g c =
       sizes = record { nodes = c.self.inside.size; members = c.self.inside.members };
       history = c.reserve.new.self.items;
       disks = disks_in (take c.self.inside.nodes.len (c.act.new.nodes ++ drop (length c.act.new.nodes) c.self.inside.nodes.items)) ++ c.self.inside.idle.items;
+      opened = disks_in c.self.inside.first_nodes.value.items ++ c.self.inside.first_idle.value.items;
+      whole = false;
     } in
     subst (λ (s : Set g.row.D.Denot). NothingDone g.D.Disk.state s now c.args.command) c.self.view_is
     (rw same (undone g.D.Disk.state (record { nodes = c.self.inside.size; members = c.self.inside.members }) c.self.inside.history.items c.self.inside.nodes.items c.deref_mut.result.now
-    c.act.new.nodes c.self.inside.idle.items c.self.inside.pool.messages c.reserve-2.new.self.messages c.args.command c.self.invariant.0.reached.world c.deref_mut.ensures.value
+    c.act.new.nodes c.self.inside.idle.items (disks_in c.self.inside.first_nodes.value.items ++ c.self.inside.first_idle.value.items) c.self.inside.whole c.self.inside.pool.messages c.reserve-2.new.self.messages c.args.command c.self.invariant.0.reached.world c.deref_mut.ensures.value
     c.reserve-2.ensures.messages c.reserve.new.self.items c.reserve.ensures.items c.in-Err.ensures.err))
 
 pub returns-clause-step : goal.returns-clause-step
@@ -106,8 +143,10 @@ returns-clause-step g c =
       sizes = record { nodes = c.self.inside.size; members = c.self.inside.members };
       history = c.push.new.self.items;
       disks = disks_in (take c.self.inside.nodes.len (c.act.new.nodes ++ drop (length c.act.new.nodes) c.self.inside.nodes.items)) ++ c.self.inside.idle.items;
+      opened = disks_in c.self.inside.first_nodes.value.items ++ c.self.inside.first_idle.value.items;
+      whole = c.self.inside.whole;
     } in
     subst (λ (s : Set g.row.D.Denot). IsStep g.D.Disk.state s now c.args.line c.args.command c.in-Ok.done.reply) c.self.view_is
     (rw same (stepped g.D.Disk.state (record { nodes = c.self.inside.size; members = c.self.inside.members }) c.self.inside.history.items c.self.inside.nodes.items c.deref_mut.result.now
-    c.act.new.nodes c.self.inside.idle.items c.self.inside.pool.messages c.reserve-2.new.self.messages c.args.command c.self.invariant.0.reached.world c.deref_mut.ensures.value
+    c.act.new.nodes c.self.inside.idle.items (disks_in c.self.inside.first_nodes.value.items ++ c.self.inside.first_idle.value.items) c.self.inside.whole c.self.inside.pool.messages c.reserve-2.new.self.messages c.args.command c.self.invariant.0.reached.world c.deref_mut.ensures.value
     c.reserve-2.ensures.messages c.push.new.self.items c.args.line c.in-Ok.done items on.reply c.in-Ok.ensures.disks))

@@ -1,0 +1,93 @@
+-- How the disks of a set go on, event by event.
+use Rattle.std.proofs.Common.{◌≡◌, ◌∙◌, sym, subst, refl, ℕ, Bool, true, false, List, [], ◌∷◌, ◌++◌, fold, length}
+use Rattle.std.specs.Prelude.{IsSome}
+use Rattle.rs_disk.specs.State.{State}
+use Rattle.set_model.specs.declared.command.Command.{Command}
+use Rattle.set_model.specs.declared.command.Event.{Event}
+use Rattle.set_model.specs.declared.reply.Reply.{Reply}
+use Rattle.set_model.specs.Limits.{is_for}
+use Rattle.set_model.specs.Run.{Run, Sizes, after, opening, run}
+use Rattle.set_model.specs.World.{World, step, task}
+use Rattle.node_core.specs.Acting.{DisksActed}
+use Rattle.set_world.specs.World.{Set}
+use Rattle.set_world.specs.Disks.{AtTouchedNode, DisksUndone, IsStep, NothingDone, OneChanged}
+use Rattle.set_world.specs.Went.{DisksPlay, DisksRun, DisksStep, AllUndone, DisksWent}
+
+-- an event more is played
+pub play_more : {D : Type 0} (state : D → State) (so_far : Run) (events : List Event) (event : Event) (first old new : List D)
+    → DisksPlay state so_far.world events first old → DisksStep state (fold after so_far events).world event old new
+    → DisksPlay state so_far.world (events ++ event ∷ []) first new
+play_more {D} state so_far [] event first old new played more = (new, subst (λ (ds : List D). DisksStep state so_far.world event ds new) played more, refl)
+play_more state so_far (earlier ∷ events) event first old new played more =
+    (played.0, played.1, play_more state (after so_far earlier) events event played.0 old new played.2 more)
+
+-- a command more wasn't done
+undone_more : {D : Type 0} (state : D → State) (world : World) (before : List Command) (command : Command) (first old new : List D)
+    → AllUndone state world before first old → is_for (length world.nodes) command ≡ true → DisksUndone state world command old new
+    → AllUndone state world (before ++ command ∷ []) first new
+undone_more {D} state world [] command first old new same fits one =
+    (new, fits, subst (λ (ds : List D). DisksUndone state world command ds new) same one, refl)
+undone_more state world (earlier ∷ before) command first old new (between, for, changed, rest) fits one =
+    (between, for, changed, undone_more state world before command between old new rest fits one)
+
+-- the same behind events
+run_undone : {D : Type 0} (state : D → State) (so_far : Run) (events : List Event) (command : Command) (first old new : List D)
+    → DisksRun state so_far.world events first old → is_for (length (fold after so_far events).world.nodes) command ≡ true
+    → DisksUndone state (fold after so_far events).world command old new → DisksRun state so_far.world events first new
+run_undone state so_far [] command first old new ran fits one = (ran.0 ++ command ∷ [], undone_more state so_far.world ran.0 command first old new ran.1 fits one)
+run_undone state so_far (event ∷ events) command first old new (undone, before, behind, used, stepped, rest) fits one =
+    (undone, before, behind, used, stepped, run_undone state (after so_far event) events command behind old new rest fits one)
+
+-- and an event behind all
+run_more : {D : Type 0} (state : D → State) (so_far : Run) (events : List Event) (event : Event) (first old new : List D)
+    → DisksRun state so_far.world events first old → DisksStep state (fold after so_far events).world event old new
+    → DisksRun state so_far.world (events ++ event ∷ []) first new
+run_more state so_far [] event first old new ran more = (ran.0, old, new, ran.1, more, ([], refl))
+run_more state so_far (earlier ∷ events) event first old new (undone, before, behind, used, stepped, rest) more =
+    (undone, before, behind, used, stepped, run_more state (after so_far earlier) events event behind old new rest more)
+
+-- the disks of a command are those of its event
+pub of_event : {D : Type 0} (state : D → State) (world : World) (event : Event) (command : Command) (reply : Reply) (old new : List D)
+    → command ≡ event.command → reply ≡ (step world event).reply
+    → AtTouchedNode (task world command) event.failed old new (λ n. OneChanged state (DisksActed command reply (IsSome event.failed)) n old new)
+    → DisksStep state world event old new
+of_event state world event command reply old new command_is reply_is changed =
+    subst (λ (r : Reply). AtTouchedNode (task world event.command) event.failed old new (λ n. OneChanged state (DisksActed event.command r (IsSome event.failed)) n old new)) reply_is
+    (subst (λ (c : Command). AtTouchedNode (task world c) event.failed old new (λ n. OneChanged state (DisksActed c reply (IsSome event.failed)) n old new)) command_is changed)
+
+-- a set that is opened
+pub went_first : {D : Type 0} (state : D → State) (sizes : Sizes) (history : List Event) (disks opened : List D) (kept : Bool) → history ≡ [] → opened ≡ disks
+    → DisksWent state (record { sizes = sizes; history = history; disks = disks; opened = opened; whole = kept })
+went_first {D} state sizes history disks opened kept none same =
+    subst (λ (es : List Event). DisksWent state (record { sizes = sizes; history = es; disks = disks; opened = opened; whole = kept })) (sym none)
+    (record { ran = ([], sym same); played = λ is. sym same })
+
+-- a set goes on by a step
+pub went_step : {D : Type 0} (state : D → State) (old new : Set D) (line : ℕ) (command : Command) (reply : Reply) → IsStep state old new line command reply
+    → new.sizes ≡ old.sizes → new.opened ≡ old.opened → new.whole ≡ old.whole → DisksWent state old → DisksWent state new
+went_step {D} state old new line command reply is sizes opened kept went = record {
+  ran = on (λ world es first last. DisksRun state world es first last) (run_more state (opening old.sizes) old.history is.event old.opened old.disks new.disks went.ran changed);
+  played = λ still. on (λ world es first last. DisksPlay state world es first last)
+      (play_more state (opening old.sizes) old.history is.event old.opened old.disks new.disks (went.played (sym kept ∙ still)) changed);
+}
+  where
+    changed : DisksStep state (run old.sizes old.history).world is.event old.disks new.disks
+    changed = of_event state (run old.sizes old.history).world is.event command reply old.disks new.disks (sym is.command_is) is.reply_is is.disks
+
+    on : (So : World → List Event → List D → List D → Type 0) → So (opening old.sizes).world (old.history ++ is.event ∷ []) old.opened new.disks
+        → So (opening new.sizes).world new.history new.opened new.disks
+    on So so =
+        subst (λ (es : List Event). So (opening new.sizes).world es new.opened new.disks) (sym is.history)
+        (subst (λ (ds : List D). So (opening new.sizes).world (old.history ++ is.event ∷ []) ds new.disks) (sym opened)
+        (subst (λ (s : Sizes). So (opening s).world (old.history ++ is.event ∷ []) old.opened new.disks) (sym sizes) so))
+
+-- a command wasn't done
+pub went_undone : {D : Type 0} (state : D → State) (old new : Set D) (command : Command) → NothingDone state old new command → is_for (length (run old.sizes old.history).world.nodes) command ≡ true
+    → new.sizes ≡ old.sizes → new.opened ≡ old.opened → new.whole ≡ false → DisksWent state old → DisksWent state new
+went_undone {D} state old new command is fits sizes opened broken went = record {
+  ran = subst (λ (es : List Event). DisksRun state (opening new.sizes).world es new.opened new.disks) (sym is.history)
+      (subst (λ (ds : List D). DisksRun state (opening new.sizes).world old.history ds new.disks) (sym opened)
+      (subst (λ (s : Sizes). DisksRun state (opening s).world old.history old.opened new.disks) (sym sizes)
+      (run_undone state (opening old.sizes) old.history command old.opened old.disks new.disks went.ran fits is.disks)));
+  played = λ still. absurd (cc (still, broken));
+}

@@ -1,0 +1,47 @@
+-- What a run does to the disks of a set.
+use Rattle.std.specs.Prelude.{◌≡◌, true, IsSome, List, [], ◌∷◌, length}
+use Rattle.rs_disk.specs.State.{State}
+use Rattle.set_model.specs.declared.command.Command.{Command}
+use Rattle.set_model.specs.declared.command.Event.{Event}
+use Rattle.set_model.specs.Limits.{is_for}
+use Rattle.set_model.specs.Run.{opening}
+use Rattle.set_model.specs.World.{World, step, task}
+use Rattle.node_core.specs.Acting.{DisksActed}
+use Rattle.set_world.specs.World.{Set}
+use Rattle.set_world.specs.Disks.{AtTouchedNode, DisksUndone, OneChanged}
+
+-- An event changes the two disks of its node, and no others: a store fails only where one of them does, and
+-- only a crash and a `diskfail` give them orders. An event without a node changes none.
+abbrev pub DisksStep : {D : Type 0} → (D → State) → World → Event → List D → List D → Type 0
+DisksStep state world event old new =
+    AtTouchedNode (task world event.command) event.failed old new
+    (λ number.
+    OneChanged state (DisksActed event.command (step world event).reply (IsSome event.failed)) number old new)
+
+-- events, each at the world that it meets
+abbrev pub DisksPlay : {D : Type 0} → (D → State) → World → List Event → List D → List D → Type 0
+DisksPlay state world [] old new = new ≡ old
+DisksPlay {D} state world (event ∷ later) old new =
+    (between : List D) × DisksStep state world event old between
+    × DisksPlay state (step world event).world later between new
+
+-- commands that weren't done, since memory ran out
+abbrev pub AllUndone : {D : Type 0} → (D → State) → World → List Command → List D → List D → Type 0
+AllUndone state world [] old new = new ≡ old
+AllUndone {D} state world (command ∷ more) old new =
+    (between : List D) × (is_for (length world.nodes) command ≡ true)
+    × DisksUndone state world command old between
+    × AllUndone state world more between new
+
+-- events, with such commands before, between and behind them
+abbrev pub DisksRun : {D : Type 0} → (D → State) → World → List Event → List D → List D → Type 0
+DisksRun state world [] old new = (undone : List Command) × AllUndone state world undone old new
+DisksRun {D} state world (event ∷ later) old new =
+    (undone : List Command) × (before : List D) × (after : List D) × AllUndone state world undone old before
+    × DisksStep state world event before after × DisksRun state (step world event).world later after new
+
+-- The disks of a set are those that its events leave of what the opening left. A set that isn't whole has
+-- run out of memory in some step, so commands that weren't done may have used disks too.
+pub record DisksWent {D : Type 0} (state : D → State) (set : Set D) : Type 0 where
+  pub ran : DisksRun state (opening set.sizes).world set.history set.opened set.disks
+  pub played : set.whole ≡ true → DisksPlay state (opening set.sizes).world set.history set.opened set.disks

@@ -1,0 +1,9 @@
+//! A replica set that threads step in turns. There is one history of all their steps, and how many entries
+//! a node has had committed is read without waiting.
+#![tactic(auto)]
+
+mod set;
+mod shared;
+mod turning;
+
+pub use shared::{Pass, SharedSet};

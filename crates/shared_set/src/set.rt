@@ -1,0 +1,120 @@
+// Making a shared set, its turns, its passes and its end.
+ghost use Rattle.std.specs.Prelude.{◌≡◌, ◌<◌, ℕ, length, true, IfErr, IfOk, IsErrOf, OnErr};
+ghost use mathlib.Core.List.{IsPrefix};
+ghost use Rattle.set_model.specs.Limits.{IsRun, is_for};
+ghost use Rattle.set_world.specs.declared.error.StepError.{StepError as AStepError};
+ghost use Rattle.turn_board.specs.Passes.{IsFree, view};
+ghost use Rattle.turn_board.specs.Views.{answered, half, joined, less_one, numbered_as, opened, seen};
+ghost use Rattle.shared_set.specs.Calls.{Closes, Looks, Steps, Waits};
+ghost use Rattle.shared_set.specs.Passes.{IsPass, begun_as, sizes_of};
+
+use crate::shared::{Pass, SharedSet};
+use crate::turning::Turning;
+use rs_disk::Disk;
+use set_model::{Command, Reply};
+use set_world::{StepError, World};
+use std::alloc::{AllocFailed, Global};
+use std::sync::Wait;
+use std::thread::Threads;
+use turn_board::Board;
+
+impl<D: Disk> SharedSet<D> {
+    /// Shares a set. The pass has all 65,536 parts of the right to close it.
+    ///
+    /// # Errors
+    /// Out of memory, which hands the set back.
+    pub fn new(alloc: Global, world: World<D>) -> Result<(SharedSet<D>, Pass<D>), World<D>>
+        ensures begun { IfOk result (λ shared. begun_as shared.0 ≡ world) }
+        ensures pass { IfOk result (λ shared. IsPass shared.0 shared.1 × IsFree shared.1
+            × (view shared.1 ≡ opened (view shared.1).fixed world.history)) }
+        ensures err { IfErr result (λ back. back ≡ world) }
+    {
+        let points = world.size();
+        let world = match Box::new(alloc, world) {
+            Ok(world) => world,
+            Err(AllocFailed { value }) => return Err(value),
+        };
+        match Board::new(alloc, Turning { world }, points) {
+            Ok((board, pass)) => Ok((SharedSet { board }, pass)),
+            Err(Turning { world }) => Err(Box::into_inner(world)),
+        }
+    }
+
+    /// Waits for its turn and does one command, whose event gets this line. It gives the place of the event
+    /// in the history, counted from 0, and the event's reply.
+    ///
+    /// # Errors
+    /// Those of `World::step`: nothing is added to the history.
+    pub fn step<R: Threads + Wait + Sync>(
+        &self,
+        rt: &R,
+        pass: &mut Pass<D>,
+        line: u32,
+        command: &Command,
+    ) -> Result<(u32, Reply), StepError>
+        requires pass { IsPass self.now pass.old × IsFree pass.old }
+        requires command { is_for (sizes_of self.now).nodes command.now ≡ true }
+        ensures pass { IsPass self.now pass.new × IsFree pass.new }
+        ensures step { IfOk result
+            (λ done. Steps (sizes_of self.now) (view pass.old)
+            (view pass.new) line command.now done.0 done.1) }
+        ensures err { OnErr result (Waits (sizes_of self.now) (view pass.old) (view pass.new)) }
+        ensures full { IsErrOf result AStepError.HistoryFull → length (seen (view pass.new)) ≡ 4294967295 }
+        ensures defined { IsRun (sizes_of self.now) (seen (view pass.new)) }
+    {
+        let mut set = self.board.enter(rt, pass);
+        let (node, answer) = set.step(rt, line, command);
+        self.board.leave(pass, set, node);
+        answer
+    }
+
+    /// The most entries that a node has had committed: those of its log up to its commit point. It waits
+    /// for nobody, and no later look of this pass gives less.
+    pub fn peek_commit(&self, pass: &mut Pass<D>, node: u32) -> u64
+        requires pass { IsPass self.now pass.old × IsFree pass.old }
+        requires node { node < (sizes_of self.now).nodes }
+        ensures pass { IsPass self.now pass.new × IsFree pass.new
+            × (view pass.new ≡ answered (view pass.old) node result) }
+        ensures number { Looks (sizes_of self.now) (view pass.old) node result }
+    {
+        self.board.peek(pass, node)
+    }
+
+    /// Gives one part to a new pass, which has seen what this one has.
+    pub fn split(&self, pass: &mut Pass<D>) -> Pass<D>
+        requires pass { IsPass self.now pass.old × IsFree pass.old }
+        requires parts { 1 < (view pass.old).parts }
+        ensures pass { IsPass self.now pass.new × IsFree pass.new
+            × (view pass.new ≡ less_one (view pass.old)) }
+        ensures given { IsPass self.now result × IsFree result × ((p : ℕ)
+            × (view result ≡ numbered_as (half (view pass.old)) p)) }
+    {
+        self.board.split(pass)
+    }
+
+    /// Takes in the parts of another pass, with its calls and what it has seen.
+    pub fn join(&self, pass: &mut Pass<D>, other: Pass<D>)
+        requires pass { IsPass self.now pass.old × IsFree pass.old }
+        requires other { IsPass self.now other × IsFree other }
+        ensures pass { IsPass self.now pass.new × IsFree pass.new
+            × (view pass.new ≡ joined (view pass.old) (view other)) }
+        ensures seen { IsPrefix (view pass.old).turns (view pass.new).turns
+            × IsPrefix (view other).turns (view pass.new).turns }
+    {
+        self.board.join(pass, other)
+    }
+
+    /// The set, with the calls of all passes in its history. It needs a pass with all 65,536 parts, so
+    /// every other one was joined into it.
+    pub fn close(self, pass: Pass<D>) -> World<D>
+        requires pass { IsPass self pass × IsFree pass }
+        requires parts { (view pass).parts ≡ 65536 }
+        ensures sizes { result.sizes ≡ sizes_of self }
+        ensures opened { result.opened ≡ (begun_as self).opened }
+        ensures closes { Closes (sizes_of self) (view pass) result.history }
+    {
+        let SharedSet { board } = self;
+        let Turning { world } = board.close(pass);
+        Box::into_inner(world)
+    }
+}
