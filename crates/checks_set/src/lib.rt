@@ -10,5 +10,3 @@ mod documents;
 mod ends;
 #[cfg(test)]
 mod running;
-#[cfg(test)]
-mod stepping;
