@@ -1,5 +1,5 @@
 -- What a command or a message comes to at a node on its disks, by what was done in memory and on the disks.
-use Rattle.std.proofs.Common.{◌≡◌, ◌∙◌, inl, ap, sym, subst, refl, ℕ, Bool, true, false, not, ◌&&◌, ◌||◌, [], Option, None, if◌then◌else◌}
+use Rattle.std.proofs.Common.{◌≡◌, ◌∙◌, inl, ap, sym, subst, refl, ℕ, Bool, true, false, not, ◌&&◌, ◌||◌, [], Option, None, Some, if◌then◌else◌}
 use Rattle.std.specs.Prelude.{IsSome, IfOk, OnErr, Result, Ok, Err}
 use Rattle.rs_disk.specs.Orders.{Orders}
 use Rattle.rs_disk.specs.State.{State}
@@ -14,11 +14,11 @@ use Rattle.set_model.specs.declared.reply.Reply.TheVariants as reply
 use Rattle.set_model.specs.declared.reply.Refusal.TheVariants.{NodeDown}
 use Rattle.set_model.specs.Outcome.{replied, refused}
 use Rattle.set_model.specs.Rows.{row}
-use Rattle.node_core.proofs.PuttingLemmas.{runs_as, runs_none}
+use Rattle.node_core.proofs.PuttingLemmas.{runs_as, runs_none, same_none}
 use Rattle.set_model.specs.Limits.{is_restart, passes_first, is_in_doubt}
 use Rattle.set_model.specs.Node.{Node}
 use Rattle.set_model.specs.Stores.{Plan, finished, done as comes_to, reaches, if_up}
-use Rattle.node_core.specs.Acting.{Acted, AreSame, DisksLeft, Follows, RunsWithoutOrders, Took, Unchanged, is_here, orders_after}
+use Rattle.node_core.specs.Acting.{Acted, AreSame, ArmsBy, DisksLeft, Follows, RunsWithoutOrders, Took, Unchanged, is_here, orders_after}
 use Rattle.node_state.specs.Bounds.{is_own}
 use Rattle.node_core.specs.Down.{DownState, down_node, seen_node}
 use Rattle.node_core.specs.OnDisks.{IsOnDisks, UpOnDisks}
@@ -50,6 +50,26 @@ own_orders name (Restart node) answer orders own = absurd (own_not own)
 own_orders name (DiskFail node disk call pick) answer orders own = absurd (own_not own)
 own_orders name _ answer orders own = refl
 
+own_arms : (command : Command) (j j' c c' : State) → is_own command ≡ true → ArmsBy command j j' c c'
+own_arms (DiskFail node disk call pick) j j' c c' own = absurd (own_not own)
+own_arms _ j j' c c' own = tt
+
+own_stays : (command : Command) → is_own command ≡ true → is_restart command ≡ true → ⊥
+own_stays (Deliver message) own is = absurd (own_not own)
+own_stays (DeliverLatest from to) own is = absurd (own_not own)
+own_stays (Crash node pick) own is = absurd (own_not own)
+own_stays (Restart node) own is = absurd (own_not own)
+own_stays (DiskFail node disk call pick) own is = absurd (own_not own)
+own_stays _ own is = absurd (own_not is)
+
+-- a restart that got past its first store didn't fail at it
+pub past_first : (failed : Option ℕ) → passes_first failed ≡ true → failed ≡ Some 0 → ⊥
+past_first failed passes is = own_not (sym (ap passes_first is) ∙ passes)
+
+-- no store failed, and so not the first
+pub first_not : (failed : Option ℕ) → failed ≡ None → failed ≡ Some 0 → ⊥
+first_not failed none is = past_first failed (ap passes_first none) is
+
 -- nothing was in doubt
 pub unkept : (old : Node) (command : Command) (done : Done) → done.kept ≡ false
     → (not done.kept || (is_restart command && passes_first done.failed && is_in_doubt old)) ≡ true
@@ -64,11 +84,14 @@ acted_own plan command old new j j' c c' done own kept took = record {
   stands = took.stands;
   disks = record {
     fails = took.runs.fails;
+    arms = own_arms command j j' c c' own;
     journal_armed = λ _. took.runs.journal_armed;
     checkpoints_armed = λ _. took.runs.checkpoints_armed;
     journal_orders = took.runs.journal_orders ∙ sym (own_orders disks.Journal command done.reply j.orders own);
     checkpoints_orders = took.runs.checkpoints_orders ∙ sym (own_orders disks.Checkpoint command done.reply c.orders own);
   };
+  unstored = λ _. took.unstored;
+  opening = λ is. absurd (own_stays command own is);
 }
 
 -- as a result where memory may have run out
@@ -143,6 +166,7 @@ module _ (node : Node) (left : DownState) (count : ℕ) (j c : State) (done : Do
         follows = answered_follows (row nodes next false seen command) seen (reply.Refused NodeDown) done (down_row nodes next seen command own not down) answer sent failed;
         stands = resting_stands up node left count j c resting;
         runs = answered_runs j c done failed;
+        unstored = λ _. same_none j c;
       }
 
   -- only its clock is set
@@ -157,4 +181,5 @@ module _ (node : Node) (left : DownState) (count : ℕ) (j c : State) (done : Do
         follows = answered_follows (row nodes next false seen command) new (reply.Clock seconds) done (ap (λ (x : Command). row nodes next false seen x) is) answer sent failed;
         stands = record { records = lies.stands.records; documents = lies.stands.documents };
         runs = answered_runs j c done failed;
+        unstored = λ _. same_none j c;
       }

@@ -1,6 +1,6 @@
 -- How a turn ends, by how what is left of it after its first store does.
 use Rattle.std.proofs.Common.{◌≡◌, sym, subst, refl, ℕ, suc, ◌+◌, true, Option, None, Some, List, arith, length}
-use Rattle.std.specs.Prelude.{OnErr, ◌≤◌, Result, Ok, Err, ⊤}
+use Rattle.std.specs.Prelude.{IfOk, OnErr, ◌≤◌, Result, Ok, Err}
 use Rattle.std.proofs.lemmas.Bool.{ltb-true, lt-ltb}
 use Rattle.rs_disk.specs.State.{State}
 use Rattle.rs_optime.specs.declared.optime.OpTime.{OpTime}
@@ -18,6 +18,7 @@ use Rattle.node_state.specs.StateView.{StateView}
 use Rattle.node_state.specs.declared.turn.Continuation.TheVariants as continuations
 use Rattle.set_model.specs.Node.{Node}
 use Rattle.set_model.specs.Stores.{Plan, finished, storing, stored, in_doubt, store_count}
+use Rattle.node_core.specs.Acting.{IsFinished}
 use Rattle.node_core.specs.Putting.{EndsFrom, StoresFewShort, IsStoreFailed, IsEnd, BeginsUnreserved, IsShortStore, IsShortDoubt, LeavesOnDisks, NeedsRoom, SHORT, plan_of}
 use Rattle.node_core.specs.OnDisks.{UpOnDisks, IsWellKeptWith}
 use Rattle.node_core.specs.Stands.{Stands}
@@ -101,10 +102,6 @@ module _ (item : Store) (then : Continuation) (old new : Node) (next : Turn) (me
 
 -- ---- memory for what is left
 
-abbrev IsFinished : Plan → Type 0
-IsFinished (finished outcome) = ⊤
-IsFinished (storing broken rest) = ⊥
-
 finished_ends : (turn : Turn) (node : Node) (plan : Plan) → IsFinished plan → Means turn node plan → IsEnd turn
 finished_ends (Finished answer sent) node plan is means = tt
 finished_ends (Storing item then) node plan is means = subst (λ (p : Plan). IsFinished p) means is
@@ -184,6 +181,15 @@ long_only command (Storing item then) new plan r s means does long =
     by_command (Flush number) may = refl
     by_command (Checkpoint number) may = refl
     by_command _ may = absurd (long may)
+
+-- a turn whose plan stores nothing is at its end
+pub at_end : (turn : Turn) (new : Node) (plan : Plan) → Means turn new plan → IsFinished plan → IsEnd turn
+at_end (Finished answer sent) new plan means none = tt
+at_end (Storing item then) new plan means none = subst IsFinished means none
+
+pub ok_on : {T E : Type 0} (result : Result T E) (A B : Type 0) → IfOk result (λ _. A) → (A → B) → IfOk result (λ _. B)
+ok_on (Ok value) A B one then = then one
+ok_on (Err error) A B one then = tt
 
 pub err_on : {T E : Type 0} (result : Result T E) (A B : Type 0) → OnErr result A → (A → B) → OnErr result B
 err_on (Ok value) A B one then = tt

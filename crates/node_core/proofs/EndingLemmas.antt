@@ -4,7 +4,7 @@ use Rattle.std.specs.Prelude.{IsSome, OnErr, Result, Ok, Err}
 use Rattle.rs_disk.specs.State.{State}
 use Rattle.set_model.specs.Node.{Node}
 use Rattle.set_model.specs.Stores.{Plan}
-use Rattle.node_core.specs.Acting.{AreSame, Follows, RunsWithoutOrders, Took, Unchanged}
+use Rattle.node_core.specs.Acting.{AreSame, Follows, IsFinished, RunsWithoutOrders, Took, Unchanged}
 use Rattle.node_core.specs.Down.{DownState, seen_node}
 use Rattle.node_core.specs.Putting.{EndsFrom, IsStoreFailed, LeavesOnDisks}
 use Rattle.node_core.specs.OnDisks.{IsOnDisks, UpOnDisks}
@@ -22,13 +22,14 @@ pub took_ended : (plan : Node → Plan) (up later : Bool) (node new : Node) (lef
     → EndsFrom 0 (plan node) new ended → LeavesOnDisks ended new count j' c' → RunsWithoutOrders (IsStoreFailed ended) j j' c c'
     → ((p : Plan) → EndsFrom 0 p new ended → Follows p (seen_node later new left') done)
     → ((n : ℕ) (a b : State) → LeavesOnDisks ended new n a b → IsOnDisks later new left' n a b)
-    → (IsSome done.failed → IsStoreFailed ended)
+    → (IsSome done.failed → IsStoreFailed ended) → (IsFinished (plan node) → AreSame j j' c c')
     → Took (plan (seen_node up node left)) (seen_node later new left') j j' c c' done
-took_ended plan false later node new left left' count j j' c c' ended done is_up ends leaves runs follows rests failed = absurd (up_not is_up)
-took_ended plan true later node new left left' count j j' c c' ended done is_up ends leaves runs follows rests failed = record {
+took_ended plan false later node new left left' count j j' c c' ended done is_up ends leaves runs follows rests failed unstored = absurd (up_not is_up)
+took_ended plan true later node new left left' count j j' c c' ended done is_up ends leaves runs follows rests failed unstored = record {
   follows = follows (plan node) ends;
   stands = resting_stands later new left' count j' c' (rests count j' c' leaves);
   runs = runs_as j j' c c' failed runs;
+  unstored = unstored;
 }
 
 -- memory ran out

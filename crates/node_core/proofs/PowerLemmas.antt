@@ -60,6 +60,9 @@ same_armed old new same is = subst (λ (b : Bool). IsTrue b) same is
 up_not : false ≡ true → ⊥
 up_not h = cc
 
+orders_not : true ≡ false → ⊥
+orders_not h = cc
+
 module _ (pick : ℕ) (node : Node) (left : DownState) (j j' c c' : State) (one : IsCut pick j j') (two : IsCut pick c c')
     (is : down_node node left ≡ record (down node) { doubt = None }) where
   cut_stands : (count : ℕ) → UpOnDisks node count j c → Stands (record (down node) { doubt = None }) j' c'
@@ -85,11 +88,14 @@ module _ (pick : ℕ) (node : Node) (left : DownState) (j j' c c' : State) (one 
     stands = subst (λ (n : Node). Stands n j' c') (sym is) (cut_stands count rests);
     disks = record {
       fails = fails_not (IsSome done.failed) j j' c c' (unfailed done.failed failed) (cut_faulty pick j j' one) (cut_faulty pick c c' two);
+      arms = tt;
       journal_armed = λ _. same_armed j j' (ap (λ (s : State). s.is_armed) one.rest);
       checkpoints_armed = λ _. same_armed c c' (ap (λ (s : State). s.is_armed) two.rest);
       journal_orders = ap (λ (s : State). s.orders) one.rest ∙ sym (ap (λ (r : Reply). orders_after disks.Journal (Crash number pick) r j.orders) answer);
       checkpoints_orders = ap (λ (s : State). s.orders) two.rest ∙ sym (ap (λ (r : Reply). orders_after disks.Checkpoint (Crash number pick) r c.orders) answer);
     };
+    unstored = λ not. absurd (orders_not not);
+    opening = λ is. absurd (up_not is);
   }
     where
       plan_is : row nodes next false node (Crash number pick) ≡ finished (replied reply.Down (down_node node left))
@@ -141,6 +147,8 @@ module _ (disk : DiskName) (call : ℕ) (pick : Option ℕ) (node : Node) (left 
     settles = unkept seen (DiskFail number disk call pick) done kept;
     stands = resting_stands up node left count j' c' (armed_rests up count refl resting);
     disks = go disk arms;
+    unstored = λ not. absurd (orders_not not);
+    opening = λ is. absurd (up_not is);
   }
     where
       seen : Node
@@ -153,6 +161,7 @@ module _ (disk : DiskName) (call : ℕ) (pick : Option ℕ) (node : Node) (left 
       go disks.Journal arms = record {
         fails = fails_not (IsSome done.failed) j j' c c' (unfailed done.failed failed) (armed_faulty call pick j j' arms.0)
             (record { faults = ap (λ (s : State). s.faults) arms.1; steady = ap (λ (s : State). s.is_steady) arms.1 });
+        arms = arms;
         journal_armed = λ not. absurd (not_so not);
         checkpoints_armed = λ not. absurd (not_so not);
         journal_orders = ap (λ (s : State). s.orders) arms.0 ∙ sym (ap (λ (r : Reply). orders_after disks.Journal (DiskFail number disks.Journal call pick) r j.orders) answer);
@@ -161,6 +170,7 @@ module _ (disk : DiskName) (call : ℕ) (pick : Option ℕ) (node : Node) (left 
       go disks.Checkpoint arms = record {
         fails = fails_not (IsSome done.failed) j j' c c' (unfailed done.failed failed)
             (record { faults = ap (λ (s : State). s.faults) arms.0; steady = ap (λ (s : State). s.is_steady) arms.0 }) (armed_faulty call pick c c' arms.1);
+        arms = arms;
         journal_armed = λ not. absurd (not_so not);
         checkpoints_armed = λ not. absurd (not_so not);
         journal_orders = ap (λ (s : State). s.orders) arms.0 ∙ sym (ap (λ (r : Reply). orders_after disks.Journal (DiskFail number disks.Checkpoint call pick) r j.orders) answer);

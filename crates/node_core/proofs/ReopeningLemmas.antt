@@ -1,10 +1,13 @@
 -- What stands on a node's two disks while they are opened anew, and what is then known of what was in doubt.
-use Rattle.std.proofs.Common.{◌≡◌, ◌∙◌, ⊎_elim, inl, inr, ap, sym, subst, refl, ℕ, ◌+◌, Bool, true, false, nat_lt, List, [], ◌∷◌, ◌++◌, Option, Some, None, IfSome, length, length-append, arith}
+use Rattle.std.proofs.Common.{◌≡◌, ◌∙◌, ⊎_elim, inl, inr, ap, sym, subst, refl, ℕ, ◌+◌, Bool, true, false, nat_lt, List, [], ◌∷◌, ◌++◌, Option, Some, None, Ok, Err, IfSome, length, length-append, arith}
 use Rattle.std.specs.Prelude.{◌⊎◌}
 use Rattle.rs_disk.specs.File.{LeavesOnly, contents}
 use Rattle.rs_disk.specs.Images.{read_is_image}
 use Rattle.rs_disk.specs.Moments.{EachMoment, starts}
 use Rattle.rs_disk.specs.State.{State, Keeps, SameButRoom}
+use Rattle.record_file.specs.Files.{OpensBy}
+use Rattle.record_file.specs.declared.error.FileError.TheVariants.{Memory}
+use Rattle.record_file.proofs.OpenLemmas.{opened_calls}
 use Rattle.rs_optime.specs.Later.{same_optime}
 use Rattle.rs_optime.specs.declared.optime.OpTime.{OpTime}
 use Rattle.oplog_entry.specs.Docs.{docs}
@@ -26,6 +29,7 @@ use Rattle.set_model.specs.Stores.{stored}
 use Rattle.node_core.specs.Acting.{AreReopened, RunsWithoutOrders}
 use Rattle.node_core.specs.Coming.{IsFound, IsRead, is_there, settled}
 use Rattle.node_core.specs.Down.{DownState, down_node}
+use Rattle.node_core.specs.Opening.{OpensInTurn}
 use Rattle.node_core.specs.OnDisks.{IsOnDisks, IsWellKeptWith, DownOnDisks, UpOnDisks}
 use Rattle.node_core.specs.Stands.{HasDocumentsOf, HasRecordsOf, Stands, documents_at}
 use Rattle.node_core.specs.declared.coming_up.Found.{Found}
@@ -75,8 +79,17 @@ pub then_reserved : (P : List ℕ → Type 0) (old mid new : State) → EachMome
 then_reserved P old mid new moments same =
     subst (λ (s : State). EachMoment P old s) (sym same) (record { since = moments.since; passed = moments.passed; left = moments.left; now = moments.now })
 
-pub reopened : {Fault : Type 0} (j j' c c' : State) → RunsWithoutOrders Fault j j' c c' → EachMoment (IsOneJournal j) j j' → EachMoment (IsOneCheckpoint c) c c' → AreReopened j j' c c'
-reopened j j' c c' runs journal checkpoints = record { runs = runs_as j j' c c' (λ none. absurd none) runs; journal = journal; checkpoints = checkpoints }
+-- the calls of an opening behind which room was taken
+pub calls_reserved : (old mid new : State) → OpensBy {T = Unit {0}} (Ok tt) old mid → SameButRoom mid new → OpensBy {T = Unit {0}} (Ok tt) old new
+calls_reserved old mid new calls same =
+    subst (λ (s : State). OpensBy {T = Unit {0}} (Ok tt) old s) (sym same) (calls.0, calls.1, record { file = calls.2.file; past = calls.2.past })
+
+-- both disks were opened, and then memory ran out
+pub opened_both : (j j' c c' : State) → OpensInTurn {T = Unit {0}} (Ok tt) j j' c c' → OpensInTurn {T = Unit {0}} (Err Memory) j j' c c'
+opened_both j j' c c' calls = inr (calls.0, opened_calls {X = Unit {0}} (Err Memory) c c' refl calls.1)
+
+pub reopened : {Fault : Type 0} (j j' c c' : State) → OpensInTurn {T = Unit {0}} (Err Memory) j j' c c' → RunsWithoutOrders Fault j j' c c' → EachMoment (IsOneJournal j) j j' → EachMoment (IsOneCheckpoint c) c c' → AreReopened j j' c c'
+reopened j j' c c' calls runs journal checkpoints = record { calls = calls; runs = runs_as j j' c c' (λ none. absurd none) runs; journal = journal; checkpoints = checkpoints }
 
 -- both were read, and memory for a record was taken
 pub read_both : (found : Found) (j j1 j2 c c' : State) → SameButRoom j1 j2 → ((items : List Record) → HasJournal (contents j.file) items → found.kept ≡ kept items)

@@ -20,17 +20,18 @@ use Rattle.set_model.specs.Outcome.{refused}
 use Rattle.set_model.specs.Rollback.{cut_record}
 use Rattle.set_model.specs.Rows.{row}
 use Rattle.set_model.specs.Stores.{Plan, finished, storing, done as comes_to, reaches, in_doubt, stored}
-use Rattle.node_core.specs.Acting.{Acted, AreReopened, Follows, RunsWithoutOrders, Unchanged}
+use Rattle.node_core.specs.Acting.{Acted, AreReopened, Follows, IsFinished, RunsWithoutOrders, Unchanged}
 use Rattle.node_core.specs.Coming.{IsPrepared, cut_node, cut_point}
 use Rattle.node_core.specs.Down.{DownState, down_node, seen_node}
+use Rattle.node_core.specs.Opening.{OpensInTurn}
 use Rattle.node_core.specs.Putting.{IsKeepable, Puts}
 use Rattle.node_core.specs.OnDisks.{IsOnDisks, IsWellKeptWith, UpOnDisks}
 use Rattle.node_core.specs.Stands.{Stands}
 use Rattle.node_core.specs.declared.coming_up.Prepared.{Prepared}
 use Rattle.node_core.specs.declared.done.Done.{Done}
-use Rattle.node_core.proofs.ActingLemmas.{answered_follows, answered_runs, resting_stands}
+use Rattle.node_core.proofs.ActingLemmas.{answered_follows, answered_runs, first_not, resting_stands}
 use Rattle.node_core.proofs.ComingLemmas.{ComesWith, comes_with}
-use Rattle.node_core.proofs.PuttingLemmas.{rests_same}
+use Rattle.node_core.proofs.PuttingLemmas.{rests_same, same_none}
 use Rattle.node_state.specs.WellKept.{IsWellKept}
 
 -- ---- it is up
@@ -129,18 +130,22 @@ module _ (up : Bool) (memory : Node) (left doubting : DownState) (at : OpTime) (
 
 pub acted_restart : (nodes next number : ℕ) (old new : Node) (j j' c c' : State) (done : Done) → old.up ≡ false → Follows (restart old done.kept) new done
     → (done.kept ≡ true → IsSome old.doubt × (passes_first done.failed ≡ true)) → Stands new j' c' → RunsWithoutOrders (IsSome done.failed) j j' c c'
+    → (done.failed ≡ Some 0 → OpensInTurn {T = Unit {0}} (Err Disk) j j' c c')
     → Acted (row nodes next done.kept old (Restart number)) (Restart number) old new j j' c c' done
-acted_restart nodes next number old new j j' c c' done down follows settles stands runs = record {
+acted_restart nodes next number old new j j' c c' done down follows settles stands runs opening = record {
   follows = follows;
   settles = may_settle done.kept settles;
   stands = stands;
   disks = record {
     fails = runs.fails;
+    arms = tt;
     journal_armed = λ _. runs.journal_armed;
     checkpoints_armed = λ _. runs.checkpoints_armed;
     journal_orders = runs.journal_orders;
     checkpoints_orders = runs.checkpoints_orders;
   };
+  unstored = λ _ none. absurd (subst (λ (b : Bool). IsFinished (if b then finished (refused NotDown old) else storing old (recovered (settled_doubt old old.doubt done.kept)))) down none);
+  opening = λ _. opening;
 }
   where
     may_settle : (kept : Bool) → (kept ≡ true → IsSome old.doubt × (passes_first done.failed ≡ true))
@@ -160,11 +165,14 @@ acted_not_down nodes next number old j c done up answer sent failed kept stands 
   stands = stands;
   disks = record {
     fails = (answered_runs j c done failed).fails;
+    arms = tt;
     journal_armed = λ _ is. is;
     checkpoints_armed = λ _ is. is;
     journal_orders = refl;
     checkpoints_orders = refl;
   };
+  unstored = λ _ _. same_none j c;
+  opening = λ _ first. absurd (first_not done.failed failed first);
 }
 
 module _ (up up' : Bool) (memory memory' : Node) (left left' : DownState) (count' : ℕ) (j j' c c' : State) (down : up ≡ false) where
@@ -174,13 +182,14 @@ module _ (up up' : Bool) (memory memory' : Node) (left left' : DownState) (count
       → IfOk result (λ done. done.kept ≡ true → (IsSome left.doubt × (passes_first done.failed ≡ true)))
       → IfOk result (λ done. IsOnDisks up' memory' left' count' j' c')
       → IfOk result (λ done. RunsWithoutOrders (IsSome done.failed) j j' c c')
+      → IfOk result (λ done. done.failed ≡ Some 0 → OpensInTurn {T = Unit {0}} (Err Disk) j j' c c')
       → (nodes next number : ℕ)
       → IfOk result (λ done. Acted (row nodes next done.kept (seen_node up memory left) (Restart number)) (Restart number) (seen_node up memory left) (seen_node up' memory' left') j j' c c' done)
-  acted_come (Err error) follows settles rests runs nodes next number = tt
-  acted_come (Ok done) follows settles rests runs nodes next number =
+  acted_come (Err error) follows settles rests runs opening nodes next number = tt
+  acted_come (Ok done) follows settles rests runs opening nodes next number =
       subst (λ (b : Bool). Acted (row nodes next done.kept (seen_node b memory left) (Restart number)) (Restart number) (seen_node b memory left) (seen_node up' memory' left') j j' c c' done) (sym down)
       (acted_restart nodes next number (down_node memory left) (seen_node up' memory' left') j j' c c' done refl follows settles
-      (resting_stands up' memory' left' count' j' c' rests) runs)
+      (resting_stands up' memory' left' count' j' c' rests) runs opening)
 
   -- memory ran out
   pub unchanged_come : {T E : Type 0} (result : Result T E) → OnErr result (seen_node up' memory' left' ≡ down_node memory left) → OnErr result (IsOnDisks up' memory' left' count' j' c')

@@ -17,7 +17,7 @@ use Rattle.node_core.specs.OnDisks.{IsOnDisks, UpOnDisks}
 use Rattle.node_core.specs.declared.done.Done.{Done}
 use Rattle.node_core.proofs.ActingLemmas.{answered_follows, answered_runs, rests_stand}
 use Rattle.node_core.proofs.DoesLemmas.{Does, MayPut, row_does}
-use Rattle.node_core.proofs.PuttingLemmas.{rests_same}
+use Rattle.node_core.proofs.PuttingLemmas.{rests_same, same_none}
 
 not_so : false ≡ true → ⊥
 not_so h = cc
@@ -65,6 +65,7 @@ module _ (nodes next : ℕ) (node new : Node) (command : Command) (answer : Repl
     follows = answered_follows (row nodes next false node command) new answer done its_row reply sent failed;
     stands = rests_stand new count j c (rests_on count j c rests);
     runs = answered_runs j c done failed;
+    unstored = λ _. same_none j c;
   }
 
 pub up_rests : (up : Bool) (node : Node) (left : DownState) (count : ℕ) (j c : State) → up ≡ true → IsOnDisks up node left count j c → UpOnDisks node count j c

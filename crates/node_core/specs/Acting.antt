@@ -1,9 +1,10 @@
 -- What a command or a message does to a node and to its disks.
-use Rattle.std.specs.Prelude.{◌≡◌, ◌⊎◌, ◌≤◌, ℕ, Bool, true, false, not, ◌&&◌, ◌||◌, IsTrue, IsSome, Option}
+use Rattle.std.specs.Prelude.{◌≡◌, ◌⊎◌, ◌≤◌, ℕ, Bool, true, false, not, ◌&&◌, ◌||◌, ⊤, IsTrue, IsSome, Option, Some, Err}
 use Rattle.rs_io.specs.Fault.{CountRose}
 use Rattle.rs_disk.specs.Orders.{Orders, ordered, arm, power_cut}
 use Rattle.rs_disk.specs.Moments.{EachMoment}
 use Rattle.rs_disk.specs.State.{State, IsArmed, SameButRoom}
+use Rattle.record_file.specs.declared.error.FileError.TheVariants.{Disk, Memory}
 use Rattle.node_journal.specs.Files.{IsOneOf as IsOneJournal}
 use Rattle.checkpoint_store.specs.Files.{IsOneOf as IsOneCheckpoint}
 use Rattle.set_model.specs.declared.command.Command.{Command}
@@ -14,7 +15,8 @@ use Rattle.set_model.specs.declared.reply.Reply.{Reply}
 use Rattle.set_model.specs.declared.reply.Reply.TheVariants as reply
 use Rattle.set_model.specs.Limits.{is_restart, passes_first, is_in_doubt}
 use Rattle.set_model.specs.Node.{Node}
-use Rattle.set_model.specs.Stores.{Plan, done, reaches}
+use Rattle.set_model.specs.Stores.{Plan, finished, storing, done, reaches}
+use Rattle.node_core.specs.Opening.{OpensInTurn}
 use Rattle.node_core.specs.Stands.{Stands}
 use Rattle.node_core.specs.declared.done.Done.{Done}
 
@@ -70,10 +72,16 @@ abbrev pub Arms : DiskName → ℕ → Option ℕ → State → State → State 
 Arms disks.Journal call pick j j' c c' = IsArmed call pick j j' × (c' ≡ c)
 Arms disks.Checkpoint call pick j j' c c' = (j' ≡ j) × IsArmed call pick c c'
 
+-- a `diskfail` arms the disk that it names
+abbrev pub ArmsBy : Command → State → State → State → State → Type 0
+ArmsBy (DiskFail node disk call pick) j j' c c' = Arms disk call pick j j' c c'
+ArmsBy _ j j' c c' = ⊤
+
 -- The two disks of a node, across a command with this reply: a fault comes only where one of their counts
 -- rose, only a `diskfail` arms them, and only a crash and a `diskfail` give them orders.
 pub record DisksActed (command : Command) (reply : Reply) (Fault : Type 0) (j j' c c' : State) : Type 0 where
   pub fails : Fails Fault j j' c c'
+  pub arms : ArmsBy command j j' c c'
   pub journal_armed : is_disk_fail command ≡ false → ArmedBefore j j'
   pub checkpoints_armed : is_disk_fail command ≡ false → ArmedBefore c c'
   pub journal_orders : j'.orders ≡ orders_after disks.Journal command reply j.orders
@@ -87,7 +95,23 @@ pub record RunsWithoutOrders (Fault : Type 0) (j j' c c' : State) : Type 0 where
   pub journal_orders : j'.orders ≡ j.orders
   pub checkpoints_orders : c'.orders ≡ c.orders
 
+-- two disks as they were, but for their room
+pub record AreSame (j j' c c' : State) : Type 0 where
+  pub journal : SameButRoom j j'
+  pub checkpoints : SameButRoom c c'
+
 -- ---- what a call of a node comes to
+
+-- the plan stores nothing
+abbrev pub IsFinished : Plan → Type 0
+IsFinished (finished outcome) = ⊤
+IsFinished (storing broken rest) = ⊥
+
+-- the commands that change a node's disks and store nothing
+abbrev pub gives_orders : Command → Bool
+gives_orders (Crash node pick) = true
+gives_orders (DiskFail node disk call pick) = true
+gives_orders _ = false
 
 -- A command was done at a node with these two disks, which had been such before.
 pub record Acted (plan : Plan) (command : Command) (old new : Node) (j j' c c' : State)
@@ -96,23 +120,24 @@ pub record Acted (plan : Plan) (command : Command) (old new : Node) (j j' c c' :
   pub settles : MaySettle old command done
   pub stands : Stands new j' c'
   pub disks : DisksActed command done.reply (IsSome done.failed) j j' c c'
+  pub unstored : gives_orders command ≡ false → IsFinished plan → AreSame j j' c c'
+  -- a restart opens both disks first: where that failed, nothing else was done
+  pub opening : is_restart command ≡ true → done.failed ≡ Some 0
+      → OpensInTurn {T = Unit {0}} (Err Disk) j j' c c'
 
 -- A message was taken.
 pub record Took (plan : Plan) (new : Node) (j j' c c' : State) (done : Done) : Type 0 where
   pub follows : Follows plan new done
   pub stands : Stands new j' c'
   pub runs : RunsWithoutOrders (IsSome done.failed) j j' c c'
+  pub unstored : IsFinished plan → AreSame j j' c c'
 
 -- ---- out of memory
 
--- two disks as they were, but for their room
-pub record AreSame (j j' c c' : State) : Type 0 where
-  pub journal : SameButRoom j j'
-  pub checkpoints : SameButRoom c c'
-
--- Two disks that were opened anew, as far as memory went. No orders were given to them, and at each moment a
--- crash left a list that one before might have left.
+-- Two disks that were opened anew, as far as memory went, and no more was done. No orders were given to them,
+-- and at each moment a crash left a list that one before might have left.
 pub record AreReopened (j j' c c' : State) : Type 0 where
+  pub calls : OpensInTurn {T = Unit {0}} (Err Memory) j j' c c'
   pub runs : RunsWithoutOrders ⊥ j j' c c'
   pub journal : EachMoment (IsOneJournal j) j j'
   pub checkpoints : EachMoment (IsOneCheckpoint c) c c'

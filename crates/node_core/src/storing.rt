@@ -6,7 +6,7 @@ ghost use Rattle.set_model.specs.Limits.{is_within};
 ghost use Rattle.set_model.specs.Node.{Node};
 ghost use Rattle.set_model.specs.Rows.{row};
 ghost use Rattle.node_state.specs.Bounds.{IsBounded, IsNumbered, is_own, is_write};
-ghost use Rattle.node_core.specs.Acting.{AreSame, RunsWithoutOrders};
+ghost use Rattle.node_core.specs.Acting.{AreSame, IsFinished, RunsWithoutOrders};
 ghost use Rattle.node_core.specs.Putting.{CanBePut, EndsFrom, StoresFewShort, IsStoreFailed, IsEnd, IsFault, BeginsUnreserved, LeavesOnDisks, NeedsRoom, SHORT, plan_of};
 ghost use Rattle.node_state.specs.Ready.{CanBeStored, IsReady, IsReadyTurn};
 ghost use Rattle.node_state.specs.WellKept.{IsWellKept};
@@ -42,6 +42,8 @@ pub(crate) fn carry_out<D: Disk>(state: &mut State, disks: &mut Disks<D>, turn: 
         (D.state disks.new.journal.0) (D.state disks.new.checkpoints)) }
     ensures runs { RunsWithoutOrders (IsFault result) (D.state disks.old.journal.0)
         (D.state disks.new.journal.0) (D.state disks.old.checkpoints) (D.state disks.new.checkpoints) }
+    ensures unstored { IfOk result (λ _. IsEnd turn → AreSame (D.state disks.old.journal.0)
+        (D.state disks.new.journal.0) (D.state disks.old.checkpoints) (D.state disks.new.checkpoints)) }
     ensures long { OnErr result (BeginsUnreserved turn) }
     ensures same { OnErr result (state.new.node ≡ state.old.node) }
     ensures left { OnErr result (UpOnDisks state.old.node disks.new.count (D.state disks.new.journal.0)
@@ -142,6 +144,9 @@ pub(crate) fn act_own<D: Disk, R: Threads + Sync>(
         (D.state disks.new.journal.0) (D.state disks.new.checkpoints)) }
     ensures runs { RunsWithoutOrders (IsFault result) (D.state disks.old.journal.0)
         (D.state disks.new.journal.0) (D.state disks.old.checkpoints) (D.state disks.new.checkpoints) }
+    ensures unstored { IfOk result (λ _. IsFinished (row nodes next false state.old.node command.now)
+        → AreSame (D.state disks.old.journal.0) (D.state disks.new.journal.0)
+        (D.state disks.old.checkpoints) (D.state disks.new.checkpoints)) }
     ensures same { OnErr result (state.new.node ≡ state.old.node) }
     ensures left { OnErr result (UpOnDisks state.old.node disks.new.count (D.state disks.new.journal.0)
         (D.state disks.new.checkpoints)) }
@@ -172,6 +177,9 @@ pub(crate) fn take_in<D: Disk, R: Threads + Sync>(
         (D.state disks.new.journal.0) (D.state disks.new.checkpoints)) }
     ensures runs { RunsWithoutOrders (IsFault result) (D.state disks.old.journal.0)
         (D.state disks.new.journal.0) (D.state disks.old.checkpoints) (D.state disks.new.checkpoints) }
+    ensures unstored { IfOk result (λ _. IsFinished (deliver next state.old.node message.now)
+        → AreSame (D.state disks.old.journal.0) (D.state disks.new.journal.0)
+        (D.state disks.old.checkpoints) (D.state disks.new.checkpoints)) }
     ensures same { OnErr result (state.new.node ≡ state.old.node) }
     ensures left { OnErr result (UpOnDisks state.old.node disks.new.count (D.state disks.new.journal.0)
         (D.state disks.new.checkpoints)) }

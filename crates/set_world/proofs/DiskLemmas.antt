@@ -15,7 +15,7 @@ use Rattle.set_model.specs.Run.{Sizes, run}
 use Rattle.set_model.specs.World.{World, Task, acts, takes, nothing, step, task}
 use Rattle.repl_msg.specs.declared.message.Message.{Message}
 use Rattle.node_core.specs.declared.done.Done.{Done}
-use Rattle.node_core.specs.Acting.{AreSame, DisksActed, DisksLeft, RunsWithoutOrders, is_here, orders_after}
+use Rattle.node_core.specs.Acting.{AreSame, ArmsBy, DisksActed, DisksLeft, RunsWithoutOrders, is_here, orders_after}
 use Rattle.set_world.specs.Acting.{ChangesAt, NodeDisks, NodeActed, NodeTook, NodeUnchanged, NodeStands, EachNodeStands}
 use Rattle.set_world.specs.Disks.{OneChanged, AtTouchedNode, IsStep, NothingDone, StandsAtNumber, AllStand}
 use Rattle.set_world.specs.World.{Set, disks_in, nodes_in, event_of}
@@ -152,9 +152,15 @@ checkpoint_quiet (commands.Deliver message) reply orders none = refl
 checkpoint_quiet (commands.DeliverLatest from to) reply orders none = refl
 checkpoint_quiet command reply orders none = absurd (cc none)
 
+quiet_arms : (command : Command) (j j' c c' : State) → is_here command ≡ false → ArmsBy command j j' c c'
+quiet_arms (commands.Deliver message) j j' c c' none = tt
+quiet_arms (commands.DeliverLatest from to) j j' c c' none = tt
+quiet_arms command j j' c c' none = absurd (cc none)
+
 pub delivered_disks : (command : Command) (reply : Reply) (Fault : Type 0) (j j' c c' : State) → is_here command ≡ false → RunsWithoutOrders Fault j j' c c' → DisksActed command reply Fault j j' c c'
 delivered_disks command reply Fault j j' c c' none runs = record {
   fails = runs.fails;
+  arms = quiet_arms command j j' c c' none;
   journal_armed = λ other. runs.journal_armed;
   checkpoints_armed = λ other. runs.checkpoints_armed;
   journal_orders = runs.journal_orders ∙ sym (journal_quiet command reply j.orders none);

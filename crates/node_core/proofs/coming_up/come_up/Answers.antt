@@ -1,14 +1,28 @@
-use Rattle.std.proofs.Common.{◌∙◌, ap, inr, sym, subst, ℕ, Bool, Ok, Err}
-use Rattle.std.specs.Prelude.{OnErr, Result}
+use Rattle.std.proofs.Common.{◌≡◌, ◌∙◌, ap, inr, refl, sym, subst, ℕ, Bool, true, Option, None, Some, Ok, Err}
+use Rattle.std.specs.Prelude.{IsErrOf, IsSome, OnErr, Result}
 use Rattle.set_model.specs.Disk.{recovered, settled_doubt}
 use Rattle.set_model.specs.Node.{Node}
 use Rattle.set_model.specs.Stores.{storing}
+use Rattle.record_file.specs.declared.error.FileError.{FileError}
+use Rattle.record_file.specs.declared.error.FileError.TheVariants.{Disk}
+use Rattle.set_model.specs.declared.store.Store.{Store}
 use Rattle.node_core.specs.Acting.{Follows}
-use Rattle.node_core.specs.Coming.{IsFound, settled}
+use Rattle.node_core.specs.declared.coming_up.Found.{Found}
+use Rattle.node_core.specs.Coming.{IsFound, is_there, settled}
 use Rattle.node_core.specs.Down.{down_node, down_state, seen_node}
-use Rattle.node_core.proofs.PuttingLemmas.{runs_then}
-use Rattle.node_core.proofs.ReopeningLemmas.{found_settles, goes_up, lies_on, reopened, stands_checkpoints}
+use Rattle.node_core.specs.Opening.{OpensInTurn}
+use Rattle.node_core.proofs.ActingLemmas.{past_first}
+use Rattle.node_core.proofs.PuttingLemmas.{runs_as, runs_then}
+use Rattle.node_core.proofs.ReopeningLemmas.{found_settles, goes_up, lies_on, opened_both, reopened, stands_checkpoints}
 use Rattle.node_core.proofs.coming_up.come_up.Goals as goal
+
+-- what is there was in doubt
+there_doubt : (doubt : Option Store) (count : ℕ) (found : Found) → is_there doubt count found ≡ true → IsSome doubt
+there_doubt None count found is = absurd (cc)
+there_doubt (Some item) count found is = refl
+
+disk_error : (error : FileError) → error ≡ Disk → IsErrOf {T = Found} {E = FileError} (Err error) Disk
+disk_error error is = ap (λ (e : FileError). Err e) is
 
 on_err : {T E : Type 0} (result : Result T E) (P : Type 0) → P → OnErr result P
 on_err (Ok value) P holds = tt
@@ -40,7 +54,8 @@ returns-in_err-prepared-in-Ok-clause-reopened g c =
     on_err c.from_residual.result _
     (reopened (g.D.Disk.state c.args.disks.now.journal.0) (g.D.Disk.state c.open_both.new.disks.journal.0)
     (g.D.Disk.state c.args.disks.now.checkpoints) (g.D.Disk.state c.open_both.new.disks.checkpoints)
-    c.in-Ok.ensures.runs c.open_both.ensures.journal c.open_both.ensures.checkpoints)
+    (opened_both (g.D.Disk.state c.args.disks.now.journal.0) (g.D.Disk.state c.open_both.new.disks.journal.0)
+    (g.D.Disk.state c.args.disks.now.checkpoints) (g.D.Disk.state c.open_both.new.disks.checkpoints) c.in-Ok.ensures.calls) c.in-Ok.ensures.runs c.open_both.ensures.journal c.open_both.ensures.checkpoints)
 
 pub go_up-requires-clause-well : goal.go_up-requires-clause-well
 go_up-requires-clause-well g c =
@@ -88,6 +103,8 @@ pub returns-in-Err-Memory-clause-reopened : goal.returns-in-Err-Memory-clause-re
 returns-in-Err-Memory-clause-reopened g c =
     reopened (g.D.Disk.state c.args.disks.now.journal.0) (g.D.Disk.state c.open_both.new.disks.journal.0)
     (g.D.Disk.state c.args.disks.now.checkpoints) (g.D.Disk.state c.open_both.new.disks.checkpoints)
+    (subst (λ (e : FileError). OpensInTurn {T = Unit {0}} (Err e) (g.D.Disk.state c.args.disks.now.journal.0) (g.D.Disk.state c.open_both.new.disks.journal.0)
+    (g.D.Disk.state c.args.disks.now.checkpoints) (g.D.Disk.state c.open_both.new.disks.checkpoints)) c.in-Err-Memory.field-0-is c.in-Err-Memory.ensures.calls)
     c.in-Err-Memory.ensures.runs c.open_both.ensures.journal c.open_both.ensures.checkpoints
 
 pub returns-in-Err-Disk-clause-rests : goal.returns-in-Err-Disk-clause-rests
@@ -97,3 +114,24 @@ returns-in-Err-Disk-clause-rests g c =
     (g.D.Disk.state c.args.disks.now.journal.0) (g.D.Disk.state c.open_both.new.disks.journal.0)
     (g.D.Disk.state c.args.disks.now.checkpoints) (g.D.Disk.state c.open_both.new.disks.checkpoints)
     c.requires.down c.open_both.ensures.count c.requires.lies (c.open_both.ensures.stands node c.requires.lies.stands)
+
+pub returns-in_ok-prepared-in-Ok-clause-opening : goal.returns-in_ok-prepared-in-Ok-clause-opening
+returns-in_ok-prepared-in-Ok-clause-opening g c = λ is. absurd (past_first c.go_up.result.failed c.go_up.ensures.passes is)
+
+pub returns-in-Err-Disk-clause-opening : goal.returns-in-Err-Disk-clause-opening
+returns-in-Err-Disk-clause-opening g c = λ is.
+    subst (λ (e : FileError). OpensInTurn {T = Unit {0}} (Err e) (g.D.Disk.state c.args.disks.now.journal.0) (g.D.Disk.state c.open_both.new.disks.journal.0)
+    (g.D.Disk.state c.args.disks.now.checkpoints) (g.D.Disk.state c.open_both.new.disks.checkpoints)) c.in-Err-Disk.field-0-is c.in-Err-Disk.ensures.calls
+
+pub returns-in_ok-prepared-in-Ok-clause-settles : goal.returns-in_ok-prepared-in-Ok-clause-settles
+returns-in_ok-prepared-in-Ok-clause-settles g c = λ is. (
+  there_doubt c.args.left.now.doubt c.open_both.new.disks.count c.in-Ok.found
+      (sym c.in_ok-prepared-in-Ok.ensures.kept ∙ sym c.go_up.ensures.kept ∙ is),
+  c.go_up.ensures.passes,
+)
+
+pub returns-in-Err-Disk-clause-runs : goal.returns-in-Err-Disk-clause-runs
+returns-in-Err-Disk-clause-runs g c =
+    runs_as (g.D.Disk.state c.args.disks.now.journal.0) (g.D.Disk.state c.open_both.new.disks.journal.0)
+    (g.D.Disk.state c.args.disks.now.checkpoints) (g.D.Disk.state c.open_both.new.disks.checkpoints)
+    (λ failed. disk_error c.in-Err-Disk.field-0 c.in-Err-Disk.field-0-is) c.in-Err-Disk.ensures.runs

@@ -2,7 +2,7 @@ use Rattle.std.proofs.Common.{◌∙◌, false, subst}
 use Rattle.set_model.specs.Node.{Node}
 use Rattle.set_model.specs.Rows.{row}
 use Rattle.node_core.specs.OnDisks.{UpOnDisks}
-use Rattle.node_core.proofs.CarryLemmas.{err_both, err_on, long_only}
+use Rattle.node_core.proofs.CarryLemmas.{at_end, err_both, err_on, long_only, ok_on}
 use Rattle.node_core.proofs.DoesLemmas.{MayPut, row_does, turn_kept}
 use Rattle.node_core.proofs.PuttingLemmas.{rests_same, same_then}
 use Rattle.node_core.proofs.storing.act_own.Goals as goal
@@ -43,3 +43,11 @@ returns-clause-unused g c =
     (λ later. same_then (g.D.Disk.state c.args.disks.now.journal.0) (g.D.Disk.state c.reserve.new.self.journal.0) (g.D.Disk.state c.carry_out.new.disks.journal.0)
     (g.D.Disk.state c.args.disks.now.checkpoints) (g.D.Disk.state c.reserve.new.self.checkpoints) (g.D.Disk.state c.carry_out.new.disks.checkpoints)
     c.reserve.ensures.same later)
+
+pub returns-clause-unstored : goal.returns-clause-unstored
+returns-clause-unstored g c =
+    let old = c.args.state.now.node in
+    ok_on c.carry_out.result _ _ c.carry_out.ensures.unstored
+    (λ unused none. same_then (g.D.Disk.state c.args.disks.now.journal.0) (g.D.Disk.state c.reserve.new.self.journal.0) (g.D.Disk.state c.carry_out.new.disks.journal.0)
+    (g.D.Disk.state c.args.disks.now.checkpoints) (g.D.Disk.state c.reserve.new.self.checkpoints) (g.D.Disk.state c.carry_out.new.disks.checkpoints)
+    c.reserve.ensures.same (unused (at_end c.in_ok-turn.turn c.start.new.self.node (row c.args.nodes c.args.next false old c.args.command.now) c.in_ok-turn.ensures.turn none)))

@@ -1,12 +1,12 @@
 use Rattle.std.proofs.Common.{ap, sym, subst, inr, arith, Err}
 use Rattle.record_file.specs.Files.{spare}
 use Rattle.record_file.specs.declared.error.FileError.{FileError}
-use Rattle.node_core.specs.Putting.{EndsFrom, BeginsUnreserved, plan_of}
+use Rattle.node_core.specs.Putting.{EndsFrom, BeginsUnreserved, IsEnd, plan_of}
 use Rattle.node_state.specs.Ready.{IsReadyTurn}
 use Rattle.node_state.specs.declared.turn.Turn.{Turn}
 use Rattle.node_core.specs.declared.storing.Ended.TheVariants.{StoreFailed}
 use Rattle.node_core.proofs.CarryLemmas.{ends_here, goes_on, leaves_broken, rests_on, room_on}
-use Rattle.node_core.proofs.PuttingLemmas.{runs_as, runs_then}
+use Rattle.node_core.proofs.PuttingLemmas.{runs_as, runs_then, same_none}
 use Rattle.node_core.proofs.storing.carry_out.Goals as goal
 
 pub carry_on-requires-clause-rests : goal.carry_on-requires-clause-rests
@@ -72,3 +72,12 @@ returns-in-Err-Disk-clause-runs g c =
 
 pub returns-in-Err-Memory-clause-unused : goal.returns-in-Err-Memory-clause-unused
 returns-in-Err-Memory-clause-unused g c = c.in-Err-Memory.ensures.memory (ap (λ (e : FileError). Err e) c.in-Err-Memory.field-0-is)
+
+pub returns-in-Finished-clause-unstored : goal.returns-in-Finished-clause-unstored
+returns-in-Finished-clause-unstored g c = λ _. same_none (g.D.Disk.state c.args.disks.now.journal.0) (g.D.Disk.state c.args.disks.now.checkpoints)
+
+pub returns-in-Ok-clause-unstored : goal.returns-in-Ok-clause-unstored
+returns-in-Ok-clause-unstored g c = λ end. absurd (subst (λ (t : Turn). IsEnd t) c.in-Storing.is end)
+
+pub returns-in-Err-Disk-clause-unstored : goal.returns-in-Err-Disk-clause-unstored
+returns-in-Err-Disk-clause-unstored g c = λ end. absurd (subst (λ (t : Turn). IsEnd t) c.in-Storing.is end)

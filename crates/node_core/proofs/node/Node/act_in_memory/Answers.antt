@@ -47,4 +47,4 @@ returns-clause-ok g c =
     let t = c.told.ensures in
     rw (← c.self.view_is) (took_ended (λ n. row c.args.nodes c.args.next false n c.args.command.now) s.up c.told.new.up s.state.node c.act_own.new.state.node (down_state s.left) (down_state c.told.new.left) disks.count
     (g.D.Disk.state s.disks.journal.0) (g.D.Disk.state disks.journal.0) (g.D.Disk.state s.disks.checkpoints) (g.D.Disk.state disks.checkpoints)
-    c.in_ok-ended.ended c.told.result c.if-not-self.false e.ends e.leaves e.runs t.follows t.rests t.failed)
+    c.in_ok-ended.ended c.told.result c.if-not-self.false e.ends e.leaves e.runs t.follows t.rests t.failed e.unstored)

@@ -18,7 +18,7 @@ returns-then-not-self-clause-ok g c =
     c.self.view_is
     (λ nodes next number. acted_come s.up n.up s.state.node n.state.node (down_state s.left) (down_state n.left) n.disks.count
     (g.D.Disk.state s.disks.journal.0) (g.D.Disk.state n.disks.journal.0) (g.D.Disk.state s.disks.checkpoints) (g.D.Disk.state n.disks.checkpoints) down
-    c.come_up.result c.come_up.ensures.follows c.come_up.ensures.settles c.come_up.ensures.rests c.come_up.ensures.runs nodes next number)
+    c.come_up.result c.come_up.ensures.follows c.come_up.ensures.settles c.come_up.ensures.rests c.come_up.ensures.runs c.come_up.ensures.opening nodes next number)
 
 pub returns-then-not-self-clause-err : goal.returns-then-not-self-clause-err
 returns-then-not-self-clause-err g c =
