@@ -37,6 +37,6 @@ fn tell<R: Threads + Sync>(
     ensures { world.new.sizes ≡ world.old.sizes }
 {
     let mut text = String::new(alloc);
-    write_reply(line, &world.take(rt, line, command)?, &mut text)?;
+    write_reply(line, &world.step(rt, line, &command)?, &mut text)?;
     Ok(text)
 }
