@@ -1,0 +1,275 @@
+"""The scripts that `bench/run` times: each case is a function from a size to the lines of its script."""
+from dataclasses import dataclass
+from typing import Callable, List, Optional
+
+OPENING = ["set 1", "campaign n0", "drain n0"]
+
+
+def inserts(n):
+    return OPENING + [f"insert n0 items {{_id: {k}}}" for k in range(n)]
+
+
+def pairs(n):
+    """Writers that begin and commit, two open at a time, so that half of the commits fill a hole."""
+    lines = []
+    for k in range(0, n // 2, 2):
+        lines += [f"begin n0 w1 insert items {{_id: {k}}}", f"begin n0 w2 insert items {{_id: {k + 1}}}"]
+        lines += ["commit n0 w2", "commit n0 w1"]
+    return OPENING + lines
+
+
+def mixed(n):
+    """An insert, and then six updates of what was inserted before, in turn."""
+    lines = []
+    for k in range(n):
+        lines.append(f"update n0 items {k % (k // 7 + 1)} {{$inc: {{n: 1}}}}" if k % 7 else f"insert n0 items {{_id: {k // 7}, n: 0}}")
+    return OPENING + lines
+
+
+def writers(n):
+    """A thousand writers that begin among the inserts and commit behind them all."""
+    lines = []
+    for k in range(n):
+        if k % (n // 1000) == 0 and k // (n // 1000) < 1000:
+            lines.append(f"begin n0 w{k // (n // 1000)} insert others {{_id: {k}}}")
+        lines.append(f"insert n0 items {{_id: {k}}}")
+    return OPENING + lines + [f"commit n0 w{w}" for w in range(1000)]
+
+
+def parse(n):
+    """Lines of 40 bytes of which the last is faulty, so that all are read and nothing is run."""
+    lines = [f"insert n0 items {{_id: {1_000_000 + k}, n: 12345}}" for k in range(n - 2)]
+    return ["set 1", *lines, "insert n0 items {_id: 1000000, n: 1234x}"]
+
+
+def updates(n):
+    return OPENING + ["insert n0 items {_id: 1, n: 0}"] + ["update n0 items 1 {$inc: {n: 1}}"] * n
+
+
+def reads(n):
+    return OPENING + ["insert n0 items {_id: 7}"] + ["read n0 local items 7"] * n
+
+
+def refusals(n):
+    return OPENING + ["drain n0"] * n
+
+
+def restarts(n):
+    """Inserts that are flushed every hundred lines, a checkpoint every ten thousand, and at the end a crash and a restart."""
+    lines = []
+    for k in range(n):
+        lines.append(f"insert n0 items {{_id: {k}}}")
+        if k % 100 == 99:
+            lines.append("flush n0")
+        if k % 10_000 == 9_999:
+            lines.append("checkpoint n0")
+    return OPENING + lines + ["crash n0", "restart n0"]
+
+
+def pulled(a, b):
+    """What node a does to take what node b has."""
+    return [f"heartbeat n{b} n{a}", f"deliver n{b} n{a}", f"fetch n{a}", f"deliver n{a} n{b}", f"deliver n{b} n{a}"]
+
+
+def elected(x, nodes):
+    """An election in which all others vote."""
+    asked = [k for k in range(nodes) if k != x]
+    asking = [line for k in asked for line in (f"deliver n{x} n{k}", f"deliver n{k} n{x}")]
+    return [f"campaign n{x}", *asking, f"drain n{x}"]
+
+
+def pulls(n):
+    """A set of three, whose secondaries take every hundred inserts, flush and apply them."""
+    lines = ["set 3", *elected(0, 3)]
+    for k in range(n):
+        lines.append(f"insert n0 items {{_id: {k}}}")
+        if k % 100 == 99:
+            for a in (1, 2):
+                lines += pulled(a, 0) + [f"flush n{a}", f"apply n{a}"]
+    return lines
+
+
+def elections(n):
+    """A set of five, in which each node is elected in turn, and the others take its no-op."""
+    lines = ["set 5"]
+    for k in range(n):
+        x = k % 5
+        lines += elected(x, 5) + [line for a in range(5) if a != x for line in pulled(a, x)]
+    return lines
+
+
+def rounds(n):
+    """A set of seven, in which every hundred inserts are on all disks and known to be, and the last is acknowledged."""
+    lines = ["set 7", *elected(0, 7)]
+    for k in range(n):
+        lines.append(f"insert n0 items {{_id: {k}}}")
+        if k % 100 == 99:
+            lines.append("flush n0")
+            for a in range(1, 7):
+                lines += pulled(a, 0) + [f"flush n{a}", f"report n{a} n0", f"deliver n{a} n0"]
+            lines.append(f"ack n0 1/0/{k + 2} majority")
+    return lines
+
+
+def many(nodes, lines):
+    """A set whose node 0 is elected, and whose no-op is on its disk."""
+    return [f"set {nodes}", *elected(0, nodes), "flush n0", *lines]
+
+
+def reported(a, b):
+    """What node a does to tell node b how far it is."""
+    return [f"report n{a} n{b}", f"deliver n{a} n{b}"]
+
+
+def turns(nodes, count, each, more=()):
+    """Inserts, flushed, taken, applied and flushed by every secondary, reported, and the last acknowledged."""
+    lines = []
+    for turn in range(count):
+        lines += [f"insert n0 t {{_id: {turn * each + k}, n: {k}}}" for k in range(each)] + ["flush n0"]
+        for a in range(1, nodes):
+            lines += pulled(a, 0) + [f"apply n{a} 4", f"flush n{a}"] + reported(a, 0)
+        lines += [f"ack n0 1/0/{2 + turn * each} majority", *more]
+    return many(nodes, lines)
+
+
+def flushes(n):
+    """A thousand inserts and a flush, and behind every tenth of these a checkpoint, a crash and a restart."""
+    lines = []
+    for turn in range(n):
+        lines += [f"insert n0 t {{_id: {turn * 1000 + k}}}" for k in range(1000)] + ["flush n0"]
+        if turn % 10 == 9:
+            lines += ["checkpoint n0", "crash n0", "restart n0", "campaign n0", "drain n0"]
+    return OPENING + lines
+
+
+def batches_of_500(n):
+    """A secondary without a vote takes five hundred inserts at a time, applies and flushes them."""
+    lines = []
+    for turn in range(n):
+        lines += [f"insert n0 t {{_id: {turn * 500 + k}}}" for k in range(500)] + ["flush n0"]
+        lines += pulled(1, 0) + ["apply n1 4", "flush n1"]
+    return ["set 2 1", *OPENING[1:], *lines]
+
+
+def pulls_of_one(n):
+    """Two secondaries, which take and apply one insert each, in turn."""
+    lines = []
+    for k in range(n):
+        a = 1 + k % 2
+        lines += [f"insert n0 t {{_id: {k}}}", *pulled(a, 0), f"apply n{a} 4"]
+    return ["set 3 1", *OPENING[1:], *lines]
+
+
+def batches_of_5000(n):
+    """Documents of five fields, taken and applied five thousand at a time behind them all."""
+    lines = [f'insert n0 items {{_id: {k}, name: "Kettle, 1.7 l", price: {k}, tags: ["wood", "large"], n: 0}}' for k in range(n)]
+    lines += ["flush n0"] * (n // 2000) + pulled(1, 0) * (n // 5000) + ["apply n1 1"] * (n // 5000)
+    return ["set 2 1", *OPENING[1:], *lines]
+
+
+def rounds_of_500(n):
+    return turns(3, n, 500)
+
+
+def rounds_of_10(n):
+    return turns(3, n, 10)
+
+
+def rounds_of_7_nodes(n):
+    return turns(7, n, 100)
+
+
+def majority_reads(n):
+    """Rounds of three nodes, with checkpoints of two and majority reads of two in each."""
+    return turns(3, n, 100, ["checkpoint n1", "checkpoint n0", "read n2 majority t 5", "read n1 majority t 7"])
+
+
+def crashes(n):
+    """Five hundred inserts that a secondary takes, applies, flushes and reports, with a checkpoint, a crash and a restart of it."""
+    lines = []
+    for turn in range(n):
+        lines += [f"insert n0 t {{_id: {turn * 500 + k}}}" for k in range(500)] + ["flush n0"]
+        lines += pulled(1, 0) + ["apply n1 4", "flush n1"] + reported(1, 0)
+        lines += ["heartbeat n0 n1", "deliver n0 n1", "checkpoint n1", "crash n1", "restart n1"]
+    return many(3, lines)
+
+
+def failovers_of_5(n):
+    """Five inserts at each primary, which all others take and flush before the next one is elected."""
+    lines = []
+    for turn in range(1, n + 1):
+        old, new = (turn - 1) % 5, turn % 5
+        lines += [f"insert n{old} t {{_id: {turn * 5 + k}}}" for k in range(5)] + [f"flush n{old}"]
+        for a in range(5):
+            if a != old:
+                lines += pulled(a, old) + [f"flush n{a}"]
+        lines += elected(new, 5) + [f"flush n{new}"]
+    return many(5, lines)
+
+
+def failovers_of_7(n):
+    """Elections of seven nodes in turn; each steps down, and all others take its no-op."""
+    lines = []
+    for turn in range(1, n + 1):
+        x = turn % 7
+        lines += elected(x, 7) + [f"stepdown n{x}"]
+        for a in range(7):
+            if a != x:
+                lines += pulled(a, x)
+    return many(7, lines)
+
+
+def deep(n):
+    """Documents of 90 nested arrays beside a document of 400 fields."""
+    wide = ", ".join(f"f{k}: {k}" for k in range(400))
+    return OPENING + [f'insert n0 t {{_id: {k}, a: {"[" * 90}{"]" * 90}, w: {{{wide}}}}}' for k in range(n)]
+
+
+def chaos(n):
+    """A generated script has no lines here."""
+    return []
+
+
+@dataclass
+class Case:
+    """A script by its size: the smaller size that it is timed at, that at which its instructions are counted, the words of the
+    program, and the status that it ends with."""
+    script: Callable[[int], List[str]]
+    timed: int
+    counted: int
+    words: Optional[Callable[[int], List[str]]] = None
+    status: int = 0
+
+    def arguments(self, n):
+        return self.words(n) if self.words else ["run"]
+
+
+CASES = {
+    # one node
+    "inserts": Case(inserts, 95_000, 20_000),
+    "pairs": Case(pairs, 60_000, 10_000),
+    "updates": Case(updates, 50_000, 5_000),
+    "mixed": Case(mixed, 90_000, 3_500),
+    "writers": Case(writers, 40_000, 40_000),
+    "reads": Case(reads, 90_000, 20_000),
+    "refusals": Case(refusals, 90_000, 20_000),
+    "restarts": Case(restarts, 30_000, 5_000),
+    "flushes": Case(flushes, 20, 40),
+    "deep": Case(deep, 300, 600),
+    "parse": Case(parse, 100_000, 200_000, status=3),
+    # a set
+    "pulls": Case(pulls, 10_000, 2_000),
+    "pulls_of_one": Case(pulls_of_one, 2_000, 4_000),
+    "batches_of_500": Case(batches_of_500, 20, 40),
+    "batches_of_5000": Case(batches_of_5000, 20_000, 40_000),
+    "elections": Case(elections, 1_000, 100),
+    "failovers_of_5": Case(failovers_of_5, 100, 200),
+    "failovers_of_7": Case(failovers_of_7, 1_000, 2_000),
+    "rounds": Case(rounds, 10_000, 2_000),
+    "rounds_of_10": Case(rounds_of_10, 1_000, 2_000),
+    "rounds_of_500": Case(rounds_of_500, 20, 40),
+    "rounds_of_7_nodes": Case(rounds_of_7_nodes, 100, 200),
+    "majority_reads": Case(majority_reads, 40, 80),
+    "crashes": Case(crashes, 12, 24),
+    "chaos": Case(chaos, 2_500, 5_000, words=lambda n: ["chaos", "7", str(n), "5"]),
+}
