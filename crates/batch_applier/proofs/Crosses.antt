@@ -4,6 +4,7 @@ use denote.Param.Send.{IsSend, IsSync, sendable}
 use Rattle.std.proofs.Crossing as heap
 use Rattle.std.proofs.MapsCrossing as maps
 use Rattle.bson_doc.specs.contracts.doc.Doc as doc
+use Rattle.bson_doc.specs.contracts.doc.Items as items
 use Rattle.bson_doc.proofs.doc.Doc.TheLaws.TheKnot as documents
 use Rattle.bson_doc.proofs.text.Text.TheSendSync.{the_send as text_send, the_sync as text_sync}
 use Rattle.bson_doc.proofs.text.Bytes.TheSendSync.{the_send as bytes_send, the_sync as bytes_sync}
@@ -31,8 +32,11 @@ collection_send = search (sendable, heap.crosses, maps.crosses, key_send, histor
 shard_send : IsSend shard.the_row
 shard_send = search (sendable, heap.crosses, maps.crosses, collection_send) depth 40 fits 20000
 
+items_sync : IsSync items.the_row
+items_sync = search (sendable, documents.crosses, heap.crosses, text_send, text_sync, bytes_send, bytes_sync) depth 40 fits 20000
+
 entry_sync : IsSync entry.the_row
-entry_sync = search (sendable, documents.crosses, heap.crosses, text_sync, bytes_sync, doc_sync) depth 40 fits 20000
+entry_sync = search (sendable, heap.crosses, text_sync, doc_sync, items_sync) depth 40 fits 20000
 
 touch_sync : (a : _) → IsSync (touch.the_row a)
 touch_sync a = search (sendable, heap.crosses, text_sync, entry_sync) depth 40 fits 20000

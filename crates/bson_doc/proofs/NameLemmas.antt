@@ -11,58 +11,57 @@ use Rattle.std.proofs.lemmas.Bool.{cases_Bool}
 use Rattle.std.proofs.lemmas.Grind.{common_steps}
 use Rattle.std.proofs.lemmas.List.Quantifiers.{position-Some}
 use Rattle.bson_doc.proofs.DocLemmas.{not_first}
-use Rattle.bson_doc.specs.declared.doc.Field.{Field}
 use Rattle.bson_doc.specs.Tree.{Tree, Fields, no_fields, field, found, with_field, with_set, without, IsDocument}
-use Rattle.bson_doc.specs.View.{tree_of, fields_of}
+use Rattle.bson_doc.specs.View.{SharedField, tree_of, fields_of}
 
 -- the first field of the name is the one at the place
-pub record IsFirst (name : List ℕ) (fs : List Field) (i : ℕ) (d : Field) : Type 0 where
+pub record IsFirst (name : List ℕ) (fs : List SharedField) (i : ℕ) (d : SharedField) : Type 0 where
   pub within : i < length fs
-  pub here : bytes_eq (get_or fs i d).name name ≡ true
-  pub before : (k : ℕ) → k < i → bytes_eq (get_or fs k d).name name ≡ false
+  pub here : bytes_eq (get_or fs i d).value.name name ≡ true
+  pub before : (k : ℕ) → k < i → bytes_eq (get_or fs k d).value.name name ≡ false
 
-pub named_so : {name : List ℕ} {fs : List Field} {i : ℕ} {d : Field} → IsFirst name fs i d → name ≡ (get_or fs i d).name
-named_so {name} {fs} {i} {d} first = sym ((bytes_eq-Decides (get_or fs i d).name name).0 first.here)
+pub named_so : {name : List ℕ} {fs : List SharedField} {i : ℕ} {d : SharedField} → IsFirst name fs i d → name ≡ (get_or fs i d).value.name
+named_so {name} {fs} {i} {d} first = sym ((bytes_eq-Decides (get_or fs i d).value.name name).0 first.here)
 
-later : (name : List ℕ) (f : Field) (fs : List Field) (i : ℕ) (d : Field) → IsFirst name (f ∷ fs) (suc i) d → IsFirst name fs i d
+later : (name : List ℕ) (f : SharedField) (fs : List SharedField) (i : ℕ) (d : SharedField) → IsFirst name (f ∷ fs) (suc i) d → IsFirst name fs i d
 later name f fs i d first =
     record { within = (let w = first.within in omega arith); here = first.here; before = λ k below. first.before (suc k) (omega arith) }
 
-pub with_set-at : (name : List ℕ) (fs : List Field) (i : ℕ) (d f : Field) → IsFirst name fs i d → f.name ≡ (get_or fs i d).name → fields_of (set fs i f) ≡ with_set (fields_of fs) name (tree_of f.value)
+pub with_set-at : (name : List ℕ) (fs : List SharedField) (i : ℕ) (d f : SharedField) → IsFirst name fs i d → f.value.name ≡ (get_or fs i d).value.name → fields_of (set fs i f) ≡ with_set (fields_of fs) name (tree_of f.value.value)
 with_set-at name [] i d f first same = absurd (let w = first.within in omega arith)
 with_set-at name (g ∷ fs) zero d f first same = rw (first.here, same) refl
 with_set-at name (g ∷ fs) (suc i) d f first same =
-    rw (first.before 0 (omega arith)) (ap (λ rest. field g.name (tree_of g.value) rest) (with_set-at name fs i d f (later name g fs i d first) same))
+    rw (first.before 0 (omega arith)) (ap (λ rest. field g.value.name (tree_of g.value.value) rest) (with_set-at name fs i d f (later name g fs i d first) same))
 
-pub without-at : (name : List ℕ) (fs : List Field) (i : ℕ) (d : Field) → IsFirst name fs i d → fields_of (remove fs i) ≡ without (fields_of fs) name
+pub without-at : (name : List ℕ) (fs : List SharedField) (i : ℕ) (d : SharedField) → IsFirst name fs i d → fields_of (remove fs i) ≡ without (fields_of fs) name
 without-at name [] i d first = absurd (let w = first.within in omega arith)
 without-at name (g ∷ fs) zero d first = rw first.here refl
 without-at name (g ∷ fs) (suc i) d first =
-    rw (first.before 0 (omega arith)) (ap (λ rest. field g.name (tree_of g.value) rest) (without-at name fs i d (later name g fs i d first)))
+    rw (first.before 0 (omega arith)) (ap (λ rest. field g.value.name (tree_of g.value.value) rest) (without-at name fs i d (later name g fs i d first)))
 
-pub found-at : (name : List ℕ) (fs : List Field) (i : ℕ) (d : Field) → IsFirst name fs i d → IsSome (found name (fields_of fs))
+pub found-at : (name : List ℕ) (fs : List SharedField) (i : ℕ) (d : SharedField) → IsFirst name fs i d → IsSome (found name (fields_of fs))
 found-at name [] i d first = absurd (let w = first.within in omega arith)
 found-at name (g ∷ fs) zero d first = rw first.here refl
 found-at name (g ∷ fs) (suc i) d first =
     rw (first.before 0 (omega arith)) (found-at name fs i d (later name g fs i d first))
 
-not_within : (p : Field → Bool) (fs : List Field) → position p fs ≡ None → length fs ≤ position_or_len p fs
+not_within : (p : SharedField → Bool) (fs : List SharedField) → position p fs ≡ None → length fs ≤ position_or_len p fs
 not_within p fs none = grind (arith, common_steps)
 
-behind : (name : List ℕ) (fs : List Field) → length fs ≤ position_or_len (λ f. bytes_eq f.name name) fs → found name (fields_of fs) ≡ None
+behind : (name : List ℕ) (fs : List SharedField) → length fs ≤ position_or_len (λ f. bytes_eq f.value.name name) fs → found name (fields_of fs) ≡ None
 behind name [] past = refl
-behind name (f ∷ fs) past = elim (cases_Bool (bytes_eq f.name name)) [
+behind name (f ∷ fs) past = elim (cases_Bool (bytes_eq f.value.name name)) [
   | inl same ↦ absurd (omega (arith, rw same at past))
   | inr other ↦ rw other (behind name fs (omega (arith, rw other at past)))
 ]
 
 -- no field has the name
-pub found-none : (name : List ℕ) (fs : List Field) → position (λ f. bytes_eq f.name name) fs ≡ None → found name (fields_of fs) ≡ None
+pub found-none : (name : List ℕ) (fs : List SharedField) → position (λ f. bytes_eq f.value.name name) fs ≡ None → found name (fields_of fs) ≡ None
 found-none name fs none = behind name fs (not_within _ fs none)
 
-pub first_place : (name : List ℕ) (fs : List Field) (i : ℕ) (d : Field) → position (λ f. bytes_eq f.name name) fs ≡ Some i → IsFirst name fs i d
+pub first_place : (name : List ℕ) (fs : List SharedField) (i : ℕ) (d : SharedField) → position (λ f. bytes_eq f.value.name name) fs ≡ Some i → IsFirst name fs i d
 first_place name fs i d some =
-    let known = position-Some (λ (f : Field). bytes_eq f.name name) fs i d some in
+    let known = position-Some (λ (f : SharedField). bytes_eq f.value.name name) fs i d some in
     record { within = known.0; here = known.1; before = known.2 }
 
 -- a name that is nowhere: it comes last, or nothing is taken out

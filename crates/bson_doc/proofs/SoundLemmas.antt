@@ -4,10 +4,9 @@ use Rattle.std.proofs.Common.{inl, inr}
 use Rattle.std.proofs.lemmas.Bool.{cases_Bool}
 use Rattle.std.specs.Str.{bytes_eq, is_utf8}
 use Rattle.bson_doc.specs.declared.doc.Value.{Value}
-use Rattle.bson_doc.specs.declared.doc.Field.{Field}
 use Rattle.bson_doc.specs.Tree.{Tree, Fields, no_fields, field, Trees, no_items, item, found, with_field, with_set, without, with_item}
 use Rattle.bson_doc.specs.Sound.{IsSound, IsSoundValue, AreSoundFields, AreSoundItems}
-use Rattle.bson_doc.specs.View.{tree_of, fields_of, trees_of}
+use Rattle.bson_doc.specs.View.{SharedField, tree_of, fields_of, trees_of}
 use Rattle.bson_doc.proofs.DocLemmas.{fields_of-append, trees_of-append, IsDocument-with_field}
 use Rattle.bson_doc.proofs.NameLemmas.{IsDocument-with_set, IsDocument-without}
 
@@ -34,11 +33,11 @@ AreSoundFields-without (field first it rest) name sound = elim (cases_Bool (byte
   | inr apart ↦ rw apart (sound.0, sound.1, AreSoundFields-without rest name sound.2)
 ]
 
-pub IsSound-push : (fs : List Field) (f : Field) → IsSound (fields_of fs) → ¬ Contains f.name 0 → found f.name (fields_of fs) ≡ None → is_utf8 f.name ≡ true → IsSoundValue (tree_of f.value) → IsSound (fields_of (fs ++ f ∷ []))
+pub IsSound-push : (fs : List SharedField) (f : SharedField) → IsSound (fields_of fs) → ¬ Contains f.value.name 0 → found f.value.name (fields_of fs) ≡ None → is_utf8 f.value.name ≡ true → IsSoundValue (tree_of f.value.value) → IsSound (fields_of (fs ++ f ∷ []))
 IsSound-push fs f sound clean none utf8 one =
     rw fields_of-append (
-      IsDocument-with_field (fields_of fs) f.name (tree_of f.value) sound.0 clean none,
-      AreSoundFields-with_field (fields_of fs) f.name (tree_of f.value) sound.1 utf8 one,
+      IsDocument-with_field (fields_of fs) f.value.name (tree_of f.value.value) sound.0 clean none,
+      AreSoundFields-with_field (fields_of fs) f.value.name (tree_of f.value.value) sound.1 utf8 one,
     )
 
 pub AreSoundItems-push : (vs : List Value) (v : Value) → AreSoundItems (trees_of vs) → IsSoundValue (tree_of v) → AreSoundItems (trees_of (vs ++ v ∷ []))

@@ -1,14 +1,27 @@
 -- The names of a document's fields as a set, which is kept only where they are many.
-use Rattle.std.specs.Prelude.{ℕ, ◌≡◌, ◌≤◌, List, Option, None, Some, is_some}
-use Rattle.std.specs.BTreeSet.{BTreeSet, contains_text}
-use Rattle.std.specs.declared.string.String.{String}
-use Rattle.std.specs.declared.alloc.Global.{Global}
+use Rattle.std.specs.Prelude.{ℕ, ◌≡◌, ◌≤◌, Bool, List, [], ◌∷◌, ◌++◌, Option, None, Some, is_some, length, drop, nat_le, if◌then◌else◌}
+use Rattle.std.specs.Ordering.{nat_cmp}
+use Rattle.std.specs.Cmp.Lexicographic.{slice_cmp}
+use Rattle.std.specs.BTreeSet.{contains_by, contains_text}
+use Rattle.bson_doc.specs.declared.names.FieldNames.{FieldNames}
 use Rattle.bson_doc.specs.Tree.{Fields, count, found}
 
-abbrev pub AreAllNames : Fields → BTreeSet (String Global) → Type 0
-AreAllNames fields names = (name : List ℕ) → contains_text names name ≡ is_some (found name fields)
+abbrev pub zeros : List ℕ
+zeros = 0 ∷ 0 ∷ 0 ∷ 0 ∷ 0 ∷ 0 ∷ 0 ∷ 0 ∷ 0 ∷ 0 ∷ 0 ∷ 0 ∷ 0 ∷ 0 ∷ 0 ∷ []
+
+-- a name of at most 15 bytes, behind its length, and filled up with zeros
+abbrev pub short_form : List ℕ → List ℕ
+short_form name = length name ∷ (name ++ drop (length name) zeros)
+
+abbrev pub has_name : FieldNames → List ℕ → Bool
+has_name names name =
+    if nat_le (length name) 15 then contains_by (slice_cmp nat_cmp (short_form name)) names.short
+    else contains_text names.long name
+
+abbrev pub AreAllNames : Fields → FieldNames → Type 0
+AreAllNames fields names = (name : List ℕ) → has_name names name ≡ is_some (found name fields)
 
 -- a document with at most 16 fields has no set
-abbrev pub AreNames : Fields → Option (BTreeSet (String Global)) → Type 0
+abbrev pub AreNames : Fields → Option FieldNames → Type 0
 AreNames fields None = count fields ≤ 16
 AreNames fields (Some names) = AreAllNames fields names

@@ -4,9 +4,9 @@ ghost use Rattle.bson_doc.specs.Tree.{no_fields, Tree, found, with_field};
 ghost use Rattle.bson_doc.specs.Names.{AreNames, AreAllNames};
 ghost use Rattle.bson_doc.specs.View.{tree_of};
 
+use crate::names::FieldNames;
 use crate::{Doc, Mem, Text, Value};
 use std::alloc::Global;
-use std::collections::BTreeSet;
 use std::marker::Model;
 
 /// A document with at most so many fields is looked through for a name. Names are kept in order only of
@@ -19,7 +19,7 @@ pub const FEW_FIELDS: usize = 16;
 pub struct DocBuilder {
     alloc: Global,
     doc: Doc,
-    names: Option<BTreeSet<String>>,
+    names: Option<FieldNames>,
 }
 
 impl Model for DocBuilder {
@@ -54,7 +54,7 @@ impl DocBuilder {
         ensures { result ≡ is_some (found name.now self.now) }
     {
         match &self.names {
-            Some(names) => names.contains(name),
+            Some(names) => names.has(name),
             None => self.doc.get(name).is_some(),
         }
     }
@@ -115,10 +115,10 @@ impl DocBuilder {
 /// The names of a document that gets one more, where it then has more than a few.
 fn with_name(
     alloc: Global,
-    names: Option<BTreeSet<String>>,
+    names: Option<FieldNames>,
     doc: &Doc,
     name: &str,
-) -> Mem<Option<BTreeSet<String>>>
+) -> Mem<Option<FieldNames>>
     requires { AreNames doc.now names }
     ensures { IfOk result (λ names. (value : Tree) → AreNames (with_field doc.now name.now value) names) }
 {
@@ -127,20 +127,20 @@ fn with_name(
         None if doc.len() < FEW_FIELDS => return Ok(None),
         None => all_names(alloc, doc)?,
     };
-    all.insert(String::from_str(alloc, name)?)?;
+    all.insert(alloc, name)?;
     Ok(Some(all))
 }
 
 /// The names of a document's fields.
-fn all_names(alloc: Global, doc: &Doc) -> Mem<BTreeSet<String>>
+fn all_names(alloc: Global, doc: &Doc) -> Mem<FieldNames>
     ensures { IfOk result (AreAllNames doc.now) }
 {
-    let mut names = BTreeSet::new(alloc);
+    let mut names = FieldNames::new(alloc);
     for place in (0..doc.len()).rev() {
         let Some((name, _)) = doc.at(place) else {
             unreachable!()
         };
-        names.insert(String::from_str(alloc, name)?)?;
+        names.insert(alloc, name)?;
     }
     Ok(names)
 }

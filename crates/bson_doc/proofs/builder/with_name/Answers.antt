@@ -1,6 +1,4 @@
-use Rattle.std.proofs.Common.{◌≡◌, true, ◌∙◌, refl, arith, rules}
-use Rattle.std.specs.Prelude.{string_bytes}
-use Rattle.std.proofs.lemmas.Map.Text.{btree_set_updates_text}
+use Rattle.std.proofs.Common.{◌∙◌, refl, arith}
 use Rattle.bson_doc.specs.Names.{AreAllNames}
 use Rattle.bson_doc.proofs.DocLemmas.{count-with_field}
 use Rattle.bson_doc.proofs.NameLemmas.{is_some-with_field}
@@ -16,6 +14,4 @@ returns c = λ value name.
       | in-Some w ↦ rw w.all-is (rw w.in-Some.is at c.requires)
       | in-None-2+in_ok-all-in-None-2 w ↦ rw w.all-is w.in_ok-all-in-None-2.ensures
     ] in
-    let bytes : string_bytes c.in_ok-from_str.field-0 ≡ c.args.name.now = search rules in
-    let after = btree_set_updates_text (string_bytes c.in_ok-from_str.field-0) c.match-names.all c.insert.new.self true c.in_ok-insert.ensures.updates name in
-    rw is_some-with_field (after ∙ rw (bytes, before name) refl)
+    rw is_some-with_field (c.in_ok-insert.ensures name ∙ rw (before name) refl)
