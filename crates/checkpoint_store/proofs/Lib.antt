@@ -4,6 +4,7 @@ mod SizeLemmas
 mod FileLemmas
 mod CheckpointLemmas
 mod CopyLemmas
+mod ListedLemmas
 pub mod OnceLemmas
 mod ShownLemmas
 mod SavingLemmas

@@ -8,7 +8,7 @@ use Rattle.std.proofs.lemmas.List.Folds.{flat_map-map}
 use Rattle.std.proofs.lemmas.List.Sums.{fold-append}
 use Rattle.checkpoint_store.specs.Checkpoint.{nothing_yet, with_record}
 use Rattle.checkpoint_store.specs.Marked.{come_to}
-use Rattle.bson_doc.specs.Place.{Place}
+use Rattle.version_store.specs.declared.shown.Shown.{Shown}
 use Rattle.bson_codec.specs.Numbers.{number_bytes}
 use Rattle.checkpoint_store.specs.Layout.{Record, Saved, holds, saved_bytes}
 use Rattle.checkpoint_store.specs.Spelled.{PIECE, IsSaved, IsSpelled}
@@ -21,8 +21,8 @@ pub one_record_more : (records : List Record) (i : ℕ) (item : Record) → take
     → with_record (come_to (take i records)) item ≡ come_to (take (i + 1) records)
 one_record_more records i item is = sym (ap come_to is ∙ fold-append with_record nothing_yet (take i records) (item ∷ []))
 
--- the record of the documents at some places
-pub spelled_documents : (f : Place → Saved) (places : List Place) (bytes : List ℕ) → length places ≤ PIECE → All (λ place. IsSaved (f place)) places
+-- the record of some documents
+pub spelled_documents : (f : Shown → Saved) (places : List Shown) (bytes : List ℕ) → length places ≤ PIECE → All (λ place. IsSaved (f place)) places
     → bytes ≡ 2 ∷ (number_bytes 4 (length places) ++ flat_map (λ place. saved_bytes (f place)) places) → IsSpelled (holds (map f places)) bytes
 spelled_documents f places bytes few each is = record {
   lawful = (omega (arith, few, length-map places f), All-map IsSaved f places each);

@@ -1,14 +1,13 @@
 -- Some of the records of a checkpoint are laid out, and others are left.
-use Rattle.std.proofs.Common.{◌≡◌, inl, inr, ℕ, ◌+◌, ◌-◌, ◌/◌, ◌<◌, List, [], ◌∷◌, ◌++◌, length, take, drop, map, suc, refl, sym, ap, subst, ◌∙◌, arith, append_assoc, append-nil, length-drop}
-use Rattle.std.specs.Prelude.{Vec, min}
+use Rattle.std.proofs.Common.{◌≡◌, ℕ, ◌+◌, ◌-◌, ◌/◌, ◌<◌, List, [], ◌∷◌, ◌++◌, length, take, drop, map, suc, refl, sym, ap, subst, ◌∙◌, arith, append_assoc, append-nil, length-drop}
+use Rattle.std.specs.Prelude.{Vec, ◌≤◌}
 use Rattle.std.specs.Simd.{first_chunks}
 use Rattle.std.specs.declared.alloc.Global.{Global}
-use Rattle.std.proofs.lemmas.Bool.{cases_lt}
-use Rattle.std.proofs.lemmas.List.{take-map, drop-map, take_min, drop_all, map-append}
+use Rattle.std.proofs.lemmas.List.{take-map, drop-map, drop-drop, drop_all, length-map, map-append}
 use Rattle.std.proofs.lemmas.List.Elements.{All-push}
 use Rattle.record_file.specs.Records.{lists}
 use Rattle.record_file.proofs.ItemLemmas.{pieces_push}
-use Rattle.bson_doc.specs.Place.{Place}
+use Rattle.version_store.specs.declared.shown.Shown.{Shown}
 use Rattle.checkpoint_store.specs.Checkpoint.{pieces}
 use Rattle.checkpoint_store.specs.Files.{AreSpelled}
 use Rattle.checkpoint_store.specs.Layout.{Saved, Record, holds, record_bytes}
@@ -53,34 +52,23 @@ first_piece documents some =
     ap (λ (k : ℕ). map holds (first_chunks PIECE k documents))
     (one_fewer (length documents) some ∙ ap (λ (n : ℕ). suc ((n + 999) / 1000)) (sym (length-drop PIECE documents)))
 
-drop_min : (n : ℕ) (places : List Place) → drop (min n (length places)) places ≡ drop n places
-drop_min n places = elim (cases_lt n (length places)) [
-  | inl less ↦ (let is : min n (length places) ≡ n = omega arith in ap (λ (k : ℕ). drop k places) is)
-  | inr more ↦ drop_all (min n (length places)) places (omega arith) ∙ sym (drop_all n places (omega arith))
-]
-
--- the first piece of the documents at some places, and the others
-pub next_piece : (f : Place → Saved) (rest piece behind : List Place) (n : ℕ) → n ≡ min (length rest) PIECE → piece ≡ take n rest → behind ≡ drop n rest → 0 < length rest
-    → pieces (map f rest) ≡ holds (map f piece) ∷ pieces (map f behind)
-next_piece f rest piece behind n is front back some =
-    let least : n ≡ min PIECE (length rest) = omega (arith, is) in
-    let here : take PIECE (map f rest) ≡ map f piece =
-    take-map f PIECE rest ∙ ap (map f) (sym (front ∙ ap (λ (k : ℕ). take k rest) least ∙ take_min PIECE rest)) in
-    let there : drop PIECE (map f rest) ≡ map f behind =
-    drop-map f PIECE rest ∙ ap (map f) (sym (back ∙ ap (λ (k : ℕ). drop k rest) least ∙ drop_min PIECE rest)) in
-    first_piece (map f rest) (omega (arith, some, long f rest))
+-- the piece at a place, and those behind it
+next_piece : (f : Shown → Saved) (documents piece : List Shown) (place : ℕ) → piece ≡ take PIECE (drop place documents) → place < length documents
+    → pieces (map f (drop place documents)) ≡ holds (map f piece) ∷ pieces (map f (drop (place + PIECE) documents))
+next_piece f documents piece place is within =
+    let rest = drop place documents in
+    let here : take PIECE (map f rest) ≡ map f piece = take-map f PIECE rest ∙ ap (map f) (sym is) in
+    let there : drop PIECE (map f rest) ≡ map f (drop (place + PIECE) documents) = drop-map f PIECE rest ∙ ap (map f) (drop-drop PIECE place documents) in
+    first_piece (map f rest) (omega (arith, within, length-map rest f, length-drop place documents))
     ∙ (λ i. holds (here i) ∷ pieces (there i))
-  where
-    long : (f : Place → Saved) (places : List Place) → length (map f places) ≡ length places
-    long f [] = refl
-    long f (p ∷ places) = ap suc (long f places)
 
-pub with_next : (f : Place → Saved) (rest piece behind : List Place) (n : ℕ) (whole last : List Record) (laid : List (Vec ℕ Global)) → n ≡ min (length rest) PIECE → piece ≡ take n rest
-    → behind ≡ drop n rest → 0 < length rest → LaidSoFar whole (pieces (map f rest) ++ last) laid → LaidSoFar whole (holds (map f piece) ∷ (pieces (map f behind) ++ last)) laid
-with_next f rest piece behind n whole last laid is front back some so_far =
-    subst (λ (l : List Record). LaidSoFar whole (l ++ last) laid) (next_piece f rest piece behind n is front back some) so_far
+pub with_next : (f : Shown → Saved) (documents piece : List Shown) (place : ℕ) (whole last : List Record) (laid : List (Vec ℕ Global)) → piece ≡ take PIECE (drop place documents)
+    → place < length documents → LaidSoFar whole (pieces (map f (drop place documents)) ++ last) laid
+    → LaidSoFar whole (holds (map f piece) ∷ (pieces (map f (drop (place + PIECE) documents)) ++ last)) laid
+with_next f documents piece place whole last laid is within so_far =
+    subst (λ (l : List Record). LaidSoFar whole (l ++ last) laid) (next_piece f documents piece place is within) so_far
 
-pub none_left : (f : Place → Saved) (rest : List Place) (whole last : List Record) (laid : List (Vec ℕ Global)) → length rest ≡ 0 → LaidSoFar whole (pieces (map f rest) ++ last) laid
-    → LaidSoFar whole last laid
-none_left f [] whole last laid none so_far = so_far
-none_left f (p ∷ rest) whole last laid none so_far = absurd (omega (arith, none))
+pub none_left : (f : Shown → Saved) (documents : List Shown) (place : ℕ) (whole last : List Record) (laid : List (Vec ℕ Global)) → length documents ≤ place
+    → LaidSoFar whole (pieces (map f (drop place documents)) ++ last) laid → LaidSoFar whole last laid
+none_left f documents place whole last laid behind so_far =
+    subst (λ (l : List Shown). LaidSoFar whole (pieces (map f l) ++ last) laid) (drop_all place documents behind) so_far

@@ -1,6 +1,6 @@
--- The documents that a store shows, listed by the places that it gives.
+-- The documents that a store shows, as it lists them.
 use Rattle.std.proofs.Common.{◌≡◌, Bool, true, false, cond, List, [], ◌∷◌, map, suc, zero, Option, None, Some, inl, inr, refl, sym, ap, subst, ◌∙◌, arith, rules}
-use Rattle.std.specs.Prelude.{◌⊎◌, ◌↔◌, ◌&&◌, T, All, Contains, IsSome, unwrap_or, slice_index_or}
+use Rattle.std.specs.Prelude.{◌⊎◌, ◌&&◌, T, All, Contains, IsSome, unwrap_or, slice_index_or}
 use Rattle.std.specs.List.{AllByRecursion}
 use Rattle.std.specs.List.Sorted.{IsStrictlySortedBy}
 use Rattle.std.specs.FinMap.{empty, entries, entries_sorted, find, get-entries, is_sorted}
@@ -18,7 +18,9 @@ use Rattle.oplog_entry.specs.Docs.{Documents}
 use Rattle.version_store.specs.Store.{Store, shown_at}
 use Rattle.checkpoint_store.specs.Checkpoint.{with_documents}
 use Rattle.checkpoint_store.specs.Layout.{Saved}
-use Rattle.checkpoint_store.specs.Shown.{Shows, saved_at}
+use Rattle.version_store.specs.Shown.{AreShown, place_of, placed}
+use Rattle.version_store.specs.declared.shown.Shown.{Shown}
+use Rattle.checkpoint_store.specs.Shown.{AllCanBeSaved, EachCanBeSaved, Shows}
 use Rattle.checkpoint_store.proofs.CheckpointLemmas.{get_all_put_in}
 
 some_is : (o : Option Fields) → IsSome o → Some (unwrap_or o no_fields) ≡ o
@@ -76,32 +78,49 @@ module _ (sh : Place → Option Fields) where
       both (below_all place_cmp p (map at_place places)) (is_sorted place_cmp (map at_place places))
       (below p places (sorted_head place_cmp p places order)) (sorted places (sorted_tail place_cmp p places order))
 
--- what `keys_at` tells of its places
-pub record AreShownIn (store : Store) (at : OpTime) (places : List Place) : Type 0 where
-  pub order : IsStrictlySortedBy place_cmp places
-  pub shown : (place : Place) → Contains places place ↔ IsSome (shown_at store place at)
+-- documents are those that are shown at their places
+are_placed : (sh : Place → Option Fields) (documents : List Shown) → All (λ one. sh (place_of one) ≡ Some one.document.now) documents
+    → map placed documents ≡ map (at_place sh) (map place_of documents)
+are_placed sh [] each = refl
+are_placed sh (one ∷ documents) each =
+    let rest : map placed documents ≡ map (at_place sh) (map place_of documents) = are_placed sh documents (λ k d within. each (suc k) d (omega arith)) in
+    let here : one.document.now ≡ unwrap_or (sh (place_of one)) no_fields = ap (λ (o : Option Fields). unwrap_or o no_fields) (sym (each zero one (omega arith))) in
+    λ i. (place_of one, here i) ∷ rest i
 
-module _ (store : Store) (at : OpTime) (places : List Place) (are : AreShownIn store at places) where
+module _ (store : Store) (at : OpTime) (documents : List Shown) (are : AreShown store at documents) where
   abbrev sh : Place → Option Fields
   sh place = shown_at store place at
 
-  pub each_shown : All (λ place. IsSome (shown_at store place at)) places
+  abbrev places : List Place
+  places = map place_of documents
+
+  at_places : map (at_place sh) places ≡ map placed documents
+  at_places = sym (are_placed sh documents are.each)
+
+  each_shown : All (λ place. IsSome (shown_at store place at)) places
   each_shown k d within =
       let here : slice_index_or places k (slice_index_or places k d) ≡ slice_index_or places k d = search (rules, get_or_default) in
-      (are.shown (slice_index_or places k d)).0 (k, within, here)
+      (are.places (slice_index_or places k d)).0 (k, within, here)
 
-  finds : (q : Place) → find place_cmp q (map (saved_at store at) places) ≡ shown_at store q at
-  finds q = find_is sh places each_shown (λ place some. (are.shown place).1 some) q
+  finds : (q : Place) → find place_cmp q (map placed documents) ≡ shown_at store q at
+  finds q = ap (find place_cmp q) (sym at_places) ∙ find_is sh places each_shown (λ place some. (are.places place).1 some) q
+
+  in_order : T (is_sorted place_cmp (map placed documents))
+  in_order = subst (λ (l : List Saved). T (is_sorted place_cmp l)) at_places (sorted sh places are.order)
 
   -- these are the entries of the map that the store shows
-  pub listed : (documents : Documents) → Shows store at documents → map (saved_at store at) places ≡ entries documents
-  listed documents shows =
-      same_entries place_cmp place_cmp-total place_cmp-antisymmetric (map (saved_at store at) places) (entries documents)
-      (sorted sh places are.order) (entries_sorted documents) (λ q. finds q ∙ sym (shows q) ∙ get-entries documents q)
+  pub listed : (map_of : Documents) → Shows store at map_of → map placed documents ≡ entries map_of
+  listed map_of shows =
+      same_entries place_cmp place_cmp-total place_cmp-antisymmetric (map placed documents) (entries map_of)
+      in_order (entries_sorted map_of) (λ q. finds q ∙ sym (shows q) ∙ get-entries map_of q)
 
   -- and there is such a map
-  pub some_map : (documents : Documents) × Shows store at documents
+  pub some_map : (map_of : Documents) × Shows store at map_of
   some_map = (
-    with_documents empty (map (saved_at store at) places),
-    λ place. get_all_put_in (map (saved_at store at) places) (sorted sh places are.order) place ∙ finds place,
+    with_documents empty (map placed documents),
+    λ place. get_all_put_in (map placed documents) in_order place ∙ finds place,
   )
+
+  -- each can be saved where all that is shown can
+  pub each_can : AllCanBeSaved store at → EachCanBeSaved documents
+  each_can can k d within = can (place_of (slice_index_or documents k d)) (slice_index_or documents k d).document.now (are.each k d within)

@@ -1,14 +1,15 @@
 -- The documents of a store that a checkpoint saves.
-use Rattle.std.specs.Prelude.{◌≡◌, ◌≤◌, length, Some, unwrap_or}
+use Rattle.std.specs.Prelude.{◌≡◌, ◌≤◌, All, List, length, Some}
 use Rattle.std.specs.FinMap.{get}
 use Rattle.rs_optime.specs.declared.optime.OpTime.{OpTime}
 use Rattle.bson_doc.specs.Length.{document_length, document_levels}
 use Rattle.bson_doc.specs.Place.{Place}
-use Rattle.bson_doc.specs.Tree.{Fields, no_fields}
+use Rattle.bson_doc.specs.Tree.{Fields}
 use Rattle.oplog_entry.specs.Docs.{Documents}
 use Rattle.oplog_entry.specs.Step.{id_key}
+use Rattle.version_store.specs.Shown.{place_of}
 use Rattle.version_store.specs.Store.{Store, shown_at}
-use Rattle.checkpoint_store.specs.Layout.{Saved}
+use Rattle.version_store.specs.declared.shown.Shown.{Shown}
 use Rattle.checkpoint_store.specs.Spelled.{NAME}
 
 -- these are the documents that reads of the store as of an optime show
@@ -27,9 +28,6 @@ abbrev pub AllCanBeSaved : Store → OpTime → Type 0
 AllCanBeSaved store at =
     (place : Place) (document : Fields) → shown_at store place at ≡ Some document → CanBeSaved place document
 
--- what is shown at a place that shows something
-abbrev pub document_at : Store → OpTime → Place → Fields
-document_at store at place = unwrap_or (shown_at store place at) no_fields
-
-abbrev pub saved_at : Store → OpTime → Place → Saved
-saved_at store at place = (place, document_at store at place)
+-- and such is each of some documents that are shown
+abbrev pub EachCanBeSaved : List Shown → Type 0
+EachCanBeSaved documents = All (λ one. CanBeSaved (place_of one) one.document.now) documents

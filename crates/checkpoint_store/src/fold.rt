@@ -1,5 +1,5 @@
 // What the records of a file come to.
-ghost use Rattle.std.specs.Prelude.{◌≡◌, List, All, map, IfOk, OnOk};
+ghost use Rattle.std.specs.Prelude.{◌≡◌, List, All, map, IfOk, OnOk, unwrap_or};
 ghost use Rattle.std.specs.FinMap as maps;
 ghost use Rattle.entry_bytes.specs.Optimes.{optime_bytes};
 ghost use Rattle.rs_optime.specs.declared.optime.OpTime.{OpTime as AnOpTime};
@@ -10,6 +10,7 @@ ghost use Rattle.checkpoint_store.specs.Layout.{Record as ARecord, Saved, docume
 ghost use Rattle.checkpoint_store.specs.Spelled.{AreSaved, IsOptime, IsRecord, IsSaved, IsSpelled};
 ghost use Rattle.checkpoint_store.specs.Folded.{so_far};
 
+use crate::begun::Begun;
 use crate::marked::last_in;
 use crate::numbers::u32_of;
 use crate::reading::{optime_of, saved_of};
@@ -21,7 +22,7 @@ use std::alloc::Global;
 #[derive(Drop)]
 struct Fold {
     whole: Stable,
-    begun: Option<Stable>,
+    begun: Option<Begun>,
 }
 
 impl Fold {
@@ -53,7 +54,7 @@ impl Fold {
                 begun: more(alloc, begun, rest)?,
             }),
             _ => Ok(Fold {
-                whole: begun.unwrap_or(whole),
+                whole: ended(begun, whole)?,
                 begun: None,
             }),
         }
@@ -71,50 +72,57 @@ impl Fold {
 }
 
 // The checkpoint that begins here.
-fn begin(alloc: Global, bytes: &[u8]) -> Stable
+fn begin(alloc: Global, bytes: &[u8]) -> Begun
     requires { (at : AnOpTime) × IsOptime at × (bytes.now ≡ optime_bytes at) }
     ensures { (at : AnOpTime) → IsOptime at → bytes.now ≡ optime_bytes at
         → result ≡ record { at = at; documents = maps.empty } }
 {
-    Stable {
-        at: optime_of(bytes),
-        documents: DocumentMap::new(alloc),
+    Begun::new(alloc, optime_of(bytes))
+}
+
+// The checkpoint that was begun, which ends here, or the last whole one where none was.
+fn ended(begun: Option<Begun>, whole: Stable) -> Mem<Stable>
+    ensures { IfOk result (λ stable. stable ≡ unwrap_or begun whole) }
+{
+    match begun {
+        Some(begun) => begun.ended(),
+        None => Ok(whole),
     }
 }
 
 // A checkpoint that was begun, with the documents of these bytes.
-fn more(alloc: Global, begun: Option<Stable>, bytes: &[u8]) -> Mem<Option<Stable>>
+fn more(alloc: Global, begun: Option<Begun>, bytes: &[u8]) -> Mem<Option<Begun>>
     requires { (documents : List Saved) × AreSaved documents × (bytes.now ≡ documents_bytes documents) }
     ensures { IfOk result (λ after.
         (documents : List Saved) → AreSaved documents → bytes.now ≡ documents_bytes documents
         → after ≡ with_more begun documents) }
 {
-    let Some(Stable { at, documents }) = begun else {
+    let Some(begun) = begun else {
         return Ok(None);
     };
-    let mut documents = documents;
-    add_documents(alloc, &mut documents, bytes)?;
-    Ok(Some(Stable { at, documents }))
+    let mut begun = begun;
+    add_documents(alloc, &mut begun, bytes)?;
+    Ok(Some(begun))
 }
 
-fn add_documents(alloc: Global, documents: &mut DocumentMap, bytes: &[u8]) -> Mem<()>
+fn add_documents(alloc: Global, begun: &mut Begun, bytes: &[u8]) -> Mem<()>
     requires { (more : List Saved) × AreSaved more × (bytes.now ≡ documents_bytes more) }
     ensures { OnOk result ((more : List Saved) → AreSaved more → bytes.now ≡ documents_bytes more
-        → documents.new ≡ with_documents documents.old more) }
+        → begun.new ≡ record { at = begun.old.at; documents = with_documents begun.old.documents more }) }
 {
     let (count, rest) = u32_of(bytes);
-    add_each(alloc, documents, count, rest)
+    add_each(alloc, begun, count, rest)
 }
 
-fn add_each(alloc: Global, documents: &mut DocumentMap, count: u32, bytes: &[u8]) -> Mem<()>
+fn add_each(alloc: Global, begun: &mut Begun, count: u32, bytes: &[u8]) -> Mem<()>
     requires { (more : List Saved) × StandInTurn IsSaved saved_bytes count more bytes.now }
     ensures { OnOk result ((more : List Saved) → StandInTurn IsSaved saved_bytes count more bytes.now
-        → documents.new ≡ with_documents documents.old more) }
+        → begun.new ≡ record { at = begun.old.at; documents = with_documents begun.old.documents more }) }
 {
     let mut rest = bytes;
     for _ in 0..count {
         let ((place, document), behind) = saved_of(alloc, rest)?;
-        documents.insert(place, document)?;
+        begun.insert(place, document)?;
         rest = behind;
     }
     Ok(())

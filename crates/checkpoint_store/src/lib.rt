@@ -2,6 +2,7 @@
 //! checkpoint from before a new one was saved, or the new one.
 #![tactic(auto)]
 
+mod begun;
 mod checkpoints;
 mod fold;
 mod marked;

@@ -1,8 +1,11 @@
 // The documents as of an optime.
 ghost use Rattle.std.specs.Prelude.{◌≡◌, IfOk, OnOk};
 ghost use Rattle.std.specs.Option.{option_copied};
+ghost use Rattle.std.specs.BTreeMap.{IsFromIterResult};
 ghost use Rattle.std.specs.FinMap as maps;
+ghost use Rattle.bson_doc.specs.Place.{place_cmp};
 ghost use Rattle.doc_fold.specs.Map.{documents_of};
+ghost use Rattle.checkpoint_store.specs.Checkpoint.{with_documents};
 
 use bson_doc::{Doc, IdKey, Text};
 use rs_optime::{Mem, OpTime};
@@ -39,6 +42,16 @@ impl DocumentMap {
         }
     }
 
+    /// Documents at their places. Where a place comes more than once, the last counts.
+    pub(crate) fn of(alloc: Global, documents: Vec<((Text, IdKey), Doc)>) -> Mem<Self>
+        ensures { IfOk result (λ m. m ≡ with_documents maps.empty documents.items) }
+    {
+        Ok(DocumentMap {
+            alloc,
+            documents: collected(alloc, documents)?,
+        })
+    }
+
     pub fn get(&self, place: &(Text, IdKey)) -> Option<&Doc>
         ensures { option_copied result ≡ maps.get self.now place.now }
     {
@@ -71,6 +84,15 @@ impl DocumentMap {
         }
         Ok(copies)
     }
+}
+
+fn collected(
+    alloc: Global,
+    documents: Vec<((Text, IdKey), Doc)>,
+) -> Mem<BTreeMap<(Text, IdKey), Doc>>
+    ensures { IfOk result (IsFromIterResult place_cmp documents.items) }
+{
+    documents.into_iter().collect(alloc)
 }
 
 /// The documents as of an optime. Without any checkpoint, none as of `OpTime::ZERO`.

@@ -1,18 +1,18 @@
 // Records as they are written.
-ghost use Rattle.std.specs.Prelude.{◌≡◌, ◌<◌, ◌≤◌, ◌^◌, ◌++◌, All, IfOk, IsSome, OnOk, length, map};
+ghost use Rattle.std.specs.Prelude.{◌≡◌, ◌<◌, ◌≤◌, ◌^◌, ◌++◌, All, IfOk, OnOk, length, map, true};
 ghost use Rattle.std.specs.List.{flat_map};
+ghost use Rattle.std.specs.Str.{is_utf8};
 ghost use Rattle.entry_bytes.specs.Optimes.{optime_bytes};
-ghost use Rattle.version_store.specs.Store.{shown_at};
+ghost use Rattle.version_store.specs.Shown.{place_of, placed};
 ghost use Rattle.checkpoint_store.specs.Layout.{begins, ends, holds, saved_bytes, sized};
-ghost use Rattle.checkpoint_store.specs.Shown.{AllCanBeSaved, CanBeSaved, saved_at};
+ghost use Rattle.checkpoint_store.specs.Shown.{CanBeSaved, EachCanBeSaved};
 ghost use Rattle.checkpoint_store.specs.Spelled.{PIECE, IsOptime, IsSaved, IsSpelled};
 
 use crate::numbers::{put_u32, put_u64};
 use bson_codec::{put_size, write};
-use bson_doc::{Doc, IdKey, Text};
 use rs_optime::{Mem, OpTime};
 use std::alloc::Global;
-use version_store::VersionStore;
+use version_store::Shown;
 
 fn put_optime(out: &mut Vec<u8>, at: OpTime) -> Mem<()>
     ensures laid { OnOk result (out.new.items ≡ out.old.items ++ optime_bytes at) }
@@ -30,50 +30,37 @@ fn put_sized(out: &mut Vec<u8>, bytes: &[u8]) -> Mem<()>
     out.extend_from_slice(bytes)
 }
 
-// Appends a document at its place, with room for its length until it has been written.
-fn put_saved(out: &mut Vec<u8>, place: &(Text, IdKey), document: &Doc) -> Mem<()>
-    requires { CanBeSaved place.now document.now }
-    ensures laid { OnOk result (out.new.items ≡ out.old.items ++ saved_bytes (place.now, document.now)) }
-    ensures fits { OnOk result (IsSaved (place.now, document.now)) }
+// Appends a document behind its collection's name, with room for its length until it has been written.
+fn put_saved(out: &mut Vec<u8>, shown: &Shown<'_>) -> Mem<()>
+    requires { CanBeSaved (place_of shown.now) shown.now.document.now }
+    ensures laid { OnOk result (out.new.items ≡ out.old.items ++ saved_bytes (placed shown.now)) }
+    ensures fits { OnOk result (IsSaved (placed shown.now)) }
 {
-    place.0.recall_utf8();
-    document.recall_sound();
-    put_sized(out, place.0.as_str().as_bytes())?;
+    shown.document.recall_sound();
+    put_name(out, shown.ns)?;
     let start = out.len();
     put_u32(out, 0)?;
-    write(*out.allocator(), document, out)?;
+    write(*out.allocator(), shown.document, out)?;
     put_size(out, start);
     Ok(())
 }
 
-// The document that a store shows at a place.
-fn put_shown(out: &mut Vec<u8>, store: &VersionStore, at: OpTime, place: &(Text, IdKey)) -> Mem<()>
-    requires can { AllCanBeSaved store.now at }
-    requires shown { IsSome (shown_at store.now place.now at) }
-    ensures laid { OnOk result
-        (out.new.items ≡ out.old.items ++ saved_bytes (saved_at store.now at place.now)) }
-    ensures fits { OnOk result (IsSaved (saved_at store.now at place.now)) }
+fn put_name(out: &mut Vec<u8>, ns: &str) -> Mem<()>
+    requires { length ns.now < 2 ^ 32 }
+    ensures laid { OnOk result (out.new.items ≡ out.old.items ++ sized ns.now) }
+    ensures text { is_utf8 ns.now ≡ true }
 {
-    let Some(document) = store.read_at(place.0.as_str(), &place.1, at) else {
-        unreachable!();
-    };
-    put_saved(out, place, document)
+    put_sized(out, ns.as_bytes())
 }
 
-fn put_each(
-    out: &mut Vec<u8>,
-    store: &VersionStore,
-    at: OpTime,
-    places: &[(Text, IdKey)],
-) -> Mem<()>
-    requires can { AllCanBeSaved store.now at }
-    requires shown { All (λ place. IsSome (shown_at store.now place at)) places.now }
+fn put_each(out: &mut Vec<u8>, documents: &[Shown<'_>]) -> Mem<()>
+    requires { EachCanBeSaved documents.now }
     ensures laid { OnOk result (out.new.items
-        ≡ out.old.items ++ flat_map (λ place. saved_bytes (saved_at store.now at place)) places.now) }
-    ensures fits { OnOk result (All (λ place. IsSaved (saved_at store.now at place)) places.now) }
+        ≡ out.old.items ++ flat_map (λ shown. saved_bytes (placed shown)) documents.now) }
+    ensures fits { OnOk result (All (λ shown. IsSaved (placed shown)) documents.now) }
 {
-    for place in places {
-        put_shown(out, store, at, place)?;
+    for shown in documents {
+        put_saved(out, shown)?;
     }
     Ok(())
 }
@@ -88,22 +75,16 @@ pub(crate) fn begin_bytes(alloc: Global, at: OpTime) -> Mem<Vec<u8>>
     Ok(out)
 }
 
-/// The record of some documents that a store shows.
-pub(crate) fn documents_bytes(
-    alloc: Global,
-    store: &VersionStore,
-    at: OpTime,
-    places: &[(Text, IdKey)],
-) -> Mem<Vec<u8>>
-    requires can { AllCanBeSaved store.now at }
-    requires shown { All (λ place. IsSome (shown_at store.now place at)) places.now }
-    requires few { length places.now ≤ PIECE }
-    ensures { IfOk result (λ bytes. IsSpelled (holds (map (saved_at store.now at) places.now)) bytes.items) }
+/// The record of some documents.
+pub(crate) fn documents_bytes(alloc: Global, documents: &[Shown<'_>]) -> Mem<Vec<u8>>
+    requires can { EachCanBeSaved documents.now }
+    requires few { length documents.now ≤ PIECE }
+    ensures { IfOk result (λ bytes. IsSpelled (holds (map placed documents.now)) bytes.items) }
 {
     let mut out = Vec::new(alloc);
     out.push(2)?;
-    put_u32(&mut out, places.len() as u32)?;
-    put_each(&mut out, store, at, places)?;
+    put_u32(&mut out, documents.len() as u32)?;
+    put_each(&mut out, documents)?;
     Ok(out)
 }
 

@@ -8,9 +8,11 @@ mod history;
 mod laws;
 mod place;
 mod shard;
+mod shown;
 mod store;
 
 pub use laws::{a_prune_is_not_seen, going_back_shows_the_earlier};
 pub use place::shard_of;
 pub use shard::Shard;
+pub use shown::Shown;
 pub use store::{Current, HoldError, VersionStore};

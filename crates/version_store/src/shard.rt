@@ -3,17 +3,18 @@ ghost use Rattle.std.specs.Prelude.{◌≡◌, [], All, Some, None, true, false,
 ghost use Rattle.std.specs.Option.{option_copied};
 ghost use Rattle.version_store.specs.Past.{no_past, is_before, latest_of, shown, with_version, held_by, back_to, IsRising};
 ghost use Rattle.version_store.specs.Cuts.{left_by};
-ghost use Rattle.version_store.specs.Places.{AddsPlaces, is_shown};
+ghost use Rattle.version_store.specs.Shown.{AddsShown};
 ghost use Rattle.version_store.specs.Documents.{ChangesEachIn};
 ghost use Rattle.version_store.specs.Shards.{documents_of, past_of, BelongsTo, HasItsOwn, OwnsAll, ChangesCollection, ChangesOf, ChangesEachOf};
 
 use crate::collection::Collection;
 use crate::cut::Cut;
 use crate::history::History;
+use crate::shown::Shown;
 use bson_doc::{Doc, IdKey, Text};
 use rs_optime::{Mem, OpTime};
 use std::alloc::Global;
-use std::collections::{BTreeMap, BTreeSet};
+use std::collections::BTreeMap;
 use std::marker::Model;
 
 /// The documents of one shard, by collection and then by key, so that no look-up makes a key. A shard has a
@@ -161,14 +162,14 @@ impl Shard {
         );
     }
 
-    /// Adds the places of the documents that a read at an optime shows.
-    pub(crate) fn add_places(&self, at: OpTime, places: &mut BTreeSet<(Text, IdKey)>) -> Mem<()>
-        ensures places { OnOk result (AddsPlaces places.old places.new (λ place.
-            is_shown at (past_of self.now place))) }
+    /// Adds the documents that a read at an optime shows, by collection and then in order of their keys.
+    pub(crate) fn add_shown<'a>(&'a self, at: OpTime, gathered: &mut Vec<Shown<'a>>) -> Mem<()>
+        ensures shown { OnOk result (AddsShown gathered.old.items gathered.new.items (λ place.
+            shown at (past_of self.now place).versions)) }
         ensures own { HasItsOwn self.now }
     {
         for (name, collection) in &self.collections {
-            collection.add_places(name, at, places)?;
+            collection.add_shown(name, at, gathered)?;
         }
         Ok(())
     }

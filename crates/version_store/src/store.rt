@@ -1,21 +1,21 @@
-ghost use Rattle.std.specs.Prelude.{◌≡◌, ◌≢◌, ◌↔◌, [], ◌<◌, ℕ, All, Contains, Some, None, is_some, IsSome, true, IfOk, IsErrOf, MatchOption, OnOk, OnErr};
+ghost use Rattle.std.specs.Prelude.{◌≡◌, ◌≢◌, ◌↔◌, [], ◌<◌, ℕ, All, Contains, Some, None, IsSome, true, IfOk, IsErrOf, MatchOption, OnOk, OnErr};
 ghost use Rattle.std.specs.Option.{option_copied};
 ghost use Rattle.bson_doc.specs.Place.{Place, place_cmp};
-ghost use Rattle.std.specs.BTreeSet.{contains};
 ghost use Rattle.std.specs.List.Sorted.{IsStrictlySortedBy};
 ghost use Rattle.version_store.specs.Past.{no_past, is_before, latest_of, with_version, held_by, back_to, back_before, pruned, IsRising};
 ghost use Rattle.version_store.specs.Cuts.{left_by};
 ghost use Rattle.version_store.specs.Shards.{past_of};
+ghost use Rattle.version_store.specs.Shown.{AddsShown, AreShown};
 ghost use Rattle.version_store.specs.Store.{past_at, versions_at, holder_at, shown_at, AreShards, AreAllOrNone, Changes, ChangesEach};
 
 use crate::cut::Cut;
 use crate::history::History;
 use crate::place::shard_of;
 use crate::shard::Shard;
+use crate::shown::{Shown, keys_of, put_in_order};
 use bson_doc::{Doc, IdKey, Text};
 use rs_optime::{Mem, OpTime};
 use std::alloc::{AllocError, Global};
-use std::collections::BTreeSet;
 use std::marker::Model;
 use std::mem::replace;
 use thiserror::Error;
@@ -183,8 +183,16 @@ impl VersionStore {
         ensures shown { IfOk result (λ keys.
             (place : Place) → Contains keys.items place ↔ IsSome (shown_at self.now place at)) }
     {
-        let keys = listed(*self.shards.allocator(), self.places_at(at)?)?;
-        Ok(keys)
+        keys_of(*self.shards.allocator(), &self.documents_at(at)?)
+    }
+
+    /// The documents that a read at an optime shows, in order of collection and key.
+    pub fn documents_at(&self, at: OpTime) -> Mem<Vec<Shown<'_>>>
+        ensures { IfOk result (λ documents. AreShown self.now at documents.items) }
+    {
+        let mut documents = self.gathered(at)?;
+        put_in_order(&mut documents)?;
+        Ok(documents)
     }
 
     /// Drops every version behind an optime.
@@ -258,15 +266,16 @@ impl VersionStore {
         Ok(())
     }
 
-    fn places_at(&self, at: OpTime) -> Mem<BTreeSet<(Text, IdKey)>>
-        ensures { IfOk result (λ places.
-            (place : Place) → contains place_cmp places place ≡ is_some (shown_at self.now place at)) }
+    // The documents that a read at an optime shows, in no order.
+    fn gathered(&self, at: OpTime) -> Mem<Vec<Shown<'_>>>
+        ensures { IfOk result (λ documents.
+            AddsShown [] documents.items (λ place. shown_at self.now place at)) }
     {
-        let mut places = BTreeSet::new(*self.shards.allocator());
+        let mut documents = Vec::new(*self.shards.allocator());
         for shard in &self.shards {
-            shard.add_places(at, &mut places)?;
+            shard.add_shown(at, &mut documents)?;
         }
-        Ok(places)
+        Ok(documents)
     }
 
     fn history(&self, ns: &str, id: &IdKey) -> Option<&History>
@@ -282,11 +291,4 @@ impl VersionStore {
     {
         self.shards.get(shard_of(ns, id, self.count) as usize)
     }
-}
-
-fn listed(alloc: Global, places: BTreeSet<(Text, IdKey)>) -> Mem<Vec<(Text, IdKey)>>
-    ensures order { IfOk result (λ keys. IsStrictlySortedBy place_cmp keys.items) }
-    ensures keys { IfOk result (λ keys. keys.items ≡ places.keys) }
-{
-    places.into_iter().collect(alloc)
 }

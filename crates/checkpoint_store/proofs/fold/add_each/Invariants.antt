@@ -8,4 +8,4 @@ use Rattle.checkpoint_store.proofs.fold.add_each.Given as goal
 abbrev pub invariant-loop : goal.invariant-loop
 invariant-loop l =
     (read : List Saved) × ReadSoFar IsSaved saved_bytes l.count l.counter l.bytes read l.rest
-    × (l.documents ≡ with_documents l.initial.documents read)
+    × (l.begun ≡ record { at = l.initial.begun.at; documents = with_documents l.initial.begun.documents read })
