@@ -9,7 +9,7 @@ use Rattle.rs_disk.specs.declared.past.Call.TheVariants.{Read, Write, Cut, Sync,
 abbrev pub CanCall : Call → Pages → Type 0
 CanCall Read pages = ⊤
 CanCall (Write at bytes) pages = IsWithin pages × (at ≤ pages.end) × (at + length bytes.now ≤ room_of pages)
-CanCall (Cut to) pages = to ≤ pages.end
+CanCall (Cut to) pages = IsWithin pages × (to ≤ pages.end)
 CanCall Sync pages = ⊤
 CanCall (Arm call pick) pages = ⊥
 CanCall (PowerCut pick) pages = ⊥

@@ -1,29 +1,30 @@
-// The bytes of a file in memory: as they are, and as they were synced.
-ghost use Rattle.std.specs.Prelude.{◌≡◌, ◌+◌, ◌≤◌, IsOk, OnOk, [], length, max, take};
+// The bytes of a file in memory: as they are, and what of those that were synced isn't there any more.
+ghost use Rattle.std.specs.Prelude.{◌≡◌, ◌+◌, ◌≤◌, IsOk, OnOk, [], length, max, min, take};
 ghost use Rattle.rs_disk.specs.File.{File, changed, write, cut, settled};
 
-use crate::bytes::{copy_part, fill_open, lengthen, mark_part, overwrite};
+use crate::bytes::{fill_open, lengthen, mark_part, overwrite, prepend, prepend_unset, widen};
 use crate::past::Call;
 use std::alloc::{AllocError, Global};
 
-// All three lists are as long as there is room, or longer. What lies behind the ends means nothing.
+// What was synced is there up to the first place that was written or cut since, and kept from that place
+// on. So a sync copies nothing. For what is kept there is always room, since neither a cut nor a power cut
+// may take memory.
 #[derive(Drop)]
 pub(crate) struct Pages {
-    // What a read gives.
+    // What a read gives. It is as long as there is room; what lies behind the end means nothing.
     pub(crate) now: Vec<u8>,
     pub(crate) end: usize,
-    // What the last sync left.
-    pub(crate) synced: Vec<u8>,
-    pub(crate) synced_end: usize,
-    // Which places below the least end were written since.
-    pub(crate) touched: Vec<bool>,
-    pub(crate) least: usize,
-    // No place before this one was written or cut since.
+    // No place before this one was written or cut since the last sync.
     pub(crate) first: usize,
+    // What the last sync left from there on, and which of these places were written since.
+    pub(crate) kept: Vec<u8>,
+    pub(crate) marks: Vec<bool>,
+    // The least end since.
+    pub(crate) least: usize,
 }
 
 impl Pages {
-    ghost use Rattle.rs_disk.specs.Pages.{Holds, IsSettling, IsWithin, room_of};
+    ghost use Rattle.rs_disk.specs.Pages.{Holds, IsWithin, room_of};
     ghost use Rattle.rs_disk.specs.Calls.{CanCall};
     ghost use Rattle.rs_disk.specs.Past.{during};
     ghost use Rattle.rs_disk.specs.Picks.{picked};
@@ -35,11 +36,10 @@ impl Pages {
         Pages {
             now: Vec::new(alloc),
             end: 0,
-            synced: Vec::new(alloc),
-            synced_end: 0,
-            touched: Vec::new(alloc),
-            least: 0,
             first: 0,
+            kept: Vec::new(alloc),
+            marks: Vec::new(alloc),
+            least: 0,
         }
     }
 
@@ -52,10 +52,27 @@ impl Pages {
         ensures bound { room_of self.new ≤ max (room_of self.old) room }
         ensures enough { room ≤ room_of self.old → IsOk result }
     {
+        widen(&mut self.kept, room)?;
+        widen(&mut self.marks, room)?;
         lengthen(&mut self.now, room, 0)?;
-        lengthen(&mut self.synced, room, 0)?;
-        lengthen(&mut self.touched, room, false)?;
         Ok(())
+    }
+
+    // Keeps what was synced from a place on.
+    fn keep_from(&mut self, at: usize)
+        requires within { IsWithin self.old }
+        ensures room { room_of self.new ≡ room_of self.old }
+        ensures end { self.new.end ≡ self.old.end }
+        ensures first { self.new.first ≡ min self.old.first at }
+        ensures within { IsWithin self.new }
+        ensures file { (file : File) → Holds self.old file → Holds self.new file }
+    {
+        if at >= self.first {
+            return;
+        }
+        prepend(&mut self.kept, &self.now[at..self.first]);
+        prepend_unset(&mut self.marks, self.first - at);
+        self.first = at;
     }
 
     pub(crate) fn write(&mut self, at: usize, bytes: &[u8])
@@ -66,21 +83,41 @@ impl Pages {
         ensures file { (file : File) → Holds self.old file
             → Holds self.new (changed (write at bytes.now) file) }
     {
-        let end = at + bytes.len();
+        self.keep_from(at);
+        self.put(at, bytes);
+    }
+
+    // Writes where what was synced is kept.
+    fn put(&mut self, at: usize, bytes: &[u8])
+        requires within { IsWithin self.old }
+        requires behind { self.old.first ≤ at }
+        requires start { at ≤ self.old.end }
+        requires room { at + length bytes.now ≤ room_of self.old }
+        ensures room { room_of self.new ≡ room_of self.old }
+        ensures file { (file : File) → Holds self.old file
+            → Holds self.new (changed (write at bytes.now) file) }
+    {
+        let start = at - self.first;
+        let end = self.marks.len();
+        mark_part(
+            &mut self.marks,
+            start.min(end),
+            (start + bytes.len()).min(end),
+            true,
+        );
         overwrite(&mut self.now, at, bytes);
-        mark_part(&mut self.touched, at, end, true);
-        self.end = self.end.max(end);
-        self.first = self.first.min(at);
+        self.end = self.end.max(at + bytes.len());
     }
 
     pub(crate) fn cut(&mut self, to: usize)
-        requires { to ≤ self.old.end }
+        requires within { IsWithin self.old }
+        requires place { to ≤ self.old.end }
         ensures room { room_of self.new ≡ room_of self.old }
         ensures file { (file : File) → Holds self.old file → Holds self.new (changed (cut to) file) }
     {
+        self.keep_from(to);
         self.end = to;
         self.least = self.least.min(to);
-        self.first = self.first.min(to);
     }
 
     // What a call does before it is known how it ends.
@@ -96,39 +133,35 @@ impl Pages {
         }
     }
 
-    // From now on what is there stands as synced. It costs what lies behind the first place that was written.
+    // From now on what is there stands as synced.
     pub(crate) fn settle(&mut self)
-        requires { IsSettling self.old }
+        requires { IsWithin self.old }
         ensures room { room_of self.new ≡ room_of self.old }
         ensures file { Holds self.new (settled (take self.old.end self.old.now.items)) }
     {
-        let first = self.first;
-        let end = self.end;
-        copy_part(&mut self.synced, &self.now, first, end);
-        mark_part(&mut self.touched, first, end, false);
-        self.synced_end = end;
-        self.least = end;
-        self.first = end;
+        self.kept.clear();
+        self.marks.clear();
+        self.least = self.end;
+        self.first = self.end;
     }
 
     // The power goes. The pick chooses what is left.
     pub(crate) fn lose(&mut self, pick: u64)
-        requires { IsSettling self.old }
+        requires { (file : File) × Holds self.old file }
         ensures room { room_of self.new ≡ room_of self.old }
         ensures file { (file : File) → Holds self.old file → Holds self.new (settled (picked pick file)) }
     {
-        let first = self.first;
         match pick {
             0 => {
-                copy_part(&mut self.now, &self.synced, first, self.synced_end);
-                self.end = self.synced_end;
+                overwrite(&mut self.now, self.first, &self.kept);
+                self.end = self.first + self.kept.len();
             }
             1 => {}
             _ => fill_open(
                 &mut self.now,
-                &self.touched,
+                &self.marks,
                 self.least,
-                first,
+                self.first,
                 self.end,
                 pick,
             ),

@@ -3,12 +3,11 @@ use Rattle.rs_disk.specs.Picks.{picked}
 use Rattle.rs_disk.specs.File.{settled}
 use Rattle.rs_disk.specs.Orders.{ordered, power_cut}
 use Rattle.rs_disk.specs.declared.past.Past.{Past}
-use Rattle.rs_disk.proofs.PageLemmas.{settling}
 use Rattle.rs_disk.proofs.PickLemmas.{power_is_cut, cut_past}
 use Rattle.rs_disk.proofs.memory.MemDiskDisk.power_cut.Goals as goal
 
 pub lose-requires : goal.lose-requires
-lose-requires c = settling c.args.self.now.pages c.args.self.now.past.file c.args.self.now.holds
+lose-requires c = (c.args.self.now.past.file, c.args.self.now.holds)
 
 past_is : (c : goal.After-self-1) → c.then-self.result ≡ cut_past c.args.pick c.args.self.now.past
 past_is c =
