@@ -2,8 +2,10 @@
 //! guide, elections; MongoRaftReconfig).
 #![tactic(auto)]
 
+mod dry_run;
 mod tally;
 mod voter;
 
+pub use dry_run::DryRun;
 pub use tally::{Count, Tally};
 pub use voter::{VoterView, decide};

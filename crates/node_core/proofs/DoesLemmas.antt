@@ -131,8 +131,8 @@ entries_kept node from fetched =
 told_does : (told : MessageContinuation) (node : Node) → Does IsShortStore 1 node.records node.stable (message_plan told node)
 told_does (message_continuations.Answered next sent) node = (refl, refl)
 told_does (message_continuations.Fetched from fetched) node = entries_kept node from fetched
-told_does (message_continuations.Heard None kept hearing) node = heard_kept hearing _
-told_does (message_continuations.Heard (Some config) kept hearing) node = (refl, refl, tt, heard_kept hearing _)
+told_does (message_continuations.Heard None hearing) node = heard_kept hearing _
+told_does (message_continuations.Heard (Some newer) hearing) node = (refl, refl, tt, heard_kept hearing _)
 told_does (message_continuations.RolledBack point removed lost) node = (refl, refl, tt, (refl, refl))
 told_does (message_continuations.Ignored why) node = (refl, refl)
 

@@ -6,9 +6,9 @@ pub mod DoesLemmas
 pub mod EndingLemmas
 pub mod OpeningLemmas
 pub mod OwedLemmas
+pub mod PlainLemmas
 pub mod PowerLemmas
 pub mod PuttingLemmas
 pub mod ReopeningLemmas
 pub mod RisingLemmas
 pub mod SavableLemmas
-pub mod WriteLemmas

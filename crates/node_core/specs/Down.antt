@@ -4,7 +4,7 @@ use Rattle.rs_optime.specs.declared.optime.OpTime.{OpTime}
 use Rattle.repl_msg.specs.declared.record.Record.{Record}
 use Rattle.set_model.specs.declared.store.Store.{Store}
 use Rattle.set_model.specs.Node.{Node, opening_node}
-use Rattle.node_core.specs.declared.node.DownState.{DownState as InMemory}
+use Rattle.node_core.specs.declared.down.DownState.{DownState as InMemory}
 
 -- what is left of a node that is down: beside its disks the clock, how often it rolled back or restarted, and
 -- what was being stored as a disk failed

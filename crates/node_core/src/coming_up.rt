@@ -20,11 +20,11 @@ ghost use Rattle.node_core.specs.Stands.{Stands};
 
 use crate::Done;
 use crate::disks::Disks;
-use crate::node::DownState;
+use crate::down::DownState;
 use bson_doc::Mem;
 use checkpoint_store::Stable;
+use node_ledger::Records;
 use node_state::{Coming, State};
-use node_tables::Records;
 use record_file::FileError;
 use repl_msg::{Kept, Record};
 use rs_disk::Disk;

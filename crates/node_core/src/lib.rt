@@ -7,6 +7,7 @@
 mod coming_up;
 mod disks;
 mod done;
+mod down;
 mod node;
 mod storing;
 

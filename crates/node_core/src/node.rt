@@ -1,4 +1,4 @@
-ghost use Rattle.std.specs.Prelude.{◌≡◌, ◌<◌, ℕ, [], None, true, false, length, if◌then◌else◌, IfOk, OnErr, IsSome, MatchOption};
+ghost use Rattle.std.specs.Prelude.{◌≡◌, ◌<◌, ℕ, [], None, true, false, length, if◌then◌else◌, IfOk, OnErr, MatchOption};
 ghost use Rattle.std.specs.FinMap as maps;
 ghost use Rattle.bson_doc.specs.Place.{Place};
 ghost use Rattle.oplog_entry.specs.Docs.{docs};
@@ -11,53 +11,37 @@ ghost use Rattle.member_config.specs.Rule.{rule};
 ghost use Rattle.set_model.specs.declared.command.Command.TheVariants as commands;
 ghost use Rattle.set_model.specs.Deliver.{deliver};
 ghost use Rattle.set_model.specs.Limits.{is_within};
-ghost use Rattle.set_model.specs.Node.{down, opening_node};
+ghost use Rattle.set_model.specs.Node.{opening_node};
 ghost use Rattle.set_model.specs.Points.{last_point};
 ghost use Rattle.set_model.specs.Reads.{local_documents};
 ghost use Rattle.set_model.specs.Rows.{row};
 ghost use Rattle.node_ledger.specs.Ledger.{IsReadable};
-ghost use Rattle.node_core.specs.Acting.{Acted, AreReopened, AreSame, DisksLeft, Follows, RunsWithoutOrders, Took, Unchanged, is_here};
+ghost use Rattle.node_core.specs.Acting.{Acted, AreReopened, AreSame, DisksLeft, RunsWithoutOrders, Took, Unchanged, is_here};
 ghost use Rattle.node_state.specs.Bounds.{IsBounded, IsNumbered, is_own};
-ghost use Rattle.node_core.specs.Down.{down_node, down_state, seen_node};
 ghost use Rattle.node_core.specs.Nodes.{HasFailed, answer_of, checkpoints_after, journal_after};
 ghost use Rattle.node_core.specs.Opening.{OpensInTurn};
-ghost use Rattle.node_core.specs.Putting.{EndsFrom, IsStoreFailed, LeavesOnDisks};
-ghost use Rattle.node_core.specs.OnDisks.{IsOnDisks};
 ghost use Rattle.node_core.specs.Stands.{Stands};
-ghost use Rattle.rs_disk.specs.State.{State as OnDisk};
-ghost use Rattle.set_model.specs.Stores.{Plan};
 ghost use Rattle.set_model.specs.Taking.{CanTake};
 
 use crate::Done;
 use crate::coming_up::come_up;
 use crate::disks::Disks;
-use crate::storing::{Ended, act_own, take_in};
+use crate::down::{DownState, left_of, told};
+use crate::storing::{act_own, take_in};
 use bson_doc::Mem;
 use checkpoint_store::Checkpoints;
 use member_config::Config;
 use node_journal::Journal;
-use node_state::{State, is_write};
-use node_tables::Records;
+use node_state::{State, is_plain};
 use record_file::FileError;
 use repl_msg::Message;
 use rs_disk::Disk;
 use rs_optime::OpTime;
-use set_model::{Command, DiskName, Refusal, Reply, Store};
+use set_model::{Command, DiskName, Refusal, Reply};
 use std::alloc::Global;
 use std::marker::Model;
 use std::thread::Threads;
 use version_store::VersionStore;
-
-/// What is left of a node that is down, beside its disks.
-#[derive(Drop)]
-pub(crate) struct DownState {
-    pub(crate) clock: u32,
-    pub(crate) stable: OpTime,
-    pub(crate) rollback: u64,
-    pub(crate) records: Records,
-    /// What was being stored as a disk failed.
-    pub(crate) doubt: Option<Store>,
-}
 
 /// A node on its two disks, up or down. Contracts see the node of `set_model`, and the two disks.
 #[derive(Drop)]
@@ -243,8 +227,8 @@ impl<D: Disk> Node<D> {
         if !self.up {
             return Ok(self.act_down(command));
         }
-        if is_write(command) {
-            let reply = self.state.write(command)?;
+        if is_plain(command) {
+            let reply = self.state.answer(command)?;
             return Ok(self.answered(reply));
         }
         let ended = act_own(&mut self.state, &mut self.disks, rt, nodes, next, command)?;
@@ -400,49 +384,5 @@ impl<D: Disk> Node<D> {
             left: _,
         } = self;
         (journal.close(), checkpoints.close())
-    }
-}
-
-// What was done by how a turn ended. A node of which a store failed is down from there on.
-fn told(alloc: Global, state: &State, up: &mut bool, left: &mut DownState, ended: Ended) -> Done
-    requires { up.old ≡ true }
-    ensures follows { (plan : Plan) → EndsFrom 0 plan state.now.node ended
-        → Follows plan (seen_node up.new state.now.node (down_state left.new)) result }
-    ensures rests { (count : ℕ) (journal checkpoints : OnDisk)
-        → LeavesOnDisks ended state.now.node count journal checkpoints
-        → IsOnDisks up.new state.now.node (down_state left.new) count journal checkpoints }
-    ensures failed { IsSome result.failed → IsStoreFailed ended }
-    ensures unkept { result.kept ≡ false }
-{
-    match ended {
-        Ended::WithReply { reply, sent } => Done {
-            reply,
-            sent,
-            failed: None,
-            kept: false,
-        },
-        Ended::StoreFailed { item, number } => {
-            *up = false;
-            *left = left_of(state, Some(item));
-            Done {
-                reply: Reply::Refused(Refusal::DiskFailed),
-                sent: Vec::new(alloc),
-                failed: Some(number),
-                kept: false,
-            }
-        }
-    }
-}
-
-// What is left of a node that goes down, with what was being stored as a disk failed.
-fn left_of(state: &State, doubt: Option<Store>) -> DownState
-    ensures { down_node state.now.node (down_state result) ≡ record (down state.now.node) { doubt = doubt } }
-{
-    DownState {
-        clock: state.clock(),
-        stable: state.stable(),
-        rollback: state.rollback(),
-        records: state.records().same(),
-        doubt,
     }
 }

@@ -5,7 +5,7 @@ ghost use Rattle.set_model.specs.Deliver.{deliver};
 ghost use Rattle.set_model.specs.Limits.{is_within};
 ghost use Rattle.set_model.specs.Node.{Node};
 ghost use Rattle.set_model.specs.Rows.{row};
-ghost use Rattle.node_state.specs.Bounds.{IsBounded, IsNumbered, is_own, is_write};
+ghost use Rattle.node_state.specs.Bounds.{IsBounded, IsNumbered, is_own, is_plain};
 ghost use Rattle.node_core.specs.Acting.{AreSame, IsFinished, RunsWithoutOrders};
 ghost use Rattle.node_core.specs.Putting.{CanBePut, EndsFrom, StoresFewShort, IsStoreFailed, IsEnd, IsFault, BeginsUnreserved, LeavesOnDisks, NeedsRoom, SHORT, plan_of};
 ghost use Rattle.node_state.specs.Ready.{CanBeStored, IsReady, IsReadyTurn};
@@ -136,7 +136,7 @@ pub(crate) fn act_own<D: Disk, R: Threads + Sync>(
     requires bounds { IsBounded state.old.node }
     requires next { IsNumbered next }
     requires own { is_own command.now ≡ true }
-    requires turn { is_write command.now ≡ false }
+    requires turn { is_plain command.now ≡ false }
     requires within { is_within command.now ≡ true }
     ensures ends { IfOk result (λ ended.
         EndsFrom 0 (row nodes next false state.old.node command.now) state.new.node ended) }

@@ -6,7 +6,7 @@ use Rattle.std.specs.FinSet as sets
 use Rattle.rs_optime.specs.Order.{optime_cmp, optime_code}
 use Rattle.repl_msg.specs.contracts.message.Report.{the_row as report_row}
 use Rattle.set_model.specs.Node.{Report}
-pub use Rattle.set_model.specs.Code.{known_code, tally_code}
+pub use Rattle.repl_msg.specs.Code.{known_code, tally_code}
 pub use Rattle.node_ledger.specs.Writers.{writers_code}
 
 abbrev pub slots_code : Coded (sets.FinSet optime_cmp)

@@ -1,6 +1,7 @@
 pub mod Code
 pub mod Kept
 pub mod Ledger
+pub mod Records
 pub mod Sound
 pub mod Versions
 pub mod Writers

@@ -4,6 +4,7 @@ use Rattle.std.specs.Prelude.{◌==◌, nat_lt}
 use Rattle.std.proofs.lemmas.Bool.{and_parts}
 use Rattle.member_config.specs.Rule.{rule}
 use Rattle.member_config.specs.declared.config.Config.{Config}
+use Rattle.rs_optime.specs.declared.optime.OpTime.{OpTime}
 use Rattle.repl_msg.specs.declared.message.Beat.{Beat}
 use Rattle.repl_msg.specs.declared.message.Body.TheVariants as bodies
 use Rattle.repl_msg.specs.declared.message.Message.{Message}
@@ -95,8 +96,30 @@ answer_at node items from term beat installing new installing_is =
 
 -- ---- once the message's term is taken
 
+-- the role alone decides whether a configuration is installed
+pub installs_as : (raised : Bool) (term : ℕ) (node : Node) (beat : Beat) (role : Role) → role ≡ (taking raised term node).role
+    → installs (record node { role = role }) beat ≡ installs (taking raised term node) beat
+installs_as true term node beat role is = ap (λ (r : Role). installs (record node { role = r }) beat) is
+installs_as false term node beat role is = ap (λ (r : Role). installs (record node { role = r }) beat) is
+
+-- and which commit point is learnt
+pub learnt_as : (raised : Bool) (term : ℕ) (node : Node) (heard : OpTime) (role : Role) → role ≡ (taking raised term node).role
+    → commit_learnt (record node { role = role }) heard ≡ commit_learnt (taking raised term node) heard
+learnt_as true term node heard role is = ap (λ (r : Role). commit_learnt (record node { role = r }) heard) is
+learnt_as false term node heard role is = ap (λ (r : Role). commit_learnt (record node { role = r }) heard) is
+
+pub sent_in : (raised : Bool) (term from : ℕ) (node : Node) (beat : Beat) (config : Config) (commit visible : OpTime) (primary : Bool) (own : ℕ)
+    → own ≡ (taking raised term node).term → config ≡ cond (installs (taking raised term node) beat) beat.config node.config
+    → commit ≡ commit_learnt (taking raised term node) beat.commit → visible ≡ visible_point (taking raised term node) → primary ≡ is_primary (taking raised term node).role
+    → message_to (record node { term = own }) from (bodies.HeartbeatReply (record { config = config; commit = commit; visible = visible; primary = primary }))
+    ≡ message_to (taking raised term node) from (bodies.HeartbeatReply (beat_after (taking raised term node) beat))
+sent_in true term from node beat config commit visible primary own own_is config_is commit_is visible_is primary_is =
+    λ i. message_to (record node { term = own_is i }) from (bodies.HeartbeatReply (record { config = config_is i; commit = commit_is i; visible = visible_is i; primary = primary_is i }))
+sent_in false term from node beat config commit visible primary own own_is config_is commit_is visible_is primary_is =
+    λ i. message_to (record node { term = own_is i }) from (bodies.HeartbeatReply (record { config = config_is i; commit = commit_is i; visible = visible_is i; primary = primary_is i }))
+
 pub beat_is : (raised : Bool) (node : Node) (next from term : ℕ) (beat : Beat) (installing : Bool) (answer : Answer)
-    → nat_lt term (taking raised term node).term ≡ false → installing ≡ installs (taking raised 0 node) beat → answer.next ≡ next
+    → nat_lt term (taking raised term node).term ≡ false → installing ≡ installs (taking raised term node) beat → answer.next ≡ next
     → answer.sent.items ≡ message_to (taking raised term node) from (bodies.HeartbeatReply (beat_after (taking raised term node) beat)) ∷ []
     → (items : List Record) → message_plan (told_of from beat installing (Some answer)) (there raised term node items) ≡ beat_told next (there raised term node items) from term beat
 beat_is true node next from term beat installing answer new installing_is next_is sent_is items =
@@ -105,7 +128,7 @@ beat_is false node next from term beat installing answer new installing_is next_
     beat_at node items next from term beat installing answer new installing_is next_is sent_is
 
 pub answer_is : (raised : Bool) (node : Node) (from term : ℕ) (beat : Beat) (installing : Bool)
-    → nat_lt term (taking raised term node).term ≡ false → installing ≡ installs (taking raised 0 node) beat
+    → nat_lt term (taking raised term node).term ≡ false → installing ≡ installs (taking raised term node) beat
     → (items : List Record) → message_plan (told_of from beat installing None) (there raised term node items) ≡ beat_answered (there raised term node items) from term beat
 answer_is true node from term beat installing new installing_is items = answer_at (taking true term node) items from term beat installing new installing_is
 answer_is false node from term beat installing new installing_is items = answer_at node items from term beat installing new installing_is
@@ -128,13 +151,13 @@ secondary_is Draining is = absurd (cc is)
 secondary_is Primary is = absurd (cc is)
 
 heard_at : (node : Node) (hearing : HeardBeat) (config : Config) (primary : Bool) (installing : Bool) → hearing.from < 50 → hearing.primary ≡ primary → rule config ≡ None
-    → (installing ≡ true → is_secondary (cond (is_candidate node.role && primary) Secondary node.role) ≡ true) → IsHeard (newer installing config) (newer installing config) hearing node
+    → (installing ≡ true → is_secondary (cond (is_candidate node.role && primary) Secondary node.role) ≡ true) → IsHeard (newer installing config) hearing node
 heard_at node hearing config primary true from_is primary_is lawful secondary =
-    (refl, from_is, (lawful, ap (λ p. cond (is_candidate node.role && p) Secondary node.role) primary_is ∙ secondary_is _ (secondary refl)))
-heard_at node hearing config primary false from_is primary_is lawful secondary = (refl, from_is, tt)
+    (from_is, (refl, lawful, ap (λ p. cond (is_candidate node.role && p) Secondary node.role) primary_is ∙ secondary_is _ (secondary refl)))
+heard_at node hearing config primary false from_is primary_is lawful secondary = (from_is, tt)
 
 pub ready_is : (raised : Bool) (node : Node) (term : ℕ) (beat : Beat) (hearing : HeardBeat) (installing : Bool) → hearing.from < 50 → hearing.primary ≡ beat.primary → rule beat.config ≡ None
-    → installing ≡ installs (taking raised 0 node) beat → IsHeard (newer installing beat.config) (newer installing beat.config) hearing (taking raised term node)
+    → installing ≡ installs (taking raised term node) beat → IsHeard (newer installing beat.config) hearing (taking raised term node)
 ready_is true node term beat hearing installing from_is primary_is lawful installing_is =
     heard_at (taking true term node) hearing beat.config beat.primary installing from_is primary_is lawful (λ is. (and_parts _ _ (sym installing_is ∙ is)).0)
 ready_is false node term beat hearing installing from_is primary_is lawful installing_is =

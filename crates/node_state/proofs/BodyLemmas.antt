@@ -15,7 +15,7 @@ use Rattle.set_model.specs.Rollback.{rollback_reason}
 use Rattle.set_model.specs.Safety.{AtMost}
 use Rattle.set_model.specs.Stores.{finished}
 use Rattle.set_model.specs.declared.reply.Ignored.TheVariants.{NotCandidate, NotPrimary, OldTerm}
-use Rattle.node_state.specs.Ahead.{IsPreparedFor, taking}
+use Rattle.node_state.specs.Ahead.{IsPreparedFor, in_term, taking}
 use Rattle.set_model.specs.Taking.{CanTake}
 use Rattle.node_state.specs.declared.turn.MessageContinuation.TheVariants.{Ignored}
 use Rattle.node_state.proofs.TakenLemmas.{foretold}
@@ -26,14 +26,13 @@ is_higher own term less = grind (arith, nat_tests)
 -- ---- the node in the message's term
 
 -- what the answer to one who asked for the optimes behind a commit point needs
-pub common_of : (node : Node) (message : Message) (raised : Bool) (after : OpTime) (optimes : List OpTime) (visible : OpTime)
-    → CanTake node message → message.body ≡ CommonReply after optimes visible → raised ≡ nat_lt node.term message.term
-    → rollback_reason (taking raised message.term node) message.term after optimes visible ≡ None → AtMost node.commit (common_point node.log after optimes)
-common_of node message raised after optimes visible can body raised_is reason =
+pub common_of : (node : Node) (message : Message) (after : OpTime) (optimes : List OpTime) (visible : OpTime)
+    → CanTake node message → message.body ≡ CommonReply after optimes visible
+    → rollback_reason (in_term message.term node) message.term after optimes visible ≡ None → AtMost node.commit (common_point node.log after optimes)
+common_of node message after optimes visible can body reason =
     can.common after optimes visible body
     (ap (λ (n : Node). rollback_reason n message.term after optimes visible)
-    (ap (λ b. cond (brings_term b && nat_lt node.term message.term) (in_new_term node message.term None) node) body
-    ∙ ap (λ b. cond b (in_new_term node message.term None) node) (sym raised_is))
+    (ap (λ b. cond (brings_term b && nat_lt node.term message.term) (in_new_term node message.term None) node) body)
     ∙ reason)
 
 -- ---- answers to what a node has forgotten once it steps down

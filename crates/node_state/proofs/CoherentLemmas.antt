@@ -22,8 +22,8 @@ use Rattle.set_model.specs.Node.{Node}
 use Rattle.set_model.specs.Points.{visible_point}
 use Rattle.set_model.specs.Safety.{AtMost, Has}
 use Rattle.set_model.specs.declared.writer.Writer.{Writer}
-use Rattle.node_tables.specs.Unjournaled.{with_optime}
-use Rattle.node_tables.proofs.OptimeLemmas.{map-with_entry}
+use Rattle.oplog_store.specs.Unjournaled.{with_optime}
+use Rattle.oplog_store.proofs.OptimeLemmas.{map-with_entry}
 use Rattle.node_ledger.specs.Kept.{FitsBeside}
 use Rattle.node_state.specs.Coherent.{IsCoherent, IsRecorded, is_kept}
 use Rattle.node_state.proofs.EntryLemmas.{has_in, in_has, filter-with}

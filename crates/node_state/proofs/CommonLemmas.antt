@@ -11,7 +11,7 @@ use Rattle.node_state.specs.Ahead.{taking}
 use Rattle.node_state.proofs.ForeseenLemmas.{there}
 
 pub common_body : (raised : Bool) (term : ℕ) (node : Node) (after visible : OpTime) (optimes : List OpTime)
-    → optimes ≡ optimes_of (log_behind after (visible_log (taking raised 0 node))) → visible ≡ visible_point (taking raised 0 node)
+    → optimes ≡ optimes_of (log_behind after (visible_log (taking raised term node))) → visible ≡ visible_point (taking raised term node)
     → (items : List Record) → bodies.CommonReply after optimes visible ≡ common_reply (there raised term node items) after
 common_body true term node after visible optimes optimes_is visible_is items = λ i. bodies.CommonReply after (optimes_is i) (visible_is i)
 common_body false term node after visible optimes optimes_is visible_is items = λ i. bodies.CommonReply after (optimes_is i) (visible_is i)

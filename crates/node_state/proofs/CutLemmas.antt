@@ -26,7 +26,7 @@ use Rattle.set_model.specs.Disk.{unjournaled}
 use Rattle.set_model.specs.Node.{Node}
 use Rattle.set_model.specs.Roles.{is_primary}
 use Rattle.set_model.specs.Safety.{AtMost, Has}
-use Rattle.node_tables.specs.Unjournaled.{up_to}
+use Rattle.oplog_store.specs.Unjournaled.{up_to}
 use Rattle.node_state.specs.Coherent.{IsCoherent, is_kept}
 use Rattle.node_state.specs.Ready.{IsCut}
 use Rattle.node_state.specs.Seen.{BesideLedger, seen_node}

@@ -16,7 +16,7 @@ use Rattle.oplog_store.proofs.Keeps.{pairs_head, pairs_tail, with_last}
 use Rattle.oplog_store.specs.Log.{IsOplog, StandsBefore, with_entry}
 use Rattle.oplog_store.proofs.PlaceLemmas.{oplog_front}
 use Rattle.election_core.specs.Counting.{Tallied}
-use Rattle.node_tables.specs.Unjournaled.{with_optime}
+use Rattle.oplog_store.specs.Unjournaled.{with_optime}
 use Rattle.set_model.specs.Fetched.{Follows}
 use Rattle.set_model.specs.Fetching.{seen_after, with_fetched}
 use Rattle.set_model.specs.Node.{Node}

@@ -18,7 +18,7 @@ use Rattle.oplog_entry.specs.declared.entry.Entry.{Entry}
 use Rattle.oplog_store.specs.Log.{IsOplog}
 use Rattle.election_core.specs.Counting.{Tallied}
 use Rattle.version_store.specs.declared.history.Version.{Version}
-use Rattle.node_tables.specs.Unjournaled.{with_optime}
+use Rattle.oplog_store.specs.Unjournaled.{with_optime}
 use Rattle.repl_msg.specs.Fetching.{continues}
 use Rattle.repl_msg.specs.Logs.{same_optime}
 use Rattle.repl_msg.specs.Points.{commit_after}

@@ -54,6 +54,13 @@ taken_documents true term node oplog = by_role node.role
 
 -- ---- why a node doesn't roll back
 
+-- of what the message's term changes, the term and the role alone matter
+pub reason_as : (raised : Bool) (term : ℕ) (node : Node) (after : OpTime) (optimes : List OpTime) (visible : OpTime) (own : ℕ) (role : Role)
+    → own ≡ (taking raised term node).term → role ≡ (taking raised term node).role
+    → rollback_reason (record node { term = own; role = role }) term after optimes visible ≡ rollback_reason (taking raised term node) term after optimes visible
+reason_as true term node after optimes visible own role own_is role_is = λ i. rollback_reason (record node { term = own_is i; role = role_is i }) term after optimes visible
+reason_as false term node after optimes visible own role own_is role_is = λ i. rollback_reason (record node { term = own_is i; role = role_is i }) term after optimes visible
+
 -- what a point or its want says of the reason
 pub no_reason : (reason : Option Ignored) (point found : OpTime) → Ok found ≡ point_or reason point → (reason ≡ None) × (found ≡ point)
 no_reason None point found is = (refl, cc is)

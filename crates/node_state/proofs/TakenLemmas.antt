@@ -57,8 +57,8 @@ fetch_with node items term fetched can = record { order = can.order; base = can.
 pub ready_with : (told : MessageContinuation) (standing : StateView) (items : List Record) → IsReadyMessage told standing → IsReadyMessage told (record standing { node = record standing.node { records = items } })
 ready_with (Answered next sent) standing items ready = tt
 ready_with (Fetched from fetched) standing items ready = record { from_is = ready.from_is; lawful = fetch_with standing.node items standing.node.term fetched ready.lawful; room = ready.room }
-ready_with (Heard (Some config) kept hearing) standing items ready = ready
-ready_with (Heard None kept hearing) standing items ready = ready
+ready_with (Heard (Some newer) hearing) standing items ready = ready
+ready_with (Heard None hearing) standing items ready = ready
 ready_with (RolledBack point removed lost) standing items ready = record { role = ready.role; commit = ready.commit; applied = ready.applied; there = ready.there; rollback = ready.rollback }
 ready_with (Ignored why) standing items ready = tt
 

@@ -19,7 +19,7 @@ use Rattle.set_model.specs.declared.reply.Refusal.TheVariants.{TooManyOptimes}
 use Rattle.set_model.specs.Node.{Node}
 use Rattle.set_model.specs.Points.{visible_log, visible_point}
 use Rattle.set_model.specs.Rollback.{common_refusal}
-use Rattle.node_state.specs.Ahead.{taking}
+use Rattle.node_state.specs.Ahead.{in_term, taking}
 use Rattle.node_state.proofs.EntryLemmas.{filter_in, below_last}
 use Rattle.node_ledger.proofs.LogLemmas.{up_to-last}
 use Rattle.node_state.proofs.MergeLemmas.{same_log}
@@ -80,34 +80,32 @@ behind_shown (Some slot) log after oplog =
         (filter_in (λ (e : Entry). not (is_before point e.optime)) log entry two.0 (ap not (below_last shown shown_oplog.order entry one.0))) one.1
 
 -- the same of a node that takes a message
-pub told_behind : (raised : Bool) (node : Node) (visible after : OpTime) → IsOplog node.log → visible ≡ visible_point (taking raised 0 node)
-    → log_behind after (log_up_to visible node.log) ≡ log_behind after (visible_log (taking raised 0 node))
-told_behind true node visible after oplog is =
-    ap (λ o. log_behind after (log_up_to o node.log)) is ∙ behind_shown (least (sets.items (taking true 0 node).slots)) node.log after oplog
-told_behind false node visible after oplog is =
+pub told_behind : (raised : Bool) (term : ℕ) (node : Node) (visible after : OpTime) → IsOplog node.log → visible ≡ visible_point (taking raised term node)
+    → log_behind after (log_up_to visible node.log) ≡ log_behind after (visible_log (taking raised term node))
+told_behind true term node visible after oplog is =
+    ap (λ o. log_behind after (log_up_to o node.log)) is ∙ behind_shown (least (sets.items (taking true term node).slots)) node.log after oplog
+told_behind false term node visible after oplog is =
     ap (λ o. log_behind after (log_up_to o node.log)) is ∙ behind_shown (least (sets.items node.slots)) node.log after oplog
 
 -- what a node would tell, as it refuses to
-pub refused_by : (node : Node) (term : ℕ) (after : OpTime) (shown : List Entry) → shown ≡ log_behind after (visible_log (taking (nat_lt node.term term) 0 node))
+pub refused_by : (node : Node) (term : ℕ) (after : OpTime) (shown : List Entry) → shown ≡ log_behind after (visible_log (in_term term node))
     → (cond (nat_lt 20000 (length shown)) (Some TooManyOptimes) None) ≡ common_refusal node term after
 refused_by node term after shown is =
     ap (λ (l : List Entry). cond (nat_lt 20000 (length l)) (Some TooManyOptimes) None) (is ∙ ap (log_behind after) (by_term (nat_lt node.term term)))
   where
-    by_term : (b : Bool) → visible_log (taking b 0 node) ≡ cond b node.log (visible_log node)
+    by_term : (b : Bool) → visible_log (taking b term node) ≡ cond b node.log (visible_log node)
     by_term true =
         ap (λ (slots : List OpTime). entries_before (least slots) node.log) (none_listed (sets.items (sets.empty {R = optime_cmp})) (items_again (sets.empty {R = optime_cmp})))
     by_term false = refl
 
-pub refused_many : (node : Node) (term : ℕ) (after : OpTime) (shown : List Entry) (raised : Bool) → raised ≡ nat_lt node.term term → shown ≡ log_behind after (visible_log (taking raised 0 node))
+pub refused_many : (node : Node) (term : ℕ) (after : OpTime) (shown : List Entry) → shown ≡ log_behind after (visible_log (in_term term node))
     → 20000 < length shown → Some TooManyOptimes ≡ common_refusal node term after
-refused_many node term after shown raised raised_is is many =
+refused_many node term after shown is many =
     let test : nat_lt 20000 (length shown) ≡ true = grind (arith, nat_tests) in
-    sym (ap (λ b. cond b (Some TooManyOptimes) None) test)
-    ∙ refused_by node term after shown (is ∙ ap (λ b. log_behind after (visible_log (taking b 0 node))) raised_is)
+    sym (ap (λ b. cond b (Some TooManyOptimes) None) test) ∙ refused_by node term after shown is
 
-pub refused_few : (node : Node) (term : ℕ) (after : OpTime) (shown : List Entry) (raised : Bool) → raised ≡ nat_lt node.term term → shown ≡ log_behind after (visible_log (taking raised 0 node))
+pub refused_few : (node : Node) (term : ℕ) (after : OpTime) (shown : List Entry) → shown ≡ log_behind after (visible_log (in_term term node))
     → length shown ≤ 20000 → None ≡ common_refusal node term after
-refused_few node term after shown raised raised_is is few =
+refused_few node term after shown is few =
     let test : nat_lt 20000 (length shown) ≡ false = grind (arith, nat_tests) in
-    sym (ap (λ b. cond b (Some TooManyOptimes) None) test)
-    ∙ refused_by node term after shown (is ∙ ap (λ b. log_behind after (visible_log (taking b 0 node))) raised_is)
+    sym (ap (λ b. cond b (Some TooManyOptimes) None) test) ∙ refused_by node term after shown is

@@ -21,7 +21,7 @@ use Rattle.set_model.specs.Safety.{AtMost}
 use Rattle.set_model.specs.Writers.{settled, aborted}
 use Rattle.set_model.specs.declared.writer.Writer.TheVariants.{Open, Done}
 use Rattle.set_model.proofs.SeenLemmas.{next_past}
-use Rattle.node_tables.specs.Unjournaled.{with_optime}
+use Rattle.oplog_store.specs.Unjournaled.{with_optime}
 use Rattle.node_state.specs.Coherent.{IsCoherent}
 use Rattle.node_ledger.specs.Kept.{AreApart, IsPending, FitsBeside}
 use Rattle.node_state.specs.Seen.{BesideLedger, seen_node}

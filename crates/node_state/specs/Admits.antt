@@ -17,7 +17,7 @@ use Rattle.set_model.specs.Holds.{holder}
 use Rattle.set_model.specs.Node.{Node}
 use Rattle.set_model.specs.Points.{next_optime}
 use Rattle.node_ledger.specs.Versions.{IsSmall}
-use Rattle.node_state.specs.declared.admission.Admission.{Admission}
+use Rattle.node_state.specs.declared.admitted.Admission.{Admission}
 
 -- the refusal for the reason that a write is refused for; out of memory is none
 abbrev pub IsRefusal : WriteRefusal → Refusal → Type 0

@@ -1,5 +1,5 @@
 -- How large the numbers are that a node is handed, and which commands are its own.
-use Rattle.std.specs.Prelude.{◌<◌, ◌-◌, ◌^◌, ℕ, Bool, true, false}
+use Rattle.std.specs.Prelude.{◌<◌, ◌-◌, ◌^◌, ℕ, Bool, true, false, ◌||◌}
 use Rattle.set_model.specs.declared.command.Command.{Command}
 use Rattle.set_model.specs.declared.command.Command.TheVariants.{Insert, Replace, Update, Delete, Begin, Commit, Abort, Read, Dump, Log, State, Rolled, Deliver, DeliverLatest, Flush, Checkpoint, Crash, Restart, DiskFail, Clock}
 use Rattle.set_model.specs.Node.{Node}
@@ -50,3 +50,7 @@ is_show (State node) = true
 is_show (Rolled node) = true
 is_show (Clock node seconds) = true
 is_show _ = false
+
+-- a command that stores nothing and sends nothing
+abbrev pub is_plain : Command → Bool
+is_plain command = is_write command || is_show command

@@ -14,20 +14,21 @@ use Rattle.set_model.specs.Roles.{is_primary, is_secondary}
 use Rattle.node_state.specs.declared.turn.Answer.{Answer}
 use Rattle.node_state.specs.declared.turn.MessageContinuation.{MessageContinuation}
 use Rattle.node_state.specs.declared.turn.MessageContinuation.TheVariants.{Heard}
+use Rattle.node_state.specs.declared.turn.NewConfig.{NewConfig}
 
 -- a node installs the newer configuration of a heartbeat, once it has given way to a primary
 abbrev pub installs : Node → Beat → Bool
 installs node beat = is_secondary (given_way node beat).role && is_newer beat.config node.config
 
 -- a newer configuration, where the node installs it
-abbrev pub newer : Bool → Config → Option Config
-newer true config = Some config
+abbrev pub newer : Bool → Config → Option NewConfig
+newer true config = Some (record { kept = config; installed = config })
 newer false config = None
 
 -- what is told of a heartbeat
 abbrev pub told_of : ℕ → Beat → Bool → Option Answer → MessageContinuation
 told_of from beat installs answer =
-    Heard (newer installs beat.config) (newer installs beat.config)
+    Heard (newer installs beat.config)
     (record {
       from = from;
       visible = beat.visible;

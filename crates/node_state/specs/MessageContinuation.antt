@@ -4,7 +4,6 @@ use Rattle.bson_doc.specs.Place.{Place}
 use Rattle.bson_doc.specs.Tree.{Fields}
 use Rattle.rs_optime.specs.declared.optime.OpTime.{OpTime}
 use Rattle.oplog_entry.specs.Visible.{log_up_to}
-use Rattle.member_config.specs.declared.config.Config.{Config}
 use Rattle.repl_msg.specs.declared.message.Beat.{Beat}
 use Rattle.set_model.specs.declared.reply.Reply.TheVariants as reply
 use Rattle.set_model.specs.Node.{Node}
@@ -19,6 +18,7 @@ use Rattle.node_state.specs.declared.turn.Answer.{Answer}
 use Rattle.node_state.specs.declared.turn.HeardBeat.{HeardBeat}
 use Rattle.node_state.specs.declared.turn.MessageContinuation.{MessageContinuation}
 use Rattle.node_state.specs.declared.turn.MessageContinuation.TheVariants.{Answered, Fetched, Heard, RolledBack, Ignored}
+use Rattle.node_state.specs.declared.turn.NewConfig.{NewConfig}
 
 -- what was heard, as a heartbeat of this configuration
 abbrev pub beat_in : HeardBeat → Node → Beat
@@ -41,10 +41,11 @@ heard_outcome hearing node =
     answered hearing.answer
     (commit_heard (heard_of node hearing.from hearing.visible hearing.primary) (beat_in hearing node))
 
-abbrev pub heard_with : HeardBeat → Option Config → Node → Plan
+abbrev pub heard_with : HeardBeat → Option NewConfig → Node → Plan
 heard_with hearing None node = finished (heard_outcome hearing node)
-heard_with hearing (Some config) node =
-    then_stored node (config_record config) (λ n. finished (heard_outcome hearing (installed n config)))
+heard_with hearing (Some newer) node =
+    then_stored node (config_record newer.installed)
+    (λ n. finished (heard_outcome hearing (installed n newer.installed)))
 
 -- the log is cut behind a point, and these documents are lost
 abbrev pub cut_outcome : OpTime → ℕ → List (Place × Option Fields) → Node → Outcome
@@ -62,8 +63,8 @@ abbrev pub message_plan : MessageContinuation → Node → Plan
 message_plan (Answered next sent) node =
     finished (record { reply = reply.Replied next; node = node; sent = sent.items })
 message_plan (Fetched from fetched) node = finished (entries_told node from fetched)
-message_plan (Heard config kept hearing) node =
-    heard_with hearing config (given_way node (beat_in hearing node))
+message_plan (Heard newer hearing) node =
+    heard_with hearing newer (given_way node (beat_in hearing node))
 message_plan (RolledBack point removed lost) node =
     then_stored node (cut_record point) (λ n. finished (cut_outcome point removed lost n))
 message_plan (Ignored why) node = finished (ignored why node)

@@ -37,6 +37,7 @@ use Rattle.node_state.specs.declared.turn.Continuation.{Continuation}
 use Rattle.node_state.specs.declared.turn.Continuation.TheVariants.{Campaign, Drain, Flush, Checkpoint, Reconfig, VoteInTerm, VoteGiven, TookTerm, Installed, Cut}
 use Rattle.node_state.specs.declared.turn.MessageContinuation.{MessageContinuation}
 use Rattle.node_state.specs.declared.turn.MessageContinuation.TheVariants.{Answered, Fetched, Heard, RolledBack, Ignored}
+use Rattle.node_state.specs.declared.turn.NewConfig.{NewConfig}
 use Rattle.node_state.specs.declared.turn.Turn.{Turn}
 use Rattle.node_state.specs.declared.turn.Turn.TheVariants.{Finished, Storing}
 
@@ -111,15 +112,16 @@ pub record IsFetched (from : ℕ) (fetched : FetchReply) (standing : StateView) 
   pub room : length fetched.entries ≤ standing.spare
 
 -- a configuration that is kept and installed alike
-abbrev pub IsHeard : Option Config → Option Config → HeardBeat → Node → Type 0
-IsHeard config kept hearing node =
-    (kept ≡ config) × (hearing.from < 50)
-    × IfSome config (λ c. (rule c ≡ None) × ((given_way node (beat_in hearing node)).role ≡ Secondary))
+abbrev pub IsHeard : Option NewConfig → HeardBeat → Node → Type 0
+IsHeard newer hearing node =
+    (hearing.from < 50)
+    × IfSome newer (λ new. (new.kept ≡ new.installed) × (rule new.installed ≡ None)
+    × ((given_way node (beat_in hearing node)).role ≡ Secondary))
 
 abbrev pub IsReadyMessage : MessageContinuation → StateView → Type 0
 IsReadyMessage (Answered next sent) standing = ⊤
 IsReadyMessage (Fetched from fetched) standing = IsFetched from fetched standing
-IsReadyMessage (Heard config kept hearing) standing = IsHeard config kept hearing standing.node
+IsReadyMessage (Heard newer hearing) standing = IsHeard newer hearing standing.node
 IsReadyMessage (RolledBack point removed lost) standing = IsCut point standing.node
 IsReadyMessage (Ignored why) standing = ⊤
 

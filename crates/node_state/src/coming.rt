@@ -15,14 +15,15 @@ use crate::turn::Continuation;
 use bson_doc::{Doc, IdKey, Mem, Text};
 use commit_point::Progress;
 use member_config::Config;
-use node_ledger::Ledger;
-use node_tables::{KnownTable, Records, Unjournaled};
+use node_ledger::{Ledger, Records};
+use oplog_store::Unjournaled;
 use repl_msg::Kept;
 use rs_optime::OpTime;
 use set_model::{EntryList, LostList, Store};
 use std::alloc::Global;
 use std::collections::BTreeMap;
 use std::thread::Threads;
+use sync_source::KnownTable;
 
 /// Who a node is, and what it keeps in memory while it is down.
 #[derive(Drop)]

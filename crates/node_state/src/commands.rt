@@ -4,19 +4,24 @@ ghost use Rattle.set_model.specs.Clock.{set_clock};
 ghost use Rattle.set_model.specs.Limits.{is_within};
 ghost use Rattle.set_model.specs.Outcome.{replied};
 ghost use Rattle.set_model.specs.Stores.{finished};
-ghost use Rattle.node_state.specs.Bounds.{IsBounded, is_write, is_show};
+ghost use Rattle.node_state.specs.Bounds.{IsBounded, is_plain, is_write, is_show};
 ghost use Rattle.node_state.specs.Plain.{plain_row};
-ghost use Rattle.node_state.specs.Ready.{IsReadyTurn};
-ghost use Rattle.node_state.specs.Turns.{Means};
 
 use crate::State;
-use crate::turn::Turn;
 use bson_doc::Mem;
 use doc_update::BorrowedWrite;
 use set_model::{Command, Reply};
 
-/// Whether a command is a write, or a step of a writer: these store and send nothing.
-pub fn is_write(command: &Command) -> bool
+/// Whether a command stores nothing and sends nothing: a write, a step of a writer, or what a node shows of
+/// itself.
+pub fn is_plain(command: &Command) -> bool
+    ensures { result ≡ is_plain command.now }
+{
+    is_write(command) || is_show(command)
+}
+
+/// Whether a command is a write, or a step of a writer.
+fn is_write(command: &Command) -> bool
     ensures { result ≡ is_write command.now }
 {
     matches!(
@@ -31,22 +36,41 @@ pub fn is_write(command: &Command) -> bool
     )
 }
 
+/// Whether a command asks for what a node shows of itself, or sets its clock.
+fn is_show(command: &Command) -> bool
+    ensures { result ≡ is_show command.now }
+{
+    matches!(
+        command,
+        Command::Read { .. }
+            | Command::Dump { .. }
+            | Command::Log { .. }
+            | Command::State { .. }
+            | Command::Rolled { .. }
+            | Command::Clock { .. }
+    )
+}
+
 impl State {
-    /// What the node shows of itself, and its clock.
-    pub(crate) fn show(&mut self, command: &Command) -> Mem<Turn>
-        requires show { is_show command.now ≡ true }
-        ensures turn { IfOk result (λ turn. Means turn self.new.node (plain_row self.old.node command.now)) }
-        ensures ready { IfOk result (λ turn. IsReadyTurn turn self.new) }
+    /// Does what a command asks that stores nothing and sends nothing. Out of memory is the one error, and
+    /// leaves the node as it was.
+    pub fn answer(&mut self, command: &Command) -> Mem<Reply>
+        requires bounds { IsBounded self.old.node }
+        requires plain { is_plain command.now ≡ true }
+        requires within { is_within command.now ≡ true }
+        ensures ok { IfOk result (λ reply.
+            plain_row self.old.node command.now ≡ finished (replied reply self.new.node)) }
         ensures err { OnErr result (self.new.node ≡ self.old.node) }
     {
-        let reply = self.shown_by(command)?;
-        Ok(self.answered(reply))
+        if is_write(command) {
+            return self.write(command);
+        }
+        self.show(command)
     }
 
-    /// Does a write, or a step of a writer, and answers it. Out of memory is the one error, and leaves the
-    /// node as it was.
+    /// Does a write, or a step of a writer.
     #[tactic(auto, using(crate::proofs::TurnLemmas::while_up))]
-    pub fn write(&mut self, command: &Command) -> Mem<Reply>
+    fn write(&mut self, command: &Command) -> Mem<Reply>
         requires bounds { IsBounded self.old.node }
         requires write { is_write command.now ≡ true }
         requires within { is_within command.now ≡ true }
@@ -85,8 +109,9 @@ impl State {
         }
     }
 
+    /// Shows something of the node, or sets its clock.
     #[tactic(auto, using(crate::proofs::TurnLemmas::while_up))]
-    fn shown_by(&mut self, command: &Command) -> Mem<Reply>
+    fn show(&mut self, command: &Command) -> Mem<Reply>
         requires show { is_show command.now ≡ true }
         ensures ok { IfOk result (λ reply.
             plain_row self.old.node command.now ≡ finished (replied reply self.new.node)) }

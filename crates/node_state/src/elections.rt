@@ -8,12 +8,11 @@ ghost use Rattle.node_state.specs.Turns.{Means, rest_of};
 ghost use Rattle.node_state.specs.declared.turn.Continuation.TheVariants as continuations;
 
 use crate::State;
-use crate::terms::vote_record;
+use crate::changes::vote_record;
 use crate::turn::{Continuation, Turn};
 use bson_doc::Mem;
-use election_core::Tally;
+use election_core::{DryRun, Tally};
 use member_config::Config;
-use node_tables::DryRun;
 use repl_msg::{Message, Record};
 use set_model::{Refusal, Reply, Role, Store};
 use std::thread::Threads;

@@ -1,7 +1,7 @@
 // Entries that were fetched, as they arrive.
 ghost use Rattle.std.specs.Prelude.{◌≡◌, ◌<◌, ◌≤◌, ◌-◌, nat_lt, fold, length, map, true, IfOk, OnOk, OnErr};
 ghost use Rattle.repl_msg.specs.Fetching.{continues};
-ghost use Rattle.node_tables.specs.Unjournaled.{with_optime};
+ghost use Rattle.oplog_store.specs.Unjournaled.{with_optime};
 ghost use Rattle.set_model.specs.Changes.{heard_of};
 ghost use Rattle.set_model.specs.Fetching as rows;
 ghost use Rattle.set_model.specs.Outcome.{replied};
@@ -18,9 +18,10 @@ use crate::State;
 use crate::turn::{MessageContinuation, Turn};
 use bson_doc::Mem;
 use commit_point::learn;
-use node_tables::Unjournaled;
 use oplog_entry::Entry;
-use repl_msg::FetchReply;
+use oplog_fetcher::accept;
+use oplog_store::Unjournaled;
+use repl_msg::{FetchReply, Message};
 use rs_optime::OpTime;
 use set_model::{Ignored, Reply, Role};
 
@@ -42,22 +43,25 @@ impl State {
     /// anything else changes.
     pub(crate) fn prepare_entries(
         &mut self,
-        from: u32,
-        term: u64,
+        message: &Message,
         reply: &FetchReply,
-        raised: bool,
     ) -> Mem<MessageContinuation>
-        requires from { from < 50 }
-        requires fetched { CanTakeEntries self.old.node term reply.now }
-        requires raised { raised ≡ nat_lt self.old.node.term term }
-        ensures told { IfOk result (λ told. IsPreparedFor told raised term
-            (λ node. finished (rows.entries_told node from reply.now)) self.old.node self.new.node) }
-        ensures ready { IfOk result (λ told. IsReadyMessage told (view_in_term raised term self.new)) }
+        requires from { message.now.from < 50 }
+        requires fetched { CanTakeEntries self.old.node message.now.term reply.now }
+        ensures told { IfOk result (λ told.
+            IsPreparedFor told (nat_lt self.old.node.term message.now.term) message.now.term
+            (λ node. finished (rows.entries_told node message.now.from reply.now))
+            self.old.node self.new.node) }
+        ensures ready { IfOk result (λ told. IsReadyMessage told
+            (view_in_term (nat_lt self.old.node.term message.now.term) message.now.term self.new)) }
         ensures err { OnErr result (self.new.node ≡ self.old.node) }
     {
         let reply = reply.copy()?;
         self.make_room(reply.entries.as_slice().len())?;
-        Ok(MessageContinuation::Fetched { from, reply })
+        Ok(MessageContinuation::Fetched {
+            from: message.from,
+            reply,
+        })
     }
 
     fn make_room(&mut self, count: usize) -> Mem<()>
@@ -78,9 +82,9 @@ impl State {
         if self.ledger.role() != Role::Secondary {
             return self.answered(Reply::Ignored(Ignored::NotSecondary));
         }
-        if !reply.holds || reply.base != self.ledger.last() {
+        let Ok(_) = accept(self.ledger.last(), &reply) else {
             return self.answered(Reply::Ignored(Ignored::OtherPlace));
-        }
+        };
         self.follow(from, reply)
     }
 

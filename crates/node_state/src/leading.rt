@@ -10,7 +10,7 @@ ghost use Rattle.set_model.specs.Stores.{stored, config_record};
 ghost use Rattle.set_model.specs.declared.role.Role.TheVariants.{Draining, Primary};
 
 use crate::State;
-use crate::changing::in_term;
+use crate::reconfig::in_term;
 use bson_doc::Mem;
 use commit_point::Progress;
 use member_config::Config;

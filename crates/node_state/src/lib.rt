@@ -3,35 +3,38 @@
 //!
 //! What it does with a command or a message is a turn: it is finished, or it stores something and goes on
 //! once that is on disk.
+//!
+//! A file that does what one of set_model's definitions say has that one's name: `beats`, `deliver`, `disk`,
+//! `rollback`.
 #![tactic(auto)]
 
-mod admission;
+mod admitted;
 mod asking;
-mod changing;
+mod beats;
+mod changes;
 mod coming;
 mod commands;
 mod concerns;
+mod deliver;
+mod disk;
 mod elections;
 mod fetching;
-mod hearing;
-mod keeping;
 mod leading;
 mod listing;
 mod preparing;
-mod reading;
+mod reads;
+mod reconfig;
 mod reports;
-mod rolling;
+mod rollback;
 mod sending;
 mod state;
-mod taking;
 mod tallies;
-mod terms;
 mod turn;
 mod votes;
+mod write;
 mod writers;
-mod writes;
 
 pub use coming::Coming;
-pub use commands::is_write;
+pub use commands::is_plain;
 pub use state::State;
-pub use turn::{Answer, Continuation, HeardBeat, MessageContinuation, Turn};
+pub use turn::{Answer, Continuation, HeardBeat, MessageContinuation, NewConfig, Turn};

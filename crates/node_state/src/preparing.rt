@@ -2,10 +2,9 @@
 ghost use Rattle.std.specs.Prelude.{◌≡◌, ◌<◌, nat_lt, true, IfOk, OnErr};
 ghost use Rattle.set_model.specs.Deliver as delivered;
 ghost use Rattle.set_model.specs.Fetching.{fetch_told};
-ghost use Rattle.set_model.specs.Points.{visible_point};
-ghost use Rattle.set_model.specs.Roles.{is_primary};
+ghost use Rattle.set_model.specs.Roles.{is_primary, is_secondary};
 ghost use Rattle.set_model.specs.Stores.{finished};
-ghost use Rattle.node_state.specs.Ahead.{IsPreparedFor, view_in_term, is_prepared, taking};
+ghost use Rattle.node_state.specs.Ahead.{IsInTerm, IsPreparedFor, view_in_term, is_prepared};
 ghost use Rattle.node_state.specs.Bounds.{IsBounded};
 ghost use Rattle.node_state.specs.Ready.{IsReadyMessage};
 ghost use Rattle.set_model.specs.Taking.{CanTake};
@@ -17,6 +16,16 @@ use repl_msg::{Body, Message};
 use rs_optime::OpTime;
 use set_model::{Ignored, Role};
 use std::thread::Threads;
+
+/// What a node is once it has the term of a message. A higher term makes it a secondary, which has no slots,
+/// so all of its log is visible.
+#[derive(Clone, Copy)]
+pub(crate) struct InTerm {
+    pub(crate) term: u64,
+    pub(crate) role: Role,
+    /// How far its log is visible.
+    pub(crate) visible: OpTime,
+}
 
 impl State {
     /// Prepares to take a message of a higher term. The node is a secondary in that term, which ignores a
@@ -63,21 +72,18 @@ impl State {
             (view_in_term (nat_lt self.old.node.term message.now.term) message.now.term self.new)) }
         ensures err { OnErr result (self.new.node ≡ self.old.node) }
     {
-        let (from, term) = (message.from, message.term);
-        let raised = self.ledger.is_below(term);
+        let own = self.in_term(message.term);
         match &message.body {
-            Body::Fetch { base } => self.prepare_fetch(next, from, term, *base, raised),
-            Body::FetchReply(reply) => self.prepare_entries(from, term, reply, raised),
-            Body::Heartbeat(beat) => self.prepare_beat(next, from, term, beat, raised),
-            Body::HeartbeatReply(beat) => self.prepare_answer(from, term, beat, raised),
-            Body::CommonAsk { commit } => {
-                self.prepare_common_asked(next, from, term, *commit, raised)
-            }
+            Body::Fetch { base } => self.prepare_fetch(next, message, *base, own),
+            Body::FetchReply(reply) => self.prepare_entries(message, reply),
+            Body::Heartbeat(beat) => self.prepare_beat(next, message, beat, own),
+            Body::HeartbeatReply(beat) => self.prepare_answer(message, beat, own),
+            Body::CommonAsk { commit } => self.prepare_common_asked(next, message, *commit, own),
             Body::CommonReply {
                 after,
                 optimes,
                 visible,
-            } => self.prepare_common_told(rt, term, *after, optimes, *visible, raised),
+            } => self.prepare_common_told(rt, message, *after, optimes, *visible, own),
             _ => unreachable!(),
         }
     }
@@ -86,58 +92,65 @@ impl State {
     fn prepare_fetch(
         &mut self,
         next: u64,
-        from: u32,
-        term: u64,
+        message: &Message,
         base: OpTime,
-        raised: bool,
+        own: InTerm,
     ) -> Mem<MessageContinuation>
-        ensures told { IfOk result (λ told. IsPreparedFor told raised term
-            (λ node. finished (fetch_told next node from base)) self.old.node self.new.node) }
-        ensures ready { IfOk result (λ told. IsReadyMessage told (view_in_term raised term self.new)) }
+        requires own { IsInTerm own message.now.term self.old.node }
+        ensures told { IfOk result (λ told.
+            IsPreparedFor told (nat_lt self.old.node.term message.now.term) message.now.term
+            (λ node. finished (fetch_told next node message.now.from base)) self.old.node self.new.node) }
+        ensures ready { IfOk result (λ told. IsReadyMessage told
+            (view_in_term (nat_lt self.old.node.term message.now.term) message.now.term self.new)) }
         ensures same { self.new ≡ self.old }
     {
         self.ledger.recall_sound();
-        let visible = self.visible_after_term(raised);
-        let primary = self.leads_after_term(raised);
-        let reply = self.ledger.fetched(visible, base, self.commit, primary)?;
-        let sent = self.message_in(self.term_after(raised, term), from, Body::FetchReply(reply))?;
+        let primary = own.leads();
+        let reply = self
+            .ledger
+            .fetched(own.visible, base, self.commit, primary)?;
+        let sent = self.message_in(own.term, message.from, Body::FetchReply(reply))?;
         Ok(MessageContinuation::Answered { next, sent })
     }
 }
 
-// What the node is once it has taken a message's term.
 impl State {
-    pub(crate) fn term_after(&self, raised: bool, term: u64) -> u64
-        ensures { result ≡ (taking raised term self.now.node).term }
+    /// What the node is once it has the term of a message.
+    pub(crate) fn in_term(&self, term: u64) -> InTerm
+        ensures { IsInTerm result term self.now.node }
     {
-        if raised { term } else { self.ledger.term() }
-    }
-
-    /// How far the log is visible once the node has the message's term: all of it where that is higher, since
-    /// a node that steps down has no slots.
-    pub(crate) fn visible_after_term(&self, raised: bool) -> OpTime
-        ensures { result ≡ visible_point (taking raised 0 self.now.node) }
-    {
-        if raised {
-            self.ledger.last()
-        } else {
-            self.ledger.visible()
+        if self.ledger.is_below(term) {
+            return InTerm {
+                term,
+                role: Role::Secondary,
+                visible: self.ledger.last(),
+            };
+        }
+        InTerm {
+            term: self.ledger.term(),
+            role: self.ledger.role(),
+            visible: self.ledger.visible(),
         }
     }
+}
 
-    pub(crate) fn role_after_term(&self, raised: bool) -> Role
-        ensures { result ≡ (taking raised 0 self.now.node).role }
+impl InTerm {
+    pub(crate) fn leads(self) -> bool
+        ensures { result ≡ is_primary self.role }
     {
-        if raised {
-            Role::Secondary
-        } else {
-            self.ledger.role()
-        }
+        self.role == Role::Primary
     }
 
-    pub(crate) fn leads_after_term(&self, raised: bool) -> bool
-        ensures { result ≡ is_primary (taking raised 0 self.now.node).role }
+    pub(crate) fn follows(self) -> bool
+        ensures { result ≡ is_secondary self.role }
     {
-        self.role_after_term(raised) == Role::Primary
+        self.role == Role::Secondary
+    }
+
+    /// Whether a message of this term is old.
+    pub(crate) fn is_after(self, term: u64) -> bool
+        ensures { result ≡ nat_lt term self.term }
+    {
+        term < self.term
     }
 }

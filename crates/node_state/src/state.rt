@@ -15,7 +15,7 @@ ghost use Rattle.set_model.specs.Reads.{local_documents};
 ghost use Rattle.set_model.specs.Rows.{row};
 ghost use Rattle.set_model.specs.Stores.{stored};
 ghost use Rattle.node_ledger.specs.Ledger.{IsReadable};
-ghost use Rattle.node_state.specs.Bounds.{IsBounded, IsNumbered, is_long, is_own, is_write};
+ghost use Rattle.node_state.specs.Bounds.{IsBounded, IsNumbered, is_long, is_own, is_plain};
 ghost use Rattle.node_state.specs.Ready.{IsReady, IsReadyTurn};
 ghost use Rattle.set_model.specs.Taking.{CanTake};
 ghost use Rattle.node_state.specs.Turns.{Means, FinishesWith, rest_of};
@@ -23,16 +23,17 @@ ghost use Rattle.node_state.specs.Turns.{Means, FinishesWith, rest_of};
 use crate::turn::{Continuation, Turn};
 use bson_doc::Mem;
 use commit_point::Progress;
-use election_core::Tally;
+use election_core::{DryRun, Tally};
 use member_config::Config;
-use node_ledger::Ledger;
-use node_tables::{DryRun, KnownTable, Records, Unjournaled};
+use node_ledger::{Ledger, Records};
+use oplog_store::Unjournaled;
 use repl_msg::Message;
 use rs_optime::OpTime;
 use set_model::{Command, LostList, Refusal, Reply, Store};
 use std::alloc::Global;
 use std::marker::Model;
 use std::thread::Threads;
+use sync_source::KnownTable;
 use version_store::VersionStore;
 
 /// A node that is up, as far as it is in memory. What it is to store on its disks it tells by its turns.
@@ -171,9 +172,9 @@ impl State {
     }
 
     /// Begins what a command asks of a node. `nodes` is how many nodes the set has, and `next` the number
-    /// that the next message gets. For a write there is `write`. Out of memory is the one error, and leaves
-    /// the node as it was. A command that may run out of memory as it stores (`is_long`) has changed
-    /// nothing by then.
+    /// that the next message gets. For a command that stores and sends nothing there is `answer`. Out of
+    /// memory is the one error, and leaves the node as it was. A command that may run out of memory as it
+    /// stores (`is_long`) has changed nothing by then.
     #[tactic(auto, using(crate::proofs::TurnLemmas::while_up))]
     pub fn start<R: Threads + Sync>(
         &mut self,
@@ -185,7 +186,7 @@ impl State {
         requires bounds { IsBounded self.old.node }
         requires next { IsNumbered next }
         requires own { is_own command.now ≡ true }
-        requires turn { is_write command.now ≡ false }
+        requires turn { is_plain command.now ≡ false }
         requires within { is_within command.now ≡ true }
         ensures turn { IfOk result (λ turn.
             Means turn self.new.node (row nodes next false self.old.node command.now)) }
@@ -217,8 +218,8 @@ impl State {
             | Command::Log { .. }
             | Command::State { .. }
             | Command::Rolled { .. }
-            | Command::Clock { .. } => self.show(command),
-            Command::Begin { .. }
+            | Command::Clock { .. }
+            | Command::Begin { .. }
             | Command::Commit { .. }
             | Command::Abort { .. }
             | Command::Insert { .. }

@@ -91,11 +91,9 @@ pub enum MessageContinuation {
         from: u32,
         reply: FetchReply,
     },
-    /// A heartbeat is heard. `config` is its configuration, where the node installs it, and `kept` a copy
-    /// for the journal.
+    /// A heartbeat is heard, with its configuration where the node installs that.
     Heard {
-        config: Option<Config>,
-        kept: Option<Config>,
+        newer: Option<NewConfig>,
         hearing: HeardBeat,
     },
     /// The node rolls back to the point.
@@ -106,6 +104,13 @@ pub enum MessageContinuation {
     },
     /// The message isn't taken.
     Ignored(Ignored),
+}
+
+/// A newer configuration, once for the journal and once for the node.
+#[derive(Drop)]
+pub struct NewConfig {
+    pub kept: Config,
+    pub installed: Config,
 }
 
 /// What a heartbeat tells of its sender, and the answer to it, where one is sent.

@@ -11,7 +11,7 @@ ghost use Rattle.node_state.specs.Turns.{Means, rest_of};
 ghost use Rattle.node_state.specs.declared.turn.Continuation.TheVariants as continuations;
 
 use crate::State;
-use crate::terms::vote_record;
+use crate::changes::vote_record;
 use crate::turn::{Continuation, Turn};
 use bson_doc::Mem;
 use election_core::{VoterView, decide};

@@ -10,7 +10,7 @@ ghost use Rattle.node_state.specs.Admits.{CanBeLogged};
 ghost use Rattle.node_ledger.specs.Writers.{IsWriting, is_open};
 
 use crate::State;
-use crate::admission::Admission;
+use crate::admitted::Admission;
 use bson_doc::Mem;
 use doc_update::{BorrowedWrite, Prepared};
 use set_model::{Refusal, Reply, Role, Writer};

@@ -1,3 +1,4 @@
+pub mod Code
 pub mod Configs
 pub mod Fetching
 pub mod Kept

@@ -1,6 +1,6 @@
 use Rattle.std.proofs.Common.{◌≡◌, ◌-◌, fold, map, take}
 use Rattle.oplog_entry.specs.declared.entry.Entry.{Entry}
-use Rattle.node_tables.specs.Unjournaled.{with_optime}
+use Rattle.oplog_store.specs.Unjournaled.{with_optime}
 use Rattle.node_state.proofs.fetching.note_all.Given as goal
 
 abbrev pub invariant-loop-entry : goal.invariant-loop-entry

@@ -8,7 +8,7 @@ use Rattle.set_model.specs.Node.{Node}
 use Rattle.set_model.specs.Reads.{local_documents}
 use Rattle.node_ledger.specs.Ledger.{IsReadable}
 use Rattle.node_core.specs.Down.{down_state}
-use Rattle.node_core.proofs.WriteLemmas.{seen_up}
+use Rattle.node_core.proofs.PlainLemmas.{seen_up}
 use Rattle.node_core.proofs.node.Node.store.Goals as goal
 
 pub returns-clause-latest : goal.returns-clause-latest

@@ -3,7 +3,7 @@ use Rattle.rs_optime.proofs.Optimes.{at_most_refl}
 use Rattle.oplog_entry.specs.declared.entry.Entry.{Entry}
 use Rattle.repl_msg.specs.Fetching.{continues}
 use Rattle.set_model.specs.Points.{last_point}
-use Rattle.node_tables.specs.Unjournaled.{Optimes, with_optime}
+use Rattle.oplog_store.specs.Unjournaled.{Optimes, with_optime}
 use Rattle.node_state.specs.StateView.{StateView}
 use Rattle.node_state.specs.Seen.{seen_node}
 use Rattle.set_model.specs.Taking.{CanTakeEntries}

@@ -1,5 +1,5 @@
 use Rattle.std.proofs.Common.{◌≡◌, ◌∙◌, ap, sym, subst}
-use Rattle.node_tables.specs.Unjournaled.{Optimes, with_optime}
+use Rattle.oplog_store.specs.Unjournaled.{Optimes, with_optime}
 use Rattle.node_state.specs.Coherent.{IsCoherent}
 use Rattle.node_state.specs.Seen.{seen_node}
 use Rattle.node_state.proofs.Inside.{rest_in}

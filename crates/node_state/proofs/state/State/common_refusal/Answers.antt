@@ -8,19 +8,17 @@ use Rattle.node_state.proofs.state.State.common_refusal.Goals as goal
 pub returns-then-count_between-gt-MOST_OPTIMES-clause-refusal : goal.returns-then-count_between-gt-MOST_OPTIMES-clause-refusal
 returns-then-count_between-gt-MOST_OPTIMES-clause-refusal c =
     let node = c.args.self.now.node in
-    let count : c.count_between.result ≡ length (log_behind c.args.after (log_up_to c.visible_after_term-visible.result node.log)) =
-    c.count_between.ensures.count ∙ ap (λ (s : StateView). length (log_behind c.args.after (log_up_to c.visible_after_term-visible.result s.node.log))) c.self.view_is in
-    refused_many node c.args.term c.args.after (log_behind c.args.after (log_up_to c.visible_after_term-visible.result node.log)) c.is_below.result
-    (c.is_below.ensures ∙ ap (λ (s : StateView). nat_lt s.node.term c.args.term) c.self.view_is)
-    (told_behind c.is_below.result node c.visible_after_term-visible.result c.args.after c.recall_sound.ensures.sound.oplog c.visible_after_term-visible.ensures)
+    let count : c.count_between.result ≡ length (log_behind c.args.after (log_up_to c.in_term-own.result.visible node.log)) =
+    c.count_between.ensures.count ∙ ap (λ (s : StateView). length (log_behind c.args.after (log_up_to c.in_term-own.result.visible s.node.log))) c.self.view_is in
+    refused_many node c.args.term c.args.after (log_behind c.args.after (log_up_to c.in_term-own.result.visible node.log))
+    (told_behind (nat_lt node.term c.args.term) c.args.term node c.in_term-own.result.visible c.args.after c.recall_sound.ensures.sound.oplog c.in_term-own.ensures.visible_is)
     (subst (λ (n : ℕ). 20000 < n) count c.if-count_between-gt-MOST_OPTIMES.true)
 
 pub returns-clause-refusal : goal.returns-clause-refusal
 returns-clause-refusal c =
     let node = c.args.self.now.node in
-    let count : c.count_between.result ≡ length (log_behind c.args.after (log_up_to c.visible_after_term-visible.result node.log)) =
-    c.count_between.ensures.count ∙ ap (λ (s : StateView). length (log_behind c.args.after (log_up_to c.visible_after_term-visible.result s.node.log))) c.self.view_is in
-    refused_few node c.args.term c.args.after (log_behind c.args.after (log_up_to c.visible_after_term-visible.result node.log)) c.is_below.result
-    (c.is_below.ensures ∙ ap (λ (s : StateView). nat_lt s.node.term c.args.term) c.self.view_is)
-    (told_behind c.is_below.result node c.visible_after_term-visible.result c.args.after c.recall_sound.ensures.sound.oplog c.visible_after_term-visible.ensures)
+    let count : c.count_between.result ≡ length (log_behind c.args.after (log_up_to c.in_term-own.result.visible node.log)) =
+    c.count_between.ensures.count ∙ ap (λ (s : StateView). length (log_behind c.args.after (log_up_to c.in_term-own.result.visible s.node.log))) c.self.view_is in
+    refused_few node c.args.term c.args.after (log_behind c.args.after (log_up_to c.in_term-own.result.visible node.log))
+    (told_behind (nat_lt node.term c.args.term) c.args.term node c.in_term-own.result.visible c.args.after c.recall_sound.ensures.sound.oplog c.in_term-own.ensures.visible_is)
     (subst (λ (n : ℕ). n ≤ 20000) count c.if-count_between-gt-MOST_OPTIMES.false)

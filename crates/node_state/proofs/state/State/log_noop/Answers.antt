@@ -1,7 +1,7 @@
 use Rattle.std.proofs.Common.{◌≡◌, ◌∙◌, ap, sym, subst, List}
 use Rattle.rs_optime.specs.declared.optime.OpTime.{OpTime}
 use Rattle.oplog_entry.specs.declared.entry.Op.TheVariants.{Noop}
-use Rattle.node_tables.specs.Unjournaled.{Optimes, with_optime}
+use Rattle.oplog_store.specs.Unjournaled.{Optimes, with_optime}
 use Rattle.set_model.specs.Points.{next_optime}
 use Rattle.node_state.specs.Coherent.{IsCoherent}
 use Rattle.node_ledger.specs.Ledger.{Ledger}

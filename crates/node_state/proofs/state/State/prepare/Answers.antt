@@ -1,24 +1,17 @@
-use Rattle.std.proofs.Common.{◌∙◌, ap, sym, subst, Bool, nat_lt, IfOk}
+use Rattle.std.proofs.Common.{sym, subst, nat_lt, IfOk}
 use Rattle.repl_msg.specs.declared.message.Body.{Body}
-use Rattle.set_model.specs.Beats.{beat_told}
 use Rattle.set_model.specs.Deliver.{told}
 use Rattle.node_state.specs.Ahead.{IsPreparedFor}
-use Rattle.node_state.specs.StateView.{StateView}
 use Rattle.node_state.specs.declared.turn.MessageContinuation.{MessageContinuation}
 use Rattle.node_state.proofs.BodyLemmas.{common_of}
 use Rattle.node_state.proofs.state.State.prepare.Goals as goal
 
 pub prepare_common_told-requires-clause-common : goal.prepare_common_told-requires-clause-common
 prepare_common_told-requires-clause-common g c κs within =
-    common_of c.args.self.now.node c.args.message.now c.is_below-raised.result c.in-CommonReply.after c.in-CommonReply.optimes c.in-CommonReply.visible c.requires.message c.in-CommonReply.is
-    (c.is_below-raised.ensures ∙ ap (λ (s : StateView). nat_lt s.node.term c.args.message.now.term) c.self.view_is)
+    common_of c.args.self.now.node c.args.message.now c.in-CommonReply.after c.in-CommonReply.optimes c.in-CommonReply.visible c.requires.message c.in-CommonReply.is
 
 pub returns-in-Heartbeat-clause-told : goal.returns-in-Heartbeat-clause-told
 returns-in-Heartbeat-clause-told g c =
     subst
     (λ (b : Body). IfOk c.prepare_beat.result (λ (t : MessageContinuation). IsPreparedFor t (nat_lt c.args.self.now.node.term c.args.message.now.term) c.args.message.now.term (told c.args.next c.args.message.now.from c.args.message.now.term b) c.args.self.now.node c.args.self.now.node))
-    (sym c.in-Heartbeat.is)
-    (subst
-    (λ (raised : Bool). IfOk c.prepare_beat.result (λ (t : MessageContinuation). IsPreparedFor t raised c.args.message.now.term (λ node. beat_told c.args.next node c.args.message.now.from c.args.message.now.term c.in-Heartbeat.beat) c.args.self.now.node c.args.self.now.node))
-    (c.is_below-raised.ensures ∙ ap (λ (s : StateView). nat_lt s.node.term c.args.message.now.term) c.self.view_is)
-    c.prepare_beat.ensures.told)
+    (sym c.in-Heartbeat.is) c.prepare_beat.ensures.told

@@ -1,4 +1,4 @@
-use Rattle.std.proofs.Common.{◌≡◌, ◌∙◌, ap, ℕ, List, [], ◌∷◌}
+use Rattle.std.proofs.Common.{◌≡◌, ◌∙◌, ap, nat_lt, ℕ, List, [], ◌∷◌}
 use Rattle.oplog_entry.specs.Visible.{log_up_to}
 use Rattle.oplog_entry.specs.declared.entry.Entry.{Entry}
 use Rattle.repl_msg.specs.Logs.{log_behind}
@@ -7,7 +7,6 @@ use Rattle.set_model.specs.Node.{Node}
 use Rattle.set_model.specs.Outcome.{message_to}
 use Rattle.set_model.specs.Rollback.{common_reply, optimes_of}
 use Rattle.node_ledger.specs.Ledger.{Ledger}
-use Rattle.node_state.specs.Ahead.{taking}
 use Rattle.node_state.specs.Seen.{seen_node}
 use Rattle.node_state.specs.StateView.{StateView}
 use Rattle.node_state.proofs.CommonLemmas.{common_body}
@@ -20,17 +19,20 @@ use Rattle.node_state.proofs.state.State.prepare_common_asked.Goals as goal
 pub returns-clause-told : goal.returns-clause-told
 returns-clause-told c =
     let old = c.args.self.now.node in
+    let term = c.args.message.now.term in
+    let from = c.args.message.now.from in
+    let raised = nat_lt old.term term in
     let same : seen_node c.optimes_between.new.self.node (rest_in c.self.inside) ≡ old =
     ap (λ (l : Ledger). seen_node l.node (rest_in c.self.inside)) c.optimes_between.ensures.same ∙ ap (λ (s : StateView). s.node) c.self.view_is in
-    let body = bodies.CommonReply c.args.after c.in_ok-optimes_between.field-0 c.visible_after_term-visible.result in
-    foretold _ c.args.raised c.args.term _ old (seen_node c.optimes_between.new.self.node (rest_in c.self.inside))
-    (answered_is c.args.raised c.args.term c.args.next c.args.from old c.in_ok-sent.sent.items body (λ n. common_reply n c.args.after)
+    let body = bodies.CommonReply c.args.after c.in_ok-optimes_between.field-0 c.args.own.visible in
+    foretold _ raised term _ old (seen_node c.optimes_between.new.self.node (rest_in c.self.inside))
+    (answered_is raised term c.args.next from old c.in_ok-sent.sent.items body (λ n. common_reply n c.args.after)
     (c.in_ok-sent.ensures
-    ∙ ap (λ (n : Node). message_to (record n { term = c.term_after.result }) c.args.from body ∷ []) same
-    ∙ ap (λ (t : ℕ). message_to (record old { term = t }) c.args.from body ∷ []) (c.term_after.ensures ∙ ap (λ (n : Node). (taking c.args.raised c.args.term n).term) same))
-    (common_body c.args.raised c.args.term old c.args.after c.visible_after_term-visible.result c.in_ok-optimes_between.field-0
+    ∙ ap (λ (n : Node). message_to (record n { term = c.args.own.term }) from body ∷ []) same
+    ∙ ap (λ (t : ℕ). message_to (record old { term = t }) from body ∷ []) c.requires.own.term_is)
+    (common_body raised term old c.args.after c.args.own.visible c.in_ok-optimes_between.field-0
     (c.in_ok-optimes_between.ensures.list
-    ∙ ap (λ (s : StateView). optimes_of (log_behind c.args.after (log_up_to c.visible_after_term-visible.result s.node.log))) c.self.view_is
-    ∙ ap (λ (list : List Entry). optimes_of list) (told_behind c.args.raised old c.visible_after_term-visible.result c.args.after c.recall_sound.ensures.sound.oplog c.visible_after_term-visible.ensures))
-    c.visible_after_term-visible.ensures))
+    ∙ ap (λ (s : StateView). optimes_of (log_behind c.args.after (log_up_to c.args.own.visible s.node.log))) c.self.view_is
+    ∙ ap (λ (list : List Entry). optimes_of list) (told_behind raised term old c.args.own.visible c.args.after c.recall_sound.ensures.sound.oplog c.requires.own.visible_is))
+    c.requires.own.visible_is))
     same

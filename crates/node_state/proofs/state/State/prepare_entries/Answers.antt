@@ -1,4 +1,4 @@
-use Rattle.std.proofs.Common.{◌≤◌, ap, length, subst, List}
+use Rattle.std.proofs.Common.{◌≤◌, ap, length, nat_lt, refl, subst, List}
 use Rattle.oplog_entry.specs.declared.entry.Entry.{Entry}
 use Rattle.repl_msg.specs.declared.message.FetchReply.{FetchReply}
 use Rattle.set_model.specs.Fetching.{entries_told}
@@ -9,11 +9,17 @@ use Rattle.node_state.proofs.state.State.prepare_entries.Goals as goal
 
 pub returns-clause-told : goal.returns-clause-told
 returns-clause-told c =
-    foretold _ c.args.raised c.args.term _ c.args.self.now.node c.make_room.new.self.node
-    (λ items. ap (λ (r : FetchReply). finished (entries_told (there c.args.raised c.args.term c.args.self.now.node items) c.args.from r)) c.in_ok-reply.ensures) c.make_room.ensures.node
+    let term = c.args.message.now.term in
+    let from = c.args.message.now.from in
+    let raised = nat_lt c.args.self.now.node.term term in
+    foretold _ raised term _ c.args.self.now.node c.make_room.new.self.node
+    (λ items. ap (λ (r : FetchReply). finished (entries_told (there raised term c.args.self.now.node items) from r)) c.in_ok-reply.ensures) c.make_room.ensures.node
 
 pub returns-clause-ready : goal.returns-clause-ready
 returns-clause-ready c =
-    ready_fetched c.args.raised c.args.self.now.node c.make_room.new.self c.args.term c.args.from c.in_ok-reply.reply c.args.reply.now c.make_room.ensures.node c.in_ok-reply.ensures
-    c.requires.raised c.requires.from c.requires.fetched
+    let term = c.args.message.now.term in
+    let from = c.args.message.now.from in
+    let raised = nat_lt c.args.self.now.node.term term in
+    ready_fetched raised c.args.self.now.node c.make_room.new.self term from c.in_ok-reply.reply c.args.reply.now c.make_room.ensures.node c.in_ok-reply.ensures
+    refl c.requires.from c.requires.fetched
     (subst (λ (list : List Entry). length list ≤ c.make_room.new.self.spare) c.as_slice.ensures.entries c.in_ok-make_room.ensures.room)

@@ -1,6 +1,6 @@
 use Rattle.std.proofs.Common.{◌≡◌, ◌∙◌, ap, ap₂, sym, subst}
 use Rattle.set_model.specs.Points.{next_optime}
-use Rattle.node_tables.specs.Unjournaled.{Optimes, with_optime}
+use Rattle.oplog_store.specs.Unjournaled.{Optimes, with_optime}
 use Rattle.node_state.specs.Coherent.{IsCoherent}
 use Rattle.node_state.specs.Seen.{seen_node}
 use Rattle.node_state.proofs.Inside.{rest_in}

@@ -1,0 +1,64 @@
+ghost use Rattle.std.specs.Prelude.{◌≡◌, ◌≤◌, [], ◌∷◌, length, IfOk, OnOk, OnErr};
+ghost use Rattle.member_config.specs.Voters.{majority, voters, with_vote};
+
+use crate::tally::{Count, Tally};
+use member_config::Config;
+use rs_optime::Mem;
+use std::alloc::Global;
+use std::marker::Model;
+
+/// Who would vote for a node in a term, among the voters of a configuration.
+#[derive(Drop)]
+pub struct DryRun {
+    term: u64,
+    config: Config,
+    tally: Tally,
+}
+
+impl Model for DryRun {
+    ghost use Rattle.std.specs.Prelude.{◌≡◌};
+    ghost use Rattle.member_config.specs.Voters.{voters};
+    ghost use Rattle.repl_msg.specs.Votes.{DryTally};
+    ghost use Rattle.repl_msg.specs.Code.{tally_code};
+
+    ghost Value = { DryTally };
+
+    ghost coded = { tally_code };
+
+    ghost view = { λ d. record { term = d.term; config = d.config; yes = d.tally.yes } };
+
+    ghost invariant = { λ d. d.tally.voters ≡ voters d.config };
+}
+
+impl DryRun {
+    /// The node's own vote alone.
+    pub fn new(alloc: Global, own: u32, term: u64, config: Config) -> Mem<Self>
+        requires { length config.members ≤ 50 }
+        ensures { IfOk result (λ d. d ≡ record { term = term; config = config; yes = own ∷ [] }) }
+    {
+        let tally = Tally::new(alloc, own, &config)?;
+        Ok(DryRun {
+            term,
+            config,
+            tally,
+        })
+    }
+
+    /// Counts a vote, where it is of a voter that isn't counted yet.
+    pub fn add(&mut self, from: u32) -> Mem<Count>
+        ensures ok { OnOk result
+            (self.new ≡ record self.old { yes = with_vote (voters self.old.config) self.old.yes from }) }
+        ensures count { IfOk result (λ c.
+            c ≡ record { yes = length self.new.yes; needed = majority self.new.config }) }
+        ensures err { OnErr result (self.new ≡ self.old) }
+    {
+        self.tally.add(from)
+    }
+
+    /// The term for which it asked.
+    pub fn term(&self) -> u64
+        ensures { result ≡ self.now.term }
+    {
+        self.term
+    }
+}

@@ -1,0 +1,98 @@
+// Writes that are reserved and committed at once.
+ghost use Rattle.std.specs.Prelude.{◌≡◌, ◌-◌, ◌^◌, ◌<◌, true, None, Ok, IfOk, OnErr};
+ghost use Rattle.doc_update.specs.Check.{checked};
+ghost use Rattle.doc_update.specs.Borrowed.{shown};
+ghost use Rattle.set_model.specs.Holds.{holder};
+ghost use Rattle.set_model.specs.Limits.{IsSoundWrite, is_collection, collection_of};
+ghost use Rattle.set_model.specs.Outcome.{replied};
+ghost use Rattle.set_model.specs.Write.{write, written};
+ghost use Rattle.node_state.specs.Admits.{Admits, CanBeLogged};
+
+use crate::State;
+use crate::admitted::{Admission, refusal};
+use bson_doc::{IdKey, Mem, Text};
+use doc_update::{BorrowedWrite, Prepared, check_borrowed, prepare_borrowed};
+use set_model::{Refusal, Reply, Role};
+
+impl State {
+    /// What a write comes to on the latest documents of a primary.
+    pub(crate) fn admit(&self, borrowed: BorrowedWrite<'_>) -> Mem<Result<Admission, Refusal>>
+        requires role { self.now.node.role ≡ Role.Primary }
+        requires name { is_collection (collection_of (shown borrowed)) ≡ true }
+        ensures { IfOk result (λ admission. Admits self.now.node (shown borrowed.entry) admission) }
+    {
+        self.ledger.recall_sound();
+        borrowed.recall_sound();
+        match check_borrowed(self.alloc, borrowed) {
+            Ok((ns, id)) => self.admit_at(ns, id, borrowed),
+            Err(why) => Ok(Err(refusal(why)?)),
+        }
+    }
+
+    /// What a write to this place comes to.
+    fn admit_at(
+        &self,
+        ns: Text,
+        id: IdKey,
+        borrowed: BorrowedWrite<'_>,
+    ) -> Mem<Result<Admission, Refusal>>
+        requires role { self.now.node.role ≡ Role.Primary }
+        requires name { is_collection (collection_of (shown borrowed)) ≡ true }
+        requires place { checked (shown borrowed) ≡ Ok (ns, id) }
+        requires sound { IsSoundWrite (shown borrowed) }
+        ensures { IfOk result (λ admission. Admits self.now.node (shown borrowed.entry) admission) }
+    {
+        self.ledger.recall_sound();
+        let found = self.ledger.current(ns.as_str(), &id);
+        if let Some(writer) = found.holder {
+            return Ok(Err(Refusal::WriteConflict(writer)));
+        }
+        match prepare_borrowed(self.alloc, borrowed, found.latest) {
+            Ok(effect) => Ok(Ok(Admission { ns, id, effect })),
+            Err(why) => Ok(Err(refusal(why)?)),
+        }
+    }
+
+    /// Writes an entry for a write that is taken, at once.
+    pub(crate) fn write_at_once(&mut self, borrowed: BorrowedWrite<'_>) -> Mem<Reply>
+        requires seen { self.old.node.seen < 2 ^ 64 - 1 }
+        requires name { is_collection (collection_of (shown borrowed)) ≡ true }
+        ensures ok { IfOk result (λ reply.
+            write self.old.node (shown borrowed.entry) ≡ replied reply self.new.node) }
+        ensures err { OnErr result (self.new.node ≡ self.old.node) }
+    {
+        if self.ledger.role() != Role::Primary {
+            return Ok(Reply::Refused(Refusal::NotPrimary));
+        }
+        match self.admit(borrowed) {
+            Ok(Ok(admission)) => self.write_admitted(admission),
+            Ok(Err(why)) => Ok(Reply::Refused(why)),
+            Err(error) => Err(error),
+        }
+    }
+
+    /// Writes an entry for a write that nothing refuses.
+    fn write_admitted(&mut self, admission: Admission) -> Mem<Reply>
+        requires seen { self.old.node.seen < 2 ^ 64 - 1 }
+        requires role { self.old.node.role ≡ Role.Primary }
+        requires free { holder self.old.node (admission.ns, admission.id) ≡ None }
+        requires can { CanBeLogged self.old.node (admission.ns, admission.id) admission.effect }
+        ensures ok { IfOk result (λ reply.
+            written self.old.node (Ok admission.effect) ≡ replied reply self.new.node) }
+        ensures err { OnErr result (self.new.node ≡ self.old.node) }
+    {
+        let Admission { ns, id, effect } = admission;
+        match effect {
+            Prepared::NoMatch => Ok(Reply::NoMatch),
+            Prepared::Unchanged => Ok(Reply::Unchanged),
+            Prepared::Entry { op, after } => {
+                self.ledger.recall_sound();
+                self.unjournaled.reserve(1)?;
+                let at = self.ledger.write(ns, id, op, after)?;
+                self.unjournaled.add(at);
+                self.ledger.recall_sound();
+                Ok(Reply::Written(at))
+            }
+        }
+    }
+}

@@ -1,2 +1,0 @@
-pub mod OptimeLemmas
-mod KnownLemmas

@@ -1,4 +1,0 @@
-pub mod Code
-pub mod Known
-pub mod Records
-pub mod Unjournaled
