@@ -1,0 +1,4 @@
+mod CallLemmas
+mod EventLemmas
+mod PartLemmas
+mod RunLaw
