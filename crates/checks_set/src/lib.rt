@@ -3,6 +3,8 @@
 #![tactic(auto)]
 
 #[cfg(test)]
+mod blocks;
+#[cfg(test)]
 mod copies;
 #[cfg(test)]
 mod documents;
@@ -10,3 +12,5 @@ mod documents;
 mod ends;
 #[cfg(test)]
 mod running;
+#[cfg(test)]
+mod shared;

@@ -1,5 +1,5 @@
 -- What the disks of one node went through, event by event.
-use Rattle.std.proofs.Common.{◌≡◌, ◌∙◌, ◌<◌, ◌≤◌, ◌+◌, ◌*◌, ◌==◌, ◌&&◌, ◌⊎◌, inl, inr, ap, sym, subst, refl, arith, eq-eqb, ne_eqb, ℕ, zero, suc, Bool, true, false, Option, None, Some, IsSome, List, [], ◌∷◌, fold, take, slice_get, slice_set, if◌then◌else◌}
+use Rattle.std.proofs.Common.{◌≡◌, ◌∙◌, ◌<◌, ◌≤◌, ◌+◌, ◌*◌, ◌==◌, ◌&&◌, ◌⊎◌, inl, inr, ap, sym, subst, refl, arith, eq-eqb, ne_eqb, ℕ, zero, suc, Bool, true, false, Option, None, Some, IsSome, List, [], ◌∷◌, ◌++◌, fold, take, slice_get, slice_set, if◌then◌else◌}
 use Rattle.std.specs.Prelude.{◌≢◌, ◌-◌, ◌^◌, is_some, min, nat_le}
 use Rattle.std.proofs.lemmas.Bool.{and_parts, cases_Bool, cases_order, eqb-true, leb-false, leb-true}
 use Rattle.std.proofs.lemmas.Option.{same_Some}
@@ -15,9 +15,10 @@ use Rattle.set_model.specs.declared.reply.Reply.{Reply}
 use Rattle.set_model.specs.declared.reply.Reply.TheVariants.{Refused}
 use Rattle.set_model.specs.Run.{Run, after}
 use Rattle.set_model.specs.World.{World, Task, acts, takes, nothing, actor, step, task, touched_node}
-use Rattle.node_core.specs.Acting.{DisksActed, RunsWithoutOrders, is_here, orders_after}
-use Rattle.set_world.specs.Disks.{AtTouchedNode, OneChanged}
-use Rattle.set_world.specs.Went.{DisksPlay, DisksStep}
+use Rattle.node_core.specs.Acting.{DisksActed, DisksLeft, RunsWithoutOrders, is_here, orders_after}
+use Rattle.node_core.proofs.PuttingLemmas.{left_runs, runs_none, runs_then}
+use Rattle.set_world.specs.Disks.{AtTouchedNode, DisksUndone, OneChanged}
+use Rattle.set_world.specs.Went.{AllUndone, DisksPlay, DisksRun, DisksStep}
 use Rattle.set_world.proofs.DiskLemmas.{delivered_disks}
 use Rattle.set_world.proofs.FaultLemmas.{only_broken}
 use Rattle.set_program.specs.Counts.{FailedAtLeast, EitherFaultCounted, OrdersAre, failures_at, orders_behind}
@@ -51,10 +52,12 @@ NodeStep number world event j j' c c' =
     ((touched_node world event.command ≡ number) × DisksActed event.command (step world event).reply (IsSome event.failed) j j' c c')
     ⊎ ((touched_node world event.command ≢ number) × (j' ≡ j) × (c' ≡ c))
 
+-- before, between and behind the events commands that weren't done may have used the disks
 abbrev pub NodePlay : ℕ → World → List Event → State → State → State → State → Type 0
-NodePlay number world [] j j' c c' = (j' ≡ j) × (c' ≡ c)
+NodePlay number world [] j j' c c' = RunsWithoutOrders ⊥ j j' c c'
 NodePlay number world (event ∷ later) j j' c c' =
-    (jm : State) × (cm : State) × NodeStep number world event j jm c cm × NodePlay number (step world event).world later jm j' cm c'
+    (jb : State) × (cb : State) × (jm : State) × (cm : State) × RunsWithoutOrders ⊥ j jb c cb
+    × NodeStep number world event jb jm cb cm × NodePlay number (step world event).world later jm j' cm c'
 
 -- the disks of a node as they stand in a list
 pub record NodeHas {D : Type 0} (state : D → State) (number : ℕ) (disks : List D) (j c : State) : Type 0 where
@@ -175,13 +178,81 @@ module _ {D : Type 0} (state : D → State) (world : World) (event : Event) (old
   pub at_node : DisksStep state world event old new → NodeSteps
   at_node changed = by_task (task world event.command) refl changed
 
+-- ---- commands that weren't done
+
+module _ {D : Type 0} (state : D → State) (command : Command) (last left : List D) (number : ℕ) (j c : State) (has : NodeHas state number last j c) where
+  abbrev pub RunsOn : Type 0
+  RunsOn = (j' : State) × (c' : State) × NodeHas state number left j' c' × RunsWithoutOrders ⊥ j j' c c'
+
+  left_alone : left ≡ last → RunsOn
+  left_alone same = (j, c, subst (λ l. NodeHas state number l j c) (sym same) has, runs_none j c)
+
+  undone_by_one : (touched : ℕ) → OneChanged state (DisksLeft command) touched last left → RunsOn
+  undone_by_one touched one = elim (cases_order touched number) [
+    | inl same ↦
+        let here = changed_here state (DisksLeft command) touched number last left j c one has same in
+        (here.0, here.1, here.2, left_runs command j here.0 c here.1 here.3)
+    | inr other ↦ (j, c, unchanged_there state (DisksLeft command) touched number last left j c one has (apart touched number other), runs_none j c)
+  ]
+
+  undone_by_task : (what : Task) → AtTouchedNode what None last left (λ n. OneChanged state (DisksLeft command) n last left) → RunsOn
+  undone_by_task (acts touched) one = undone_by_one touched one
+  undone_by_task (takes message) one = undone_by_one message.to one
+  undone_by_task nothing none = left_alone none.1
+
+  pub undone_there : (world : World) → DisksUndone state world command last left → RunsOn
+  undone_there world (inl same) = left_alone same
+  undone_there world (inr used) = undone_by_task (task world command) used
+
+two_runs : (j0 j1 j2 c0 c1 c2 : State) → RunsWithoutOrders ⊥ j0 j1 c0 c1 → RunsWithoutOrders ⊥ j1 j2 c1 c2 → RunsWithoutOrders ⊥ j0 j2 c0 c2
+two_runs j0 j1 j2 c0 c1 c2 first second = runs_then j0 j1 j2 c0 c1 c2 (λ none. absurd none) first second
+
+all_undone : {D : Type 0} (state : D → State) (world : World) (commands : List Command) (old new : List D) (number : ℕ) (j c : State) → NodeHas state number old j c → AllUndone state world commands old new
+    → (j' : State) × (c' : State) × NodeHas state number new j' c' × RunsWithoutOrders ⊥ j j' c c'
+all_undone state world [] old new number j c has same = (j, c, subst (λ l. NodeHas state number l j c) (sym same) has, runs_none j c)
+all_undone state world (command ∷ more) old new number j c has (between, fits, undone, rest) =
+    let one = undone_there state command old between number j c has world undone in
+    let others = all_undone state world more between new number one.0 one.1 one.2 rest in
+    (others.0, others.1, others.2, two_runs j one.0 others.0 c one.1 others.1 one.3 others.3)
+
+-- ---- a whole run
+
+abbrev pub PlaysOn : {D : Type 0} → (D → State) → World → List Event → List D → ℕ → State → State → Type 0
+PlaysOn state world events new number j c = (j' : State) × (c' : State) × NodeHas state number new j' c' × NodePlay number world events j j' c c'
+
 pub node_played : {D : Type 0} (state : D → State) (world : World) (events : List Event) (old new : List D) (number : ℕ) (j c : State) → NodeHas state number old j c → DisksPlay state world events old new
-    → (j' : State) × (c' : State) × NodeHas state number new j' c' × NodePlay number world events j j' c c'
-node_played state world [] old new number j c has same = (j, c, subst (λ l. NodeHas state number l j c) (sym same) has, (refl, refl))
+    → PlaysOn state world events new number j c
+node_played state world [] old new number j c has same = (j, c, subst (λ l. NodeHas state number l j c) (sym same) has, runs_none j c)
 node_played state world (event ∷ later) old new number j c has played =
     let one = at_node state world event old played.0 number j c has played.1 in
     let rest = node_played state (step world event).world later played.0 new number one.0 one.1 one.2 played.2 in
-    (rest.0, rest.1, rest.2, (one.0, one.1, one.3, rest.3))
+    (rest.0, rest.1, rest.2, (j, c, one.0, one.1, runs_none j c, one.3, rest.3))
+
+pub node_run : {D : Type 0} (state : D → State) (world : World) (events : List Event) (old new : List D) (number : ℕ) (j c : State) → NodeHas state number old j c → DisksRun state world events old new
+    → PlaysOn state world events new number j c
+node_run state world [] old new number j c has (undone, used) = all_undone state world undone old new number j c has used
+node_run state world (event ∷ later) old new number j c has (undone, before, behind, used, stepped, rest) =
+    let first = all_undone state world undone old before number j c has used in
+    let one = at_node state world event before behind number first.0 first.1 first.2 stepped in
+    let more = node_run state (step world event).world later behind new number one.0 one.1 one.2 rest in
+    (more.0, more.1, more.2, (first.0, first.1, one.0, one.1, first.3, one.3, more.3))
+
+-- such commands before and behind
+used_before : (number : ℕ) (world : World) (events : List Event) (j0 j j' c0 c c' : State) → RunsWithoutOrders ⊥ j0 j c0 c → NodePlay number world events j j' c c' → NodePlay number world events j0 j' c0 c'
+used_before number world [] j0 j j' c0 c c' used played = two_runs j0 j j' c0 c c' used played
+used_before number world (event ∷ later) j0 j j' c0 c c' used (jb, cb, jm, cm, between, one, rest) = (jb, cb, jm, cm, two_runs j0 j jb c0 c cb used between, one, rest)
+
+pub used_behind : (number : ℕ) (world : World) (events : List Event) (j j' jn c c' cn : State) → NodePlay number world events j j' c c' → RunsWithoutOrders ⊥ j' jn c' cn → NodePlay number world events j jn c cn
+used_behind number world [] j j' jn c c' cn played used = two_runs j j' jn c c' cn played used
+used_behind number world (event ∷ later) j j' jn c c' cn (jb, cb, jm, cm, between, one, rest) used =
+    (jb, cb, jm, cm, between, one, used_behind number (step world event).world later jm j' jn cm c' cn rest used)
+
+-- more events
+pub plays_behind : (number : ℕ) (so_far : Run) (events more : List Event) (j jm j' c cm c' : State) → NodePlay number so_far.world events j jm c cm → NodePlay number (fold after so_far events).world more jm j' cm c'
+    → NodePlay number so_far.world (events ++ more) j j' c c'
+plays_behind number so_far [] more j jm j' c cm c' used rest = used_before number so_far.world more j jm j' c cm c' used rest
+plays_behind number so_far (event ∷ events) more j jm j' c cm c' (jb, cb, ja, ca, between, one, later) rest =
+    (jb, cb, ja, ca, between, one, plays_behind number (after so_far event) events more ja jm j' ca cm c' later rest)
 
 -- ---- counts
 
@@ -193,14 +264,11 @@ step_rises number world event j j' c c' (inr same) = (
 )
 
 pub play_rises : (number : ℕ) (world : World) (events : List Event) (j j' c c' : State) → NodePlay number world events j j' c c' → (j.faults ≤ j'.faults) × (c.faults ≤ c'.faults)
-play_rises number world [] j j' c c' same = (
-  let one : j'.faults ≡ j.faults = ap (λ (s : State). s.faults) same.0 in omega (arith, one),
-  let one : c'.faults ≡ c.faults = ap (λ (s : State). s.faults) same.1 in omega (arith, one),
-)
-play_rises number world (event ∷ later) j j' c c' (jm, cm, one, rest) =
-    let first = step_rises number world event j jm c cm one in
+play_rises number world [] j j' c c' used = (used.fails.journal_faults, used.fails.checkpoint_faults)
+play_rises number world (event ∷ later) j j' c c' (jb, cb, jm, cm, used, one, rest) =
+    let first = step_rises number world event jb jm cb cm one in
     let second = play_rises number (step world event).world later jm j' cm c' rest in
-    (omega (arith, first.0, second.0), omega (arith, first.1, second.1))
+    (omega (arith, used.fails.journal_faults, first.0, second.0), omega (arith, used.fails.checkpoint_faults, first.1, second.1))
 
 -- a count rises, or stands at its last value
 rose_by_one : (most j jm c cm : ℕ) → (min (j + 1) most ≤ jm) ⊎ (min (c + 1) most ≤ cm) → j ≤ jm → c ≤ cm → (1 + j + c ≤ jm + cm) ⊎ (most ≤ jm) ⊎ (most ≤ cm)
@@ -225,14 +293,24 @@ failed_here : (number : ℕ) (world : World) (event : Event) (j j' c c' : State)
 failed_here number world event j j' c c' (inl acted) is = acted.1.fails.cause (and_parts (is_some event.failed) (touched_node world event.command == number) is).0
 failed_here number world event j j' c c' (inr same) is = absurd (same.0 (eqb-true (touched_node world event.command) number (and_parts (is_some event.failed) (touched_node world event.command == number) is).1))
 
+pub rose_wider : (jo j j' jn co c c' cn : State) → jo.faults ≤ j.faults → co.faults ≤ c.faults → j'.faults ≤ jn.faults → c'.faults ≤ cn.faults
+    → EitherFaultCounted j j' c c' → EitherFaultCounted jo jn co cn
+rose_wider jo j j' jn co c c' cn one two three four (inl rose) = inl (omega (arith, one, three, rose))
+rose_wider jo j j' jn co c c' cn one two three four (inr rose) = inr (omega (arith, two, four, rose))
+
 pub failures_counted : (number : ℕ) (world : World) (events : List Event) (j j' c c' : State) → NodePlay number world events j j' c c' → FailedAtLeast (failures_at number world events) j j' c c'
 failures_counted number world [] j j' c c' same =
     inl (let rises = play_rises number world [] j j' c c' same in omega (arith, rises.0, rises.1))
-failures_counted number world (event ∷ later) j j' c c' (jm, cm, one, rest) =
+failures_counted number world (event ∷ later) j j' c c' (jb, cb, jm, cm, used, one, rest) =
     by_test (failures_counted number (step world event).world later jm j' cm c' rest) (is_some event.failed && touched_node world event.command == number) refl
   where
     first : (j.faults ≤ jm.faults) × (c.faults ≤ cm.faults)
-    first = step_rises number world event j jm c cm one
+    first =
+        let stepped = step_rises number world event jb jm cb cm one in
+        (omega (arith, used.fails.journal_faults, stepped.0), omega (arith, used.fails.checkpoint_faults, stepped.1))
+
+    rose : (is_some event.failed && touched_node world event.command == number) ≡ true → EitherFaultCounted j jm c cm
+    rose is = rose_wider j jb jm jm c cb cm cm used.fails.journal_faults used.fails.checkpoint_faults (omega arith) (omega arith) (failed_here number world event jb jm cb cm one is)
 
     behind : (jm.faults ≤ j'.faults) × (cm.faults ≤ c'.faults)
     behind = play_rises number (step world event).world later jm j' cm c' rest
@@ -240,7 +318,7 @@ failures_counted number world (event ∷ later) j j' c c' (jm, cm, one, rest) =
     by_test : FailedAtLeast (failures_at number (step world event).world later) jm j' cm c' → (b : Bool) → (is_some event.failed && touched_node world event.command == number) ≡ b → FailedAtLeast ((if b then 1 else 0) + failures_at number (step world event).world later) j j' c c'
     by_test again true is =
         sums (2 ^ 64 - 1) 1 (failures_at number (step world event).world later) j.faults jm.faults j'.faults c.faults cm.faults c'.faults
-        (rose_by_one (2 ^ 64 - 1) j.faults jm.faults c.faults cm.faults (failed_here number world event j jm c cm one is) first.0 first.1) behind.0 behind.1 again
+        (rose_by_one (2 ^ 64 - 1) j.faults jm.faults c.faults cm.faults (rose is) first.0 first.1) behind.0 behind.1 again
     by_test again false is =
         sums (2 ^ 64 - 1) 0 (failures_at number (step world event).world later) j.faults jm.faults j'.faults c.faults cm.faults c'.faults
         (inl (omega (arith, first.0, first.1))) behind.0 behind.1 again
@@ -252,16 +330,11 @@ failed_wider count jo j j' jn co c c' cn one two three four (inl sum) = inl (ome
 failed_wider count jo j j' jn co c c' cn one two three four (inr (inl full)) = inr (inl (omega (arith, full, three)))
 failed_wider count jo j j' jn co c c' cn one two three four (inr (inr full)) = inr (inr (omega (arith, full, four)))
 
-pub rose_wider : (jo j j' jn co c c' cn : State) → jo.faults ≤ j.faults → co.faults ≤ c.faults → j'.faults ≤ jn.faults → c'.faults ≤ cn.faults
-    → EitherFaultCounted j j' c c' → EitherFaultCounted jo jn co cn
-rose_wider jo j j' jn co c c' cn one two three four (inl rose) = inl (omega (arith, one, three, rose))
-rose_wider jo j j' jn co c c' cn one two three four (inr rose) = inr (omega (arith, two, four, rose))
-
 -- ---- orders
 
 pub orders_told : (number : ℕ) (world : World) (events : List Event) (j j' c c' : State) → NodePlay number world events j j' c c' → OrdersAre number world events j j' c c'
-orders_told number world [] j j' c c' same = (ap (λ (s : State). s.orders) same.0, ap (λ (s : State). s.orders) same.1)
-orders_told number world (event ∷ later) j j' c c' (jm, cm, one, rest) =
+orders_told number world [] j j' c c' used = (used.journal_orders, used.checkpoints_orders)
+orders_told number world (event ∷ later) j j' c c' (jb, cb, jm, cm, used, one, rest) =
     let again = orders_told number (step world event).world later jm j' cm c' rest in
     let first = first_orders one in
     (again.0 ∙ ap (orders_behind Journal number (step world event).world later) first.0, again.1 ∙ ap (orders_behind Checkpoint number (step world event).world later) first.1)
@@ -269,15 +342,19 @@ orders_told number world (event ∷ later) j j' c c' (jm, cm, one, rest) =
     next : DiskName → Orders → Bool → Orders
     next name orders b = if b then orders_after name event.command (step world event).reply orders else orders
 
-    first_orders : NodeStep number world event j jm c cm
+    first_orders : NodeStep number world event jb jm cb cm
         → (jm.orders ≡ (if touched_node world event.command == number then orders_after Journal event.command (step world event).reply j.orders else j.orders))
         × (cm.orders ≡ (if touched_node world event.command == number then orders_after Checkpoint event.command (step world event).reply c.orders else c.orders))
     first_orders (inl acted) =
-        let here = eq-eqb (touched_node world event.command) number acted.0 in
-        (acted.1.journal_orders ∙ ap (next Journal j.orders) (sym here), acted.1.checkpoints_orders ∙ ap (next Checkpoint c.orders) (sym here))
+        let here = eq-eqb (touched_node world event.command) number acted.0 in (
+          acted.1.journal_orders ∙ ap (next Journal jb.orders) (sym here) ∙ ap (λ o. next Journal o (touched_node world event.command == number)) used.journal_orders,
+          acted.1.checkpoints_orders ∙ ap (next Checkpoint cb.orders) (sym here) ∙ ap (λ o. next Checkpoint o (touched_node world event.command == number)) used.checkpoints_orders,
+        )
     first_orders (inr same) =
-        let other = ne_eqb (touched_node world event.command) number same.0 in
-        (ap (λ (s : State). s.orders) same.1 ∙ ap (next Journal j.orders) (sym other), ap (λ (s : State). s.orders) same.2 ∙ ap (next Checkpoint c.orders) (sym other))
+        let other = ne_eqb (touched_node world event.command) number same.0 in (
+          ap (λ (s : State). s.orders) same.1 ∙ ap (next Journal jb.orders) (sym other) ∙ ap (λ o. next Journal o (touched_node world event.command == number)) used.journal_orders,
+          ap (λ (s : State). s.orders) same.2 ∙ ap (next Checkpoint cb.orders) (sym other) ∙ ap (λ o. next Checkpoint o (touched_node world event.command == number)) used.checkpoints_orders,
+        )
 
 -- ---- refusals
 
@@ -306,17 +383,17 @@ broke number world first event same touches refused = (
 pub fault_caused : (number : ℕ) (so_far : Run) (events : List Event) (j j' c c' : State) → NodePlay number so_far.world events j j' c c'
     → (place : ℕ) (event : Event) → AnswersHere so_far events place number event (Refused DiskFailed) → EitherFaultCounted j j' c c'
 fault_caused number so_far [] j j' c c' same place event is = absurd (cc is.event_is)
-fault_caused number so_far (first ∷ later) j j' c c' (jm, cm, one, rest) zero event is =
+fault_caused number so_far (first ∷ later) j j' c c' (jb, cb, jm, cm, used, one, rest) zero event is =
     let behind = play_rises number (step so_far.world first).world later jm j' cm c' rest in
-    rose_wider j j jm j' c c cm c' (omega arith) (omega arith) behind.0 behind.1 (here one)
+    rose_wider j jb jm j' c cb cm c' used.fails.journal_faults used.fails.checkpoint_faults behind.0 behind.1 (here one)
   where
     failed : (IsSome first.failed) × (touched_node so_far.world first.command ≡ number)
     failed = broke number so_far.world first event (same_Some first event is.event_is) is.touches is.reply_is
 
-    here : NodeStep number so_far.world first j jm c cm → EitherFaultCounted j jm c cm
+    here : NodeStep number so_far.world first jb jm cb cm → EitherFaultCounted jb jm cb cm
     here (inl acted) = acted.1.fails.cause failed.0
     here (inr same) = absurd (same.0 failed.1)
-fault_caused number so_far (first ∷ later) j j' c c' (jm, cm, one, rest) (suc place) event is =
-    let before = step_rises number so_far.world first j jm c cm one in
-    rose_wider j jm j' j' c cm c' c' before.0 before.1 (omega arith) (omega arith)
+fault_caused number so_far (first ∷ later) j j' c c' (jb, cb, jm, cm, used, one, rest) (suc place) event is =
+    let before = step_rises number so_far.world first jb jm cb cm one in
+    rose_wider j jm j' j' c cm c' c' (omega (arith, used.fails.journal_faults, before.0)) (omega (arith, used.fails.checkpoint_faults, before.1)) (omega arith) (omega arith)
     (fault_caused number (after so_far first) later jm j' cm c' rest place event (one_event_on so_far first later place number event (Refused DiskFailed) is))

@@ -1,5 +1,5 @@
 -- How a call ends.
-use Rattle.std.proofs.Common.{ℕ, ◌≡◌, ◌<◌, Bool, true, false, List, [], ◌∷◌, length, Option, None, Some, Result, Ok, Err, String, refl, sym, subst, arith, inl, inr, ⊎_elim, ◌∙◌}
+use Rattle.std.proofs.Common.{ℕ, ◌≡◌, ◌<◌, Bool, true, false, List, [], ◌∷◌, length, Option, None, Some, Result, Ok, Err, String, refl, sym, arith, inl, inr, ⊎_elim, ◌∙◌}
 use Rattle.std.specs.Prelude.{◌≢◌, IfSome}
 use Rattle.std.specs.declared.alloc.Global.{Global}
 use Rattle.rs_io.specs.Fault.{CountRose}
@@ -7,7 +7,7 @@ use Rattle.rs_io.specs.ReadAll.{ReadsAll}
 use Rattle.rs_io.specs.declared.reading.ReadAllError.{ReadAllError}
 use Rattle.rs_io.specs.declared.reading.ReadAllError.TheVariants.{ReadFault as SourceFailed, TooLong as OverLimit, Memory as NoMemory}
 use Rattle.set_model.specs.Limits.{IsRun}
-use Rattle.set_model.specs.Run.{Sizes, AreSizes}
+use Rattle.set_model.specs.Run.{AreSizes}
 use Rattle.set_model.specs.Safety.{Safe}
 use Rattle.safety_laws.specs.Laws.{InEveryRun}
 use Rattle.fault_script.specs.declared.fault.ScriptFault.{ScriptFault}
@@ -23,12 +23,11 @@ use Rattle.rs_io.specs.Put.{Puts}
 use Rattle.rs_io.specs.declared.sink.SinkError.{SinkError}
 use Rattle.rs_io.specs.declared.sink.SinkError.TheVariants.{Failed, Memory as NoRoom}
 use Rattle.set_program.specs.Causes.{of_read, of_sink}
-use Rattle.set_program.specs.Headline.{Asks, AsksNothing, AsksRun, Ends, EndsRun, EndsTask, EndsWithoutRun, HasNoFault, IsFaulty, IsOneOf, IsReadable, IsScriptOf, limit, status_of, usage}
+use Rattle.set_program.specs.Headline.{Asks, AsksNothing, AsksRun, Ends, EndsTask, EndsWithoutRun, HasNoFault, IsFaulty, IsOneOf, IsReadable, IsScriptOf, limit, status_of, usage}
 use Rattle.set_program.specs.declared.words.Task.{Task}
 use Rattle.set_program.specs.declared.words.Task.TheVariants.{Run, Chaos}
 use Rattle.set_program.specs.Left.{IfSet}
-use Rattle.set_program.specs.Plays.{Plays}
-use Rattle.set_program.proofs.PlayLemmas.{Keeps-same, follows_so}
+use Rattle.set_program.proofs.PlayLemmas.{Keeps-same}
 
 -- ---- the script is read
 
@@ -60,23 +59,6 @@ usage_stops words left rest old new Failed none (count, put) = inl (none, (count
 usage_stops words left rest old new NoRoom none kept = kept
 
 -- ---- it is run
-
-plays_at : {D : Type 0} (parts : List Part) (held now : Option (List ℕ)) (set : Set D) (result : Result (Unit {0}) Stop)
-    → Plays set.sizes parts held now set.history result → EndsRun parts held now result set
-plays_at parts held now set (Ok done) played = (follows_so parts set.history played.lines_are, played.put)
-plays_at parts held now set (Err Memory) stopped = stopped
-plays_at parts held now set (Err WriteFault) stopped = stopped
-plays_at parts held now set (Err Usage) never = absurd never
-plays_at parts held now set (Err NoScript) never = absurd never
-plays_at parts held now set (Err ReadFault) never = absurd never
-plays_at parts held now set (Err TooLong) never = absurd never
-plays_at parts held now set (Err DiskFault) never = absurd never
-
--- a set of these sizes played the parts
-pub plays_end : {D : Type 0} (sizes : Sizes) (parts : List Part) (held now : Option (List ℕ)) (set : Set D) (result : Result (Unit {0}) Stop) → set.sizes ≡ sizes
-    → Plays sizes parts held now set.history result → EndsRun parts held now result set
-plays_end sizes parts held now set result same played =
-    plays_at parts held now set result (subst (λ (s : Sizes). Plays s parts held now set.history result) (sym same) played)
 
 -- what was asked for was run
 pub run_ends : {D : Type 0} (words : List (String Global)) (left rest old new : Option (List ℕ)) (task : Task) (read : Script) (ended : Result (Unit {0}) Stop) (outcome : Left D)

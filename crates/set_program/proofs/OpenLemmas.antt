@@ -1,21 +1,19 @@
 -- The disks that a call leaves.
-use Rattle.std.proofs.Common.{ℕ, ◌≡◌, ◌*◌, List, [], ◌∷◌, ◌++◌, Option, Some, Result, Ok, Err, String, refl, subst, sym, ap, inl, inr, ◌∙◌}
-use Rattle.std.specs.Prelude.{◌≢◌, ◌⊎◌, All, Vec, map, slice_get}
+use Rattle.std.proofs.Common.{ℕ, ◌≡◌, ◌*◌, List, [], Option, Some, Result, Ok, Err, String, refl, subst, sym, ap, inl, inr, ◌∙◌}
+use Rattle.std.specs.Prelude.{◌≢◌, ◌⊎◌, All, Vec, slice_get}
 use Rattle.std.specs.declared.alloc.Global.{Global}
 use Rattle.std.proofs.lemmas.List.Elements.{All-get_or}
 use Rattle.std.proofs.lemmas.Option.{get_or_from_slice_get, slice_get_within}
 use Rattle.rs_disk.specs.State.{State}
 use Rattle.record_file.specs.declared.error.FileError.{FileError}
 use Rattle.record_file.specs.declared.error.FileError.TheVariants.{Disk, Memory as NoBytes}
-use Rattle.set_model.specs.declared.command.Command.{Command}
 use Rattle.set_model.specs.declared.command.Event.{Event}
-use Rattle.set_model.specs.Run.{Sizes, opening}
+use Rattle.set_model.specs.Run.{Sizes}
 use Rattle.fault_script.specs.declared.script.Part.{Part}
 use Rattle.fault_script.specs.declared.script.Script.{Script}
-use Rattle.fault_script.specs.Script.{lines_in, sizes_of}
+use Rattle.fault_script.specs.Script.{sizes_of}
 use Rattle.set_world.specs.World.{Set, opening_set}
 use Rattle.set_world.specs.Disks.{AllStand, Opens, OneFaultCounted}
-use Rattle.set_world.specs.Went.{DisksPlay}
 use Rattle.set_program.specs.declared.outcome.Left.{Left}
 use Rattle.set_program.specs.declared.outcome.Left.TheVariants.{World, Parts}
 use Rattle.set_program.specs.declared.stop.Stop.{Stop}
@@ -24,41 +22,25 @@ use Rattle.set_program.specs.declared.words.Task.{Task}
 use Rattle.set_program.specs.declared.words.Task.TheVariants.{Run, Chaos}
 use Rattle.set_program.specs.Asking.{OpensScript, RunsScript}
 use Rattle.set_program.specs.Causes.{of_file}
-use Rattle.set_program.specs.Disks.{DisksPlayed, DisksRan}
-use Rattle.set_program.specs.Steps.{DisksGoOn, IsNextOf, line_of}
-use Rattle.set_program.specs.Headline.{AreOrdersOf, Asks, ComesNext, Ends, EndsTask, IsAsked, IsScriptOf, IsUnarmed, LeavesDisks, opening_error, status_of, status_of_stop}
+use Rattle.set_program.specs.Headline.{Asks, Ends, EndsTask, IsAsked, IsScriptOf, IsUnarmed, LeavesDisks, opening_error, status_of, status_of_stop}
 use Rattle.set_program.specs.Left.{disks_of}
-use Rattle.set_program.proofs.DisksLemmas.{ran_as}
-use Rattle.set_program.proofs.PlayLemmas.{Keeps-same, orders_of}
+use Rattle.set_program.specs.Parts.{DisksGo}
+use Rattle.set_program.proofs.PlayLemmas.{Keeps-same}
 
 -- ---- a set was opened, and went on
 
--- the disks that it had ran
-opened_ran : {D : Type 0} (state : D → State) (parts : List Part) (old new : Set D) (result : Result (Unit {0}) Stop) → old.history ≡ [] → DisksGoOn state (lines_in parts) old new (result ≡ Err Memory)
-    → DisksRan state (status_of result ≡ 1) (ComesNext parts new.history) old.disks new
-opened_ran {D} state parts old new result none goes =
-    ran_as state (result ≡ Err Memory) (status_of result ≡ 1) (IsNextOf (lines_in parts) old.history new.history) (ComesNext parts new.history) old.disks new
-    (λ out. ap (λ (r : Result (Unit {0}) Stop). status_of r) out) comes (goes old.disks began)
-  where
-    began : DisksPlayed state old.disks old
-    began = subst (λ (es : List Event). DisksPlay state (opening old.sizes).world es old.disks old.disks) (sym none) refl
-
-    comes : (line : ℕ) (command : Command) → IsNextOf (lines_in parts) old.history new.history line command → ComesNext parts new.history line command
-    comes line command next =
-        let added : new.history ≡ next.adds.added = next.adds.events ∙ ap (λ (es : List Event). es ++ next.adds.added) none in
-        let lines : map line_of new.history ≡ next.played = ap (map line_of) added ∙ next.adds.lines_are in (
-          next.later,
-          subst (λ (ls : List (ℕ × Command)). AreOrdersOf parts ls)
-              (next.lines_are ∙ ap (λ (ls : List (ℕ × Command)). ls ++ (line, command) ∷ next.later) (sym lines)) (orders_of parts),
-        )
+-- whether memory ran out, said otherwise
+pub go_out : {D : Type 0} (state : D → State) (parts : List Part) (first : List D) (set : Set D) (One Two : Type 0) → (One → Two) → DisksGo state parts first set One → DisksGo state parts first set Two
+go_out state parts first set One Two memory (inl played) = inl played
+go_out state parts first set One Two memory (inr (out, more)) = inr (memory out, more)
 
 pub set_leaves : {D : Type 0} (state : D → State) (read : Script) (handed : List D) (old new : Set D) (result : Result (Unit {0}) Stop)
-    → old.history ≡ [] → old.sizes ≡ sizes_of read → new.sizes ≡ old.sizes → Opens state read.nodes (Ok tt) handed old.disks → DisksGoOn state (lines_in read.parts) old new (result ≡ Err Memory)
+    → old.sizes ≡ sizes_of read → new.sizes ≡ old.sizes → Opens state read.nodes (Ok tt) handed old.disks → DisksGo state read.parts old.disks new (result ≡ Err Memory)
     → OpensScript state read handed (status_of result) (World new)
-set_leaves {D} state read handed old new result none sizes same opens goes = (
+set_leaves {D} state read handed old new result sizes same opens goes = (
   old.disks,
   subst (λ (n : ℕ). Opens state n (Ok tt) handed old.disks) (sym (ap (λ (s : Sizes). s.nodes) (same ∙ sizes))) opens,
-  opened_ran state read.parts old new result none goes,
+  go_out state read.parts old.disks new (result ≡ Err Memory) (status_of result ≡ 1) (λ out. ap (λ (r : Result (Unit {0}) Stop). status_of r) out) goes,
 )
 
 -- ---- it couldn't be opened

@@ -1,9 +1,9 @@
--- What the disks of a node went through in a whole run: they were opened, then each event did its part, and maybe a command that
--- wasn't done.
-use Rattle.std.proofs.Common.{◌≡◌, ◌∙◌, ◌<◌, ◌≤◌, ◌+◌, ◌*◌, ◌&&◌, inl, inr, ap, sym, subst, refl, arith, ℕ, zero, suc, Bool, true, nat_lt, None, Some, IsTrue, IsSome, List, [], ◌∷◌, Option, String, length, slice_get}
+-- What the disks of a node went through in a whole run: they were opened, then each event did its part, and maybe commands that
+-- weren't done.
+use Rattle.std.proofs.Common.{◌≡◌, ◌∙◌, ◌<◌, ◌≤◌, ◌+◌, ◌*◌, ◌&&◌, inl, inr, ap, sym, subst, refl, arith, ℕ, zero, suc, Bool, true, nat_lt, Some, IsTrue, IsSome, List, [], ◌∷◌, Option, String, length, slice_get}
 use Rattle.std.specs.Prelude.{All, Ok}
 use Rattle.std.specs.declared.alloc.Global.{Global}
-use Rattle.std.proofs.lemmas.Bool.{cases_Bool, cases_order}
+use Rattle.std.proofs.lemmas.Bool.{cases_Bool}
 use Rattle.std.proofs.lemmas.Option.{same_Some, slice_get_cases}
 use Rattle.rs_disk.specs.State.{State}
 use Rattle.set_model.specs.declared.command.Command.{Command}
@@ -18,23 +18,21 @@ use Rattle.set_model.specs.Rows.{row}
 use Rattle.set_model.specs.Run.{AreSizes, Run, Sizes, after, opening, run}
 use Rattle.set_model.specs.Safety.{Answers}
 use Rattle.set_model.specs.Stores.{done}
-use Rattle.set_model.specs.World.{World, Step, Task, acts, takes, nothing, step, task, touched_node}
-use Rattle.node_core.specs.Acting.{DisksLeft, RunsWithoutOrders, is_disk_fail}
-use Rattle.node_core.proofs.PuttingLemmas.{left_runs, runs_none}
-use Rattle.set_world.specs.Disks.{AtTouchedNode, DisksUndone, WasUsed, OneChanged, Opens}
-use Rattle.set_world.specs.Went.{DisksPlay}
+use Rattle.set_model.specs.World.{World, Step, acts, step, task, touched_node}
+use Rattle.node_core.specs.Acting.{RunsWithoutOrders, is_disk_fail}
+use Rattle.set_world.specs.Disks.{WasUsed, Opens}
 use Rattle.set_world.specs.World.{Set}
 use Rattle.set_world.proofs.ActingLemmas.{plan_is, step_is}
 use Rattle.set_world.proofs.DisksOpenLemmas.{there_too}
 use Rattle.set_world.proofs.NodesLemmas.{named}
 use Rattle.set_program.specs.Counts.{FailedAtLeast, FailuresCount, FaultsAreArmed, FaultsHaveCauses, OfNode, EitherFaultCounted, OrdersAre, OrdersCount, failures_at}
 use Rattle.set_program.specs.Disks.{DisksRan}
-use Rattle.set_program.specs.Headline.{ComesNext, IsUnarmed, LeavesDisks}
+use Rattle.set_program.specs.Headline.{ComesNext, IsInBlock, IsUnarmed, LeavesDisks}
 use Rattle.set_program.specs.Left.{IfSet}
 use Rattle.set_program.specs.declared.outcome.Left.{Left}
 use Rattle.set_program.specs.declared.outcome.Left.TheVariants.{World as Ran, Parts}
 use Rattle.set_program.proofs.OpenLemmas.{unarmed_at}
-use Rattle.set_program.proofs.CountLemmas.{AnswersHere, apart, NodeHas, NodePlay, NodeStep, broke, changed_here, failed_wider, failures_counted, fault_caused, node_played, one_event_back, one_event_on, orders_told, rose_wider, unchanged_there}
+use Rattle.set_program.proofs.CountLemmas.{AnswersHere, NodeHas, NodePlay, NodeStep, PlaysOn, broke, failed_wider, failures_counted, fault_caused, node_played, node_run, one_event_back, one_event_on, orders_told, plays_behind, rose_wider, undone_there, used_behind}
 
 -- ---- who armed a disk
 
@@ -43,6 +41,14 @@ pub record AreUnarmed (j c : State) : Type 0 where
   pub checkpoints_steady : IsTrue c.is_steady
   pub journal : ¬ IsTrue j.is_armed
   pub checkpoints : ¬ IsTrue c.is_armed
+
+still_unarmed : (j j' c c' : State) → RunsWithoutOrders ⊥ j j' c c' → AreUnarmed j c → AreUnarmed j' c'
+still_unarmed j j' c c' used unarmed = record {
+  journal_steady = used.fails.journal_steady unarmed.journal_steady;
+  checkpoints_steady = used.fails.checkpoint_steady unarmed.checkpoints_steady;
+  journal = λ armed. unarmed.journal (used.journal_armed armed);
+  checkpoints = λ armed. unarmed.checkpoints (used.checkpoints_armed armed);
+}
 
 -- a disk of a node of the set is always told to fail
 told_to_fail : (world : World) (event : Event) → Fits world event → is_disk_fail event.command ≡ true → (step world event).reply ≡ Armed
@@ -70,17 +76,23 @@ pub armed_before : (number : ℕ) (so_far : Run) (events : List Event) → AllFi
     → (place : ℕ) (event : Event) → AnswersHere so_far events place number event (Refused DiskFailed)
     → (before : ℕ) × (earlier : Event) × (before < place) × AnswersHere so_far events before number earlier Armed
 armed_before number so_far [] fit j j' c c' same unarmed place event is = absurd (cc is.event_is)
-armed_before number so_far (first ∷ later) fit j j' c c' (jm, cm, one, rest) unarmed zero event is = absurd (never one)
+armed_before number so_far (first ∷ later) fit j j' c c' (jb, cb, jm, cm, used, one, rest) unarmed zero event is = absurd (never one)
   where
     failed : (IsSome first.failed) × (touched_node so_far.world first.command ≡ number)
     failed = broke number so_far.world first event (same_Some first event is.event_is) is.touches is.reply_is
 
-    never : NodeStep number so_far.world first j jm c cm → ⊥
-    never (inl acted) = elim (acted.1.fails.only_armed failed.0 unarmed.journal_steady unarmed.checkpoints_steady) [ inl armed ↦ unarmed.journal armed | inr armed ↦ unarmed.checkpoints armed ]
+    unarmed_yet : AreUnarmed jb cb
+    unarmed_yet = still_unarmed j jb c cb used unarmed
+
+    never : NodeStep number so_far.world first jb jm cb cm → ⊥
+    never (inl acted) = elim (acted.1.fails.only_armed failed.0 unarmed_yet.journal_steady unarmed_yet.checkpoints_steady) [ inl armed ↦ unarmed_yet.journal armed | inr armed ↦ unarmed_yet.checkpoints armed ]
     never (inr same) = same.0 failed.1
-armed_before number so_far (first ∷ later) fit j j' c c' (jm, cm, one, rest) unarmed (suc place) event is =
+armed_before number so_far (first ∷ later) fit j j' c c' (jb, cb, jm, cm, used, one, rest) unarmed (suc place) event is =
     here (λ still. armed_before number (after so_far first) later fit.1 jm j' cm c' rest still place event (one_event_on so_far first later place number event (Refused DiskFailed) is)) one
   where
+    unarmed_yet : AreUnarmed jb cb
+    unarmed_yet = still_unarmed j jb c cb used unarmed
+
     on : (AreUnarmed jm cm → (before : ℕ) × (earlier : Event) × (before < place) × AnswersHere (after so_far first) later before number earlier Armed)
         → AreUnarmed jm cm → (before : ℕ) × (earlier : Event) × (before < suc place) × AnswersHere so_far (first ∷ later) before number earlier Armed
     on rest still =
@@ -88,15 +100,15 @@ armed_before number so_far (first ∷ later) fit j j' c c' (jm, cm, one, rest) u
         (suc found.0, found.1, (let less : found.0 < place = found.2 in omega (arith, less)), one_event_back so_far first later found.0 number found.1 Armed found.3)
 
     here : (AreUnarmed jm cm → (before : ℕ) × (earlier : Event) × (before < place) × AnswersHere (after so_far first) later before number earlier Armed)
-        → NodeStep number so_far.world first j jm c cm → (before : ℕ) × (earlier : Event) × (before < suc place) × AnswersHere so_far (first ∷ later) before number earlier Armed
-    here again (inr same) = on again (subst (λ s. AreUnarmed s cm) (sym same.1) (subst (λ s. AreUnarmed j s) (sym same.2) unarmed))
+        → NodeStep number so_far.world first jb jm cb cm → (before : ℕ) × (earlier : Event) × (before < suc place) × AnswersHere so_far (first ∷ later) before number earlier Armed
+    here again (inr same) = on again (subst (λ s. AreUnarmed s cm) (sym same.1) (subst (λ s. AreUnarmed jb s) (sym same.2) unarmed_yet))
     here again (inl acted) = elim (cases_Bool (is_disk_fail first.command)) [
       | inl told ↦ (zero, first, omega arith, record { event_is = refl; touches = acted.0; reply_is = told_to_fail so_far.world first fit.0 told })
       | inr other ↦ on again (record {
-        journal_steady = acted.1.fails.journal_steady unarmed.journal_steady;
-        checkpoints_steady = acted.1.fails.checkpoint_steady unarmed.checkpoints_steady;
-        journal = λ armed. unarmed.journal (acted.1.journal_armed other armed);
-        checkpoints = λ armed. unarmed.checkpoints (acted.1.checkpoints_armed other armed);
+        journal_steady = acted.1.fails.journal_steady unarmed_yet.journal_steady;
+        checkpoints_steady = acted.1.fails.checkpoint_steady unarmed_yet.checkpoints_steady;
+        journal = λ armed. unarmed_yet.journal (acted.1.journal_armed other armed);
+        checkpoints = λ armed. unarmed_yet.checkpoints (acted.1.checkpoints_armed other armed);
       })
     ]
 
@@ -105,81 +117,54 @@ armed_before number so_far (first ∷ later) fit j j' c c' (jm, cm, one, rest) u
 pub record NodeRan (number : ℕ) (world : World) (events : List Event) (j j' c c' : State) : Type 0 where
   pub opened_journal : State
   pub opened_checkpoints : State
-  pub last_journal : State
-  pub last_checkpoints : State
   pub journal_served : WasUsed j opened_journal
   pub checkpoints_served : WasUsed c opened_checkpoints
-  pub played : NodePlay number world events opened_journal last_journal opened_checkpoints last_checkpoints
-  pub undone : RunsWithoutOrders ⊥ last_journal j' last_checkpoints c'
+  pub played : NodePlay number world events opened_journal j' opened_checkpoints c'
 
 at_all : {A : Type 0} (xs : List A) (i : ℕ) → i < length xs → (x : A) × (slice_get xs i ≡ Some x)
 at_all xs i within = elim (slice_get_cases xs i).1 [ inl found ↦ (found.0, found.2) | inr past ↦ absurd (omega (arith, within, past.0)) ]
 
--- behind the last event no order was given to them
-module _ {D : Type 0} (state : D → State) (command : Command) (last left : List D) (number : ℕ) (j c : State) (has : NodeHas state number last j c) where
-  abbrev pub RunsOn : Type 0
-  RunsOn = (j' : State) × (c' : State) × NodeHas state number left j' c' × RunsWithoutOrders ⊥ j j' c c'
+-- the events, with what wasn't done
+abbrev pub RanTo : {D : Type 0} → (D → State) → List D → Set D → Type 0
+RanTo state opened set =
+    (number : ℕ) (j c : State) → NodeHas state number opened j c → PlaysOn state (opening set.sizes).world set.history set.disks number j c
 
-  left_alone : left ≡ last → RunsOn
-  left_alone same = (j, c, subst (λ l. NodeHas state number l j c) (sym same) has, runs_none j c)
-
-  by_one : (touched : ℕ) → OneChanged state (DisksLeft command) touched last left → RunsOn
-  by_one touched one = elim (cases_order touched number) [
-    | inl same ↦
-        let here = changed_here state (DisksLeft command) touched number last left j c one has same in
-        (here.0, here.1, here.2, left_runs command j here.0 c here.1 here.3)
-    | inr other ↦ (j, c, unchanged_there state (DisksLeft command) touched number last left j c one has (apart touched number other), runs_none j c)
-  ]
-
-  by_task : (what : Task) → AtTouchedNode what None last left (λ n. OneChanged state (DisksLeft command) n last left) → RunsOn
-  by_task (acts touched) one = by_one touched one
-  by_task (takes message) one = by_one message.to one
-  by_task nothing none = left_alone none.1
-
-  undone_there : (world : World) → DisksUndone state world command last left → RunsOn
-  undone_there world (inl same) = left_alone same
-  undone_there world (inr used) = by_task (task world command) used
-
--- the events, and what came behind them
-pub record RanTo {D : Type 0} (state : D → State) (opened : List D) (set : Set D) : Type 0 where
-  pub last : List D
-  pub played : DisksPlay state (opening set.sizes).world set.history opened last
-  pub behind : (number : ℕ) (j c : State) → NodeHas state number last j c → (j' : State) × (c' : State) × NodeHas state number set.disks j' c' × RunsWithoutOrders ⊥ j j' c c'
-
-ran_to : {D : Type 0} (state : D → State) (OutOfMemory : Type 0) (IsNext : ℕ → Command → Type 0) (opened : List D) (set : Set D) → DisksRan state OutOfMemory IsNext opened set → RanTo state opened set
-ran_to state OutOfMemory IsNext opened set (inl played) = record {
-  last = set.disks;
-  played = played;
-  behind = λ number j c has. (j, c, has, runs_none j c);
-}
-ran_to state OutOfMemory IsNext opened set (inr (out, began)) = record {
-  last = began.last;
-  played = began.played;
-  behind = λ number j c has. undone_there state began.command began.last set.disks number j c has (run set.sizes set.history).world began.undone;
-}
+ran_to : {D : Type 0} (state : D → State) (OutOfMemory : Type 0) (IsNext : ℕ → Command → Type 0) (IsBlock : List Event → List Event → Type 0) (opened : List D) (set : Set D)
+    → DisksRan state OutOfMemory IsNext IsBlock opened set → RanTo state opened set
+ran_to state OutOfMemory IsNext IsBlock opened set (inl played) number j c has = node_played state (opening set.sizes).world set.history opened set.disks number j c has played
+ran_to state OutOfMemory IsNext IsBlock opened set (inr (out, inl began)) number j c has =
+    let events = node_played state (opening set.sizes).world set.history opened began.last number j c has began.played in
+    let behind = undone_there state began.command began.last set.disks number events.0 events.1 events.2 (run set.sizes set.history).world began.undone in
+    (behind.0, behind.1, behind.2, used_behind number (opening set.sizes).world set.history j events.0 behind.0 c events.1 behind.1 events.3 behind.3)
+ran_to state OutOfMemory IsNext IsBlock opened set (inr (out, inr block)) number j c has =
+    let before = node_played state (opening set.sizes).world block.earlier opened block.begun number j c has block.played in
+    let later = node_run state (run set.sizes block.earlier).world block.later block.begun set.disks number before.0 before.1 before.2 block.ran in (
+      later.0,
+      later.1,
+      later.2,
+      subst (λ (es : List Event). NodePlay number (opening set.sizes).world es j later.0 c later.1) (sym block.events_are)
+          (plays_behind number (opening set.sizes) block.earlier block.later j before.0 later.0 c before.1 later.1 before.3 later.3),
+    )
 
 pub node_ran : {D : Type 0} (state : D → State) (handed opened : List D) (set : Set D) → Opens state set.sizes.nodes (Ok tt) handed opened → RanTo state opened set → (number : ℕ) → 2 * number + 1 < length handed
     → OfNode state handed set.disks number (NodeRan number (opening set.sizes).world set.history)
 node_ran {D} state handed opened set opens ran number within = record {
   journal = journal.0;
-  journal' = behind.2.journal;
+  journal' = events.2.journal;
   checkpoints = checkpoints.0;
-  checkpoints' = behind.2.checkpoints;
+  checkpoints' = events.2.checkpoints;
   journal_was = journal.1;
-  journal_is = behind.2.journal_at;
+  journal_is = events.2.journal_at;
   checkpoints_was = checkpoints.1;
-  checkpoints_is = behind.2.checkpoints_at;
-  so = subst (λ s. NodeRan number (opening set.sizes).world set.history (state journal.0) s (state checkpoints.0) (state behind.2.checkpoints)) (sym behind.2.journal_is)
-      (subst (λ s. NodeRan number (opening set.sizes).world set.history (state journal.0) behind.0 (state checkpoints.0) s) (sym behind.2.checkpoints_is)
+  checkpoints_is = events.2.checkpoints_at;
+  so = subst (λ s. NodeRan number (opening set.sizes).world set.history (state journal.0) s (state checkpoints.0) (state events.2.checkpoints)) (sym events.2.journal_is)
+      (subst (λ s. NodeRan number (opening set.sizes).world set.history (state journal.0) events.0 (state checkpoints.0) s) (sym events.2.checkpoints_is)
       (record {
         opened_journal = state first.0;
         opened_checkpoints = state second.0;
-        last_journal = events.0;
-        last_checkpoints = events.1;
         journal_served = opens.each (2 * number) journal.0 first.0 journal.1 first.1;
         checkpoints_served = opens.each (2 * number + 1) checkpoints.0 second.0 checkpoints.1 second.1;
         played = events.3;
-        undone = behind.3;
       }));
 }
   where
@@ -195,12 +180,9 @@ node_ran {D} state handed opened set opens ran number within = record {
     second : (d : D) × (slice_get opened (2 * number + 1) ≡ Some d)
     second = there_too handed opened (2 * number + 1) checkpoints.0 opens.count checkpoints.1
 
-    events : (j' : State) × (c' : State) × NodeHas state number ran.last j' c' × NodePlay number (opening set.sizes).world set.history (state first.0) j' (state second.0) c'
-    events = node_played state (opening set.sizes).world set.history opened ran.last number (state first.0) (state second.0)
-        (record { journal = first.0; checkpoints = second.0; journal_at = first.1; checkpoints_at = second.1; journal_is = refl; checkpoints_is = refl }) ran.played
-
-    behind : (j' : State) × (c' : State) × NodeHas state number set.disks j' c' × RunsWithoutOrders ⊥ events.0 j' events.1 c'
-    behind = ran.behind number events.0 events.1 events.2
+    events : PlaysOn state (opening set.sizes).world set.history set.disks number (state first.0) (state second.0)
+    events = ran number (state first.0) (state second.0)
+        (record { journal = first.0; checkpoints = second.0; journal_at = first.1; checkpoints_at = second.1; journal_is = refl; checkpoints_is = refl })
 
 -- ---- what that tells
 
@@ -220,27 +202,27 @@ of_node state handed left number So Other tells of = record {
 
 module _ (number : ℕ) (sizes : Sizes) (events : List Event) (j j' c c' : State) (ran : NodeRan number (opening sizes).world events j j' c c') where
   pub failures_ran : FailedAtLeast (failures_at number (opening sizes).world events) j j' c c'
-  failures_ran = failed_wider (failures_at number (opening sizes).world events) j ran.opened_journal ran.last_journal j' c ran.opened_checkpoints ran.last_checkpoints c'
-      ran.journal_served.faults ran.checkpoints_served.faults ran.undone.fails.journal_faults ran.undone.fails.checkpoint_faults
-      (failures_counted number (opening sizes).world events ran.opened_journal ran.last_journal ran.opened_checkpoints ran.last_checkpoints ran.played)
+  failures_ran = failed_wider (failures_at number (opening sizes).world events) j ran.opened_journal j' j' c ran.opened_checkpoints c' c'
+      ran.journal_served.faults ran.checkpoints_served.faults (omega arith) (omega arith)
+      (failures_counted number (opening sizes).world events ran.opened_journal j' ran.opened_checkpoints c' ran.played)
 
   pub orders_ran : OrdersAre number (opening sizes).world events j j' c c'
   orders_ran =
-      let told = orders_told number (opening sizes).world events ran.opened_journal ran.last_journal ran.opened_checkpoints ran.last_checkpoints ran.played in
-      rw (← ran.journal_served.orders, ← ran.checkpoints_served.orders, ran.undone.journal_orders, ran.undone.checkpoints_orders) told
+      let told = orders_told number (opening sizes).world events ran.opened_journal j' ran.opened_checkpoints c' ran.played in
+      rw (← ran.journal_served.orders, ← ran.checkpoints_served.orders) told
 
   here : (place : ℕ) (event : Event) (answer : Reply) → Answers sizes events place number event answer → AnswersHere (opening sizes) events place number event answer
   here place event answer is = record { event_is = is.event_is; touches = is.touches; reply_is = is.reply_is }
 
   pub fault_ran : (place : ℕ) (event : Event) → Answers sizes events place number event (Refused DiskFailed) → EitherFaultCounted j j' c c'
-  fault_ran place event is = rose_wider j ran.opened_journal ran.last_journal j' c ran.opened_checkpoints ran.last_checkpoints c'
-      ran.journal_served.faults ran.checkpoints_served.faults ran.undone.fails.journal_faults ran.undone.fails.checkpoint_faults
-      (fault_caused number (opening sizes) events ran.opened_journal ran.last_journal ran.opened_checkpoints ran.last_checkpoints ran.played place event (here place event (Refused DiskFailed) is))
+  fault_ran place event is = rose_wider j ran.opened_journal j' j' c ran.opened_checkpoints c' c'
+      ran.journal_served.faults ran.checkpoints_served.faults (omega arith) (omega arith)
+      (fault_caused number (opening sizes) events ran.opened_journal j' ran.opened_checkpoints c' ran.played place event (here place event (Refused DiskFailed) is))
 
   pub armed_ran : IsRun sizes events → IsUnarmed j → IsUnarmed c → (place : ℕ) (event : Event) → Answers sizes events place number event (Refused DiskFailed)
       → (before : ℕ) × (earlier : Event) × (before < place) × Answers sizes events before number earlier Armed
   armed_ran is_run first second place event is =
-      let found = armed_before number (opening sizes) events is_run ran.opened_journal ran.last_journal ran.opened_checkpoints ran.last_checkpoints ran.played
+      let found = armed_before number (opening sizes) events is_run ran.opened_journal j' ran.opened_checkpoints c' ran.played
       (record {
         journal_steady = ran.journal_served.steady first.0;
         checkpoints_steady = ran.checkpoints_served.steady second.0;
@@ -262,24 +244,24 @@ module _ {D : Type 0} (state : D → State) (handed : List D) (many : length han
     failures_left (Parts events disks) sizes leaves = tt
     failures_left (Ran set) sizes (read, asked, (opened, opens, ran)) = λ number less.
         of_node state handed set.disks number (NodeRan number (opening set.sizes).world set.history) (FailedAtLeast (failures_at number (opening set.sizes).world set.history))
-        (λ j j' c c' node. failures_ran number set.sizes set.history j j' c c' node) (ran_of opened set sizes opens (ran_to state (status ≡ 1) (ComesNext read.parts set.history) opened set ran) number less)
+        (λ j j' c c' node. failures_ran number set.sizes set.history j j' c c' node) (ran_of opened set sizes opens (ran_to state (status ≡ 1) (ComesNext read.parts set.history) (IsInBlock read.parts) opened set ran) number less)
 
     pub orders_left : (outcome : Left D) → IfSet outcome (λ set. AreSizes set.sizes) → LeavesDisks state words left rest handed status outcome → IfSet outcome (OrdersCount state handed)
     orders_left (Parts events disks) sizes leaves = tt
     orders_left (Ran set) sizes (read, asked, (opened, opens, ran)) = λ number less.
         of_node state handed set.disks number (NodeRan number (opening set.sizes).world set.history) (OrdersAre number (opening set.sizes).world set.history)
-        (λ j j' c c' node. orders_ran number set.sizes set.history j j' c c' node) (ran_of opened set sizes opens (ran_to state (status ≡ 1) (ComesNext read.parts set.history) opened set ran) number less)
+        (λ j j' c c' node. orders_ran number set.sizes set.history j j' c c' node) (ran_of opened set sizes opens (ran_to state (status ≡ 1) (ComesNext read.parts set.history) (IsInBlock read.parts) opened set ran) number less)
 
     pub causes_left : (outcome : Left D) → IfSet outcome (λ set. AreSizes set.sizes) → LeavesDisks state words left rest handed status outcome → IfSet outcome (FaultsHaveCauses state handed)
     causes_left (Parts events disks) sizes leaves = tt
     causes_left (Ran set) sizes (read, asked, (opened, opens, ran)) = λ place number event less is.
         of_node state handed set.disks number (NodeRan number (opening set.sizes).world set.history) EitherFaultCounted
-        (λ j j' c c' node. fault_ran number set.sizes set.history j j' c c' node place event is) (ran_of opened set sizes opens (ran_to state (status ≡ 1) (ComesNext read.parts set.history) opened set ran) number less)
+        (λ j j' c c' node. fault_ran number set.sizes set.history j j' c c' node place event is) (ran_of opened set sizes opens (ran_to state (status ≡ 1) (ComesNext read.parts set.history) (IsInBlock read.parts) opened set ran) number less)
 
     pub armed_left : (outcome : Left D) → IfSet outcome (λ set. AreSizes set.sizes) → IfSet outcome (λ set. IsRun set.sizes set.history) → LeavesDisks state words left rest handed status outcome
         → All (λ (disk : D). IsUnarmed (state disk)) handed → IfSet outcome (λ set. FaultsAreArmed set.sizes set.history)
     armed_left (Parts events disks) sizes is_run leaves unarmed = tt
     armed_left (Ran set) sizes is_run (read, asked, (opened, opens, ran)) unarmed = λ place number event less is.
-        let node = ran_of opened set sizes opens (ran_to state (status ≡ 1) (ComesNext read.parts set.history) opened set ran) number less in
+        let node = ran_of opened set sizes opens (ran_to state (status ≡ 1) (ComesNext read.parts set.history) (IsInBlock read.parts) opened set ran) number less in
         armed_ran number set.sizes set.history (state node.journal) (state node.journal') (state node.checkpoints) (state node.checkpoints') node.so is_run
         (unarmed_at state handed unarmed (2 * number) node.journal node.journal_was) (unarmed_at state handed unarmed (2 * number + 1) node.checkpoints node.checkpoints_was) place event is

@@ -14,8 +14,8 @@ use Rattle.set_program.specs.declared.outcome.Left.TheVariants.{World, Parts}
 use Rattle.set_program.specs.declared.stop.Stop.{Stop}
 use Rattle.set_program.specs.declared.stop.Stop.TheVariants.{Memory, Usage, Script as NoScript, ReadFault, WriteFault, TooLong, DiskFault}
 use Rattle.set_program.specs.declared.words.Task.{Task}
-use Rattle.set_program.specs.Disks.{DisksRan}
-use Rattle.set_program.specs.Headline.{AnyPrefix, Asks, ComesNext, EndsTask, EndsWithoutRun, IsFaulty, IsOneOf, IsRead, IsScriptOf, PutsPrefix, limit, opening_error}
+use Rattle.set_program.specs.Headline.{AnyPrefix, Asks, EndsTask, EndsWithoutRun, IsFaulty, IsOneOf, IsRead, IsScriptOf, PutsPrefix, limit, opening_error}
+use Rattle.set_program.specs.Parts.{DisksGo}
 
 -- the words ask for this task and its script, or nothing is run
 abbrev pub Reads : List (String Global) → Option (List ℕ) → Option (List ℕ) → Option (List ℕ)
@@ -49,7 +49,7 @@ RunsScript task read old new ended (Parts events disks) =
 abbrev pub OpensScript : {D : Type 0} → (D → State) → Script → List D → ℕ → Left D → Type 0
 OpensScript {D} state read handed status (World set) =
     (opened : List D) × Opens state set.sizes.nodes (Ok tt) handed opened
-    × DisksRan state (status ≡ 1) (ComesNext read.parts set.history) opened set
+    × DisksGo state read.parts opened set (status ≡ 1)
 OpensScript {D} state read handed status (Parts events disks) =
     IsOneOf (1 ∷ 7 ∷ []) status × Opens state read.nodes (Err (opening_error status)) handed disks.items
     × AllStand state (opening_set (sizes_of read) disks.items)

@@ -1,11 +1,12 @@
 -- What a run does to the set's disks.
-use Rattle.std.specs.Prelude.{◌⊎◌, ℕ, List}
+use Rattle.std.specs.Prelude.{◌≡◌, ◌++◌, ◌⊎◌, ℕ, List}
 use Rattle.rs_disk.specs.State.{State}
 use Rattle.set_model.specs.declared.command.Command.{Command}
+use Rattle.set_model.specs.declared.command.Event.{Event}
 use Rattle.set_model.specs.Run.{opening, run}
 use Rattle.set_world.specs.World.{Set}
 use Rattle.set_world.specs.Disks.{DisksUndone}
-use Rattle.set_world.specs.Went.{DisksPlay}
+use Rattle.set_world.specs.Went.{DisksPlay, DisksRun}
 
 -- from these disks a set came by its events to those that it has
 abbrev pub DisksPlayed : {D : Type 0} → (D → State) → List D → Set D → Type 0
@@ -21,7 +22,22 @@ pub record DisksBegan {D : Type 0} (state : D → State) (IsNext : ℕ → Comma
   pub next : IsNext line command
   pub undone : DisksUndone state (run set.sizes set.history).world command last set.disks
 
--- By its events alone, or where memory ran out maybe by one command more.
-abbrev pub DisksRan : {D : Type 0} → (D → State) → Type 0 → (ℕ → Command → Type 0) → List D → Set D → Type 0
-DisksRan state OutOfMemory IsNext first set =
-    DisksPlayed state first set ⊎ (OutOfMemory × DisksBegan state IsNext first set)
+-- By the events before a block, and then by those of the block: before, between and behind these, commands
+-- that weren't done may have used disks.
+pub record DisksBroke {D : Type 0} (state : D → State) (IsBlock : List Event → List Event → Type 0)
+    (first : List D) (set : Set D) : Type 0 where
+  pub earlier : List Event
+  pub later : List Event
+  pub events_are : set.history ≡ earlier ++ later
+  pub block : IsBlock earlier later
+  pub begun : List D
+  pub played : DisksPlay state (opening set.sizes).world earlier first begun
+  pub ran : DisksRun state (run set.sizes earlier).world later begun set.disks
+
+-- By its events alone. Where memory ran out at a line, maybe by one command more; where it ran out in a
+-- block, by commands of it that weren't done.
+abbrev pub DisksRan : {D : Type 0} → (D → State) → Type 0 → (ℕ → Command → Type 0)
+    → (List Event → List Event → Type 0) → List D → Set D → Type 0
+DisksRan state OutOfMemory IsNext IsBlock first set =
+    DisksPlayed state first set
+    ⊎ (OutOfMemory × (DisksBegan state IsNext first set ⊎ DisksBroke state IsBlock first set))

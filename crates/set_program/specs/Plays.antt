@@ -1,18 +1,21 @@
--- How far a play comes, in the order in which the lines stand in the script.
-use Rattle.std.specs.Prelude.{ℕ, ◌≡◌, ◌++◌, ◌⊎◌, Option, Result, Ok, Err, List, [], map, take}
+-- How far a part is played, and what is put of its replies.
+use Rattle.std.specs.Prelude.{ℕ, ◌≡◌, ◌++◌, ◌⊎◌, Option, Result, Ok, Err, List, map, length, take}
 use Rattle.std.specs.List.{flat_map}
 use Rattle.std.specs.Io.KnownBytes.{Appends, Keeps}
+use Rattle.rs_disk.specs.State.{State}
 use Rattle.set_model.specs.declared.command.Command.{Command}
 use Rattle.set_model.specs.declared.command.Event.{Event}
 use Rattle.set_model.specs.declared.reply.Reply.{Reply}
-use Rattle.set_model.specs.Run.{Sizes, run}
+use Rattle.set_model.specs.Run.{run}
 use Rattle.fault_script.specs.declared.script.Part.{Part}
-use Rattle.fault_script.specs.Script.{lines_in}
-use Rattle.transcript.specs.Replies.{line_text, text}
+use Rattle.transcript.specs.Replies.{line_text}
+use Rattle.set_world.specs.Went.{DisksPlay}
+use Rattle.set_world.specs.World.{Set}
 use Rattle.set_program.specs.declared.stop.Stop.{Stop}
 use Rattle.set_program.specs.declared.stop.Stop.TheVariants.{Memory, Usage, Script as NoScript, ReadFault, WriteFault, TooLong, DiskFault}
-use Rattle.set_program.specs.Headline.{AnyPrefix, StopsAtAPoint, NoPrefix, PutsReplies}
-use Rattle.set_program.specs.Steps.{Adds, GoesOn, line_of}
+use Rattle.set_program.specs.Headline.{AnyPrefix, IsOrderOf, NoPrefix, PutsReplies}
+use Rattle.set_program.specs.Parts.{SteppedSome}
+use Rattle.set_program.specs.Steps.{GoesOn, line_of}
 
 -- ---- texts
 
@@ -41,51 +44,41 @@ PutsEach held now replies (Err DiskFault) = ⊥
 -- ---- a part
 
 -- its lines are played, and then their replies put
-pub record PlayedPart (sizes : Sizes) (lines : List (ℕ × Command)) (held now : Option (List ℕ))
-    (old new : List Event) : Type 0 where
-  pub adds : Adds lines old new
+pub record PlayedPart {D : Type 0} (part : Part) (held now : Option (List ℕ)) (old new : Set D) : Type 0 where
+  pub added : List Event
+  pub events : new.history ≡ old.history ++ added
+  pub order : IsOrderOf part (map line_of added)
   pub replies : List (ℕ × Reply)
-  pub told : GoesOn sizes old new replies
+  pub told : GoesOn old.sizes old.history new.history replies
   pub put : Appends held now (flat_map line_text replies)
 
 -- some first lines are played, and some first replies put: none before all lines are played
-pub record CutPart (sizes : Sizes) (MayBe : ℕ → Type 0) (lines : List (ℕ × Command))
-    (held now : Option (List ℕ)) (old new : List Event) : Type 0 where
-  pub played : List (ℕ × Command)
-  pub later : List (ℕ × Command)
-  pub lines_are : lines ≡ played ++ later
-  pub adds : Adds played old new
+pub record CutPart {D : Type 0} (MayBe : ℕ → Type 0) (part : Part) (held now : Option (List ℕ))
+    (old new : Set D) : Type 0 where
+  pub added : List Event
+  pub events : new.history ≡ old.history ++ added
+  pub lines : List (ℕ × Command)
+  pub order : IsOrderOf part lines
+  pub front : map line_of added ≡ take (length added) lines
   pub replies : List (ℕ × Reply)
-  pub told : GoesOn sizes old new replies
+  pub told : GoesOn old.sizes old.history new.history replies
   pub put : PutsReplies MayBe held now replies
-  pub waits : (later ≡ []) ⊎ Keeps held now
+  pub waits : (map line_of added ≡ lines) ⊎ Keeps held now
 
-abbrev pub PlaysPart : Sizes → List (ℕ × Command) → Option (List ℕ) → Option (List ℕ) → List Event
-    → List Event → Result (Unit {0}) Stop → Type 0
-PlaysPart sizes lines held now old new (Ok done) = PlayedPart sizes lines held now old new
-PlaysPart sizes lines held now old new (Err Memory) = CutPart sizes NoPrefix lines held now old new
-PlaysPart sizes lines held now old new (Err WriteFault) = CutPart sizes AnyPrefix lines held now old new
-PlaysPart sizes lines held now old new (Err Usage) = ⊥
-PlaysPart sizes lines held now old new (Err NoScript) = ⊥
-PlaysPart sizes lines held now old new (Err ReadFault) = ⊥
-PlaysPart sizes lines held now old new (Err TooLong) = ⊥
-PlaysPart sizes lines held now old new (Err DiskFault) = ⊥
-
--- ---- all parts
-
--- all parts are played, and their replies are put
-pub record Played (sizes : Sizes) (parts : List Part) (held now : Option (List ℕ))
-    (events : List Event) : Type 0 where
-  pub lines_are : map line_of events ≡ lines_in parts
-  pub put : Appends held now (text (run sizes events))
-
-abbrev pub Plays : Sizes → List Part → Option (List ℕ) → Option (List ℕ) → List Event
+abbrev pub PlaysPart : {D : Type 0} → Part → Option (List ℕ) → Option (List ℕ) → Set D → Set D
     → Result (Unit {0}) Stop → Type 0
-Plays sizes parts held now events (Ok done) = Played sizes parts held now events
-Plays sizes parts held now events (Err Memory) = StopsAtAPoint sizes NoPrefix parts held now events
-Plays sizes parts held now events (Err WriteFault) = StopsAtAPoint sizes AnyPrefix parts held now events
-Plays sizes parts held now events (Err Usage) = ⊥
-Plays sizes parts held now events (Err NoScript) = ⊥
-Plays sizes parts held now events (Err ReadFault) = ⊥
-Plays sizes parts held now events (Err TooLong) = ⊥
-Plays sizes parts held now events (Err DiskFault) = ⊥
+PlaysPart part held now old new (Ok done) = PlayedPart part held now old new
+PlaysPart part held now old new (Err Memory) = CutPart NoPrefix part held now old new
+PlaysPart part held now old new (Err WriteFault) = CutPart AnyPrefix part held now old new
+PlaysPart part held now old new (Err Usage) = ⊥
+PlaysPart part held now old new (Err NoScript) = ⊥
+PlaysPart part held now old new (Err ReadFault) = ⊥
+PlaysPart part held now old new (Err TooLong) = ⊥
+PlaysPart part held now old new (Err DiskFault) = ⊥
+
+-- the disks are those that its events leave; out of memory, more may have used them
+abbrev pub DisksGoBy : {D : Type 0} → (D → State) → Part → Set D → Set D → Type 0 → Type 0
+DisksGoBy state part old new OutOfMemory =
+    ((added : List Event) × (new.history ≡ old.history ++ added)
+    × DisksPlay state (run old.sizes old.history).world added old.disks new.disks)
+    ⊎ (OutOfMemory × SteppedSome state part old new)

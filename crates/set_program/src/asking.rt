@@ -3,11 +3,12 @@ ghost use Rattle.std.specs.Prelude.{◌≡◌, ◌≢◌, ◌≤◌, length, tru
 ghost use Rattle.std.specs.List.{list_all};
 ghost use Rattle.rs_io.specs.Fault.{HasCause, CountRose};
 ghost use Rattle.set_model.specs.Run.{AreSizes};
-ghost use Rattle.fault_script.specs.Script.{is_part_for, lines_in, script, sizes_of};
+ghost use Rattle.fault_script.specs.Script.{lines_in, script, sizes_of};
 ghost use Rattle.transcript.specs.Faults.{fault_text};
 ghost use Rattle.chance_script.specs.Generated.{generated};
 ghost use Rattle.set_program.specs.Asking.{Reads, ReadsSource};
 ghost use Rattle.set_program.specs.Headline.{AsksRun, status_of};
+ghost use Rattle.set_program.specs.Parts.{can_be_run};
 ghost use Rattle.set_program.specs.Plays.{PutsText};
 
 use crate::stop::Stop;
@@ -34,7 +35,7 @@ pub fn read_script<S: Source, K: Sink>(
     ensures reads { Reads words.now (S.left source.old) (S.left source.new) (K.held sink.old)
         (K.held sink.new) result }
     ensures sizes { IfOk result (λ asked. AreSizes (sizes_of asked.1)) }
-    ensures fits { IfOk result (λ asked. list_all (is_part_for asked.1.nodes) asked.1.parts ≡ true) }
+    ensures fits { IfOk result (λ asked. list_all (can_be_run asked.1.nodes) asked.1.parts ≡ true) }
     ensures few { IfOk result (λ asked. length (lines_in asked.1.parts) ≤ 200000) }
     ensures unread { ¬ AsksRun words.now → source.new ≡ source.old }
     ensures unput { OnOk result (sink.new ≡ sink.old) }
@@ -79,7 +80,7 @@ fn source_script<S: Source, K: Sink>(
     ensures reads { ReadsSource (S.left source.old) (S.left source.new) (K.held sink.old)
         (K.held sink.new) result }
     ensures sizes { IfOk result (λ read. AreSizes (sizes_of read)) }
-    ensures fits { IfOk result (λ read. list_all (is_part_for read.nodes) read.parts ≡ true) }
+    ensures fits { IfOk result (λ read. list_all (can_be_run read.nodes) read.parts ≡ true) }
     ensures few { IfOk result (λ read. length (lines_in read.parts) ≤ 200000) }
     ensures unput { OnOk result (sink.new ≡ sink.old) }
     ensures read_fault { status_of result ≡ 4 → CountRose (S.faults source.old) (S.faults source.new) }
@@ -107,7 +108,7 @@ fn generated_script(alloc: Global, seed: u64, events: u32, nodes: u32) -> Mem<Sc
     requires sizes { 1 ≤ nodes × nodes ≤ 7 }
     ensures reads { IfOk result (λ read. script (generated seed events nodes) ≡ Ok read) }
     ensures sizes { IfOk result (λ read. AreSizes (sizes_of read)) }
-    ensures fits { IfOk result (λ read. list_all (is_part_for read.nodes) read.parts ≡ true) }
+    ensures fits { IfOk result (λ read. list_all (can_be_run read.nodes) read.parts ≡ true) }
     ensures few { IfOk result (λ read. length (lines_in read.parts) ≤ 200000) }
 {
     let bytes = generate(alloc, seed, events, nodes)?;

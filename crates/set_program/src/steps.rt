@@ -1,87 +1,57 @@
-// The lines of a part, played one after another.
-ghost use Rattle.std.specs.Prelude.{◌≡◌, ◌+◌, ◌≤◌, ◌<◌, true, [], ◌∷◌, length};
-ghost use Rattle.std.specs.List.{list_all, AllPass};
-ghost use Rattle.fault_script.specs.Script.{is_part_for, lines_in, lines_of, joined};
+// The lines of a part, played in an order in which they may be.
+ghost use Rattle.std.specs.Prelude.{◌≡◌, ◌+◌, ◌≤◌, ◌<◌, ◌++◌, true, [], length, OnOk};
+ghost use Rattle.std.specs.List.{AllPass};
+ghost use Rattle.fault_script.specs.Script.{lines_in, lines_of};
+ghost use Rattle.fault_script.specs.declared.script.Part.TheVariants.{Line, Par};
 ghost use Rattle.set_model.specs.Limits.{is_for};
-ghost use Rattle.set_program.specs.Steps.{Steps};
+ghost use Rattle.set_program.specs.Parts.{can_be_run, unplaced, Steps, StepsAll};
 
+use crate::block::run_block;
+use batch_applier::Gate;
 use bson_doc::Mem;
-use fault_script::{Lines, Part, Parts};
+use fault_script::{Part, Parts, Threads as Lists};
 use rs_disk::Disk;
 use set_model::{Command, Reply};
 use set_world::{StepError, World};
+use shared_set::SharedSet;
 use std::alloc::AllocError;
+use std::sync::Wait;
 use std::thread::Threads;
 
 /// Plays parts one after another, and keeps their replies.
-pub fn step_parts<D: Disk, R: Threads + Sync>(
+pub fn step_parts<D: Disk + Send, G: Gate + Sync, R: Threads + Wait + Sync>(
     rt: &R,
+    gate: &G,
     parts: Parts,
-    world: &mut World<D>,
+    world: World<D>,
     replies: &mut Vec<(u32, Reply)>,
-) -> Mem<()>
-    requires few { length world.old.history + length (lines_in parts) ≤ 200000 }
-    requires fits { AllPass (is_part_for world.old.sizes.nodes) parts }
-    ensures { Steps D.state (lines_in parts) world.old world.new replies.old.items replies.new.items result }
+) -> (Mem<()>, World<D>)
+    requires start { world.history ≡ [] }
+    requires empty { replies.old.items ≡ [] }
+    requires few { length (lines_in parts) ≤ 200000 }
+    requires fits { AllPass (can_be_run world.sizes.nodes) parts }
+    ensures { StepsAll D.state parts world result.1 replies.new.items result.0 }
 {
+    let mut world = world;
     let mut rest = parts.into_rest();
     while let Some(part) = rest.next() {
-        step_part(rt, part, world, replies)?;
+        match part {
+            Part::Line(line, command) => {
+                if let Err(error) = step_line(rt, line, command, &mut world, replies) {
+                    return (Err(error), world);
+                }
+            }
+            Part::Par(lists) => match step_block(rt, gate, &lists, world, replies) {
+                (Ok(()), back) => world = back,
+                (Err(error), back) => return (Err(error), back),
+            },
+        }
     }
-    Ok(())
+    (Ok(()), world)
 }
 
-/// Plays a part, and keeps its replies in the order in which they are given. The threads of a block run
-/// one after another.
-pub fn step_part<D: Disk, R: Threads + Sync>(
-    rt: &R,
-    part: Part,
-    world: &mut World<D>,
-    replies: &mut Vec<(u32, Reply)>,
-) -> Mem<()>
-    requires few { length world.old.history + length (lines_of part) ≤ 200000 }
-    requires fits { is_part_for world.old.sizes.nodes part ≡ true }
-    ensures { Steps D.state (lines_of part) world.old world.new replies.old.items replies.new.items result }
-{
-    match part {
-        Part::Line(line, command) => step_line(rt, line, command, world, replies),
-        Part::Par(threads) => step_threads(rt, threads, world, replies),
-    }
-}
-
-fn step_threads<D: Disk, R: Threads + Sync>(
-    rt: &R,
-    threads: fault_script::Threads,
-    world: &mut World<D>,
-    replies: &mut Vec<(u32, Reply)>,
-) -> Mem<()>
-    requires few { length world.old.history + length (joined threads) ≤ 200000 }
-    requires fits { AllPass (list_all (λ line. is_for world.old.sizes.nodes line.1)) threads }
-    ensures { Steps D.state (joined threads) world.old world.new replies.old.items replies.new.items result }
-{
-    for thread in threads.into_vec() {
-        step_lines(rt, thread, world, replies)?;
-    }
-    Ok(())
-}
-
-fn step_lines<D: Disk, R: Threads + Sync>(
-    rt: &R,
-    lines: Lines,
-    world: &mut World<D>,
-    replies: &mut Vec<(u32, Reply)>,
-) -> Mem<()>
-    requires few { length world.old.history + length lines ≤ 200000 }
-    requires fits { AllPass (λ line. is_for world.old.sizes.nodes line.1) lines }
-    ensures { Steps D.state lines world.old world.new replies.old.items replies.new.items result }
-{
-    for (line, command) in lines.into_vec() {
-        step_line(rt, line, command, world, replies)?;
-    }
-    Ok(())
-}
-
-fn step_line<D: Disk, R: Threads + Sync>(
+/// Plays a line, and keeps its reply.
+pub fn step_line<D: Disk, R: Threads + Sync>(
     rt: &R,
     line: u32,
     command: Command,
@@ -90,8 +60,8 @@ fn step_line<D: Disk, R: Threads + Sync>(
 ) -> Mem<()>
     requires few { length world.old.history < 200000 }
     requires fits { is_for world.old.sizes.nodes command ≡ true }
-    ensures { Steps D.state
-        ((line, command) ∷ []) world.old world.new replies.old.items replies.new.items result }
+    ensures { Steps D.state (Line line command)
+        world.old world.new replies.old.items replies.new.items result }
 {
     match world.take(rt, line, command) {
         Ok(reply) => {
@@ -101,4 +71,48 @@ fn step_line<D: Disk, R: Threads + Sync>(
         Err(StepError::Memory) => Err(AllocError),
         Err(StepError::HistoryFull) => unreachable!(),
     }
+}
+
+/// Plays a block, and keeps its replies in the order in which they are given, when all its lines are played.
+/// The set is shared for the block alone.
+pub fn step_block<D: Disk + Send, G: Gate + Sync, R: Threads + Wait + Sync>(
+    rt: &R,
+    gate: &G,
+    lists: &Lists,
+    world: World<D>,
+    replies: &mut Vec<(u32, Reply)>,
+) -> (Mem<()>, World<D>)
+    requires few { length world.history + length (lines_of (Par lists.now)) ≤ 200000 }
+    requires fits { can_be_run world.sizes.nodes (Par lists.now) ≡ true }
+    ensures { Steps D.state (Par lists.now) world result.1 replies.old.items replies.new.items result.0 }
+{
+    let alloc = *replies.allocator();
+    let (set, mut pass) = match SharedSet::new(alloc, world) {
+        Ok(shared) => shared,
+        Err(world) => return (Err(AllocError), world),
+    };
+    let told = run_block(rt, alloc, &set, &mut pass, lists.as_slice(), gate);
+    let world = set.close(pass);
+    match told {
+        Ok(told) => {
+            if world.is_whole() {
+                (keep(told, replies), world)
+            } else {
+                (Err(AllocError), world)
+            }
+        }
+        Err(StepError::Memory) => (Err(AllocError), world),
+        Err(StepError::HistoryFull) => unreachable!(),
+    }
+}
+
+/// Keeps replies, without their places.
+fn keep(told: Vec<(u32, u32, Reply)>, replies: &mut Vec<(u32, Reply)>) -> Mem<()>
+    ensures { OnOk result (replies.new.items ≡ replies.old.items ++ unplaced told.items) }
+{
+    replies.reserve(told.len())?;
+    for (_, line, reply) in told {
+        replies.push((line, reply))?;
+    }
+    Ok(())
 }

@@ -2,72 +2,78 @@
 ghost use Rattle.std.specs.Prelude.{◌≡◌, ◌≢◌, ◌≤◌, [], length, Err, IsErrOf};
 ghost use Rattle.std.specs.List.{AllPass};
 ghost use Rattle.rs_io.specs.Fault.{HasCause};
-ghost use Rattle.fault_script.specs.Script.{is_part_for, lines_in};
+ghost use Rattle.fault_script.specs.Script.{lines_in};
 ghost use Rattle.set_model.specs.Run.{run};
 ghost use Rattle.transcript.specs.Summaries.{summary_text};
 ghost use Rattle.set_program.specs.Headline.{EndsTask, EndsWithSummary, summary_put};
+ghost use Rattle.set_program.specs.Parts.{can_be_run, DisksGo};
 ghost use Rattle.set_program.specs.Plays.{PutsText};
-ghost use Rattle.set_program.specs.Steps.{DisksGoOn};
 
 use crate::play::play;
 use crate::steps::step_parts;
 use crate::stop::Stop;
 use crate::summary::summary;
 use crate::words::Task;
+use batch_applier::Gate;
 use fault_script::Parts;
 use rs_disk::Disk;
 use rs_io::Sink;
 use set_model::Reply;
 use set_world::World;
 use std::alloc::Global;
+use std::sync::Wait;
 use std::thread::Threads;
 use transcript::{Summary, write_summary};
 
 /// Plays the parts of a script as a task asks: it puts each reply, or only the summary of the run. An error
 /// says why it stopped before the end.
-pub fn play_task<K: Sink, D: Disk, R: Threads + Sync>(
+pub fn play_task<K: Sink, D: Disk + Send, G: Gate + Sync, R: Threads + Wait + Sync>(
     rt: &R,
     alloc: Global,
+    gate: &G,
     task: Task,
     parts: Parts,
     sink: &mut K,
-    world: &mut World<D>,
-) -> Result<(), Stop>
-    requires start { world.old.history ≡ [] }
+    world: World<D>,
+) -> (Result<(), Stop>, World<D>)
+    requires start { world.history ≡ [] }
     requires few { length (lines_in parts) ≤ 200000 }
-    requires fits { AllPass (is_part_for world.old.sizes.nodes) parts }
-    ensures ends { EndsTask task parts (K.held sink.old) (K.held sink.new) result world.new }
-    ensures sizes { world.new.sizes ≡ world.old.sizes }
-    ensures disks { DisksGoOn D.state (lines_in parts) world.old world.new (result ≡ Err Stop.Memory) }
-    ensures cause { HasCause (K.faults sink.old) (K.faults sink.new) (IsErrOf result Stop.WriteFault) }
-    ensures steady { K.steady sink.old → K.steady sink.new × (result ≢ Err Stop.WriteFault) }
+    requires fits { AllPass (can_be_run world.sizes.nodes) parts }
+    ensures ends { EndsTask task parts (K.held sink.old) (K.held sink.new) result.0 result.1 }
+    ensures sizes { result.1.sizes ≡ world.sizes }
+    ensures disks { DisksGo D.state parts world.disks result.1 (result.0 ≡ Err Stop.Memory) }
+    ensures cause { HasCause (K.faults sink.old) (K.faults sink.new) (IsErrOf result.0 Stop.WriteFault) }
+    ensures steady { K.steady sink.old → K.steady sink.new × (result.0 ≢ Err Stop.WriteFault) }
 {
     match task {
-        Task::Run => play(rt, alloc, parts, sink, world),
-        Task::Chaos { .. } => play_told(rt, alloc, parts, sink, world),
+        Task::Run => play(rt, alloc, gate, parts, sink, world),
+        Task::Chaos { .. } => play_told(rt, alloc, gate, parts, sink, world),
     }
 }
 
 /// Plays parts one after another, and puts the summary of their run.
-fn play_told<K: Sink, D: Disk, R: Threads + Sync>(
+fn play_told<K: Sink, D: Disk + Send, G: Gate + Sync, R: Threads + Wait + Sync>(
     rt: &R,
     alloc: Global,
+    gate: &G,
     parts: Parts,
     sink: &mut K,
-    world: &mut World<D>,
-) -> Result<(), Stop>
-    requires start { world.old.history ≡ [] }
+    world: World<D>,
+) -> (Result<(), Stop>, World<D>)
+    requires start { world.history ≡ [] }
     requires few { length (lines_in parts) ≤ 200000 }
-    requires fits { AllPass (is_part_for world.old.sizes.nodes) parts }
-    ensures ends { EndsWithSummary parts (K.held sink.old) (K.held sink.new) result world.new }
-    ensures sizes { world.new.sizes ≡ world.old.sizes }
-    ensures disks { DisksGoOn D.state (lines_in parts) world.old world.new (result ≡ Err Stop.Memory) }
-    ensures cause { HasCause (K.faults sink.old) (K.faults sink.new) (IsErrOf result Stop.WriteFault) }
-    ensures steady { K.steady sink.old → K.steady sink.new × (result ≢ Err Stop.WriteFault) }
+    requires fits { AllPass (can_be_run world.sizes.nodes) parts }
+    ensures ends { EndsWithSummary parts (K.held sink.old) (K.held sink.new) result.0 result.1 }
+    ensures sizes { result.1.sizes ≡ world.sizes }
+    ensures disks { DisksGo D.state parts world.disks result.1 (result.0 ≡ Err Stop.Memory) }
+    ensures cause { HasCause (K.faults sink.old) (K.faults sink.new) (IsErrOf result.0 Stop.WriteFault) }
+    ensures steady { K.steady sink.old → K.steady sink.new × (result.0 ≢ Err Stop.WriteFault) }
 {
     let mut replies = Vec::new(alloc);
-    step_parts(rt, parts, world, &mut replies)?;
-    put_summary(alloc, &replies, world, sink)
+    match step_parts(rt, gate, parts, world, &mut replies) {
+        (Ok(()), world) => (put_summary(alloc, &replies, &world, sink), world),
+        (Err(_), world) => (Err(Stop::Memory), world),
+    }
 }
 
 /// Puts the summary of a set's run, of which these are the replies.

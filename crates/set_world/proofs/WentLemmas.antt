@@ -1,6 +1,8 @@
 -- How the disks of a set go on, event by event.
-use Rattle.std.proofs.Common.{◌≡◌, ◌∙◌, sym, subst, refl, ℕ, Bool, true, false, List, [], ◌∷◌, ◌++◌, fold, length}
+use Rattle.std.proofs.Common.{◌≡◌, ◌∙◌, ap, sym, subst, refl, append_assoc, ℕ, Bool, true, false, List, [], ◌∷◌, ◌++◌, fold, length}
 use Rattle.std.specs.Prelude.{IsSome}
+use Rattle.std.proofs.lemmas.List.{append-nil}
+use Rattle.std.proofs.lemmas.List.Sums.{fold-append}
 use Rattle.rs_disk.specs.State.{State}
 use Rattle.set_model.specs.declared.command.Command.{Command}
 use Rattle.set_model.specs.declared.command.Event.{Event}
@@ -11,7 +13,7 @@ use Rattle.set_model.specs.World.{World, step, task}
 use Rattle.node_core.specs.Acting.{DisksActed}
 use Rattle.set_world.specs.World.{Set}
 use Rattle.set_world.specs.Disks.{AtTouchedNode, DisksUndone, IsStep, NothingDone, OneChanged}
-use Rattle.set_world.specs.Went.{DisksPlay, DisksRun, DisksStep, AllUndone, DisksWent}
+use Rattle.set_world.specs.Went.{DisksPlay, DisksRun, DisksStep, AllUndone, DisksWent, WentOn}
 
 -- an event more is played
 pub play_more : {D : Type 0} (state : D → State) (so_far : Run) (events : List Event) (event : Event) (first old new : List D)
@@ -91,3 +93,47 @@ went_undone {D} state old new command is fits sizes opened broken went = record 
       (run_undone state (opening old.sizes) old.history command old.opened old.disks new.disks went.ran fits is.disks)));
   played = λ still. absurd (cc (still, broken));
 }
+
+-- ---- from a moment on
+
+-- nothing was done yet
+pub went_nowhere : {D : Type 0} (state : D → State) (set : Set D) → WentOn state set set
+went_nowhere state set = record { sizes = refl; opened = refl; added = []; history = sym (append-nil set.history); ran = ([], refl); played = λ still. refl }
+
+-- a set that went on goes on further
+module _ {D : Type 0} (state : D → State) (begun old new : Set D) (so_far : WentOn state begun old) (sizes : new.sizes ≡ old.sizes) (opened : new.opened ≡ old.opened) where
+  abbrev then : Run
+  then = run begun.sizes begun.history
+
+  here : (fold after then so_far.added).world ≡ (run old.sizes old.history).world
+  here = sym (ap (λ (r : Run). r.world) (fold-append after (opening begun.sizes) begun.history so_far.added))
+      ∙ ap (λ (es : List Event). (run begun.sizes es).world) (sym so_far.history) ∙ ap (λ (s : Sizes). (run s old.history).world) (sym so_far.sizes)
+
+  -- by a step
+  pub went_on_step : (line : ℕ) (command : Command) (reply : Reply) → IsStep state old new line command reply → new.whole ≡ old.whole → WentOn state begun new
+  went_on_step line command reply is kept = record {
+    sizes = sizes ∙ so_far.sizes;
+    opened = opened ∙ so_far.opened;
+    added = so_far.added ++ is.event ∷ [];
+    history = is.history ∙ ap (λ (es : List Event). es ++ is.event ∷ []) so_far.history ∙ append_assoc begun.history so_far.added (is.event ∷ []);
+    ran = run_more state then so_far.added is.event begun.disks old.disks new.disks so_far.ran changed;
+    played = λ still. play_more state then so_far.added is.event begun.disks old.disks new.disks (so_far.played (sym kept ∙ still)) changed;
+  }
+    where
+      changed : DisksStep state (fold after then so_far.added).world is.event old.disks new.disks
+      changed = subst (λ (w : World). DisksStep state w is.event old.disks new.disks) (sym here)
+          (of_event state (run old.sizes old.history).world is.event command reply old.disks new.disks (sym is.command_is) is.reply_is is.disks)
+
+  -- by a command that wasn't done
+  pub went_on_undone : (command : Command) → NothingDone state old new command → is_for (length (run old.sizes old.history).world.nodes) command ≡ true
+      → (new.whole ≡ true → (old.whole ≡ true) × (new.disks ≡ old.disks)) → WentOn state begun new
+  went_on_undone command is fits unused = record {
+    sizes = sizes ∙ so_far.sizes;
+    opened = opened ∙ so_far.opened;
+    added = so_far.added;
+    history = is.history ∙ so_far.history;
+    ran = run_undone state then so_far.added command begun.disks old.disks new.disks so_far.ran
+        (subst (λ (w : World). is_for (length w.nodes) command ≡ true) (sym here) fits)
+        (subst (λ (w : World). DisksUndone state w command old.disks new.disks) (sym here) is.disks);
+    played = λ still. subst (λ (ds : List D). DisksPlay state then.world so_far.added begun.disks ds) (sym (unused still).1) (so_far.played (unused still).0);
+  }

@@ -1,10 +1,10 @@
 -- What a run does to the disks of a set.
-use Rattle.std.specs.Prelude.{◌≡◌, true, IsSome, List, [], ◌∷◌, length}
+use Rattle.std.specs.Prelude.{◌≡◌, true, IsSome, List, [], ◌∷◌, ◌++◌, length}
 use Rattle.rs_disk.specs.State.{State}
 use Rattle.set_model.specs.declared.command.Command.{Command}
 use Rattle.set_model.specs.declared.command.Event.{Event}
 use Rattle.set_model.specs.Limits.{is_for}
-use Rattle.set_model.specs.Run.{opening}
+use Rattle.set_model.specs.Run.{opening, run}
 use Rattle.set_model.specs.World.{World, step, task}
 use Rattle.node_core.specs.Acting.{DisksActed}
 use Rattle.set_world.specs.World.{Set}
@@ -45,3 +45,13 @@ DisksRun {D} state world (event ∷ later) old new =
 pub record DisksWent {D : Type 0} (state : D → State) (set : Set D) : Type 0 where
   pub ran : DisksRun state (opening set.sizes).world set.history set.opened set.disks
   pub played : set.whole ≡ true → DisksPlay state (opening set.sizes).world set.history set.opened set.disks
+
+-- A set from one moment to a later one: these events were added. Its disks are those that they leave of what
+-- they were; where the later set isn't whole, commands that weren't done may have used disks too.
+pub record WentOn {D : Type 0} (state : D → State) (old new : Set D) : Type 0 where
+  pub sizes : new.sizes ≡ old.sizes
+  pub opened : new.opened ≡ old.opened
+  pub added : List Event
+  pub history : new.history ≡ old.history ++ added
+  pub ran : DisksRun state (run old.sizes old.history).world added old.disks new.disks
+  pub played : new.whole ≡ true → DisksPlay state (run old.sizes old.history).world added old.disks new.disks

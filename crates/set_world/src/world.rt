@@ -173,6 +173,8 @@ impl<D: Disk> World<D> {
         ensures sizes { self.new.sizes ≡ self.old.sizes }
         ensures opened { self.new.opened ≡ self.old.opened }
         ensures whole { OnOk result (self.new.whole ≡ self.old.whole) }
+        ensures unused { OnErr result (self.new.whole ≡ true →
+            (self.old.whole ≡ true) × (self.new.disks ≡ self.old.disks)) }
     {
         // Before the copy, for which memory may run out.
         if self.history.len() >= MOST_EVENTS {
@@ -200,6 +202,8 @@ impl<D: Disk> World<D> {
         ensures sizes { self.new.sizes ≡ self.old.sizes }
         ensures opened { self.new.opened ≡ self.old.opened }
         ensures whole { OnOk result (self.new.whole ≡ self.old.whole) }
+        ensures unused { OnErr result (self.new.whole ≡ true →
+            (self.old.whole ≡ true) × (self.new.disks ≡ self.old.disks)) }
     {
         if self.history.len() >= MOST_EVENTS {
             return Err(StepError::HistoryFull);
@@ -344,8 +348,10 @@ impl<D: Disk> World<D> {
     pub fn recall_run(&self)
         ensures sizes { AreSizes self.now.sizes }
         ensures run { IsRun self.now.sizes self.now.history }
+        ensures count { length (run self.now.sizes self.now.history).world.nodes ≡ self.now.sizes.nodes }
         ensures short { length self.now.history ≤ 4294967295 }
     {
+        numbers_stay_small();
         let _ = &self.nodes;
     }
 }

@@ -10,7 +10,7 @@ use Rattle.shared_set.specs.Sets.{events_kept, first_of}
 module _ {D : Type 0} where
   -- the set that it was made of
   abbrev pub begun_as : SharedSet D → Set D
-  begun_as shared = (began_with shared.board).world.value
+  begun_as shared = (began_with shared.board).begun
 
   abbrev pub sizes_of : SharedSet D → Sizes
   sizes_of shared = (begun_as shared).sizes

@@ -1,8 +1,9 @@
 // Making a shared set, its turns, its passes and its end.
-ghost use Rattle.std.specs.Prelude.{◌≡◌, ◌<◌, ℕ, length, true, IfErr, IfOk, IsErrOf, OnErr};
+ghost use Rattle.std.specs.Prelude.{◌≡◌, ◌<◌, ◌≤◌, ℕ, length, true, IfErr, IfOk, IsErrOf, OnErr};
 ghost use mathlib.Core.List.{IsPrefix};
 ghost use Rattle.set_model.specs.Limits.{IsRun, is_for};
 ghost use Rattle.set_world.specs.declared.error.StepError.{StepError as AStepError};
+ghost use Rattle.set_world.specs.Went.{WentOn};
 ghost use Rattle.turn_board.specs.Passes.{IsFree, view};
 ghost use Rattle.turn_board.specs.Views.{answered, half, joined, less_one, numbered_as, opened, seen};
 ghost use Rattle.shared_set.specs.Calls.{Closes, Looks, Steps, Waits};
@@ -13,7 +14,7 @@ use crate::turning::Turning;
 use rs_disk::Disk;
 use set_model::{Command, Reply};
 use set_world::{StepError, World};
-use std::alloc::{AllocFailed, Global};
+use std::alloc::Global;
 use std::sync::Wait;
 use std::thread::Threads;
 use turn_board::Board;
@@ -30,13 +31,10 @@ impl<D: Disk> SharedSet<D> {
         ensures err { IfErr result (λ back. back ≡ world) }
     {
         let points = world.size();
-        let world = match Box::new(alloc, world) {
-            Ok(world) => world,
-            Err(AllocFailed { value }) => return Err(value),
-        };
-        match Board::new(alloc, Turning { world }, points) {
+        let turning = Turning::new(alloc, world)?;
+        match Board::new(alloc, turning, points) {
             Ok((board, pass)) => Ok((SharedSet { board }, pass)),
-            Err(Turning { world }) => Err(Box::into_inner(world)),
+            Err(turning) => Err(turning.into_world()),
         }
     }
 
@@ -61,8 +59,10 @@ impl<D: Disk> SharedSet<D> {
         ensures err { OnErr result (Waits (sizes_of self.now) (view pass.old) (view pass.new)) }
         ensures full { IsErrOf result AStepError.HistoryFull → length (seen (view pass.new)) ≡ 4294967295 }
         ensures defined { IsRun (sizes_of self.now) (seen (view pass.new)) }
+        ensures short { length (seen (view pass.new)) ≤ 4294967295 }
     {
         let mut set = self.board.enter(rt, pass);
+        set.recall_went();
         let (node, answer) = set.step(rt, line, command);
         self.board.leave(pass, set, node);
         answer
@@ -109,12 +109,10 @@ impl<D: Disk> SharedSet<D> {
     pub fn close(self, pass: Pass<D>) -> World<D>
         requires pass { IsPass self pass × IsFree pass }
         requires parts { (view pass).parts ≡ 65536 }
-        ensures sizes { result.sizes ≡ sizes_of self }
-        ensures opened { result.opened ≡ (begun_as self).opened }
         ensures closes { Closes (sizes_of self) (view pass) result.history }
+        ensures went { WentOn D.state (begun_as self) result }
     {
         let SharedSet { board } = self;
-        let Turning { world } = board.close(pass);
-        Box::into_inner(world)
+        board.close(pass).into_world()
     }
 }

@@ -9,7 +9,7 @@ use turn_board::Board;
 #[derive(Drop)]
 pub struct SharedSet<D: Disk> {
     pub(crate) board: Board<Turning<D>>,
-    ghost points: { board.points ≡ board.value.world.value.sizes.nodes },
+    ghost points: { board.points ≡ board.value.begun.sizes.nodes },
 }
 
 /// The right of one thread to step a set. It has no bytes. Contracts see what it has seen of the history,

@@ -1,21 +1,43 @@
-ghost use Rattle.std.specs.Prelude.{◌≡◌, ◌<◌, true};
+ghost use Rattle.std.specs.Prelude.{◌≡◌, ◌<◌, ◌≤◌, true, length, IfErr, IfOk};
 ghost use Rattle.set_model.specs.Limits.{IsRun, is_for};
 ghost use Rattle.set_model.specs.Run.{run};
 ghost use Rattle.set_model.specs.World.{touched_node};
+ghost use Rattle.set_world.specs.Went.{WentOn};
 ghost use Rattle.shared_set.specs.Calls.{Went};
 ghost use Rattle.shared_set.specs.Sets.{events_kept, first_of, point_in};
 
 use rs_disk::Disk;
 use set_model::{Command, Event, Reply};
 use set_world::{StepError, World};
+use std::alloc::{AllocFailed, Global};
+use std::marker::Model;
+use std::snapshot::Snapshot;
 use std::thread::Threads;
 use turn_board::Turned;
 
 /// A set on a board: its entries are the events of its history, and its points are its nodes. What goes
-/// from turn to turn is a pointer.
+/// from turn to turn is a pointer. Contracts see the set as it is, and as it was when it was shared.
 #[derive(Drop)]
 pub struct Turning<D: Disk> {
-    pub(crate) world: Box<World<D>>,
+    world: Box<World<D>>,
+    /// For proofs alone.
+    begun: Snapshot<World<D>>,
+}
+
+impl<D: Disk> Model for Turning<D> {
+    ghost use Rattle.std.specs.Coded.{codes};
+    ghost use Rattle.set_model.specs.contracts.command.Event as event;
+    ghost use Rattle.shared_set.specs.Sets.{SetOnBoard};
+
+    ghost Value = { SetOnBoard D };
+
+    ghost coded = { Prim.hlevel (codes, event.the_row.coded) };
+
+    ghost use Rattle.set_world.specs.Went.{WentOn};
+
+    ghost view = { λ t. record { begun = t.begun.value; set = t.world.value } };
+
+    ghost invariant = { λ t. WentOn D.state t.begun.value t.world.value };
 }
 
 impl<D: Disk> Turned for Turning<D> {
@@ -35,6 +57,37 @@ impl<D: Disk> Turned for Turning<D> {
 }
 
 impl<D: Disk> Turning<D> {
+    /// Out of memory hands the set back.
+    pub(crate) fn new(alloc: Global, world: World<D>) -> Result<Turning<D>, World<D>>
+        ensures ok { IfOk result (λ turning. (turning.begun ≡ world) × (turning.set ≡ world)) }
+        ensures err { IfErr result (λ back. back ≡ world) }
+    {
+        let begun = Snapshot::of(&world);
+        match Box::new(alloc, world) {
+            Ok(world) => Ok(Turning { world, begun }),
+            Err(AllocFailed { value }) => Err(value),
+        }
+    }
+
+    /// The set, which went on from what it was when it was shared.
+    pub(crate) fn into_world(self) -> World<D>
+        ensures same { result ≡ self.set }
+        ensures went { WentOn D.state self.begun result }
+    {
+        let Turning {
+            world,
+            begun: _begun,
+        } = self;
+        Box::into_inner(world)
+    }
+
+    /// How the set went on since it was shared: a fact for proofs, which costs nothing.
+    pub(crate) fn recall_went(&self)
+        ensures { WentOn D.state self.now.begun self.now.set }
+    {
+        let _ = &self.world;
+    }
+
     /// Does one command. It gives the node that this touches, and the place and the reply of the event.
     pub(crate) fn step<R: Threads + Sync>(
         &mut self,
@@ -42,13 +95,15 @@ impl<D: Disk> Turning<D> {
         line: u32,
         command: &Command,
     ) -> (u32, Result<(u32, Reply), StepError>)
-        requires command { is_for self.old.world.value.sizes.nodes command.now ≡ true }
+        requires command { is_for self.old.set.sizes.nodes command.now ≡ true }
         ensures touched { result.0
-            ≡ touched_node (run self.old.world.value.sizes self.old.world.value.history).world command.now }
-        ensures known { result.0 < self.old.world.value.sizes.nodes }
-        ensures went { Went D.state self.old.world.value self.new.world.value line command.now result.1 }
+            ≡ touched_node (run self.old.set.sizes self.old.set.history).world command.now }
+        ensures known { result.0 < self.old.set.sizes.nodes }
+        ensures went { Went D.state self.old.set self.new.set line command.now result.1 }
+        ensures sizes { self.new.set.sizes ≡ self.old.set.sizes }
         ensures fixed { first_of self.new ≡ first_of self.old }
-        ensures run { IsRun self.new.world.value.sizes self.new.world.value.history }
+        ensures run { IsRun self.new.set.sizes self.new.set.history }
+        ensures short { length self.new.set.history ≤ 4294967295 }
     {
         let world = self.world.as_mut();
         world.recall_run();

@@ -1,55 +1,80 @@
-use Rattle.std.proofs.Common.{◌≡◌, ◌≤◌, ◌∙◌, Err, true, [], ap, inl, rules, subst, sym}
-use Rattle.std.proofs.lemmas.Result.{err_from_is_err_and}
-use Rattle.fault_script.specs.Script.{is_part_for, lines_of}
-use Rattle.set_model.specs.Run.{Sizes}
-use Rattle.set_program.specs.declared.stop.Stop.{Stop}
-use Rattle.set_program.proofs.PlayLemmas.{nothing_played, part_passes, part_played, part_room, part_stops, part_there, stops_there, whole_goes_on, whole_played}
+use Rattle.std.proofs.Common.{◌≡◌, ◌≤◌, Err, arith, rules}
+use Rattle.fault_script.specs.declared.script.Part.TheVariants.{Line, Par}
+use Rattle.set_program.specs.declared.stop.Stop.TheVariants.{Memory}
+use Rattle.set_program.proofs.PlayLemmas.{nothing_played, part_disks, part_played, part_stops}
+use Rattle.set_program.proofs.StepLemmas.{passes, room}
 use Rattle.set_program.proofs.play.play.Goals as goal
 
 pub loop-part-init : goal.loop-part-init
 loop-part-init g c =
-    nothing_played g.K.Sink.held g.K.Sink.faults g.K.Sink.steady g.D.Disk.state (is_part_for c.args.world.now.sizes.nodes) c.args.parts c.into_rest-rest.result c.args.sink.now c.args.world.now c.requires.start c.into_rest-rest.ensures c.requires.fits
+    nothing_played g.K.Sink.held g.K.Sink.faults g.K.Sink.steady g.D.Disk.state c.args.parts c.into_rest-rest.result c.args.sink.now c.args.world c.requires.start c.into_rest-rest.ensures c.requires.fits
 
-pub play_part-requires-clause-few : goal.play_part-requires-clause-few
-play_part-requires-clause-few g c κs within =
-    part_room g.K.Sink.held g.K.Sink.faults g.K.Sink.steady g.D.Disk.state (is_part_for c.args.world.now.sizes.nodes) c.args.parts c.loop-part.rest
-    c.args.sink.now c.loop-part.sink c.args.world.now c.loop-part.world c.loop-part.invariant c.in-Some.part c.next.new.self c.in-Some.ensures c.requires.few
+pub play_line-ended-requires-clause-few : goal.play_line-ended-requires-clause-few
+play_line-ended-requires-clause-few g c κs within =
+    let few = room g.D.Disk.state c.args.parts c.loop-part.rest c.args.world c.loop-part.world c.loop-part.invariant.up_to (Line c.in-Line.line c.in-Line.command) c.next.new.self (rw c.in-Line.is at c.in-Some.ensures) c.requires.few in
+    omega (arith, few)
 
-pub play_part-requires-clause-fits : goal.play_part-requires-clause-fits
-play_part-requires-clause-fits g c κs within =
-    subst (λ (s : Sizes). is_part_for s.nodes c.in-Some.part ≡ true) (sym c.loop-part.invariant.so_far.sizes)
-    (part_passes g.K.Sink.held g.K.Sink.faults g.K.Sink.steady g.D.Disk.state (is_part_for c.args.world.now.sizes.nodes) c.args.parts c.loop-part.rest
-    c.args.sink.now c.loop-part.sink c.args.world.now c.loop-part.world c.loop-part.invariant c.in-Some.part c.next.new.self c.in-Some.ensures)
+pub play_line-ended-requires-clause-fits : goal.play_line-ended-requires-clause-fits
+play_line-ended-requires-clause-fits g c κs within =
+    passes g.D.Disk.state c.args.parts c.loop-part.rest c.args.world c.loop-part.world c.loop-part.invariant.up_to (Line c.in-Line.line c.in-Line.command) c.next.new.self (rw c.in-Line.is at c.in-Some.ensures)
 
-pub returns-in_err-play_part-clause-plays : goal.returns-in_err-play_part-clause-plays
-returns-in_err-play_part-clause-plays g c =
-    let p = err_from_is_err_and c.from_residual.result c.from_residual.ensures.1 in
-    rw (p.1, p.2) (stops_there c.args.world.now.sizes c.loop-part.world.sizes c.in_err-play_part.field-0.0 c.args.parts c.loop-part.invariant.done c.in-Some.part c.next.new.self
-    (g.K.Sink.held c.args.sink.now) (g.K.Sink.held c.loop-part.sink) (g.K.Sink.held c.play_part.new.sink) c.loop-part.world.history c.play_part.new.world.history c.loop-part.invariant.so_far.sizes
-    (part_there g.K.Sink.held g.K.Sink.faults g.K.Sink.steady g.D.Disk.state (is_part_for c.args.world.now.sizes.nodes) c.args.parts c.loop-part.rest
-    c.args.sink.now c.loop-part.sink c.args.world.now c.loop-part.world c.loop-part.invariant c.in-Some.part c.next.new.self c.in-Some.ensures)
-    c.loop-part.invariant.so_far.lines_are c.loop-part.invariant.so_far.put c.in_err-play_part.ensures.plays)
+pub loop-part-preserved-in_default-ended : goal.loop-part-preserved-in_default-ended
+loop-part-preserved-in_default-ended g c =
+    let later : g.K.Sink.faults c.loop-part.sink ≤ g.K.Sink.faults c.play_line-ended.new.sink = search rules in
+    part_played g.K.Sink.held g.K.Sink.faults g.K.Sink.steady g.D.Disk.state c.args.parts c.loop-part.rest c.args.sink.now c.loop-part.sink c.args.world c.loop-part.world c.loop-part.invariant
+    (Line c.in-Line.line c.in-Line.command) c.next.new.self (rw c.in-Line.is at c.in-Some.ensures) c.play_line-ended.new.sink c.play_line-ended.new.world c.play_line-ended.ensures.sizes
+    (c.play_line-ended.result ≡ Err Memory) (rw c.in_default-ended.is at c.play_line-ended.ensures.plays) (λ out. cc (out, c.in_default-ended.is)) c.play_line-ended.ensures.disks later (λ still. (c.play_line-ended.ensures.steady still).0)
 
-pub returns-in_err-play_part-clause-disks : goal.returns-in_err-play_part-clause-disks
-returns-in_err-play_part-clause-disks g c =
-    let p = err_from_is_err_and c.from_residual.result c.from_residual.ensures.1 in
-    part_stops g.K.Sink.held g.K.Sink.faults g.K.Sink.steady g.D.Disk.state (is_part_for c.args.world.now.sizes.nodes) c.args.parts c.loop-part.rest
-    c.args.sink.now c.loop-part.sink c.args.world.now c.loop-part.world c.loop-part.invariant c.in-Some.part c.next.new.self c.in-Some.ensures
-    c.play_part.new.world _ _ c.requires.start (λ out. p.1 ∙ ap (λ (s : Stop). Err s) p.2 ∙ out) c.in_err-play_part.ensures.disks
+pub returns-in-Err-clause-ends : goal.returns-in-Err-clause-ends
+returns-in-Err-clause-ends g c =
+    part_stops g.K.Sink.held g.K.Sink.faults g.K.Sink.steady g.D.Disk.state c.args.parts c.loop-part.rest c.args.sink.now c.loop-part.sink c.args.world c.loop-part.world c.loop-part.invariant
+    (Line c.in-Line.line c.in-Line.command) c.next.new.self (rw c.in-Line.is at c.in-Some.ensures) c.play_line-ended.new.sink c.play_line-ended.new.world c.play_line-ended.ensures.sizes c.in-Err.stop (rw c.in-Err.is at c.play_line-ended.ensures.plays)
+
+pub returns-in-Err-clause-disks : goal.returns-in-Err-clause-disks
+returns-in-Err-clause-disks g c =
+    part_disks g.K.Sink.held g.K.Sink.faults g.K.Sink.steady g.D.Disk.state c.args.parts c.loop-part.rest c.args.sink.now c.loop-part.sink c.args.world c.loop-part.world c.loop-part.invariant
+    (Line c.in-Line.line c.in-Line.command) c.next.new.self (rw c.in-Line.is at c.in-Some.ensures) c.play_line-ended.new.sink c.play_line-ended.new.world c.play_line-ended.ensures.sizes _ _ (λ out. out) (rw c.in-Err.is at c.play_line-ended.ensures.disks)
+
+pub returns-in-Err-clause-cause : goal.returns-in-Err-clause-cause
+returns-in-Err-clause-cause g c =
+    let cause = rw c.in-Err.is at c.play_line-ended.ensures.cause in
+    record {
+      later = omega (arith, c.loop-part.invariant.later, cause.later);
+      rose = λ failed. omega (arith, c.loop-part.invariant.later, cause.rose failed);
+    }
+
+pub play_block-requires-clause-few : goal.play_block-requires-clause-few
+play_block-requires-clause-few g c κs within =
+    room g.D.Disk.state c.args.parts c.loop-part.rest c.args.world c.loop-part.world c.loop-part.invariant.up_to (Par c.in-Par.lists) c.next.new.self (rw c.in-Par.is at c.in-Some.ensures) c.requires.few
+
+pub play_block-requires-clause-fits : goal.play_block-requires-clause-fits
+play_block-requires-clause-fits g c κs within =
+    passes g.D.Disk.state c.args.parts c.loop-part.rest c.args.world c.loop-part.world c.loop-part.invariant.up_to (Par c.in-Par.lists) c.next.new.self (rw c.in-Par.is at c.in-Some.ensures)
 
 pub loop-part-preserved : goal.loop-part-preserved
 loop-part-preserved g c =
-    let later : g.K.Sink.faults c.loop-part.sink ≤ g.K.Sink.faults c.play_part.new.sink = search rules in
-    let played = whole_goes_on g.D.Disk.state (lines_of c.in-Some.part) c.loop-part.world c.play_part.new.world _ (λ out. cc out) c.in_ok-play_part.ensures.disks in
-    part_played g.K.Sink.held g.K.Sink.faults g.K.Sink.steady g.D.Disk.state (is_part_for c.args.world.now.sizes.nodes) c.args.parts c.loop-part.rest
-    c.args.sink.now c.loop-part.sink c.args.world.now c.loop-part.world c.loop-part.invariant c.in-Some.part c.next.new.self c.in-Some.ensures
-    c.play_part.new.sink c.play_part.new.world c.in_ok-play_part.ensures.plays c.play_part.ensures.sizes played later (λ still. (c.in_ok-play_part.ensures.steady still).0)
+    let later : g.K.Sink.faults c.loop-part.sink ≤ g.K.Sink.faults c.play_block.new.sink = search rules in
+    part_played g.K.Sink.held g.K.Sink.faults g.K.Sink.steady g.D.Disk.state c.args.parts c.loop-part.rest c.args.sink.now c.loop-part.sink c.args.world c.loop-part.world c.loop-part.invariant
+    (Par c.in-Par.lists) c.next.new.self (rw c.in-Par.is at c.in-Some.ensures) c.play_block.new.sink c.play_block.result.1 c.play_block.ensures.sizes
+    (c.play_block.result.0 ≡ Err Memory) (rw c.in-Ok-default.is-0 at c.play_block.ensures.plays) (λ out. cc (out, c.in-Ok-default.is-0)) c.play_block.ensures.disks later (λ still. (c.play_block.ensures.steady still).0)
 
-pub returns-clause-plays : goal.returns-clause-plays
-returns-clause-plays g c =
-    let none : c.loop-part.rest ≡ [] = search rules in
-    whole_played g.K.Sink.held g.K.Sink.faults g.K.Sink.steady g.D.Disk.state (is_part_for c.args.world.now.sizes.nodes) c.args.parts c.loop-part.rest
-    c.args.sink.now c.loop-part.sink c.args.world.now c.loop-part.world c.loop-part.invariant none
+pub returns-in-Err-default-clause-ends : goal.returns-in-Err-default-clause-ends
+returns-in-Err-default-clause-ends g c =
+    part_stops g.K.Sink.held g.K.Sink.faults g.K.Sink.steady g.D.Disk.state c.args.parts c.loop-part.rest c.args.sink.now c.loop-part.sink c.args.world c.loop-part.world c.loop-part.invariant
+    (Par c.in-Par.lists) c.next.new.self (rw c.in-Par.is at c.in-Some.ensures) c.play_block.new.sink c.play_block.result.1 c.play_block.ensures.sizes c.in-Err-default.stop (rw c.in-Err-default.is-0 at c.play_block.ensures.plays)
 
-pub returns-clause-disks : goal.returns-clause-disks
-returns-clause-disks g c = λ first played. inl (c.loop-part.invariant.so_far.disks first played)
+pub returns-in-Err-default-clause-disks : goal.returns-in-Err-default-clause-disks
+returns-in-Err-default-clause-disks g c =
+    part_disks g.K.Sink.held g.K.Sink.faults g.K.Sink.steady g.D.Disk.state c.args.parts c.loop-part.rest c.args.sink.now c.loop-part.sink c.args.world c.loop-part.world c.loop-part.invariant
+    (Par c.in-Par.lists) c.next.new.self (rw c.in-Par.is at c.in-Some.ensures) c.play_block.new.sink c.play_block.result.1 c.play_block.ensures.sizes _ _ (λ out. out) (rw c.in-Err-default.is-0 at c.play_block.ensures.disks)
+
+pub returns-in-Err-default-clause-cause : goal.returns-in-Err-default-clause-cause
+returns-in-Err-default-clause-cause g c =
+    let cause = rw c.in-Err-default.is-0 at c.play_block.ensures.cause in
+    record {
+      later = omega (arith, c.loop-part.invariant.later, cause.later);
+      rose = λ failed. omega (arith, c.loop-part.invariant.later, cause.rose failed);
+    }
+
+pub returns-clause-cause : goal.returns-clause-cause
+returns-clause-cause g c = record { later = c.loop-part.invariant.later; rose = λ never. absurd (cc never) }

@@ -1,7 +1,7 @@
 use Rattle.std.proofs.Common.{◌∙◌, Ok, rules, subst, sym}
 use Rattle.std.specs.List.{AllPass}
 use Rattle.std.proofs.lemmas.List.Sums.{AllPass-from_list_all}
-use Rattle.fault_script.specs.Script.{is_part_for}
+use Rattle.set_program.specs.Parts.{can_be_run}
 use Rattle.set_model.specs.Run.{Sizes}
 use Rattle.set_world.specs.Disks.{Opens}
 use Rattle.set_program.proofs.OpenLemmas.{refused_leaves, refused_runs, set_leaves}
@@ -9,8 +9,8 @@ use Rattle.set_program.proofs.set.run_script.Goals as goal
 
 pub play_task-ended-requires-clause-fits : goal.play_task-ended-requires-clause-fits
 play_task-ended-requires-clause-fits g c κs within =
-    subst (λ (s : Sizes). AllPass (is_part_for s.nodes) c.args.script.parts) (sym c.in-Ok.ensures.sizes)
-    (AllPass-from_list_all (is_part_for c.args.script.nodes) c.args.script.parts c.requires.fits)
+    subst (λ (s : Sizes). AllPass (can_be_run s.nodes) c.args.script.parts) (sym c.in-Ok.ensures.sizes)
+    (AllPass-from_list_all (can_be_run c.args.script.nodes) c.args.script.parts c.requires.fits)
 
 pub returns-in-Ok-clause-runs : goal.returns-in-Ok-clause-runs
 returns-in-Ok-clause-runs g c = (c.play_task-ended.ensures.sizes ∙ c.in-Ok.ensures.sizes, c.play_task-ended.ensures.ends)
@@ -18,8 +18,8 @@ returns-in-Ok-clause-runs g c = (c.play_task-ended.ensures.sizes ∙ c.in-Ok.ens
 pub returns-in-Ok-clause-disks : goal.returns-in-Ok-clause-disks
 returns-in-Ok-clause-disks g c =
     let opened : Opens g.D.Disk.state c.args.script.nodes (Ok tt) c.args.disks.items c.in-Ok.world.disks = search rules in
-    set_leaves g.D.Disk.state c.args.script c.args.disks.items c.in-Ok.world c.play_task-ended.new.world c.play_task-ended.result
-    c.in-Ok.ensures.history c.in-Ok.ensures.sizes c.play_task-ended.ensures.sizes opened c.play_task-ended.ensures.disks
+    set_leaves g.D.Disk.state c.args.script c.args.disks.items c.in-Ok.world c.play_task-ended.result.1 c.play_task-ended.result.0
+    c.in-Ok.ensures.sizes c.play_task-ended.ensures.sizes opened c.play_task-ended.ensures.disks
 
 pub returns-in-Err-clause-runs : goal.returns-in-Err-clause-runs
 returns-in-Err-clause-runs g c =

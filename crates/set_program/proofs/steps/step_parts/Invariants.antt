@@ -1,5 +1,4 @@
 use Rattle.std.proofs.Common.{length}
-use Rattle.fault_script.specs.Script.{is_part_for, lines_in}
 use Rattle.set_program.proofs.StepLemmas.{SteppedUpTo}
 use Rattle.set_program.proofs.steps.step_parts.Given as goal
 
@@ -8,4 +7,4 @@ decreases-loop-part g l = length l.rest
 
 abbrev pub invariant-loop-part : goal.invariant-loop-part
 invariant-loop-part g l =
-    SteppedUpTo g.D.Disk.state (is_part_for l.initial.world.sizes.nodes) lines_in l.fn.parts l.rest l.initial.world l.world l.initial.replies.items l.replies.items
+    SteppedUpTo g.D.Disk.state l.fn.parts l.rest l.fn.world l.world l.replies.items

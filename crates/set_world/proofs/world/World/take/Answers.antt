@@ -150,3 +150,13 @@ returns-clause-step g c =
     (rw same (stepped g.D.Disk.state (record { nodes = c.self.inside.size; members = c.self.inside.members }) c.self.inside.history.items c.self.inside.nodes.items c.deref_mut.result.now
     c.act.new.nodes c.self.inside.idle.items (disks_in c.self.inside.first_nodes.value.items ++ c.self.inside.first_idle.value.items) c.self.inside.whole c.self.inside.pool.messages c.reserve-2.new.self.messages c.args.command c.self.invariant.0.reached.world c.deref_mut.ensures.value
     c.reserve-2.ensures.messages c.push.new.self.items c.args.line c.in-Ok.done items on.reply c.in-Ok.ensures.disks))
+
+pub returns-in_err-reserve-clause-unused : goal.returns-in_err-reserve-clause-unused
+returns-in_err-reserve-clause-unused g c =
+    let p = err_from_is_err_and c.from_residual.result c.from_residual.ensures.1 in
+    rw p.1 (λ still. (sym (ap (λ (s : Set g.row.D.Denot). s.whole) c.self.view_is) ∙ still, ap (λ (s : Set g.row.D.Denot). s.disks) c.self.view_is))
+
+pub returns-in_err-reserve-2-clause-unused : goal.returns-in_err-reserve-2-clause-unused
+returns-in_err-reserve-2-clause-unused g c =
+    let p = err_from_is_err_and c.from_residual-in_err-reserve-2.result c.from_residual-in_err-reserve-2.ensures.1 in
+    rw p.1 (λ still. (sym (ap (λ (s : Set g.row.D.Denot). s.whole) c.self.view_is) ∙ still, ap (λ (s : Set g.row.D.Denot). s.disks) c.self.view_is))

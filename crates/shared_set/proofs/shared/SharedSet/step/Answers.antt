@@ -11,12 +11,12 @@ pub step-node-requires-clause-command : goal.step-node-requires-clause-command
 step-node-requires-clause-command g c κs within =
     let fixed = ap (λ l. sizes_in l) c.requires.pass.0.4 in
     subst (λ (s : Sizes). is_for s.nodes c.args.command.now ≡ true)
-    (sym (sizes_here g.D.Disk.state (sizes_of c.args.self.now) (view c.args.pass.now) (view c.enter-set.new.pass) c.enter-set.result c.enter-set.ensures.entered fixed)) c.requires.command
+    (sym (sizes_here g.D.Disk.state (sizes_of c.args.self.now) (view c.args.pass.now) (view c.enter-set.new.pass) c.enter-set.result c.enter-set.ensures.entered fixed c.recall_went.ensures.sizes)) c.requires.command
 
 pub leave-requires-clause-point : goal.leave-requires-clause-point
 leave-requires-clause-point g c =
     let fixed = ap (λ l. sizes_in l) c.requires.pass.0.4 in
-    let nodes = ap (λ (s : Sizes). s.nodes) (sizes_here g.D.Disk.state (sizes_of c.args.self.now) (view c.args.pass.now) (view c.enter-set.new.pass) c.enter-set.result c.enter-set.ensures.entered fixed) in
+    let nodes = ap (λ (s : Sizes). s.nodes) (sizes_here g.D.Disk.state (sizes_of c.args.self.now) (view c.args.pass.now) (view c.enter-set.new.pass) c.enter-set.result c.enter-set.ensures.entered fixed c.recall_went.ensures.sizes) in
     let known = c.step-node.ensures.known in
     let points = c.args.self.now.points in
     omega (arith, nodes, known, points)
@@ -24,30 +24,33 @@ leave-requires-clause-point g c =
 pub leave-requires-clause-value : goal.leave-requires-clause-value
 leave-requires-clause-value g c =
     let fixed = ap (λ l. sizes_in l) c.requires.pass.0.4 in
-    owes_value g.D.Disk.state (sizes_of c.args.self.now) (view c.args.pass.now) (view c.enter-set.new.pass) c.enter-set.result c.enter-set.ensures.entered fixed c.step-node.new.self c.args.line c.args.command.now c.step-node.result.1 c.step-node.ensures.fixed c.step-node.ensures.went
+    owes_value g.D.Disk.state (sizes_of c.args.self.now) (view c.args.pass.now) (view c.enter-set.new.pass) c.enter-set.result c.enter-set.ensures.entered fixed c.recall_went.ensures.sizes c.step-node.new.self c.args.line c.args.command.now c.step-node.result.1 c.step-node.ensures.fixed c.step-node.ensures.went
 
 pub leave-requires-clause-numbers : goal.leave-requires-clause-numbers
 leave-requires-clause-numbers g c =
     let fixed = ap (λ l. sizes_in l) c.requires.pass.0.4 in
-    owes_numbers g.D.Disk.state (sizes_of c.args.self.now) (view c.args.pass.now) (view c.enter-set.new.pass) c.enter-set.result c.enter-set.ensures.entered fixed c.step-node.new.self c.args.line c.args.command.now c.step-node.result.1 c.step-node.result.0 c.step-node.ensures.touched c.step-node.ensures.went
+    owes_numbers g.D.Disk.state (sizes_of c.args.self.now) (view c.args.pass.now) (view c.enter-set.new.pass) c.enter-set.result c.enter-set.ensures.entered fixed c.recall_went.ensures.sizes c.step-node.new.self c.args.line c.args.command.now c.step-node.result.1 c.step-node.result.0 c.step-node.ensures.touched c.step-node.ensures.went
 
 pub returns-clause-step : goal.returns-clause-step
 returns-clause-step g c =
     let fixed = ap (λ l. sizes_in l) c.requires.pass.0.4 in
-    (answers g.D.Disk.state (sizes_of c.args.self.now) (view c.args.pass.now) (view c.enter-set.new.pass) c.enter-set.result c.enter-set.ensures.entered fixed c.step-node.new.self (view c.leave.new.pass) c.args.line c.args.command.now c.leave.ensures.added c.leave.ensures.seen c.step-node.result.1 c.step-node.ensures.went).0
+    (answers g.D.Disk.state (sizes_of c.args.self.now) (view c.args.pass.now) (view c.enter-set.new.pass) c.enter-set.result c.enter-set.ensures.entered fixed c.recall_went.ensures.sizes c.step-node.new.self (view c.leave.new.pass) c.args.line c.args.command.now c.leave.ensures.added c.leave.ensures.seen c.step-node.result.1 c.step-node.ensures.went).0
 
 pub returns-clause-err : goal.returns-clause-err
 returns-clause-err g c =
     let fixed = ap (λ l. sizes_in l) c.requires.pass.0.4 in
-    (answers g.D.Disk.state (sizes_of c.args.self.now) (view c.args.pass.now) (view c.enter-set.new.pass) c.enter-set.result c.enter-set.ensures.entered fixed c.step-node.new.self (view c.leave.new.pass) c.args.line c.args.command.now c.leave.ensures.added c.leave.ensures.seen c.step-node.result.1 c.step-node.ensures.went).1
+    (answers g.D.Disk.state (sizes_of c.args.self.now) (view c.args.pass.now) (view c.enter-set.new.pass) c.enter-set.result c.enter-set.ensures.entered fixed c.recall_went.ensures.sizes c.step-node.new.self (view c.leave.new.pass) c.args.line c.args.command.now c.leave.ensures.added c.leave.ensures.seen c.step-node.result.1 c.step-node.ensures.went).1
 
 pub returns-clause-full : goal.returns-clause-full
 returns-clause-full g c =
     let fixed = ap (λ l. sizes_in l) c.requires.pass.0.4 in
-    (answers g.D.Disk.state (sizes_of c.args.self.now) (view c.args.pass.now) (view c.enter-set.new.pass) c.enter-set.result c.enter-set.ensures.entered fixed c.step-node.new.self (view c.leave.new.pass) c.args.line c.args.command.now c.leave.ensures.added c.leave.ensures.seen c.step-node.result.1 c.step-node.ensures.went).2
+    (answers g.D.Disk.state (sizes_of c.args.self.now) (view c.args.pass.now) (view c.enter-set.new.pass) c.enter-set.result c.enter-set.ensures.entered fixed c.recall_went.ensures.sizes c.step-node.new.self (view c.leave.new.pass) c.args.line c.args.command.now c.leave.ensures.added c.leave.ensures.seen c.step-node.result.1 c.step-node.ensures.went).2
 
 pub returns-clause-defined : goal.returns-clause-defined
 returns-clause-defined g c =
     let fixed = ap (λ l. sizes_in l) c.requires.pass.0.4 in
-    let same = ap (λ l. sizes_in l) c.step-node.ensures.fixed ∙ sizes_here g.D.Disk.state (sizes_of c.args.self.now) (view c.args.pass.now) (view c.enter-set.new.pass) c.enter-set.result c.enter-set.ensures.entered fixed in
-    rw c.leave.ensures.seen (subst (λ (s : Sizes). IsRun s c.step-node.new.self.world.value.history) same c.step-node.ensures.run)
+    let same = c.step-node.ensures.sizes ∙ sizes_here g.D.Disk.state (sizes_of c.args.self.now) (view c.args.pass.now) (view c.enter-set.new.pass) c.enter-set.result c.enter-set.ensures.entered fixed c.recall_went.ensures.sizes in
+    rw c.leave.ensures.seen (subst (λ (s : Sizes). IsRun s c.step-node.new.self.set.history) same c.step-node.ensures.run)
+
+pub returns-clause-short : goal.returns-clause-short
+returns-clause-short g c = rw c.leave.ensures.seen c.step-node.ensures.short

@@ -1,0 +1,139 @@
+// A set that threads share: looks at a commit point, and blocks.
+ghost use Rattle.std.specs.Prelude.{◌≡◌, true, IfOk};
+ghost use Rattle.std.specs.List.{list_all};
+ghost use Rattle.fault_script.specs.Script.{is_part_for};
+ghost use Rattle.shared_set.specs.Passes.{IsPass, sizes_of};
+ghost use Rattle.set_model.specs.Run.{AreSizes};
+ghost use Rattle.turn_board.specs.Passes.{IsFree, view};
+
+use crate::blocks::Held;
+use fault_script::{Part, parse};
+use rs_disk::MemDisk;
+use set_model::Reply;
+use set_program::{empty_disks, run_block};
+use set_world::World;
+use shared_set::{Pass, SharedSet};
+use std::alloc::Global;
+use std::sync::Wait;
+use std::test::Fail;
+use std::thread::Threads;
+
+type Shared = (SharedSet<MemDisk>, Pass<MemDisk>);
+
+// A set of so many nodes on empty disks, which is shared.
+fn shared(alloc: Global, nodes: u32, members: u32) -> Result<Shared, Fail>
+    requires sizes { AreSizes (record { nodes = nodes; members = members }) }
+    ensures pass { IfOk result (λ shared. IsPass shared.0 shared.1 × IsFree shared.1) }
+    ensures parts { IfOk result (λ shared. (view shared.1).parts ≡ 65536) }
+    ensures nodes { IfOk result (λ shared. (sizes_of shared.0).nodes ≡ nodes) }
+{
+    let Ok(world) = World::open(alloc, nodes, members, empty_disks(alloc)?) else {
+        return Err(Fail::new("the set can't be opened"));
+    };
+    let Ok(shared) = SharedSet::new(alloc, world) else {
+        return Err(Fail::new("the set can't be shared"));
+    };
+    Ok(shared)
+}
+
+// A write that two of three nodes have, and that is counted by the one that wrote it.
+const COUNTED: &str =
+    "set 3\ncampaign n0\ndeliver m0\ndeliver m2\ndrain n0\ninsert n0 t {_id: 1}\nflush n0
+ack n0 1/0/2 majority\nheartbeat n0 n1\ndeliver n0 n1\nfetch n1\ndeliver n1 n0\ndeliver n0 n1\nflush n1
+report n1 n0\ndeliver n1 n0\nack n0 1/0/2 majority\n";
+
+// Steps each part that is a line.
+fn step_lines<R: Threads + Wait + Sync>(
+    rt: &R,
+    set: &SharedSet<MemDisk>,
+    pass: &mut Pass<MemDisk>,
+    parts: &[Part],
+) -> Result<(), Fail>
+    requires pass { IsPass set.now pass.old × IsFree pass.old }
+    requires fits { list_all (is_part_for (sizes_of set.now).nodes) parts.now ≡ true }
+    ensures pass { IsPass set.now pass.new × IsFree pass.new }
+{
+    for part in parts {
+        if let Part::Line(line, command) = part {
+            set.step(rt, pass, *line, command)?;
+        }
+    }
+    Ok(())
+}
+
+// Plays a script without blocks on a shared set, and looks at the commit points of its first two nodes.
+fn commits_after<R: Threads + Wait + Sync>(
+    rt: &R,
+    alloc: Global,
+    script: &str,
+) -> Result<(u64, u64), Fail> {
+    let script = parse(alloc, script.as_bytes())?;
+    let (set, mut pass) = shared(alloc, script.nodes, script.members)?;
+    step_lines(rt, &set, &mut pass, script.parts.as_slice())?;
+    if script.nodes < 2 {
+        return Err(Fail::new("the set has one node"));
+    }
+    let first = set.peek_commit(&mut pass, 0);
+    Ok((first, set.peek_commit(&mut pass, 1)))
+}
+
+#[test]
+fn a_look_gives_what_is_committed(rt: HostRuntime) -> Result<(), Fail> {
+    assert_eq!(rt; commits_after(&rt, rt.alloc(), COUNTED)?, (2, 0));
+    Ok(())
+}
+
+// The lists' lines are 4 and 5, and 7 and 8.
+const TWO_LISTS: &str =
+    "set 1\npar\nthread\nclock n0 1\nclock n0 2\nthread\nclock n0 3\nclock n0 4\nend\n";
+
+// Runs a block, the only part, on a shared set.
+fn run_only_block<R: Threads + Wait + Sync>(
+    rt: &R,
+    alloc: Global,
+    set: &SharedSet<MemDisk>,
+    pass: &mut Pass<MemDisk>,
+    parts: &[Part],
+    held: &Held,
+) -> Result<Vec<(u32, u32, Reply)>, Fail>
+    requires pass { IsPass set.now pass.old × IsFree pass.old }
+    requires parts { (view pass.old).parts ≡ 65536 }
+    requires fits { list_all (is_part_for (sizes_of set.now).nodes) parts.now ≡ true }
+{
+    let [Part::Par(lists)] = parts else {
+        return Err(Fail::new("no block"));
+    };
+    let lists = lists.as_slice();
+    if lists.len() > 16 {
+        return Err(Fail::new("too many lists"));
+    }
+    Ok(run_block(rt, alloc, set, pass, lists, held)?)
+}
+
+fn told_of_block<R: Threads + Wait + Sync>(
+    rt: &R,
+    alloc: Global,
+    held: &Held,
+) -> Result<Vec<(u32, u32, Reply)>, Fail> {
+    let script = parse(alloc, TWO_LISTS.as_bytes())?;
+    let (set, mut pass) = shared(alloc, script.nodes, script.members)?;
+    run_only_block(rt, alloc, &set, &mut pass, script.parts.as_slice(), held)
+}
+
+// Whether the lines of a list are told in their order.
+fn tells(told: &[(u32, u32, Reply)], lines: &[u32]) -> bool {
+    told.iter()
+        .map(|one| one.1)
+        .filter(|line| lines.contains(line))
+        .eq(lines.iter().copied())
+}
+
+#[test]
+fn a_block_runs_its_lists_side_by_side(rt: HostRuntime) -> Result<(), Fail> {
+    let held = Held::new();
+    let told = told_of_block(&rt, rt.alloc(), &held)?;
+    assert!(rt; held.passed_in_time());
+    assert!(rt; told.iter().map(|one| one.0).eq(0..4));
+    assert!(rt; tells(&told, &[4, 5]) && tells(&told, &[7, 8]));
+    Ok(())
+}

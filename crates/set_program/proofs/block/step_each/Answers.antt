@@ -1,0 +1,50 @@
+use Rattle.std.proofs.Common.{◌≡◌, ap, List, [], subst, sym}
+use Rattle.std.proofs.lemmas.Result.{err_from_is_err_and}
+use Rattle.set_world.specs.declared.error.StepError.{StepError}
+use Rattle.set_world.specs.declared.error.StepError.TheVariants.{HistoryFull}
+use Rattle.turn_board.specs.Passes.{view}
+use Rattle.shared_set.specs.Passes.{sizes_of}
+use Rattle.set_program.specs.Blocks.{EndsList, TellsList}
+use Rattle.set_program.proofs.ListRuns.{list_fails, list_next, list_none, list_unkept, list_whole}
+use Rattle.set_program.proofs.OrderLemmas.{Told}
+use Rattle.set_program.proofs.block.step_each.Goals as goal
+
+pub loop-line-init : goal.loop-line-init
+loop-line-init g c = (
+  c.requires.pass.0,
+  c.requires.pass.1,
+  (λ least. least),
+  subst (λ (l : List Told). TellsList (sizes_of c.args.set.now) [] (view c.args.pass.now) (view c.args.pass.now) l) (sym c.new-told.ensures.items)
+      (list_none (sizes_of c.args.set.now) (view c.args.pass.now) c.requires.pass.2),
+)
+
+pub returns-in_err-place-clause-ends : goal.returns-in_err-place-clause-ends
+returns-in_err-place-clause-ends g c =
+    let p = err_from_is_err_and c.from_residual.result c.from_residual.ensures.1 in
+    let same = p.2 in
+    subst (λ r. EndsList (sizes_of c.args.set.now) c.args.lines.now (view c.args.pass.now) (view c.step.new.pass) r) (sym p.1)
+    (list_fails (sizes_of c.args.set.now) (view c.args.pass.now) (view c.loop-line.pass) (view c.step.new.pass) c.as_slice-line-items.result.now c.args.lines.now c.as_slice-line-items.ensures
+    c.loop-line.line-index c.loop-line.told.items c.loop-line.invariant.3 p.0 c.in_err-place.ensures.err (λ is. let e : c.in_err-place.field-0.0 ≡ HistoryFull = cc (same, is) in c.in_err-place.ensures.full (ap (λ (x : StepError). Rattle.std.specs.Prelude.Err x) e)))
+
+pub returns-in_err-keep-clause-ends : goal.returns-in_err-keep-clause-ends
+returns-in_err-keep-clause-ends g c =
+    let p = err_from_is_err_and c.from_residual-in_err-keep.result c.from_residual-in_err-keep.ensures.1 in
+    let ran = list_unkept (sizes_of c.args.set.now) (view c.args.pass.now) (view c.loop-line.pass) (view c.step.new.pass) c.as_slice-line-items.result.now c.args.lines.now c.as_slice-line-items.ensures
+    c.loop-line.line-index c.loop-line.told.items c.loop-line.invariant.3 c.loop-line-item.result c.loop-line-test.true c.loop-line-item.is c.in_ok-place.place c.in_ok-place.reply c.in_ok-place.ensures.step in
+    subst (λ r. EndsList (sizes_of c.args.set.now) c.args.lines.now (view c.args.pass.now) (view c.step.new.pass) r) (sym p.1)
+    (subst (λ e. EndsList (sizes_of c.args.set.now) c.args.lines.now (view c.args.pass.now) (view c.step.new.pass) (Rattle.std.specs.Prelude.Err e)) (sym p.2) ran)
+
+pub loop-line-preserved : goal.loop-line-preserved
+loop-line-preserved g c = (
+  c.step.ensures.pass.0,
+  c.step.ensures.pass.1,
+  (λ least. c.step.ensures.short),
+  list_next (sizes_of c.args.set.now) (view c.args.pass.now) (view c.loop-line.pass) (view c.step.new.pass) c.as_slice-line-items.result.now c.args.lines.now c.as_slice-line-items.ensures
+      c.loop-line.line-index c.loop-line.told.items c.loop-line.invariant.3 c.loop-line-item.result c.loop-line-test.true c.loop-line-item.is c.in_ok-place.place c.in_ok-place.reply c.in_ok-place.ensures.step
+      c.keep.new.told.items c.in_ok-keep.ensures,
+)
+
+pub returns-clause-ends : goal.returns-clause-ends
+returns-clause-ends g c =
+    list_whole (sizes_of c.args.set.now) (view c.args.pass.now) (view c.loop-line.pass) (view c.loop-line.pass) c.as_slice-line-items.result.now c.args.lines.now c.as_slice-line-items.ensures
+    c.loop-line.line-index c.loop-line.told.items c.loop-line.invariant.3 c.loop-line-test.false

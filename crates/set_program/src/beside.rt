@@ -1,0 +1,40 @@
+// A job on a thread of its own, beside what the caller does.
+
+use std::thread::{Threads, join};
+
+/// What a thread does once.
+pub trait Job {
+    type End;
+
+    // When it may be done.
+    ghost ready: { Self → Type 0 };
+
+    // What it comes to.
+    ghost ends: { Self → Self.End → Type 0 };
+
+    fn run(self) -> Self::End
+        requires { ready self }
+        ensures { ends self result };
+}
+
+/// Does the job on a thread of its own, and the rest in this one. Where no thread can be started the job is
+/// done last.
+pub fn beside<R: Threads, J: Job<End = E> + Send + Drop, F: FnOnce() -> B, E: Send, B>(
+    rt: &R,
+    job: J,
+    rest: F,
+) -> (E, B)
+    requires job { J.ready job }
+    requires rest { F.pre rest }
+    ensures job { J.ends job result.0 }
+    ensures rest { F.post rest result.1 }
+{
+    join(
+        rt,
+        move || -> E
+            requires { J.ready job }
+            ensures { J.ends job result }
+        { job.run() },
+        rest,
+    )
+}
