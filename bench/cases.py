@@ -225,6 +225,13 @@ def deep(n):
     return OPENING + [f'insert n0 t {{_id: {k}, a: {"[" * 90}{"]" * 90}, w: {{{wide}}}}}' for k in range(n)]
 
 
+def listed(lists, n):
+    """The inserts of a block's lists, and the same without a block."""
+    each = [[f"insert n0 items {{_id: {own * n + k}}}" for k in range(n)] for own in range(lists)]
+    block = [line for own in each for line in ["thread", *own]]
+    return OPENING + ["par", *block, "end"], OPENING + [line for own in each for line in own]
+
+
 def chaos(n):
     """A generated script has no lines here."""
     return []
@@ -273,3 +280,6 @@ CASES = {
     "crashes": Case(crashes, 12, 24),
     "chaos": Case(chaos, 2_500, 5_000, words=lambda n: ["chaos", "7", str(n), "5"]),
 }
+
+# Blocks: so many lists of so many inserts each.
+BLOCKS = {"two": (2, 50_000), "sixteen": (16, 10_000)}

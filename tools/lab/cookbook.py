@@ -7,7 +7,7 @@ from __future__ import annotations
 
 import re
 from pathlib import Path
-from typing import Dict, List, Tuple
+from typing import List, Optional, Tuple
 
 from .drawing import svg_file
 from .expand import expand
@@ -20,6 +20,9 @@ from .words.picture import MOST_ROWS
 PAGE = TOP / "docs" / "COOKBOOK.md"
 SCRIPTS = TOP / "docs" / "cookbook"
 PICTURES = TOP / "docs" / "pictures"
+
+# How often a script with a block is played to see the kept order.
+ORDERS = 100
 
 _BLOCK = re.compile(r"(<!-- script: (\w+) -->\n)```lab\n.*?```\n", re.DOTALL)
 _LINES = re.compile(r"# picture: (\d+)-(\d+)$")
@@ -50,17 +53,28 @@ def page_text(page: str) -> str:
     return _BLOCK.sub(block, page)
 
 
-def wanted_files() -> Dict[Path, str]:
-    """Each file that is made from the scripts, with what it must be."""
-    wanted = {PICTURES / f"{script.stem}.svg": picture_text(script) for script in scripts()}
-    wanted[PAGE] = page_text(PAGE.read_text(encoding="utf-8"))
+def other_picture(script: Path, kept: Optional[str]) -> Optional[str]:
+    """A script's picture, unless the kept one is it. The lines of a block are done in another order each time, and the kept
+    picture shows one of them."""
+    wanted = None
+    for _ in range(ORDERS if "par" in read_lines(str(script)) else 1):
+        wanted = picture_text(script)
+        if wanted == kept:
+            return None
     return wanted
 
 
+def text_of(path: Path) -> Optional[str]:
+    """What stands in a file, if it is there."""
+    return path.read_text(encoding="utf-8") if path.is_file() else None
+
+
 def out_of_date() -> List[Tuple[Path, str]]:
-    """The files that aren't as they must be, each with what it must be."""
-    return [
-        (path, text)
-        for path, text in wanted_files().items()
-        if not path.is_file() or path.read_text(encoding="utf-8") != text
-    ]
+    """The files that are made from the scripts and aren't as they must be, each with what it must be."""
+    wanted: List[Tuple[Path, Optional[str]]] = []
+    for script in scripts():
+        picture = PICTURES / f"{script.stem}.svg"
+        wanted.append((picture, other_picture(script, text_of(picture))))
+    page = PAGE.read_text(encoding="utf-8")
+    wanted.append((PAGE, page_text(page) if page_text(page) != page else None))
+    return [(path, text) for path, text in wanted if text is not None]

@@ -4,6 +4,7 @@ use crate::replies::{replies, said};
 use crate::runs::{Fault, RUN, Ran, run, run_with_fault};
 use anyhow::Result;
 use std::alloc::Global;
+use std::sync::Wait;
 use std::thread::Threads;
 
 /// A script, and how many calls it makes of each disk where none fails: of each node's journal and of its
@@ -43,7 +44,7 @@ const PICKS: [Option<u64>; 4] = [None, Some(0), Some(1), Some(2)];
 
 /// Whether the script bears a disk that fails, whichever of these it is, in whichever of its calls and
 /// in whichever way.
-pub fn are_survived<R: Threads + Sync>(
+pub fn are_survived<R: Threads + Wait + Sync>(
     rt: &R,
     alloc: Global,
     script: &str,
@@ -69,7 +70,12 @@ struct Trial {
 }
 
 impl Trial {
-    fn new<R: Threads + Sync>(rt: &R, alloc: Global, script: &str, nodes: usize) -> Result<Trial> {
+    fn new<R: Threads + Wait + Sync>(
+        rt: &R,
+        alloc: Global,
+        script: &str,
+        nodes: usize,
+    ) -> Result<Trial> {
         let mut script = String::from_str(alloc, script)?;
         for node in 0..nodes {
             let lines = format!(in alloc; "restart n{node}\nlog n{node}\n")?;
@@ -85,7 +91,7 @@ impl Trial {
     }
 
     /// Fails one of the disk's calls after another. Behind the last there is none to fail.
-    fn survives<R: Threads + Sync>(
+    fn survives<R: Threads + Wait + Sync>(
         &self,
         rt: &R,
         alloc: Global,

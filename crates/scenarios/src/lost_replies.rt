@@ -4,6 +4,7 @@ use crate::replies::replies;
 use crate::runs::run_with_lost_reply;
 use anyhow::Result;
 use std::alloc::Global;
+use std::sync::Wait;
 use std::thread::Threads;
 
 /// The scripts that are run into it.
@@ -11,7 +12,7 @@ pub const SCRIPTS: [&str; 2] = ["first", "two_lost"];
 
 /// Whether each reply of the script is put by a call of its own, and the first call that fails ends the run:
 /// the status is 5, and what was put is the replies before. There is no further call.
-pub fn end_the_run<R: Threads + Sync>(
+pub fn end_the_run<R: Threads + Wait + Sync>(
     rt: &R,
     alloc: Global,
     script: &str,

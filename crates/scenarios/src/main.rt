@@ -3,6 +3,7 @@
 #![tactic(auto)]
 
 mod batches;
+mod blocks;
 mod failing_disks;
 mod generated;
 mod lost_replies;
@@ -12,10 +13,12 @@ mod replies;
 mod runs;
 
 use anyhow::{Context, Result};
+use blocks::Block;
 use failing_disks::OnDisks;
 use std::alloc::Global;
 use std::fs;
 use std::process::ExitCode;
+use std::sync::Wait;
 use std::thread::Threads;
 
 fn main(rt: HostRuntime) -> Result<ExitCode> {
@@ -39,11 +42,18 @@ fn tell(rt: &HostRuntime, what: &str, holds: bool) -> Result<bool> {
     Ok(holds)
 }
 
-fn examples<R: Threads + Sync>(rt: &HostRuntime, threads: &R) -> Result<bool> {
+fn examples<R: Threads + Wait + Sync>(rt: &HostRuntime, threads: &R) -> Result<bool> {
     let mut as_written = true;
     for name in names(rt)? {
         let script = read(rt, &name, "replset")?;
         let written = read(rt, &name, "out")?;
+        if let Some(block) = Block::of(&name) {
+            let (script, written) = (String::from_utf8(script)?, String::from_utf8(written)?);
+            let holds = block.holds(threads, rt.alloc(), &script, &written)?;
+            let what = format!(in rt.alloc(); "{name}, in any order")?;
+            as_written = tell(rt, &what, holds)? && as_written;
+            continue;
+        }
         let printed = transcript(threads, rt.alloc(), script)?;
         match first_difference(&written, &printed) {
             None => println!(rt; "{name}: as written")?,
@@ -57,23 +67,25 @@ fn examples<R: Threads + Sync>(rt: &HostRuntime, threads: &R) -> Result<bool> {
 }
 
 /// Scripts that are made here, and not read.
-fn limits<R: Threads + Sync>(rt: &HostRuntime, threads: &R) -> Result<bool> {
+fn limits<R: Threads + Wait + Sync>(rt: &HostRuntime, threads: &R) -> Result<bool> {
     let alloc = rt.alloc();
     let documents = tell(rt, "the largest document", draws_the_line(threads, alloc)?)?;
     let three = comes_in_batches(threads, alloc, batches::THREE, batches::THREE_ENDS)?;
     let one = comes_in_batches(threads, alloc, batches::ONE, batches::ONE_ENDS)?;
     let batches = tell(rt, "more than a batch", three && one)?;
     let generated = tell(rt, "a generated script", sums_up(threads, alloc)?)?;
+    let large = blocks::run_side_by_side(threads, alloc)?;
+    let large = tell(rt, "large blocks", large)?;
     let limits = tell(
         rt,
         "scripts over the limits",
         refused::over_the_limits(threads, alloc)?,
     )?;
-    Ok(documents && batches && generated && limits)
+    Ok(documents && batches && generated && large && limits)
 }
 
 /// Scripts that are none, sinks and disks that fail, and messages that come again.
-fn faults<R: Threads + Sync>(rt: &HostRuntime, threads: &R) -> Result<bool> {
+fn faults<R: Threads + Wait + Sync>(rt: &HostRuntime, threads: &R) -> Result<bool> {
     let alloc = rt.alloc();
     let refused = refused::as_said(threads, alloc, &text(rt, "refused", "table")?)?;
     let refused = tell(rt, "scripts that are refused", refused)?;
@@ -127,12 +139,12 @@ fn text(rt: &HostRuntime, name: &str, ending: &str) -> Result<String> {
 }
 
 /// What the script prints.
-fn transcript<R: Threads + Sync>(rt: &R, alloc: Global, script: Vec<u8>) -> Result<Vec<u8>> {
+fn transcript<R: Threads + Wait + Sync>(rt: &R, alloc: Global, script: Vec<u8>) -> Result<Vec<u8>> {
     Ok(runs::run(rt, alloc, &runs::RUN, script)?.put)
 }
 
 /// What the words print, over an empty input.
-fn printed<R: Threads + Sync>(rt: &R, alloc: Global, words: &[&str]) -> Result<Vec<u8>> {
+fn printed<R: Threads + Wait + Sync>(rt: &R, alloc: Global, words: &[&str]) -> Result<Vec<u8>> {
     Ok(runs::run(rt, alloc, words, Vec::new(alloc))?.put)
 }
 
@@ -141,7 +153,7 @@ fn printed<R: Threads + Sync>(rt: &R, alloc: Global, words: &[&str]) -> Result<V
 const LONGEST: usize = 262_122;
 
 /// Whether the largest string that fits a document is stored, and one byte more is refused.
-fn draws_the_line<R: Threads + Sync>(rt: &R, alloc: Global) -> Result<bool> {
+fn draws_the_line<R: Threads + Wait + Sync>(rt: &R, alloc: Global) -> Result<bool> {
     let mut longest = String::new(alloc);
     for _ in 0..LONGEST {
         longest.push('s')?;
@@ -158,7 +170,7 @@ fn draws_the_line<R: Threads + Sync>(rt: &R, alloc: Global) -> Result<bool> {
 
 /// Whether a log of more than a batch comes to another node in two fetches and two batches, by one worker
 /// and by many.
-fn comes_in_batches<R: Threads + Sync>(
+fn comes_in_batches<R: Threads + Wait + Sync>(
     rt: &R,
     alloc: Global,
     opening: &str,
@@ -171,7 +183,7 @@ fn comes_in_batches<R: Threads + Sync>(
 
 /// Whether a generated script comes to its summary, each time that it is asked for, and its transcript tells
 /// of as many writes.
-fn sums_up<R: Threads + Sync>(rt: &R, alloc: Global) -> Result<bool> {
+fn sums_up<R: Threads + Wait + Sync>(rt: &R, alloc: Global) -> Result<bool> {
     let first = printed(rt, alloc, &generated::WORDS)?;
     let again = printed(rt, alloc, &generated::WORDS)?;
     let script = fault_script::generate(alloc, 7, 5000, 5)?;

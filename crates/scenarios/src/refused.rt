@@ -3,6 +3,7 @@
 use crate::runs::{RUN, run};
 use anyhow::Result;
 use std::alloc::Global;
+use std::sync::Wait;
 use std::thread::Threads;
 
 /// How many bytes a line may have, and how many lines a script.
@@ -11,7 +12,7 @@ const LONGEST_LINE: usize = 1_048_576;
 const MOST_LINES: usize = 200_000;
 
 /// Whether each script of a table is refused with status 3, and with the line of its heading alone.
-pub fn as_said<R: Threads + Sync>(rt: &R, alloc: Global, table: &str) -> Result<bool> {
+pub fn as_said<R: Threads + Wait + Sync>(rt: &R, alloc: Global, table: &str) -> Result<bool> {
     for row in table.split("== ") {
         if let Some((fault, script)) = row.split_once('\n') {
             if !is_refused(rt, alloc, script.as_bytes().to_vec(alloc)?, fault)? {
@@ -24,7 +25,7 @@ pub fn as_said<R: Threads + Sync>(rt: &R, alloc: Global, table: &str) -> Result<
 
 /// The same of scripts that don't stand well in a file: a line that isn't UTF-8, a line of a byte too many, a
 /// line too many.
-pub fn over_the_limits<R: Threads + Sync>(rt: &R, alloc: Global) -> Result<bool> {
+pub fn over_the_limits<R: Threads + Wait + Sync>(rt: &R, alloc: Global) -> Result<bool> {
     Ok(
         is_refused(
             rt,
@@ -45,7 +46,7 @@ pub fn over_the_limits<R: Threads + Sync>(rt: &R, alloc: Global) -> Result<bool>
     )
 }
 
-fn is_refused<R: Threads + Sync>(
+fn is_refused<R: Threads + Wait + Sync>(
     rt: &R,
     alloc: Global,
     script: Vec<u8>,

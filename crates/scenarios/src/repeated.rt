@@ -4,6 +4,7 @@ use crate::replies::{replies, said};
 use crate::runs::{RUN, run};
 use anyhow::Result;
 use std::alloc::Global;
+use std::sync::Wait;
 use std::thread::Threads;
 
 /// How often each message comes.
@@ -11,7 +12,11 @@ const TIMES: usize = 2_000;
 
 /// Whether what comes again changes nothing. A heading of the table names a message, the node that it goes to
 /// and the answer to its first delivery, and the script brings it to there.
-pub fn change_nothing<R: Threads + Sync>(rt: &R, alloc: Global, table: &str) -> Result<bool> {
+pub fn change_nothing<R: Threads + Wait + Sync>(
+    rt: &R,
+    alloc: Global,
+    table: &str,
+) -> Result<bool> {
     for row in table.split("== ") {
         if let Some((heading, script)) = row.split_once('\n') {
             if !changes_nothing(rt, alloc, heading, script)? {
@@ -22,7 +27,7 @@ pub fn change_nothing<R: Threads + Sync>(rt: &R, alloc: Global, table: &str) -> 
     Ok(true)
 }
 
-fn changes_nothing<R: Threads + Sync>(
+fn changes_nothing<R: Threads + Wait + Sync>(
     rt: &R,
     alloc: Global,
     heading: &str,

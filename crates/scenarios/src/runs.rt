@@ -4,9 +4,11 @@ ghost use Rattle.rs_disk.specs.File.{IsEmpty};
 ghost use Rattle.rs_disk.specs.Memory.{state_of};
 
 use anyhow::Result;
+use batch_applier::NoGate;
 use rs_disk::{Disk, MemDisk};
 use rs_io::{MemSink, MemSource};
 use std::alloc::{AllocError, Global};
+use std::sync::Wait;
 use std::thread::Threads;
 
 /// The words that ask for a script to be run.
@@ -42,7 +44,7 @@ pub struct Fault {
 
 /// What the words come to over an input of these bytes, on these disks, where the sink fails in its calls
 /// of these numbers.
-pub fn run_on<R: Threads + Sync>(
+pub fn run_on<R: Threads + Wait + Sync>(
     rt: &R,
     alloc: Global,
     words: &[&str],
@@ -59,7 +61,7 @@ pub fn run_on<R: Threads + Sync>(
     }
     let mut source = MemSource::new(input, Vec::new(alloc));
     let mut sink = MemSink::new(alloc, sink_fails);
-    let outcome = set_program::run_set(rt, alloc, &owned, &mut source, &mut sink, disks);
+    let outcome = set_program::run_set(rt, alloc, &owned, &mut source, &mut sink, disks, &NoGate);
     Ok(Ran {
         status: outcome.status,
         put: sink.bytes().to_vec(alloc)?,
@@ -67,7 +69,7 @@ pub fn run_on<R: Threads + Sync>(
 }
 
 /// The same on empty disks, with nothing that fails.
-pub fn run<R: Threads + Sync>(
+pub fn run<R: Threads + Wait + Sync>(
     rt: &R,
     alloc: Global,
     words: &[&str],
@@ -78,7 +80,7 @@ pub fn run<R: Threads + Sync>(
 }
 
 /// The script is run, and the sink fails in that call of it.
-pub fn run_with_lost_reply<R: Threads + Sync>(
+pub fn run_with_lost_reply<R: Threads + Wait + Sync>(
     rt: &R,
     alloc: Global,
     script: &str,
@@ -90,7 +92,7 @@ pub fn run_with_lost_reply<R: Threads + Sync>(
 }
 
 /// The script is run, and a disk fails.
-pub fn run_with_fault<R: Threads + Sync>(
+pub fn run_with_fault<R: Threads + Wait + Sync>(
     rt: &R,
     alloc: Global,
     script: &str,
