@@ -5,3 +5,4 @@ pub mod OptimeLemmas
 pub mod PartLemmas
 pub mod PlaceLemmas
 pub mod AppendingLemmas
+pub mod DirectLemmas

@@ -3,6 +3,7 @@
 #![tactic(auto)]
 
 mod appending;
+mod direct_reading;
 mod error;
 mod laws;
 mod ops;

@@ -12,6 +12,7 @@ ghost use Rattle.entry_bytes.specs.Layout.{document_of, last_member, members};
 ghost use Rattle.entry_bytes.specs.Parts.{stamped};
 
 use crate::EntryError;
+use crate::direct_reading::direct;
 use crate::ops::op_of;
 use crate::places::{count_at, document_at, int32_at, text_at, timestamp_at};
 use bson_codec::{ENTRY, decode};
@@ -104,6 +105,9 @@ pub fn of_bytes(alloc: Global, bytes: &[u8]) -> Result<Entry, EntryError>
     // And so each answer is the only one for its bytes.
     ensures exact { Answers (read_document ENTRY.bytes ENTRY.levels bytes.now) result }
 {
+    if let Some(entry) = direct(alloc, bytes)? {
+        return Ok(entry);
+    }
     let document = decode(alloc, bytes, ENTRY)?;
     entry_of(alloc, &document)
 }
