@@ -43,7 +43,7 @@ all_there count shards all some = elim all.1 [
 
 -- ---- a batch is ready for each shard
 
-passes_at : (count k : ℕ) (own : Option Place) (place : Place) → is_in count k own ≡ true → own ≡ Some place → place_hash place % count ≡ k
+pub passes_at : (count k : ℕ) (own : Option Place) (place : Place) → is_in count k own ≡ true → own ≡ Some place → place_hash place % count ≡ k
 passes_at count k None place test own = cc own
 passes_at count k (Some other) place test own = ap (λ (p : Place). place_hash p % count) (some_same (sym own)) ∙ grind (arith, nat_tests, test)
   where

@@ -13,6 +13,8 @@ use Rattle.version_store.specs.contracts.history.History as history
 use Rattle.version_store.specs.contracts.collection.Collection as collection
 use Rattle.version_store.specs.contracts.shard.Shard as shard
 use Rattle.oplog_entry.specs.contracts.entry.Entry as entry
+use Rattle.oplog_entry.specs.contracts.entry.Op as op
+use Rattle.oplog_entry.specs.contracts.entry.SharedOp as shared_op
 use Rattle.batch_applier.specs.contracts.part.Part as part
 use Rattle.batch_applier.specs.contracts.part.Touch as touch
 use Rattle.batch_applier.specs.contracts.shard_job.ShardJob as job
@@ -35,8 +37,20 @@ shard_send = search (sendable, heap.crosses, maps.crosses, collection_send) dept
 items_sync : IsSync items.the_row
 items_sync = search (sendable, documents.crosses, heap.crosses, text_send, text_sync, bytes_send, bytes_sync) depth 40 fits 20000
 
+items_send : IsSend items.the_row
+items_send = search (sendable, documents.crosses, heap.crosses, text_send, text_sync, bytes_send, bytes_sync) depth 40 fits 20000
+
+op_send : IsSend op.the_row
+op_send = search (sendable, heap.crosses, text_send, bytes_send, doc_send, items_send) depth 40 fits 20000
+
+op_sync : IsSync op.the_row
+op_sync = search (sendable, heap.crosses, text_sync, bytes_sync, doc_sync, items_sync) depth 40 fits 20000
+
+shared_op_sync : IsSync shared_op.the_row
+shared_op_sync = search (sendable, heap.crosses, op_send, op_sync) depth 40 fits 20000
+
 entry_sync : IsSync entry.the_row
-entry_sync = search (sendable, heap.crosses, text_sync, doc_sync, items_sync) depth 40 fits 20000
+entry_sync = search (sendable, heap.crosses, shared_op_sync) depth 40 fits 20000
 
 touch_sync : (a : _) → IsSync (touch.the_row a)
 touch_sync a = search (sendable, heap.crosses, text_sync, entry_sync) depth 40 fits 20000

@@ -3,6 +3,7 @@ pub mod PastLemmas
 mod PartLemmas
 mod WorkerLemmas
 mod BatchLemmas
+mod EachLemmas
 mod ClaimSteps
 mod JobLemmas
 mod Crosses

@@ -52,6 +52,16 @@ abbrev pub IsEachReady : List Shard → List Entry → Type 0
 IsEachReady shards entries = (k : ℕ) (s : Shard) → k < length shards
     → IsReady (slice_index_or shards k s) (part_of entries (length shards) k)
 
+-- the shard of the document that an entry touches can have a version of it at the entry's optime
+pub record IsReadyFor (shards : List Shard) (entry : Entry) : Type 0 where
+  pub own : (k : ℕ) (s : Shard) (place : Place) → k < length shards → place_of entry.op ≡ Some place
+      → place_hash place % length shards ≡ k
+      → BelongsTo (slice_index_or shards k s).number (slice_index_or shards k s).count place
+  pub later : (k : ℕ) (s : Shard) (place : Place) → k < length shards → place_of entry.op ≡ Some place
+      → place_hash place % length shards ≡ k
+      → All (λ version. is_before version.at entry.optime ≡ true)
+      (past_of (slice_index_or shards k s) place).versions
+
 -- each shard has come so far with the entries on its documents
 pub record EachOf (So : Shard → Shard → List Entry → Type 0) (old new : List Shard)
     (entries : List Entry) : Type 0 where

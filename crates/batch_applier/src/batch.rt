@@ -6,7 +6,7 @@ ghost use Rattle.batch_applier.specs.Applied.{IsBatch, HasApplied};
 ghost use Rattle.batch_applier.specs.Parts.{IsApplied, IsBegun, IsEachReady, EachOf, AreReady, AreApplied};
 
 use crate::gate::Gate;
-use crate::part::{Part, apply_in_turn, parted};
+use crate::part::{Part, apply_each, apply_in_turn, parted};
 use crate::shard_job::apply_claimed;
 use oplog_entry::Entry;
 use rs_optime::{Mem, OpTime};
@@ -65,8 +65,8 @@ fn put_back(store: &mut VersionStore, shards: Vec<Shard>, first: OpTime, done: M
     done
 }
 
-/// Parts the entries over the shards, and has them applied. Where memory runs out, each shard has had some of
-/// its entries applied, from the first on.
+/// Applies the entries. Where threads may pay, it parts them over the shards for the workers. Where memory
+/// runs out, each shard has had some of its entries applied, from the first on.
 fn apply_to<R: Threads + Sync, G: Gate + Sync>(
     rt: &R,
     shards: &mut [Shard],
@@ -83,8 +83,20 @@ fn apply_to<R: Threads + Sync, G: Gate + Sync>(
     ensures ok { OnOk result (EachOf IsApplied shards.old shards.new entries.now) }
     ensures begun { EachOf IsBegun shards.old shards.new entries.now }
 {
+    if entries.len() < 2 * SHARE {
+        pass_all(gate, workers);
+        return apply_each(alloc, count, entries, shards);
+    }
     let parts = parted(alloc, entries, count)?;
     apply_parts(rt, gate, alloc, workers, &parts, shards)
+}
+
+/// Has all workers pass the gate, the first as the last.
+fn pass_all<G: Gate>(gate: &G, workers: u32) {
+    for other in 2..=workers {
+        gate.pass(other);
+    }
+    gate.pass(1);
 }
 
 /// How many of the workers save more than their threads cost: each has a thousand entries to do, and as many

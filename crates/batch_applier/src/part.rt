@@ -1,15 +1,16 @@
 // The entries of a batch, by the shards that their documents belong to.
 ghost use Rattle.std.specs.Prelude.{◌≡◌, ◌<◌, ◌++◌, ◌∷◌, [], All, Some, None, length, IfOk, MatchOption, OnOk, OnErr, true};
+ghost use Rattle.std.specs.Option.{option_copied};
 ghost use Rattle.bson_doc.specs.Place.{Place};
 ghost use Rattle.oplog_entry.specs.Lawful.{IsLawful};
-ghost use Rattle.oplog_entry.specs.Step.{place_of};
-ghost use Rattle.version_store.specs.Past.{is_before};
+ghost use Rattle.oplog_entry.specs.Step.{place_of, document_after};
+ghost use Rattle.version_store.specs.Past.{is_before, latest_of};
 ghost use Rattle.version_store.specs.Shards.{past_of, BelongsTo};
-ghost use Rattle.batch_applier.specs.Parts.{is_in, AreParts, AreReady, AreApplied, IsAdded, IsReady, IsApplied, IsBegun};
+ghost use Rattle.batch_applier.specs.Parts.{is_in, AreParts, AreReady, AreApplied, IsAdded, IsReady, IsReadyFor, IsEachReady, IsApplied, IsBegun, EachOf};
 
-use bson_doc::{IdKey, Text};
+use bson_doc::{Doc, IdKey, Text};
 use doc_fold::document_after;
-use oplog_entry::Entry;
+use oplog_entry::{Entry, Op};
 use rs_optime::Mem;
 use std::alloc::Global;
 use std::marker::Model;
@@ -69,9 +70,22 @@ impl<'a> Touch<'a> {
         ensures err { OnErr result (shard.new ≡ shard.old) }
     {
         let ns = self.ns.as_str();
-        let before = shard.latest(ns, &self.id);
-        let after = document_after(alloc, &self.entry.op, before)?;
+        let before = self.base(shard);
+        let after = document_after(alloc, self.entry.op.or(&Op::Noop), before)?;
         shard.put_in(ns, self.id.copy()?, self.entry.optime, after)
+    }
+
+    /// The document that the op changes fields of. Other ops leave the same whatever stood there, so for
+    /// these nothing is looked up.
+    fn base<'s>(&self, shard: &'s Shard) -> Option<&'s Doc>
+        ensures { (place : Place) → place_of self.now.op ≡ Some place
+            → document_after self.now.op (option_copied result)
+            ≡ document_after self.now.op (latest_of (past_of shard.now place).versions) }
+    {
+        match self.entry.op.or(&Op::Noop) {
+            Op::Fields { .. } | Op::Noop => shard.latest(self.ns.as_str(), &self.id),
+            Op::Insert { .. } | Op::Replace { .. } | Op::Delete { .. } => None,
+        }
     }
 }
 
@@ -168,6 +182,41 @@ fn empty_parts<'a>(alloc: Global, count: u32, room: usize) -> Mem<Vec<Part<'a>>>
         parts.push(Part::with_capacity(alloc, room)?)?;
     }
     Ok(parts)
+}
+
+/// Applies entries one after another, each to the shard of its document, and parts nothing. Where memory runs
+/// out, some of the entries have been applied.
+pub(crate) fn apply_each(
+    alloc: Global,
+    count: u32,
+    entries: &[Entry],
+    shards: &mut [Shard],
+) -> Mem<()>
+    requires lawful { All IsLawful entries.now }
+    requires count { (0 < count) × (length shards.old ≡ count) }
+    requires ready { IsEachReady shards.old entries.now }
+    ensures ok { OnOk result (EachOf IsApplied shards.old shards.new entries.now) }
+    ensures begun { EachOf IsBegun shards.old shards.new entries.now }
+{
+    for entry in entries {
+        apply_one(alloc, count, entry, shards)?;
+    }
+    Ok(())
+}
+
+/// Applies an entry to the shard of its document.
+fn apply_one(alloc: Global, count: u32, entry: &Entry, shards: &mut [Shard]) -> Mem<()>
+    requires count { (0 < count) × (length shards.old ≡ count) }
+    requires lawful { IsLawful entry.now }
+    requires ready { IsReadyFor shards.old entry.now }
+    ensures ok { OnOk result (EachOf IsApplied shards.old shards.new (entry.now ∷ [])) }
+    ensures err { OnErr result (shards.new ≡ shards.old) }
+{
+    let Some(touch) = Touch::of(entry)? else {
+        return Ok(());
+    };
+    let place = touch.shard(count) as usize;
+    touch.apply(alloc, &mut shards[place])
 }
 
 /// Applies the parts of all shards, one after another. Where memory runs out, some of the entries have been

@@ -42,7 +42,7 @@ pub fn apply_entry(alloc: Global, docs: &mut BTreeMap<(Text, IdKey), Doc>, entry
     let Some(place) = entry.key()? else {
         return Ok(());
     };
-    match document_after(alloc, &entry.op, docs.get(&place))? {
+    match document_after(alloc, entry.op.or(&Op::Noop), docs.get(&place))? {
         Some(document) => {
             docs.insert(place, document)?;
         }

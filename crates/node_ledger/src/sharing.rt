@@ -43,6 +43,15 @@ impl Ledger {
         self.log.get(at)
     }
 
+    /// `entry_at`, which looks at a likely place of the log first, and leaves there the place behind the
+    /// entry. So entries that follow one another are found at once.
+    pub fn entry_near(&self, likely: &mut usize, at: OpTime) -> Option<&Entry>
+        ensures found { IfSome (option_copied result) (λ entry. IsEntryAt self.now.node.log at entry) }
+        ensures none { IfNone result (All (λ entry. entry.optime ≢ at) self.now.node.log) }
+    {
+        self.log.get_near(likely, at)
+    }
+
     /// Copies of all entries, in their order. Out of memory is the one error.
     pub fn entries(&self) -> Mem<EntryList>
         ensures { IfOk result (λ list. list ≡ self.now.node.log) }

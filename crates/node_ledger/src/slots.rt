@@ -23,7 +23,7 @@ use crate::Ledger;
 use crate::writer_map::Held;
 use bson_doc::{Doc, IdKey, Mem, Text};
 use doc_fold::document_after;
-use oplog_entry::{Entry, Op};
+use oplog_entry::{Entry, Op, SharedOp};
 use optime_slots::Slots;
 use rs_optime::OpTime;
 use set_model::Writer;
@@ -89,6 +89,7 @@ impl Ledger {
         let Some(place) = op.key()? else {
             unreachable!()
         };
+        let op = SharedOp::new(self.alloc, op)?;
         let old = self.writers.insert(number, Held::open(at, op, place))?;
         if let Err(error) = hold(
             &mut self.store,
@@ -156,7 +157,7 @@ impl Ledger {
         let Some(Writer::Open { at, op }) = self.writers.get(number) else {
             unreachable!()
         };
-        let Some((ns, id)) = op.key()? else {
+        let Some((ns, id)) = op.or(&Op::Noop).key()? else {
             unreachable!()
         };
         Ok(Slot { at: *at, ns, id })
@@ -172,6 +173,6 @@ impl Ledger {
         let Some(Writer::Open { op, .. }) = self.writers.get(number) else {
             unreachable!()
         };
-        document_after(self.alloc, op, self.latest(ns.as_str(), id))
+        document_after(self.alloc, op.or(&Op::Noop), self.latest(ns.as_str(), id))
     }
 }

@@ -12,7 +12,7 @@ ghost use Rattle.node_ledger.specs.Kept.{IsHolder};
 ghost use Rattle.node_ledger.specs.Writers.{HasOpen, IsWriting, held_place, put_back};
 
 use bson_doc::{IdKey, Mem, Text};
-use oplog_entry::Op;
+use oplog_entry::SharedOp;
 use rs_optime::OpTime;
 use set_model::Writer;
 use std::alloc::Global;
@@ -44,7 +44,7 @@ impl Model for Held {
 
 impl Held {
     /// A writer that opens a slot for an op on the document at a place.
-    pub(crate) fn open(at: OpTime, op: Op, place: (Text, IdKey)) -> Self
+    pub(crate) fn open(at: OpTime, op: SharedOp, place: (Text, IdKey)) -> Self
         requires { place_of op ≡ Some place }
         ensures { result ≡ Writer.Open at op }
     {
@@ -90,7 +90,7 @@ impl Held {
     }
 
     /// The op of an open writer.
-    fn op(self) -> Op
+    fn op(self) -> SharedOp
         requires { (at : OpTime) × (op : Op) × (self ≡ Writer.Open at op) }
         ensures { (at : OpTime) (op : Op) → self ≡ Writer.Open at op → result ≡ op }
     {
@@ -161,7 +161,7 @@ impl WriterMap {
     }
 
     /// Marks an open writer as done, and gives its op.
-    pub(crate) fn finish(&mut self, number: u32, at: OpTime) -> Op
+    pub(crate) fn finish(&mut self, number: u32, at: OpTime) -> SharedOp
         requires { IsWriting self.old number }
         ensures done { self.new ≡ maps.insert self.old number (Writer.Done at) }
         ensures op { (slot : OpTime) (op : Op) → HasOpen self.old number slot op → result ≡ op }

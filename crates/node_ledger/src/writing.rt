@@ -16,13 +16,13 @@ ghost use Rattle.node_ledger.specs.Versions.{IsSmall};
 
 use crate::Ledger;
 use bson_doc::{Doc, IdKey, Mem, Text};
-use oplog_entry::{Entry, Op};
+use oplog_entry::{Entry, Op, SharedOp};
 use oplog_store::OpenLog;
 use optime_slots::Slots;
 use rs_optime::OpTime;
 
 /// Writes an entry past all others, in the room that there is.
-fn append(log: &mut OpenLog, slots: &mut Slots, optime: OpTime, op: Op)
+fn append(log: &mut OpenLog, slots: &mut Slots, optime: OpTime, op: SharedOp)
     requires room { 0 < log.old.spare }
     requires stays { IsOplog (with_entry log.old.entries (record { optime = optime; op = op })) }
     ensures entries { log.new.entries ≡ with_entry log.old.entries (record { optime = optime; op = op }) }
@@ -51,6 +51,7 @@ impl Ledger {
     {
         let at = self.next();
         self.log.reserve(1)?;
+        let op = SharedOp::new(self.alloc, op)?;
         self.store.put(ns, id, at, after)?;
         append(&mut self.log, &mut self.slots, at, op);
         Ok(at)
@@ -65,7 +66,7 @@ impl Ledger {
         ensures ok { self.new ≡ record { node = logged self.old.node Noop; spare = self.old.spare - 1 } }
     {
         let at = self.next();
-        append(&mut self.log, &mut self.slots, at, Op::Noop);
+        append(&mut self.log, &mut self.slots, at, SharedOp::noop());
         at
     }
 }

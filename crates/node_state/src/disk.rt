@@ -31,12 +31,12 @@ pub(crate) fn earlier(one: OpTime, other: OpTime) -> OpTime
     if one < other { one } else { other }
 }
 
-/// The entry with an optime.
-fn entry_at(ledger: &Ledger, at: OpTime) -> Option<&Entry>
+/// The entry with an optime, which is looked for at a likely place of the log first.
+fn entry_at<'a>(ledger: &'a Ledger, likely: &mut usize, at: OpTime) -> Option<&'a Entry>
     ensures { option_copied result ≡ entry_at ledger.now.node.log at }
 {
     ledger.recall_sound();
-    ledger.entry_at(at)
+    ledger.entry_near(likely, at)
 }
 
 /// The optime of the last entry, or ZERO where there is none.
@@ -54,8 +54,9 @@ fn copies_at(alloc: Global, ledger: &Ledger, optimes: &[OpTime]) -> Mem<EntryLis
     ensures { IfOk result (λ list. list ≡ entries_at ledger.now.node.log optimes.now) }
 {
     let mut copies = Vec::with_capacity(alloc, optimes.len())?;
+    let mut likely = 0;
     for at in optimes {
-        if let Some(entry) = entry_at(ledger, *at) {
+        if let Some(entry) = entry_at(ledger, &mut likely, *at) {
             copies.push(entry.copy()?)?;
         }
     }

@@ -2,6 +2,7 @@ pub mod Docs
 pub mod Index
 pub mod Lawful
 pub mod Log
+pub mod Shared
 pub mod Step
 pub mod Visible
 pub mod Walk

@@ -1,10 +1,13 @@
 ghost use Rattle.std.specs.Prelude.{◌≡◌, IfOk, option_map};
 ghost use Rattle.oplog_entry.specs.Lawful.{IsLawful, IsLawfulOp};
 ghost use Rattle.oplog_entry.specs.Step.{place_of};
+ghost use Rattle.oplog_entry.specs.declared.entry.Op.TheVariants.{Noop};
 
 use bson_doc::{Doc, IdKey, Items, KeyError, Mem, Text, Value};
 use rs_optime::OpTime;
-use std::alloc::AllocError;
+use std::alloc::{AllocError, Global};
+use std::marker::Model;
+use std::sync::Arc;
 
 /// What an entry of the oplog does to one document. `ns` is the collection, and `id` the document's `_id`.
 #[derive(Drop)]
@@ -41,7 +44,66 @@ pub enum Op {
 #[derive(Drop)]
 pub struct Entry {
     pub optime: OpTime,
-    pub op: Op,
+    pub op: SharedOp,
+}
+
+/// An op with as many owners as there are copies. A no-op takes no memory.
+#[derive(Drop)]
+pub struct SharedOp {
+    op: Option<Arc<Op, Global>>,
+}
+
+impl Model for SharedOp {
+    ghost use Rattle.oplog_entry.specs.declared.entry.Op.{Op as Seen};
+    ghost use Rattle.oplog_entry.specs.contracts.entry.Op.{the_row};
+    ghost use Rattle.oplog_entry.specs.Shared.{op_of};
+
+    ghost Value = { Seen };
+
+    ghost coded = { the_row.coded };
+
+    ghost view = { λ s. op_of s.op };
+}
+
+impl SharedOp {
+    /// A no-op.
+    pub fn noop() -> Self
+        ensures { result ≡ Noop }
+    {
+        SharedOp { op: None }
+    }
+
+    /// An op with one owner. Out of memory is the one error.
+    pub fn new(alloc: Global, op: Op) -> Mem<Self>
+        ensures { IfOk result (λ shared. shared ≡ op) }
+    {
+        Ok(SharedOp {
+            op: Some(Arc::new(alloc, op)?),
+        })
+    }
+
+    /// The op itself; of a no-op, which isn't kept anywhere, the one that is given.
+    pub fn or<'a>(&'a self, no_op: &'a Op) -> &'a Op
+        requires { no_op.now ≡ Noop }
+        ensures { result.now ≡ self.now }
+    {
+        match &self.op {
+            Some(op) => op,
+            None => no_op,
+        }
+    }
+
+    /// The same op with one owner more. So many owners that none can be counted more is out of memory.
+    pub fn copy(&self) -> Mem<Self>
+        ensures { IfOk result (λ shared. shared ≡ self.now) }
+    {
+        Ok(SharedOp {
+            op: match &self.op {
+                Some(op) => Some(Arc::try_clone(op)?),
+                None => None,
+            },
+        })
+    }
 }
 
 impl Op {
@@ -129,7 +191,10 @@ impl Entry {
         requires { IsLawful self.now }
         ensures { IfOk result (λ touched. option_map (λ t. (t.0.now, t.1)) touched ≡ place_of self.now.op) }
     {
-        self.op.touched()
+        match &self.op.op {
+            Some(op) => op.touched(),
+            None => Ok(None),
+        }
     }
 
     /// What `touched` gives, with a copy of the collection's name.
@@ -137,6 +202,6 @@ impl Entry {
         requires { IsLawful self.now }
         ensures { IfOk result (λ place. place ≡ place_of self.now.op) }
     {
-        self.op.key()
+        self.op.or(&Op::Noop).key()
     }
 }

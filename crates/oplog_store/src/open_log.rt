@@ -180,6 +180,20 @@ impl OpenLog {
         }
     }
 
+    /// `get`, which looks at a likely place first, and leaves there the place behind the entry.
+    pub fn get_near(&self, likely: &mut usize, at: OpTime) -> Option<&Entry>
+        ensures found { IfSome (option_copied result) (λ entry. IsEntryAt self.now.entries at entry) }
+        ensures none { IfNone result (All (λ entry. entry.optime ≢ at) self.now.entries) }
+    {
+        match self.settled.find_near(*likely, at) {
+            Some(place) => {
+                *likely = place.wrapping_add(1);
+                self.settled.as_slice().get(place)
+            }
+            None => entry_at(&self.beyond, at),
+        }
+    }
+
     /// The optime of the last entry, or ZERO where there is none.
     pub fn last(&self) -> OpTime
         ensures { result ≡ last_of self.now.entries }

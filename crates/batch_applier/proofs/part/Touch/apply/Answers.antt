@@ -1,6 +1,5 @@
-use Rattle.std.proofs.Common.{◌∙◌, ap}
+use Rattle.std.proofs.Common.{◌∙◌}
 use Rattle.bson_doc.proofs.BindLemmas.{on_ok}
-use Rattle.oplog_entry.specs.Step.{document_after}
 use Rattle.batch_applier.proofs.PartLemmas.{applied_one}
 use Rattle.batch_applier.proofs.part.Touch.apply.Goals as goal
 
@@ -18,5 +17,5 @@ returns-clause-ok c =
     (on_ok c.put_in.result
     (λ changes.
     applied_one c.args.shard.now c.put_in.new.self c.self.inside.entry.now (c.self.inside.ns.now, c.self.inside.id) c.in_ok-after.after c.self.invariant
-    (c.in_ok-after.ensures.after ∙ ap (document_after c.self.inside.entry.now.op) (rw c.as_str-ns.ensures at c.latest-before.ensures.latest)) changes)
+    ((rw c.or.ensures at c.in_ok-after.ensures.after) ∙ (rw (← c.self.view_is) at c.base-before.ensures) (c.self.inside.ns.now, c.self.inside.id) c.self.invariant) changes)
     (rw (c.as_str-ns.ensures, c.in_ok-copy.ensures) at c.put_in.ensures.ok))

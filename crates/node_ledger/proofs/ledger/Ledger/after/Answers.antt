@@ -13,4 +13,4 @@ returns c = λ at op opens.
     let here : Some c.in-Some-Open.field-0.now ≡ Some (Open at op) = c.in-Some-Open.ensures ∙ opened in
     let was : c.in-Some-Open.field-0.now ≡ Open c.in-Some-Open.field-0-0 c.in-Some-Open.op = c.in-Some-Open.field-0-is in
     let same : c.in-Some-Open.op ≡ op = cc in
-    rw (c.latest.ensures.latest, c.as_str.ensures, whole_documents c.args.self.now.node role, same) at c.document_after.ensures.after
+    rw (c.latest.ensures.latest, c.as_str.ensures, whole_documents c.args.self.now.node role, c.or.ensures, same) at c.document_after.ensures.after

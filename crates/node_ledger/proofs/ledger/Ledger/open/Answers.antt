@@ -36,4 +36,4 @@ invariant_of-self-2 c =
     kept_slot_opened c.self.inside.term c.self.inside.role c.self.inside.clock c.self.inside.log.entries _ c.self.inside.slots c.hold.new.slots c.self.inside.writers c.insert.new.self c.self.inside.applied c.self.inside.stable c.next-at.result
     c.self.inside.store c.hold.new.store c.args.number c.open.result c.args.op (c.args.ns.now, c.args.id.now) c.self.invariant
     (new_open _ c.args.op (c.args.ns.now, c.args.id.now) role c.requires.lawful within c.requires.place small) c.requires.place free closed
-    (ap (λ (l : LogWithHoles). l.entries) c.open-2.ensures) c.in_default-hold.ensures.slot c.in_ok-old.ensures.ok c.open.ensures next c.in_default-hold.ensures.held
+    (ap (λ (l : LogWithHoles). l.entries) c.open-2.ensures) c.in_default-hold.ensures.slot c.in_ok-old.ensures.ok (rw c.in_ok-op.ensures at c.open.ensures) next c.in_default-hold.ensures.held

@@ -15,7 +15,7 @@ append-requires-clause-stays c =
     let within = rw (← c.self.view_is) at c.requires.within in
     let left = rw (← c.self.view_is) at c.requires.left in
     let new = new_write _ c.args.op (c.args.ns, c.args.id) c.args.after role c.requires.lawful within c.requires.place left c.requires.small in
-    rw (c.in_ok-reserve.ensures.entries, next) (sound_logged _ c.args.op c.self.invariant.sound new).oplog
+    rw (c.in_ok-reserve.ensures.entries, next, c.in_ok-op.ensures) (sound_logged _ c.args.op c.self.invariant.sound new).oplog
 
 pub invariant_of-self-2 : goal.invariant_of-self-2
 invariant_of-self-2 c =
@@ -26,5 +26,5 @@ invariant_of-self-2 c =
     let left = rw (← c.self.view_is) at c.requires.left in
     let new = new_write _ c.args.op (c.args.ns, c.args.id) c.args.after role c.requires.lawful within c.requires.place left c.requires.small in
     let changes = rw next at c.in_ok-put.ensures.ok in
-    rw (c.append.ensures.entries, c.in_ok-reserve.ensures.entries, c.append.ensures.slots, raised_to c.self.inside.term c.self.inside.slots.mark c.self.inside.clock _ next, next)
+    rw (c.append.ensures.entries, c.in_ok-op.ensures, c.in_ok-reserve.ensures.entries, c.append.ensures.slots, raised_to c.self.inside.term c.self.inside.slots.mark c.self.inside.clock _ next, next)
     (kept_logged _ c.self.inside.store c.put.new.self c.args.op (c.args.ns, c.args.id) c.args.after c.self.invariant new c.requires.place free left changes)
