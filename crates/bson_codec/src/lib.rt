@@ -15,5 +15,6 @@ pub use bson_doc::{Bounds, DOCUMENT, ENTRY, size};
 pub use encoding::encode;
 pub use error::{DecodeError, EncodeError};
 pub use laws::bytes_spell_one_document;
+pub use numbers::{u32_of, u64_of};
 pub use whole::decode;
 pub use writing::{close, put_document, put_field, put_size, put_string, write};

@@ -100,10 +100,22 @@ pub fn put_bytes(alloc: Global, entry: &Entry, out: &mut Vec<u8>) -> Mem<()>
     ensures sound { OnOk result (IsSound (document_of entry.now)) }
     ensures longer { OnOk result (vec_capacity out.old ≤ vec_capacity out.new) }
 {
+    put_entry(alloc, entry, entry.op.or(&Op::Noop), out)
+}
+
+/// `put_bytes`, with the entry's op.
+fn put_entry(alloc: Global, entry: &Entry, op: &Op, out: &mut Vec<u8>) -> Mem<()>
+    requires lawful { IsLawful entry.now }
+    requires short { document_length (document_of entry.now) < 2 ^ 31 }
+    requires op { op.now ≡ entry.now.op }
+    ensures laid { OnOk result (out.new.items ≡ out.old.items ++ document_bytes (document_of entry.now)) }
+    ensures sound { OnOk result (IsSound (document_of entry.now)) }
+    ensures longer { OnOk result (vec_capacity out.old ≤ vec_capacity out.new) }
+{
     let start = out.len();
     out.extend_from_slice(&[0; 4])?;
-    put_head(alloc, entry.optime, &entry.op, out)?;
-    put_body(alloc, &entry.op, out)?;
-    put_target(alloc, &entry.op, out)?;
+    put_head(alloc, entry.optime, op, out)?;
+    put_body(alloc, op, out)?;
+    put_target(alloc, op, out)?;
     close(out, start)
 }

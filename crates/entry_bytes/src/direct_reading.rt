@@ -1,18 +1,20 @@
 // Entries without a target, read without a document of their members. In the layout in which entries are
-// written each part has its place; what stands there is made an entry, written again, and compared.
-ghost use Rattle.std.specs.Prelude.{◌≡◌, ◌<◌, ◌≤◌, ◌^◌, length, IfOk, IfSome, IsTrue};
-ghost use Rattle.bson_doc.specs.Length.{document_length, document_levels};
+// written each part has its place, and between the parts stand bytes that are the same in every entry.
+ghost use Rattle.std.specs.Prelude.{◌≡◌, ◌<◌, ◌^◌, ◌∷◌, ◌++◌, [], codes, length, None, true, IfOk, IfSome};
+ghost use Rattle.std.specs.Str.{is_utf8};
+ghost use Rattle.bson_doc.specs.Tree.{no_fields, text};
+ghost use Rattle.bson_codec.specs.Numbers.{number_bytes};
 ghost use Rattle.bson_codec.specs.Sound.{IsSound};
-ghost use Rattle.bson_codec.specs.Spelling.{IsSpelling, document_bytes};
+ghost use Rattle.bson_codec.specs.Spelling.{IsSpelling, element, fields_bytes, value_bytes};
 ghost use Rattle.oplog_entry.specs.Lawful.{IsLawful};
-ghost use Rattle.entry_bytes.specs.Layout.{document_of};
+ghost use Rattle.entry_bytes.specs.Layout.{body_of, document_of};
+ghost use Rattle.entry_bytes.specs.Parts.{AreMembersOf, stamped};
 
 use crate::EntryError;
-use crate::appending::put_bytes;
-use crate::ops::op_of;
-use bson_codec::{ENTRY, decode};
+use crate::ops::other_of;
+use bson_codec::{ENTRY, decode, u32_of, u64_of};
 use bson_doc::{Bounds, Mem, Text};
-use oplog_entry::Entry;
+use oplog_entry::{Entry, SharedOp};
 use rs_optime::OpTime;
 use std::alloc::{AllocError, Global};
 use std::str::from_utf8;
@@ -32,29 +34,179 @@ struct Parts<'a> {
     o: &'a [u8],
 }
 
-/// The number in the 8 bytes at a place, the lowest first.
-fn number_at(bytes: &[u8], place: usize) -> Option<u64> {
-    Some(u64::from_le_bytes(*bytes.get(place..)?.first_chunk::<8>()?))
+/// What stands behind the name of the timestamp.
+fn behind_ts(bytes: &[u8]) -> Option<&[u8]>
+    ensures { IfSome result (λ rest. bytes.now ≡ 17 ∷ 116 ∷ 115 ∷ 0 ∷ rest.now) }
+{
+    let [0x11, b't', b's', 0, rest @ ..] = bytes else {
+        return None;
+    };
+    Some(rest)
 }
 
-/// The parts, each where it stands behind the fixed bytes and the parts before it.
-fn parts_in(bytes: &[u8]) -> Option<Parts<'_>>
-    requires { length bytes.now ≤ 1048576 }
-    ensures term { IfSome result (λ p. p.optime.term < 2 ^ 63) }
-    ensures short { IfSome result (λ p. (length p.letter.now ≤ 1) × (length p.ns.now ≤ 1048576)) }
+/// What stands behind the name of the term.
+fn behind_t(bytes: &[u8]) -> Option<&[u8]>
+    ensures { IfSome result (λ rest. bytes.now ≡ 18 ∷ 116 ∷ 0 ∷ rest.now) }
 {
-    let ts = number_at(bytes, 8)?;
-    let term = number_at(bytes, 19)?;
-    let size = (number_at(bytes, 48)? % (1 << 32)) as usize;
-    let letter = from_utf8(bytes.get(42..43)?).ok()?;
-    let behind = bytes.get(52..)?;
-    let ns = from_utf8(behind.get(..size.checked_sub(1)?)?).ok()?;
-    let (_, o) = behind.get(size + 3..)?.split_last()?;
-    if term >= 1 << 63 {
+    let [0x12, b't', 0, rest @ ..] = bytes else {
+        return None;
+    };
+    Some(rest)
+}
+
+/// What stands behind the name of the version.
+fn behind_v(bytes: &[u8]) -> Option<&[u8]>
+    ensures { IfSome result (λ rest. bytes.now ≡ 16 ∷ 118 ∷ 0 ∷ rest.now) }
+{
+    let [0x10, b'v', 0, rest @ ..] = bytes else {
+        return None;
+    };
+    Some(rest)
+}
+
+/// What stands behind the name of the letter.
+fn behind_op(bytes: &[u8]) -> Option<&[u8]>
+    ensures { IfSome result (λ rest. bytes.now ≡ 2 ∷ 111 ∷ 112 ∷ 0 ∷ rest.now) }
+{
+    let [0x02, b'o', b'p', 0, rest @ ..] = bytes else {
+        return None;
+    };
+    Some(rest)
+}
+
+/// What stands behind the name of the collection.
+fn behind_ns(bytes: &[u8]) -> Option<&[u8]>
+    ensures { IfSome result (λ rest. bytes.now ≡ 2 ∷ 110 ∷ 115 ∷ 0 ∷ rest.now) }
+{
+    let [0x02, b'n', b's', 0, rest @ ..] = bytes else {
+        return None;
+    };
+    Some(rest)
+}
+
+/// What stands behind a zero.
+fn behind_zero(bytes: &[u8]) -> Option<&[u8]>
+    ensures { IfSome result (λ rest. bytes.now ≡ 0 ∷ rest.now) }
+{
+    let [0, rest @ ..] = bytes else {
+        return None;
+    };
+    Some(rest)
+}
+
+/// The number in the first eight bytes, and what stands behind them.
+fn long_of(bytes: &[u8]) -> Option<(u64, &[u8])>
+    ensures { IfSome result (λ x. bytes.now ≡ number_bytes 8 x.0 ++ x.1.now) }
+{
+    match u64_of(bytes) {
+        Ok((number, rest)) => Some((number, rest)),
+        Err(_) => None,
+    }
+}
+
+/// The number in the first four bytes, and what stands behind them.
+fn short_of(bytes: &[u8]) -> Option<(u32, &[u8])>
+    ensures { IfSome result (λ x. bytes.now ≡ number_bytes 4 x.0 ++ x.1.now) }
+{
+    match u32_of(bytes) {
+        Ok((number, rest)) => Some((number, rest)),
+        Err(_) => None,
+    }
+}
+
+/// The optime and the version, and what stands behind them.
+fn stamp_of(bytes: &[u8]) -> Option<(OpTime, &[u8])>
+    ensures ts { IfSome result (λ x. x.0.ts < 2 ^ 64) }
+    ensures term { IfSome result (λ x. x.0.term < 2 ^ 63) }
+    ensures spelled { IfSome result (λ x. bytes.now ≡ fields_bytes (stamped x.0 no_fields) ++ x.1.now) }
+{
+    let (ts, rest) = long_of(behind_ts(bytes)?)?;
+    let (term, rest) = long_of(behind_t(rest)?)?;
+    let (version, rest) = short_of(behind_v(rest)?)?;
+    if version != 2 || term >= 1 << 63 {
         return None;
     }
+    Some((OpTime { term, ts }, rest))
+}
+
+/// The first so many bytes as letters, and what stands behind the zero that closes them.
+fn letters_of(count: usize, bytes: &[u8]) -> Option<(&str, &[u8])>
+    ensures count { IfSome result (λ x. length x.0.now ≡ count) }
+    ensures spelled { IfSome result (λ x. bytes.now ≡ x.0.now ++ 0 ∷ x.1.now) }
+{
+    if bytes.len() <= count {
+        return None;
+    }
+    let (letters, behind) = bytes.split_at(count);
+    let rest = behind_zero(behind)?;
+    match from_utf8(letters) {
+        Ok(text) => Some((text, rest)),
+        Err(_) => None,
+    }
+}
+
+/// A string as a value, and what stands behind it.
+fn string_of(bytes: &[u8]) -> Option<(&str, &[u8])>
+    ensures { IfSome result (λ x. bytes.now ≡ value_bytes (text x.0.now) ++ x.1.now) }
+{
+    let (size, rest) = short_of(bytes)?;
+    if size == 0 {
+        return None;
+    }
+    letters_of(size as usize - 1, rest)
+}
+
+/// The letter and the collection, and what stands behind them.
+fn strings_of(bytes: &[u8]) -> Option<((&str, &str), &[u8])>
+    ensures { IfSome result (λ x. bytes.now
+        ≡ element 2 (codes "op") (value_bytes (text x.0.0.now))
+        ++ (element 2 (codes "ns") (value_bytes (text x.0.1.now)) ++ x.1.now)) }
+{
+    let (letter, rest) = string_of(behind_op(bytes)?)?;
+    let (ns, rest) = string_of(behind_ns(rest)?)?;
+    Some(((letter, ns), rest))
+}
+
+/// The document `o`, behind which the entry's document ends.
+fn body_in(bytes: &[u8]) -> Option<&[u8]>
+    ensures { IfSome result (λ o. bytes.now ≡ element 3 (codes "o") o.now ++ 0 ∷ []) }
+{
+    let [3, b'o', 0, rest @ ..] = bytes else {
+        return None;
+    };
+    let (end, o) = rest.split_last()?;
+    if *end != 0 {
+        return None;
+    }
+    Some(o)
+}
+
+/// Letters are UTF-8: a fact for the proofs here, which costs nothing.
+fn recall_utf8(letters: &str)
+    ensures { is_utf8 letters.now ≡ true }
+{
+    let _ = letters;
+}
+
+/// The parts, each where it stands behind the bytes before it.
+fn parts_in(bytes: &[u8]) -> Option<Parts<'_>>
+    ensures ts { IfSome result (λ p. p.optime.ts < 2 ^ 64) }
+    ensures term { IfSome result (λ p. p.optime.term < 2 ^ 63) }
+    ensures spelled { IfSome result (λ p. bytes.now
+        ≡ number_bytes 4 (length bytes.now) ++ (fields_bytes (stamped p.optime no_fields)
+        ++ (element 2 (codes "op") (value_bytes (text p.letter.now))
+        ++ (element 2 (codes "ns") (value_bytes (text p.ns.now))
+        ++ (element 3 (codes "o") p.o.now ++ 0 ∷ []))))) }
+{
+    let (size, rest) = short_of(bytes)?;
+    if size as usize != bytes.len() {
+        return None;
+    }
+    let (optime, rest) = stamp_of(rest)?;
+    let ((letter, ns), rest) = strings_of(rest)?;
+    let o = body_in(rest)?;
     Some(Parts {
-        optime: OpTime { term, ts },
+        optime,
         letter,
         ns,
         o,
@@ -63,31 +215,21 @@ fn parts_in(bytes: &[u8]) -> Option<Parts<'_>>
 
 /// The entry of these parts.
 fn entry_at(alloc: Global, parts: &Parts<'_>) -> Result<Entry, EntryError>
-    requires term { parts.now.optime.term < 2 ^ 63 }
-    requires short { (length parts.now.letter.now ≤ 1) × (length parts.now.ns.now ≤ 1048576) }
+    requires { parts.now.optime.term < 2 ^ 63 }
     ensures lawful { IfOk result IsLawful }
-    ensures levels { IfOk result (λ e. document_levels (document_of e) ≤ ENTRY.levels) }
-    ensures length { IfOk result (λ e. document_length (document_of e) < 2 ^ 31) }
+    ensures optime { IfOk result (λ e. e.optime ≡ parts.now.optime) }
+    ensures op { IfOk result (λ e.
+        AreMembersOf e.op parts.now.letter.now parts.now.ns.now (body_of e.op) None) }
+    ensures body { IfOk result (λ e. IsSound (body_of e.op)
+        × IsSpelling 1048576 102 (body_of e.op) parts.now.o.now) }
 {
     let ns = Text::from_str(alloc, parts.ns)?;
     let o = decode(alloc, parts.o, BODY)?;
-    let op = op_of(alloc, parts.letter, &ns, &o, None)?;
+    let op = other_of(parts.letter, ns, o)?;
     Ok(Entry {
         optime: parts.optime,
-        op,
+        op: SharedOp::new(alloc, op)?,
     })
-}
-
-/// Whether the entry is written as these bytes.
-fn is_written_so(alloc: Global, entry: &Entry, bytes: &[u8]) -> Mem<bool>
-    requires lawful { IsLawful entry.now }
-    requires length { document_length (document_of entry.now) < 2 ^ 31 }
-    ensures { IfOk result (λ same. IsTrue same
-        → (bytes.now ≡ document_bytes (document_of entry.now)) × IsSound (document_of entry.now)) }
-{
-    let mut written = Vec::with_capacity(alloc, bytes.len())?;
-    put_bytes(alloc, entry, &mut written)?;
-    Ok(written.as_slice() == bytes)
 }
 
 /// The entry that the bytes spell, where its parts are at their places and it has no target. Nothing says
@@ -102,13 +244,11 @@ pub(crate) fn direct(alloc: Global, bytes: &[u8]) -> Mem<Option<Entry>>
     let Some(parts) = parts_in(bytes) else {
         return Ok(None);
     };
-    let entry = match entry_at(alloc, &parts) {
-        Ok(entry) => entry,
-        Err(EntryError::Memory) => return Err(AllocError),
-        Err(_) => return Ok(None),
-    };
-    if !is_written_so(alloc, &entry, bytes)? {
-        return Ok(None);
+    recall_utf8(parts.letter);
+    recall_utf8(parts.ns);
+    match entry_at(alloc, &parts) {
+        Ok(entry) => Ok(Some(entry)),
+        Err(EntryError::Memory) => Err(AllocError),
+        Err(_) => Ok(None),
     }
-    Ok(Some(entry))
 }

@@ -26,14 +26,11 @@ fn stored_key(o: &Doc) -> Result<IdKey, EntryError>
     Ok(IdKey::of(id)?)
 }
 
-fn insert_of(ns: &Text, o: &Doc) -> Result<Op, EntryError>
-    ensures { ReadsIfLawful (Op.Insert ns.now o.now) result }
+fn insert_of(ns: Text, o: Doc) -> Result<Op, EntryError>
+    ensures { ReadsIfLawful (Op.Insert ns o) result }
 {
-    stored_key(o)?;
-    Ok(Op::Insert {
-        ns: ns.copy()?,
-        o: o.copy()?,
-    })
+    stored_key(&o)?;
+    Ok(Op::Insert { ns, o })
 }
 
 fn replace_of(ns: &Text, id: &Value, o: &Doc) -> Result<Op, EntryError>
@@ -248,17 +245,17 @@ fn noop_of(ns: &Text, o: &Doc) -> Result<Op, EntryError>
 }
 
 /// An op that is no update.
-fn other_of(letter: &str, ns: &Text, o: &Doc) -> Result<Op, EntryError>
-    ensures { ReadsOp letter.now ns.now o.now None result }
+pub(crate) fn other_of(letter: &str, ns: Text, o: Doc) -> Result<Op, EntryError>
+    ensures { ReadsOp letter.now ns o None result }
 {
     if letter == "i" {
         return insert_of(ns, o);
     }
     if letter == "d" {
-        return removal_of(ns, o);
+        return removal_of(&ns, &o);
     }
     if letter == "n" {
-        return noop_of(ns, o);
+        return noop_of(&ns, &o);
     }
     Err(EntryError::Shape)
 }
@@ -274,7 +271,7 @@ pub(crate) fn op_of(
     ensures { ReadsOp letter.now ns.now o.now (option_copied target.entry) result }
 {
     let Some(target) = target else {
-        return other_of(letter, ns, o);
+        return other_of(letter, ns.copy()?, o.copy()?);
     };
     if letter != "u" {
         return Err(EntryError::Shape);

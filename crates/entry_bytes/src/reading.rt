@@ -17,7 +17,7 @@ use crate::ops::op_of;
 use crate::places::{count_at, document_at, int32_at, text_at, timestamp_at};
 use bson_codec::{ENTRY, decode};
 use bson_doc::{Doc, Text};
-use oplog_entry::Entry;
+use oplog_entry::{Entry, SharedOp};
 use rs_optime::OpTime;
 use std::alloc::Global;
 
@@ -89,7 +89,7 @@ fn entry_of(alloc: Global, document: &Doc) -> Result<Entry, EntryError>
     )?;
     Ok(Entry {
         optime: members.optime,
-        op,
+        op: SharedOp::new(alloc, op)?,
     })
 }
 

@@ -147,9 +147,10 @@ fn put_target(alloc: Global, document: &mut Doc, target: Option<Doc>) -> Mem<()>
     }
 }
 
-/// The members in front of `o`.
-fn head(alloc: Global, entry: &Entry) -> Mem<Doc>
-    requires { entry.now.optime.term < 2 ^ 63 }
+/// The members in front of `o`, with the entry's op.
+fn head(alloc: Global, entry: &Entry, op: &Op) -> Mem<Doc>
+    requires term { entry.now.optime.term < 2 ^ 63 }
+    requires op { op.now ≡ entry.now.op }
     ensures { IfOk result (λ d. d ≡ head_of entry.now) }
 {
     let mut head = Doc::new(alloc);
@@ -161,9 +162,9 @@ fn head(alloc: Global, entry: &Entry) -> Mem<Doc>
         Value::Int64(entry.optime.term as i64),
     )?;
     put(alloc, &mut head, "v", Value::Int32(2))?;
-    let letter = Text::from_str(alloc, letter(&entry.op))?;
+    let letter = Text::from_str(alloc, letter(op))?;
     put(alloc, &mut head, "op", Value::Text(letter))?;
-    let collection = collection(alloc, &entry.op)?;
+    let collection = collection(alloc, op)?;
     put(alloc, &mut head, "ns", Value::Text(collection))?;
     Ok(head)
 }
@@ -172,10 +173,19 @@ fn document(alloc: Global, entry: &Entry) -> Mem<Doc>
     requires { IsLawful entry.now }
     ensures { IfOk result (λ d. d ≡ document_of entry.now) }
 {
-    let mut document = head(alloc, entry)?;
-    let body = body(alloc, &entry.op)?;
+    document_with(alloc, entry, entry.op.or(&Op::Noop))
+}
+
+/// `document`, with the entry's op.
+fn document_with(alloc: Global, entry: &Entry, op: &Op) -> Mem<Doc>
+    requires lawful { IsLawful entry.now }
+    requires op { op.now ≡ entry.now.op }
+    ensures { IfOk result (λ d. d ≡ document_of entry.now) }
+{
+    let mut document = head(alloc, entry, op)?;
+    let body = body(alloc, op)?;
     put(alloc, &mut document, "o", Value::Document(body))?;
-    let target = target(alloc, &entry.op)?;
+    let target = target(alloc, op)?;
     put_target(alloc, &mut document, target)?;
     Ok(document)
 }
