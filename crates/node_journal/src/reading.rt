@@ -112,7 +112,7 @@ fn entries_of(alloc: Global, count: u32, bytes: &[u8]) -> Mem<Vec<Entry>>
     ensures { IfOk result (λ read. (entries : List AnEntry)
         → StandInTurn IsEntry sized_entry count entries bytes.now → read.items ≡ entries) }
 {
-    let mut entries = Vec::new(alloc);
+    let mut entries = Vec::with_capacity(alloc, count as usize)?;
     let mut rest = bytes;
     for _ in 0..count {
         let (entry, behind) = entry_of(alloc, rest)?;
@@ -150,5 +150,22 @@ pub(crate) fn record_of(alloc: Global, bytes: &[u8]) -> Mem<Record>
             Ok(Record::Entries { list, point })
         }
         _ => Ok(Record::Cut(cut_of(rest))),
+    }
+}
+
+// How many entries the records of these bytes bring, so that there is room for them beforehand.
+pub(crate) fn entries_in(pieces: &[Vec<u8>]) -> usize {
+    let mut count: usize = 0;
+    for piece in pieces {
+        count = count.saturating_add(entry_count(piece));
+    }
+    count
+}
+
+// The number behind the point, where these bytes are of a record of entries.
+fn entry_count(bytes: &[u8]) -> usize {
+    match bytes.get(17..21) {
+        Some(number) if bytes[0] == 3 => u32_of(number).0 as usize,
+        _ => 0,
     }
 }

@@ -7,6 +7,7 @@ mod cut;
 mod history;
 mod laws;
 mod place;
+mod runs;
 mod shard;
 mod shown;
 mod store;
