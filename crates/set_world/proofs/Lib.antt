@@ -7,5 +7,6 @@ pub mod NodesLemmas
 mod OpenLemmas
 pub mod PointedLemmas
 mod PoolLemmas
+mod StepperLemmas
 pub mod WentLemmas
 mod WorldLemmas

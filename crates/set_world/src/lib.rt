@@ -11,7 +11,9 @@ mod error;
 mod opening;
 mod points;
 mod pool;
+mod stepper;
 mod world;
 
 pub use error::StepError;
+pub use stepper::Stepper;
 pub use world::World;

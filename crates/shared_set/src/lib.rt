@@ -2,8 +2,10 @@
 //! a node has had committed is read without waiting.
 #![tactic(auto)]
 
+mod caller;
 mod set;
 mod shared;
 mod turning;
 
+pub use caller::Caller;
 pub use shared::{Pass, SharedSet};

@@ -1,9 +1,11 @@
 // Making a shared set, its turns, its passes and its end.
-ghost use Rattle.std.specs.Prelude.{◌≡◌, ◌<◌, ◌≤◌, ℕ, length, true, IfErr, IfOk, IsErrOf, OnErr};
+ghost use Rattle.std.specs.Prelude.{◌≡◌, ◌<◌, ◌≤◌, ℕ, [], length, true, IfErr, IfOk, IsErrOf, OnErr};
 ghost use mathlib.Core.List.{IsPrefix};
 ghost use Rattle.set_model.specs.Limits.{IsRun, is_for};
+ghost use Rattle.set_model.specs.Run.{AreSizes};
 ghost use Rattle.set_world.specs.declared.error.StepError.{StepError as AStepError};
 ghost use Rattle.set_world.specs.Went.{WentOn};
+ghost use Rattle.turn_board.specs.History.{calls_by, names, times};
 ghost use Rattle.turn_board.specs.Passes.{IsFree, view};
 ghost use Rattle.turn_board.specs.Views.{answered, half, joined, less_one, numbered_as, opened, seen};
 ghost use Rattle.shared_set.specs.Calls.{Closes, Looks, Steps, Waits};
@@ -58,6 +60,7 @@ impl<D: Disk> SharedSet<D> {
             (view pass.new) line command.now done.0 done.1) }
         ensures err { OnErr result (Waits (sizes_of self.now) (view pass.old) (view pass.new)) }
         ensures full { IsErrOf result AStepError.HistoryFull → length (seen (view pass.new)) ≡ 4294967295 }
+        ensures sizes { AreSizes (sizes_of self.now) }
         ensures defined { IsRun (sizes_of self.now) (seen (view pass.new)) }
         ensures short { length (seen (view pass.new)) ≤ 4294967295 }
     {
@@ -80,19 +83,22 @@ impl<D: Disk> SharedSet<D> {
         self.board.peek(pass, node)
     }
 
-    /// Gives one part to a new pass, which has seen what this one has.
+    /// Gives one part to a new pass, which has seen what this one has. No event among these is a call of the
+    /// new pass's number.
     pub fn split(&self, pass: &mut Pass<D>) -> Pass<D>
         requires pass { IsPass self.now pass.old × IsFree pass.old }
         requires parts { 1 < (view pass.old).parts }
         ensures pass { IsPass self.now pass.new × IsFree pass.new
             × (view pass.new ≡ less_one (view pass.old)) }
         ensures given { IsPass self.now result × IsFree result × ((p : ℕ)
-            × (view result ≡ numbered_as (half (view pass.old)) p)) }
+            × (view result ≡ numbered_as (half (view pass.old)) p)
+            × (calls_by p (view pass.old).turns ≡ [])) }
     {
         self.board.split(pass)
     }
 
-    /// Takes in the parts of another pass, with its calls and what it has seen.
+    /// Takes in the parts of another pass, with its calls and what it has seen. No two passes have the same
+    /// number.
     pub fn join(&self, pass: &mut Pass<D>, other: Pass<D>)
         requires pass { IsPass self.now pass.old × IsFree pass.old }
         requires other { IsPass self.now other × IsFree other }
@@ -100,6 +106,7 @@ impl<D: Disk> SharedSet<D> {
             × (view pass.new ≡ joined (view pass.old) (view other)) }
         ensures seen { IsPrefix (view pass.old).turns (view pass.new).turns
             × IsPrefix (view other).turns (view pass.new).turns }
+        ensures once { (p : ℕ) → times p (names (view pass.new).calls) ≤ 1 }
     {
         self.board.join(pass, other)
     }

@@ -1,6 +1,6 @@
 use Rattle.std.proofs.Common.{◌≡◌, ◌∙◌, true, ap, sym, subst, arith}
 use Rattle.set_model.specs.Limits.{IsRun, is_for}
-use Rattle.set_model.specs.Run.{Sizes}
+use Rattle.set_model.specs.Run.{AreSizes, Sizes}
 use Rattle.turn_board.specs.Passes.{view}
 use Rattle.shared_set.specs.Passes.{sizes_of}
 use Rattle.shared_set.specs.Sets.{sizes_in}
@@ -51,6 +51,12 @@ returns-clause-defined g c =
     let fixed = ap (λ l. sizes_in l) c.requires.pass.0.4 in
     let same = c.step-node.ensures.sizes ∙ sizes_here g.D.Disk.state (sizes_of c.args.self.now) (view c.args.pass.now) (view c.enter-set.new.pass) c.enter-set.result c.enter-set.ensures.entered fixed c.recall_went.ensures.sizes in
     rw c.leave.ensures.seen (subst (λ (s : Sizes). IsRun s c.step-node.new.self.set.history) same c.step-node.ensures.run)
+
+pub returns-clause-sizes : goal.returns-clause-sizes
+returns-clause-sizes g c =
+    let fixed = ap (λ l. sizes_in l) c.requires.pass.0.4 in
+    let same = c.step-node.ensures.sizes ∙ sizes_here g.D.Disk.state (sizes_of c.args.self.now) (view c.args.pass.now) (view c.enter-set.new.pass) c.enter-set.result c.enter-set.ensures.entered fixed c.recall_went.ensures.sizes in
+    subst AreSizes same c.step-node.ensures.lawful
 
 pub returns-clause-short : goal.returns-clause-short
 returns-clause-short g c = rw c.leave.ensures.seen c.step-node.ensures.short

@@ -1,0 +1,30 @@
+-- What a step of a set tells whoever takes it: no events of others come between.
+use Rattle.std.proofs.Common.{◌≡◌, ◌∙◌, refl, sym, true, List, [], ℕ}
+use Rattle.std.proofs.lemmas.List.{append-nil}
+use Rattle.std.specs.Prelude.{IfOk, Result, Ok, Err}
+use Rattle.rs_disk.specs.State.{State}
+use Rattle.set_model.specs.declared.command.Command.{Command}
+use Rattle.set_model.specs.declared.command.Event.{Event}
+use Rattle.set_model.specs.declared.reply.Reply.{Reply}
+use Rattle.set_world.specs.Disks.{IsStep}
+use Rattle.set_world.specs.Stepper.{Learns, StepsOnce}
+use Rattle.set_world.specs.World.{Set}
+
+learns_none : (old new : List Event) → new ≡ old → Learns true old new
+learns_none old new same = record { others = []; new_is = same ∙ sym (append-nil old); none = λ alone. refl }
+
+module _ {D : Type 0} (state : D → State) (old new : Set D) where
+  pub steps_alone : (line : ℕ) (command : Command) (reply : Reply) → IsStep state old new line command reply → StepsOnce true old.sizes old.history new.history line command reply
+  steps_alone line command reply steps = record {
+    met = old.history;
+    learns = learns_none old.history old.history refl;
+    event = steps.event;
+    line_is = steps.line_is;
+    command_is = steps.command_is;
+    new_is = steps.history;
+    reply_is = steps.reply_is;
+  }
+
+  pub each_steps_alone : {E : Type 0} (line : ℕ) (command : Command) (answer : Result Reply E) → IfOk answer (λ reply. IsStep state old new line command reply) → IfOk answer (λ reply. StepsOnce true old.sizes old.history new.history line command reply)
+  each_steps_alone line command (Ok reply) steps = steps_alone line command reply steps
+  each_steps_alone line command (Err error) steps = tt

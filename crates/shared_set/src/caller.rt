@@ -1,0 +1,46 @@
+// One of several that step a set.
+ghost use Rattle.std.specs.Prelude.{◌≡◌};
+ghost use Rattle.turn_board.specs.Passes.{IsFree};
+ghost use Rattle.shared_set.specs.Passes.{IsPass};
+
+use crate::shared::{Pass, SharedSet};
+use rs_disk::Disk;
+use set_model::{Command, Reply};
+use set_world::{StepError, Stepper};
+use std::sync::Wait;
+use std::thread::Threads;
+
+/// A shared set with the pass of one thread, which waits for no turn and has none.
+pub struct Caller<'a, D: Disk> {
+    pub set: &'a SharedSet<D>,
+    pub pass: &'a mut Pass<D>,
+    ghost is_free: { IsPass set.now pass.now × IsFree pass.now },
+}
+
+impl<'a, D: Disk> Stepper for Caller<'a, D> {
+    ghost use Rattle.std.specs.Prelude.{◌≡◌, false};
+    ghost use Rattle.std.proofs.Common.{◌∙◌};
+    ghost use Rattle.turn_board.specs.Passes.{view};
+    ghost use Rattle.turn_board.specs.Views.{seen};
+    ghost use Rattle.shared_set.specs.Passes.{sizes_of};
+
+    ghost sizes = { λ caller. sizes_of caller.set.now };
+
+    ghost known = { λ caller. seen (view caller.pass.now) };
+
+    ghost is_alone = { false };
+
+    ghost stays = { λ old new. (new.set ≡ old.set) × (new.pass.ghost_name ≡ old.pass.ghost_name) };
+
+    ghost stays_on = { λ one two three first second. (second.0 ∙ first.0, second.1 ∙ first.1) };
+
+    fn step<R: Threads + Wait + Sync>(
+        &mut self,
+        rt: &R,
+        line: u32,
+        command: &Command,
+    ) -> Result<Reply, StepError> {
+        let (_, reply) = self.set.step(rt, self.pass, line, command)?;
+        Ok(reply)
+    }
+}
