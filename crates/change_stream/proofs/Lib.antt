@@ -1,4 +1,9 @@
+mod AnswerLemmas
 mod CallLemmas
 mod EventLemmas
+mod NextLemmas
 mod PartLemmas
+mod ReadLemmas
 mod RunLaw
+pub mod ShownLemmas
+mod StepLemmas

@@ -1,3 +1,5 @@
+pub mod Asking
 pub mod Calls
+pub mod Errors
 pub mod Law
 pub mod Shown

@@ -2,8 +2,11 @@
 //! node with the token of the last one.
 #![tactic(auto)]
 
+mod answering;
 mod error;
 mod laws;
+mod stream;
 
 pub use error::WatchError;
 pub use laws::stream_law;
+pub use stream::{ChangeStream, next, open};

@@ -1,0 +1,5 @@
+use Rattle.change_stream.proofs.StepLemmas.{log_is_for}
+use Rattle.change_stream.proofs.stream.ask_log.Goals as goal
+
+pub step-requires-clause-command : goal.step-requires-clause-command
+step-requires-clause-command g c = log_is_for c.args.node _ c.requires

@@ -1,0 +1,74 @@
+-- The events of one call of a stream, and what it comes to.
+use Rattle.std.specs.Prelude.{◌≡◌, ◌⊎◌, ℕ, Bool, List, Result, Ok, Err, Some, length}
+use Rattle.rs_optime.specs.declared.optime.OpTime.{OpTime}
+use Rattle.oplog_entry.specs.declared.entry.Entry.{Entry}
+use Rattle.set_model.specs.declared.command.Command.{Command}
+use Rattle.set_model.specs.declared.command.Command.TheVariants as commands
+use Rattle.set_model.specs.declared.command.Event.{Event}
+use Rattle.set_model.specs.declared.reply.Refusal.TheVariants.{NodeDown as IsDown}
+use Rattle.set_model.specs.declared.reply.Reply.{Reply}
+use Rattle.set_model.specs.declared.reply.Reply.TheVariants as reply
+use Rattle.set_model.specs.Run.{Sizes}
+use Rattle.set_world.specs.Stepper.{Learns, StepsOnce}
+use Rattle.change_stream.specs.declared.error.WatchError.{WatchError}
+use Rattle.change_stream.specs.declared.error.WatchError.TheVariants.{NodeDown, UnknownToken, HistoryFull, Memory}
+use Rattle.change_stream.specs.Calls.{Call, answer}
+use Rattle.change_stream.specs.Shown.{Shows, shown_state}
+
+-- A step of a call: it stands on no line of a script.
+abbrev pub Does : Bool → Sizes → List Event → List Event → Command → Reply → Type 0
+Does alone sizes old new command answered = StepsOnce alone sizes old new 0 command answered
+
+module _ (alone : Bool) (sizes : Sizes) (old new : List Event) where
+  -- the two events of a call, one behind the other, and what they show
+  pub record Asks (node term : ℕ) (commit : OpTime) (log : List Entry) : Type 0 where
+    pub between : List Event
+    pub state : Reply
+    pub first : Does alone sizes old between (commands.State node) state
+    pub state_is : shown_state state ≡ Some (term, commit)
+    pub second : Does alone sizes between new (commands.Log node) (reply.Entries log)
+
+  -- of some term
+  abbrev pub Reads : ℕ → OpTime → List Entry → Type 0
+  Reads node commit log = (term : ℕ) × Asks node term commit log
+
+  -- both events of a call at this node were answered, and it answers so
+  pub record Tells (token : OpTime) (node most : ℕ) (told : Result (List Entry) WatchError) : Type 0 where
+    pub call : Call
+    pub node_is : call.node ≡ node
+    pub most_is : call.most ≡ most
+    pub asks : Asks call.node call.term call.commit call.log
+    pub shows : Shows sizes new call
+    pub told_is : answer token call ≡ told
+
+  -- the first event was answered
+  pub record Begins (node : ℕ) (Goes : List Event → Type 0) : Type 0 where
+    pub between : List Event
+    pub state : Reply
+    pub first : Does alone sizes old between (commands.State node) state
+    pub on : Goes between
+
+  -- the first event was refused, or the second, since the node is down
+  abbrev pub IsRefused : ℕ → Type 0
+  IsRefused node =
+      Does alone sizes old new (commands.State node) (reply.Refused IsDown)
+      ⊎ Begins node (λ between. Does alone sizes between new (commands.Log node) (reply.Refused IsDown))
+
+  -- the first event wasn't done, or the second
+  abbrev pub IsBrokenOff : ℕ → Type 0
+  IsBrokenOff node = Learns alone old new ⊎ Begins node (λ between. Learns alone between new)
+
+  -- the error that the two events end in
+  abbrev pub Breaks : ℕ → WatchError → Type 0
+  Breaks node NodeDown = IsRefused node
+  Breaks node UnknownToken = ⊥
+  Breaks node HistoryFull = IsBrokenOff node × (length new ≡ 4294967295)
+  Breaks node Memory = IsBrokenOff node
+
+  -- the error that a call ends in; memory may also run out for the answer
+  abbrev pub Fails : OpTime → ℕ → ℕ → WatchError → Type 0
+  Fails token node most NodeDown = Breaks node NodeDown
+  Fails token node most UnknownToken = Tells token node most (Err UnknownToken)
+  Fails token node most HistoryFull = Breaks node HistoryFull
+  Fails token node most Memory =
+      Breaks node Memory ⊎ ((entries : List Entry) × Tells token node most (Ok entries))

@@ -1,0 +1,98 @@
+// A stream that asks all nodes in turn behind each line of a script, over a failover.
+ghost use Rattle.std.specs.Prelude.{◌≡◌};
+
+use crate::rows::set_of;
+use change_stream::{ChangeStream, next, open};
+use fault_script::{Part, parse};
+use oplog_entry::Entry;
+use rs_disk::MemDisk;
+use rs_optime::OpTime;
+use set_model::{Command, Reply};
+use set_world::World;
+use std::alloc::Global;
+use std::sync::Wait;
+use std::test::Fail;
+use std::thread::Threads;
+
+// An entry of an older term comes to stand on a majority: it is committed with the next term's first one.
+const FAILOVER: &str = "set 3\ncampaign n0\ndeliver m0\ndeliver m2\ndrain n0\ninsert n0 t {_id: 1}
+heartbeat n0 n1\ndeliver n0 n1\nfetch n1\ndeliver n1 n0\ndeliver n0 n1\nflush n1
+campaign n1\ndeliver m8\ndeliver m9
+heartbeat n1 n2\ndeliver n1 n2\nfetch n2\ndeliver n2 n1\ndeliver n1 n2\nflush n2
+drain n1\nreport n2 n1\ndeliver n2 n1\nflush n1
+heartbeat n1 n2\ndeliver n1 n2\nfetch n2\ndeliver n2 n1\ndeliver n1 n2\nflush n2
+report n2 n1\ndeliver n2 n1\n";
+
+// Asks every node once, and keeps what they give.
+fn ask_each<R: Threads + Wait + Sync>(
+    rt: &R,
+    world: &mut World<MemDisk>,
+    stream: &mut ChangeStream,
+    joined: &mut Vec<Entry>,
+) -> Result<(), Fail>
+    ensures sizes { world.new.sizes ≡ world.old.sizes }
+{
+    for node in 0..world.size() {
+        let given = next(stream, rt, world, node, 1000)?;
+        joined.extend(given)?;
+    }
+    Ok(())
+}
+
+// The set behind the script, and all that the stream gave.
+fn followed<R: Threads + Wait + Sync>(
+    rt: &R,
+    alloc: Global,
+) -> Result<(World<MemDisk>, Vec<Entry>), Fail> {
+    let script = parse(alloc, FAILOVER.as_bytes())?;
+    let mut world = set_of(alloc, script.nodes, script.members)?;
+    let mut stream = open(OpTime::ZERO);
+    let mut joined = Vec::new(alloc);
+    for part in script.parts.as_slice() {
+        if let Part::Line(line, command) = part {
+            world.step(rt, *line, command)?;
+            ask_each(rt, &mut world, &mut stream, &mut joined)?;
+        }
+    }
+    Ok((world, joined))
+}
+
+const EXPECTED: [OpTime; 3] = [
+    OpTime { term: 1, ts: 1 },
+    OpTime { term: 1, ts: 2 },
+    OpTime { term: 2, ts: 3 },
+];
+
+fn are_expected(entries: &[Entry]) -> bool {
+    entries
+        .iter()
+        .map(|entry| entry.optime)
+        .eq(EXPECTED.iter().copied())
+}
+
+// Whether the log of a node has these entries and no others.
+fn has_expected<R: Threads + Sync>(
+    rt: &R,
+    world: &mut World<MemDisk>,
+    node: u32,
+) -> Result<bool, Fail>
+    ensures sizes { world.new.sizes ≡ world.old.sizes }
+{
+    if node >= world.size() {
+        return Ok(false);
+    }
+    let log = Command::Log { node };
+    match world.step(rt, 0, &log)? {
+        Reply::Entries(entries) => Ok(are_expected(entries.as_slice())),
+        _ => Ok(false),
+    }
+}
+
+#[test]
+fn each_committed_entry_is_told_once(rt: HostRuntime) -> Result<(), Fail> {
+    let (mut world, joined) = followed(&rt, rt.alloc())?;
+    assert!(rt; are_expected(&joined));
+    assert!(rt; has_expected(&rt, &mut world, 1)?);
+    assert!(rt; has_expected(&rt, &mut world, 2)?);
+    Ok(())
+}
