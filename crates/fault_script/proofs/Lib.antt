@@ -1,3 +1,4 @@
+mod CommandFits
 pub mod LinesCut
 mod ListsLast
 pub mod MergeLemmas

@@ -1,6 +1,8 @@
-//! Scripts: the bytes of a script as its commands, or its first faulty line with the rule that it breaks.
+//! Scripts: the bytes of a script as its commands, or its first faulty line with the rule that it breaks; and
+//! a command alone.
 #![tactic(auto)]
 
+mod command;
 mod fault;
 mod lines;
 mod lists;
@@ -9,8 +11,10 @@ mod script;
 mod whole;
 
 pub use chance_script::generate;
+pub use command::parse_command;
 pub use fault::{ScriptError, ScriptFault};
+pub use lines::{as_text, line_feed};
 pub use lists::{Lines, Threads};
 pub use script::{Part, Parts, Rest, Script};
-pub use script_words::{ScriptRule, TextRule};
+pub use script_words::{LineError as CommandError, ScriptRule, TextRule};
 pub use whole::parse;

@@ -29,7 +29,7 @@ pub fn next_line(bytes: &[u8]) -> (&[u8], &[u8])
 }
 
 /// The place of the first line feed.
-fn line_feed(bytes: &[u8]) -> Option<usize>
+pub fn line_feed(bytes: &[u8]) -> Option<usize>
     ensures { result ≡ position (λ byte. byte == 10) bytes.now }
 {
     memchr(b'\n', bytes)
@@ -64,7 +64,7 @@ pub fn text_of(number: u32, line: &[u8]) -> Result<&str, ScriptRule>
 }
 
 /// The bytes as text, where they are UTF-8. Most lines are ASCII, for which the test is shorter.
-fn as_text(line: &[u8]) -> Option<&str>
+pub fn as_text(line: &[u8]) -> Option<&str>
     ensures { MatchOption result (¬ IsUtf8 line.now) (λ text. (text.now ≡ line.now) × IsUtf8 line.now) }
 {
     match ascii_text(line) {

@@ -134,8 +134,8 @@ keyword_shape keywords.Thread = Words 0 0
 keyword_shape keywords.End = Words 0 0
 keyword_shape (keywords.Command verb) = shape_of verb
 
-abbrev pub known : Option Keyword → Result Keyword ScriptRule
-known (Some keyword) = Ok keyword
+abbrev pub known : {A : Type 0} → Option A → Result A ScriptRule
+known (Some meaning) = Ok meaning
 known None = Err UnknownCommand
 
 -- the first word of a line that has as many words as it asks for
@@ -347,3 +347,18 @@ deliver_at nodes (Some text) left = deliver_latest nodes left
 abbrev pub words_at : ℕ → Verb → Left → Result Command ScriptRule
 words_at nodes verbs.Deliver left = deliver_at nodes (behind_word left) left
 words_at nodes (verbs.Node verb) left = node_at nodes left >>= λ node. of_node nodes verb node.0 node.1
+
+-- ---- a command alone
+
+-- the first word of a command that has as many words as it asks for
+unfoldable pub verb_at : List ℕ → Result (Verb × Left) ScriptRule
+verb_at text = do
+  first ← word_at (Some text)
+  verb ← known (verb_of first.0)
+  if has_shape (shape_of verb) first.1 then Ok (verb, first.1) else Err WordCount
+
+-- the command that a text is, in a set of so many nodes
+unfoldable pub command_at : ℕ → List ℕ → Result Command ScriptRule
+command_at nodes text = do
+  verb ← verb_at text
+  words_at nodes verb.0 verb.1

@@ -2,7 +2,7 @@
 ghost use Rattle.std.specs.Prelude.{◌≡◌, false};
 ghost use Rattle.std.specs.Option.{option_copied};
 ghost use Rattle.script_words.specs.Gives.{Reads, Gives};
-ghost use Rattle.script_words.specs.Commands.{commit_at, abort_at, ack_at, dump_at, heartbeat_at, report_at, common_at, apply_at, reconfig_at, or_zero, crash_at, disk_fail_at, clock_at, read_at, begin_at, of_node, deliver_one, deliver_latest, deliver_at, keyword_at, words_at, write_command, node_shape, ends_in_value};
+ghost use Rattle.script_words.specs.Commands.{commit_at, abort_at, ack_at, dump_at, heartbeat_at, report_at, common_at, apply_at, reconfig_at, or_zero, crash_at, disk_fail_at, clock_at, read_at, begin_at, of_node, deliver_one, deliver_latest, deliver_at, keyword_at, verb_at, words_at, write_command, node_shape, ends_in_value};
 ghost use Rattle.script_words.specs.Words.{ended, behind_word};
 
 use crate::choices::{concern, disk, level, target};
@@ -31,6 +31,22 @@ pub fn keyword(text: &str) -> Result<(Keyword, Left<'_>), ScriptRule>
     };
     if has_shape(left, keyword.shape()) {
         Ok((keyword, left))
+    } else {
+        Err(ScriptRule::WordCount)
+    }
+}
+
+/// The first word of a command that has as many words as it asks for. No other first word is known here.
+#[tactic(auto, unfolding(crate::specs::Commands::verb_at))]
+pub fn command_verb(text: &str) -> Result<(Verb, Left<'_>), ScriptRule>
+    ensures { Reads (λ x. (x.0, option_copied x.1)) result (verb_at text.now) }
+{
+    let (first, left) = word(Some(text))?;
+    let Some(verb) = Verb::named(first) else {
+        return Err(ScriptRule::UnknownCommand);
+    };
+    if has_shape(left, verb.shape()) {
+        Ok((verb, left))
     } else {
         Err(ScriptRule::WordCount)
     }

@@ -13,9 +13,10 @@ mod verb;
 mod words;
 mod writes;
 
-pub use commands::{command, keyword};
+pub use commands::{command, command_verb, keyword};
 pub use rule::{LineError, ScriptRule, TextRule};
-pub use set::{SetLine, set_line};
+pub use set::{MAX_NODES, SetLine, set_line};
 pub use shape::Shape;
+pub use values::text;
 pub use verb::{Keyword, NodeVerb, Verb, WriteKind};
-pub use words::Left;
+pub use words::{Left, Read, number, number_of, word};

@@ -8,7 +8,7 @@ use crate::shape::Shape;
 use crate::words::{Left, has_shape, number, optional, word};
 
 /// How many nodes a set may have.
-const MAX_NODES: u32 = 7;
+pub const MAX_NODES: u32 = 7;
 
 /// The sizes that a `set` line names.
 #[derive(Clone, Copy, Debug, PartialEq, Eq)]

@@ -169,7 +169,7 @@ fn asked_of_node(word: &str) -> Option<Verb>
 
 impl Verb {
     /// What a first word asks for.
-    fn named(word: &str) -> Option<Verb>
+    pub fn named(word: &str) -> Option<Verb>
         ensures { result ≡ verb_of word.now }
     {
         match word.as_bytes() {
@@ -179,7 +179,7 @@ impl Verb {
     }
 
     /// How many words a line with this first word has behind it.
-    fn shape(self) -> Shape
+    pub fn shape(self) -> Shape
         ensures { result ≡ shape_of self }
     {
         match self {
