@@ -30,10 +30,17 @@ pub fn set_reply(line: u32, reply: &Reply, text: &mut String) -> Mem<()>
     ensures { OnOk result (string_bytes text.new ≡ line_text (line, reply.now)) }
 {
     text.clear();
-    write_number(u64::from(line), text)?;
-    text.push_str(": ")?;
-    write_text(reply, text)?;
-    text.push_str("\n")
+    push_reply(line, reply, text)
+}
+
+/// Appends that line. After out of memory a part may be appended.
+pub fn push_reply(line: u32, reply: &Reply, out: &mut String) -> Mem<()>
+    ensures { OnOk result (string_bytes out.new ≡ string_bytes out.old ++ line_text (line, reply.now)) }
+{
+    write_number(u64::from(line), out)?;
+    out.push_str(": ")?;
+    write_text(reply, out)?;
+    out.push_str("\n")
 }
 
 /// A reply as it is printed. Those about documents and writes stand here.

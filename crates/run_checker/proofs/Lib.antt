@@ -1,0 +1,2 @@
+mod LinesCut
+pub mod TraceLemmas
