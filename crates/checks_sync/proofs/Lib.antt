@@ -1,0 +1,2 @@
+mod NoopLemmas
+mod DiskLemmas

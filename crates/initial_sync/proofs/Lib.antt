@@ -1,0 +1,7 @@
+mod FrontLemmas
+mod PartLemmas
+pub mod MomentLemmas
+mod RunLemmas
+mod WritingLemmas
+mod DocumentLemmas
+mod EntryLemmas

@@ -1,0 +1,155 @@
+-- What a crash leaves of both disks while a copy goes on.
+use Rattle.std.proofs.Common.{◌≡◌, ◌∙◌, ⊎_elim, inl, inr, ℕ, List, [], ◌++◌, ap, sym, subst, append-nil}
+use Rattle.std.specs.Prelude.{◌≢◌, fold}
+use Rattle.std.specs.List.{AllPairs}
+use Rattle.rs_disk.specs.File.{LeavesOnly, contents}
+use Rattle.rs_disk.specs.Images.{read_is_image}
+use Rattle.rs_disk.specs.Moments.{EachMoment, starts, weakens}
+use Rattle.rs_disk.specs.State.{State}
+use Rattle.oplog_entry.specs.Log.{StandsBefore}
+use Rattle.oplog_entry.specs.Visible.{ZERO, last_of}
+use Rattle.repl_msg.specs.Kept.{kept, with_record}
+use Rattle.repl_msg.specs.declared.record.Kept.{Kept}
+use Rattle.repl_msg.specs.declared.record.Record.{Record}
+use Rattle.node_journal.specs.Files.{HasJournal, IsJournalDisk, IsOneOf as IsOneJournal}
+use Rattle.node_journal.proofs.DiskLemmas.{rest_only}
+use Rattle.checkpoint_store.specs.Checkpoint.{no_stable}
+use Rattle.checkpoint_store.specs.Files.{HasCheckpoint, IsCheckpointDisk, IsBeforeOrAfter, IsOneOf as IsOneCheckpoint}
+use Rattle.checkpoint_store.specs.declared.stable.Stable.{Stable}
+use Rattle.checkpoint_store.proofs.OnceLemmas.{rest_has}
+use Rattle.initial_sync.specs.Copies.{AreCopyDisks, Copy, IsOf, IsPartOrWhole, IsWhole, LeaveBoth, documents_of}
+use Rattle.initial_sync.specs.Missing.{HasFront, missing}
+use Rattle.initial_sync.specs.Moments.{BesideCheckpoints, BesideJournal, EachMomentOfBoth, IsBeforeOrBehind}
+use Rattle.initial_sync.specs.Runs.{Fills, IsFound, OpensBoth}
+use Rattle.initial_sync.proofs.PartLemmas.{IsBase, come_to, come_whole, gives, moved, part_or_whole}
+
+-- ---- disks that a copy can use
+
+pub journal_disk : (j c : State) → AreCopyDisks j c → IsJournalDisk j
+journal_disk j c are = record {
+  leaves = λ image left.
+      let of = are.leave image left (contents c.file) (read_is_image c.file) in
+      ⊎_elim (λ part. (part.log.records, part.log.has)) (λ whole. (whole.log.records, whole.log.has)) of.2;
+}
+
+pub checkpoint_disk : (j c : State) → AreCopyDisks j c → IsCheckpointDisk c
+checkpoint_disk j c are = record {
+  leaves = λ image left.
+      let of = are.leave (contents j.file) (read_is_image j.file) image left in
+      ⊎_elim (λ part. (no_stable, part.none)) (λ whole. (documents_of of.0.entries, whole.documents)) of.2;
+}
+
+pub one_checkpoint : (c : State) → IsCheckpointDisk c → LeavesOnly (IsOneCheckpoint c) c.file
+one_checkpoint c is image left = let found = is.leaves image left in (found.0, found.1, (image, left, found.1))
+
+-- ---- moments with less to say of them
+
+pub weaker : (P Q : List ℕ → List ℕ → Type 0) → ((x y : List ℕ) → P x y → Q x y) → (j j' c c' : State) → EachMomentOfBoth P j j' c c' → EachMomentOfBoth Q j j' c c'
+weaker P Q so j j' c c' moments = record {
+  journal = moments.journal;
+  checkpoints = moments.checkpoints;
+  opens_journal = weakens (BesideCheckpoints P c.file) (BesideCheckpoints Q c.file) (λ x all y left. so x y (all y left)) j moments.journal moments.opens_journal;
+  opens_checkpoints = weakens (BesideJournal P moments.journal.file) (BesideJournal Q moments.journal.file) (λ y all x left. so x y (all x left)) c moments.checkpoints moments.opens_checkpoints;
+  writes_journal = weakens (BesideCheckpoints P moments.checkpoints.file) (BesideCheckpoints Q moments.checkpoints.file) (λ x all y left. so x y (all y left)) moments.journal j' moments.writes_journal;
+  writes_checkpoints = weakens (BesideJournal P j'.file) (BesideJournal Q j'.file) (λ y all x left. so x y (all x left)) moments.checkpoints c' moments.writes_checkpoints;
+}
+
+-- the last moment
+pub at_the_end : (P : List ℕ → List ℕ → Type 0) (j j' c c' : State) → EachMomentOfBoth P j j' c c' → LeaveBoth P j'.file c'.file
+at_the_end P j j' c c' moments = λ x left y here. moments.writes_checkpoints.now y here x left
+
+-- ---- what is left of disks of a copy
+
+pub of_before : (j c : State) (own copy : Copy) → LeaveBoth (IsPartOrWhole own) j.file c.file → (x y : List ℕ) → IsOneJournal j x → IsOneCheckpoint c y → IsPartOrWhole own x y
+of_before j c own copy leave x y one two =
+    moved own one.2.0 x two.2.0 y one.0 two.0 one.2.2 one.1 two.2.2 two.1 (leave one.2.0 one.2.1 two.2.0 two.2.1)
+
+pub law : (j j' c c' : State) (copy : Copy) → EachMomentOfBoth (IsBeforeOrBehind j c copy) j j' c c' → LeaveBoth (IsPartOrWhole copy) j.file c.file → EachMomentOfBoth (IsPartOrWhole copy) j j' c c'
+law j j' c c' copy moments leave =
+    weaker (IsBeforeOrBehind j c copy) (IsPartOrWhole copy)
+    (λ x y. ⊎_elim (λ before. of_before j c copy copy leave x y before.0 before.1) (λ behind. behind.0)) j j' c c' moments
+
+pub copy_disks : (j j' c c' : State) (copy : Copy) → last_of copy.entries ≢ ZERO → AreCopyDisks j c → EachMomentOfBoth (IsBeforeOrBehind j c copy) j j' c c' → AreCopyDisks j' c'
+copy_disks j j' c c' copy above are moments = record {
+  leave = λ x left y here. ⊎_elim
+      (λ before.
+      let one = before.0 in
+      let two = before.1 in
+      let of = are.leave one.2.0 one.2.1 two.2.0 two.2.1 in
+      (of.0, of.1, moved of.0 one.2.0 x two.2.0 y one.0 two.0 one.2.2 one.1 two.2.2 two.1 of.2))
+      (λ behind. (copy, above, behind.0))
+      (at_the_end (IsBeforeOrBehind j c copy) j j' c c' moments x left y here);
+}
+
+-- ---- the moments of a copy
+
+module _ (j j1 c c1 : State) (copy : Copy) (disk : IsCheckpointDisk c) (opens : OpensBoth j j1 c c1) where
+  opens_first : EachMoment (BesideCheckpoints (IsBeforeOrBehind j c copy) c.file) j j1
+  opens_first = weakens (IsOneJournal j) (BesideCheckpoints (IsBeforeOrBehind j c copy) c.file) (λ x one y left. inl (one, one_checkpoint c disk y left)) j j1 opens.journal
+
+  opens_then : EachMoment (BesideJournal (IsBeforeOrBehind j c copy) j1.file) c c1
+  opens_then = weakens (IsOneCheckpoint c) (BesideJournal (IsBeforeOrBehind j c copy) j1.file) (λ y one x left. inl (opens.journal.now x left, one)) c c1 opens.checkpoints
+
+  -- nothing more was done
+  pub opened_only : EachMomentOfBoth (IsBeforeOrBehind j c copy) j j1 c c1
+  opened_only = record {
+    journal = j1;
+    checkpoints = c1;
+    opens_journal = opens_first;
+    opens_checkpoints = opens_then;
+    writes_journal = starts (BesideCheckpoints (IsBeforeOrBehind j c copy) c1.file) j1 (λ x left y here. inl (opens.journal.now x left, opens.checkpoints.now y here));
+    writes_checkpoints = starts (BesideJournal (IsBeforeOrBehind j c copy) j1.file) c1 (λ y here x left. inl (opens.journal.now x left, opens.checkpoints.now y here));
+  }
+
+  module _ (found : Kept) (stable : Stable) (is : IsFound found stable j j1 c c1) (base : IsBase copy found stable) (order : AllPairs StandsBefore copy.entries) where
+    split_as : (f g : List Record) → missing copy (kept is.items) ≡ f ++ g → missing copy found ≡ f ++ g
+    split_as f g split = ap (missing copy) is.kept_is ∙ split
+
+    shows : LeavesOnly (λ y. HasCheckpoint y stable) c1.file
+    shows = rest_has c1 stable is.checkpoints
+
+    -- the first of the missing records beside the checkpoint that was found
+    beside_found : (x y : List ℕ) → HasFront is.items (missing copy (kept is.items)) x → HasCheckpoint y stable → IsBeforeOrBehind j c copy x y
+    beside_found x y (f, g, split, has) here = ⊎_elim
+        (λ none.
+        let same : HasJournal x is.items = subst (HasJournal x) (ap (λ (l : List Record). is.items ++ l) none ∙ append-nil is.items) has in
+        inl ((is.items, same, (contents j.file, read_is_image j.file, is.records)), (stable, here, (contents c.file, read_is_image c.file, is.documents))))
+        (λ come. inr (part_or_whole copy found stable is.items f x y base is.kept_is come has here, (is.items, is.records, (f, g, split, has))))
+        (come_to copy found base.is base.begins order f g (split_as f g split))
+
+    all_of : (x : List ℕ) → HasJournal x (is.items ++ missing copy (kept is.items)) → HasFront is.items (missing copy (kept is.items)) x
+    all_of x has = (missing copy (kept is.items), [], sym (append-nil (missing copy (kept is.items))), has)
+
+    whole_journal : IsOf copy.term copy.entries (fold with_record found (missing copy (kept is.items)))
+    whole_journal = come_whole copy found base.is base.begins order is.items (missing copy (kept is.items)) (ap (missing copy) is.kept_is)
+
+    -- all of them beside the documents
+    pub whole_now : (x y : List ℕ) → HasJournal x (is.items ++ missing copy (kept is.items)) → HasCheckpoint y (documents_of copy.entries) → IsWhole copy x y
+    whole_now x y has here =
+        record { log = gives copy.term copy.entries is.items (missing copy (kept is.items)) found x is.kept_is whole_journal has; documents = here }
+
+    module _ {Done : Type 0} (j' c' : State) (fills : Fills copy is.items stable Done j1 j' c1 c') where
+      writes_first : EachMoment (BesideCheckpoints (IsBeforeOrBehind j c copy) c1.file) j1 j'
+      writes_first =
+          weakens (HasFront is.items (missing copy (kept is.items))) (BesideCheckpoints (IsBeforeOrBehind j c copy) c1.file)
+          (λ x front y left. beside_found x y front (shows y left)) j1 j' fills.adds
+
+      writes_then : EachMoment (BesideJournal (IsBeforeOrBehind j c copy) j'.file) c1 c'
+      writes_then = ⊎_elim
+          (λ same. subst (λ (s : State). EachMoment (BesideJournal (IsBeforeOrBehind j c copy) j'.file) c1 s) (sym same)
+          (starts (BesideJournal (IsBeforeOrBehind j c copy) j'.file) c1 (λ y here x left. writes_first.now x left y here)))
+          (λ rests. weakens (IsBeforeOrAfter stable (documents_of copy.entries)) (BesideJournal (IsBeforeOrBehind j c copy) j'.file)
+          (λ y either x left.
+          let has = rest_only j' (is.items ++ missing copy (kept is.items)) rests x left in
+          ⊎_elim (λ before. beside_found x y (all_of x has) before) (λ after. inr (inr (whole_now x y has after), (is.items, is.records, all_of x has))) either) c1 c' fills.saves)
+          fills.in_turn
+
+      pub filled : EachMomentOfBoth (IsBeforeOrBehind j c copy) j j' c c'
+      filled = record {
+        journal = j1;
+        checkpoints = c1;
+        opens_journal = opens_first;
+        opens_checkpoints = opens_then;
+        writes_journal = writes_first;
+        writes_checkpoints = writes_then;
+      }

@@ -1,0 +1,41 @@
+-- What a crash of two disks at some moment may have left, where one is used after the other.
+use Rattle.std.specs.Prelude.{◌⊎◌, ℕ, List}
+use Rattle.rs_disk.specs.File.{File, LeavesOnly, contents}
+use Rattle.rs_disk.specs.Moments.{EachMoment}
+use Rattle.rs_disk.specs.State.{State}
+use Rattle.repl_msg.specs.Kept.{kept}
+use Rattle.repl_msg.specs.declared.record.Record.{Record}
+use Rattle.node_journal.specs.Files.{HasJournal, IsOneOf as IsOneJournal}
+use Rattle.checkpoint_store.specs.Files.{IsOneOf as IsOneCheckpoint}
+use Rattle.initial_sync.specs.Copies.{Copy, IsPartOrWhole}
+use Rattle.initial_sync.specs.Missing.{HasFront, missing}
+
+-- beside this file of the checkpoints, or beside this one of the journal
+abbrev pub BesideCheckpoints : (List ℕ → List ℕ → Type 0) → File → List ℕ → Type 0
+BesideCheckpoints P checkpoints journal = LeavesOnly (P journal) checkpoints
+
+abbrev pub BesideJournal : (List ℕ → List ℕ → Type 0) → File → List ℕ → Type 0
+BesideJournal P journal checkpoints = LeavesOnly (λ image. P image checkpoints) journal
+
+-- At each moment a crash left two lists of bytes that have P. First the journal was opened, and then the
+-- checkpoints; behind that the journal was written, and then the checkpoints.
+pub record EachMomentOfBoth (P : List ℕ → List ℕ → Type 0) (j j' c c' : State) : Type 0 where
+  pub journal : State
+  pub checkpoints : State
+  pub opens_journal : EachMoment (BesideCheckpoints P c.file) j journal
+  pub opens_checkpoints : EachMoment (BesideJournal P journal.file) c checkpoints
+  pub writes_journal : EachMoment (BesideCheckpoints P checkpoints.file) journal j'
+  pub writes_checkpoints : EachMoment (BesideJournal P j'.file) checkpoints c'
+
+-- behind the records that are read now stand the first of those that the copy adds
+abbrev pub IsBehind : Copy → State → List ℕ → Type 0
+IsBehind copy state image =
+    (items : List Record) × HasJournal (contents state.file) items
+    × HasFront items (missing copy (kept items)) image
+
+-- what a crash before might have left of both disks; or a part or the whole of the copy, behind what
+-- is there now
+abbrev pub IsBeforeOrBehind : State → State → Copy → List ℕ → List ℕ → Type 0
+IsBeforeOrBehind j c copy journal checkpoints =
+    (IsOneJournal j journal × IsOneCheckpoint c checkpoints)
+    ⊎ (IsPartOrWhole copy journal checkpoints × IsBehind copy j journal)

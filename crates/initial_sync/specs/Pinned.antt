@@ -1,0 +1,33 @@
+-- What a new member is to begin with.
+use Rattle.std.specs.Prelude.{◌≡◌, ◌≢◌, Some, map}
+use Rattle.std.specs.List.{All}
+use Rattle.std.specs.FinMap.{entries, get}
+use Rattle.bson_doc.specs.Place.{Place}
+use Rattle.bson_doc.specs.Tree.{Fields}
+use Rattle.oplog_entry.specs.Docs.{docs}
+use Rattle.oplog_entry.specs.Log.{IsOplog}
+use Rattle.oplog_entry.specs.Visible.{ZERO, last_of}
+use Rattle.entry_bytes.specs.Sizes.{IsWithinEntry}
+use Rattle.checkpoint_store.specs.Layout.{Saved}
+use Rattle.checkpoint_store.specs.Shown.{CanBeSaved}
+use Rattle.initial_sync.specs.Copies.{Copy}
+use Rattle.initial_sync.specs.declared.pinned.Pinned.{Pinned}
+use Rattle.initial_sync.specs.declared.pinned.Kept1.{Kept1}
+
+-- a document at its place
+abbrev pub placed : Kept1 → Saved
+placed one = ((one.ns, one.id), one.doc)
+
+abbrev pub copy_of : Pinned → Copy
+copy_of pinned = record { term = pinned.term; entries = pinned.entries.items }
+
+-- The entries are an oplog up to an optime above ZERO, each within the bounds of an entry. The documents are
+-- those that they leave, in order of collection and key, and each can be saved.
+pub record IsPinned (pinned : Pinned) : Type 0 where
+  pub oplog : IsOplog pinned.entries.items
+  pub last : last_of pinned.entries.items ≡ pinned.at
+  pub above : pinned.at ≢ ZERO
+  pub within : All IsWithinEntry pinned.entries.items
+  pub documents : map placed pinned.documents.items ≡ entries (docs pinned.entries.items)
+  pub can : (place : Place) (document : Fields) → get (docs pinned.entries.items) place ≡ Some document
+      → CanBeSaved place document

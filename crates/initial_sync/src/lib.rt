@@ -1,0 +1,14 @@
+//! A copy of a member's log and documents on the two disks of a new member. It can be cut off at any call
+//! of a disk, and goes on from there.
+#![tactic(auto)]
+
+mod comparing;
+mod copying;
+mod documents;
+mod error;
+mod pinned;
+mod writing;
+
+pub use copying::copy;
+pub use error::CopyError;
+pub use pinned::{Kept1, Pinned};
