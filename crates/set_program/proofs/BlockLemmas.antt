@@ -13,10 +13,10 @@ use Rattle.set_model.specs.Run.{Sizes, run}
 use Rattle.fault_script.specs.Merge.{IsMerge}
 use Rattle.turn_board.specs.declared.view.View.{View}
 use Rattle.turn_board.specs.History.{Stand, calls_by, events, names, times}
-use Rattle.turn_board.specs.Views.{opened}
+use Rattle.turn_board.specs.Views.{opened, seen}
 use Rattle.turn_board.proofs.Sums.{one_if_other}
 use Rattle.shared_set.specs.Calls.{Closes}
-use Rattle.set_program.specs.Blocks.{AreOf, AreOfSome, IsSeen, RanBlock, TellsBlock, told_of}
+use Rattle.set_program.specs.Blocks.{AreOf, AreOfSome, IsSeen, IsToldOf, RanBlock, TellsBlock, told_of}
 use Rattle.set_program.specs.Steps.{Adds, GoesOn, line_of, reply_to}
 use Rattle.set_program.proofs.MergeLemmas.{merge_goes_on, merge_mapped, turns_merge, without_empty}
 use Rattle.set_program.proofs.ToldMerge.{all_told, is_in, out_of_names, rises_from, told_count, told_everything, told_stays}
@@ -114,8 +114,10 @@ module _ {F : Type 0} (sizes : Sizes) (lists : List (List (ℕ × Command))) (fi
   block_told told tells =
       let ran = tells.ran in
       let cs = ran.joined in
-      let is_told = told_whole sizes begun w.turns closes.turns cs tells.each closes.meets.begins (stand AreOf ran).1 ran.seen
-      (subst (λ (b : List Event). AllZip (λ (c : ℕ × List Event) (told : List (ℕ × ℕ × Reply)). told ≡ take (length c.1) (told_of sizes (λ p. c.0 == p) b w.turns)) cs tells.each) same tells.of_each) in
+      let turns_is : w.turns ≡ ran.later = ran.turns ∙ ap (λ (u : View Event F). u.turns ++ ran.later) fresh in
+      let seen_is : seen v ≡ begun = ap (λ (u : View Event F). seen u) fresh ∙ append-nil begun in
+      let is_told = told_whole sizes begun ran.later closes.turns cs tells.each (subst (λ (l : List (ℕ × Event)). IsPrefix l closes.turns) turns_is closes.meets.begins) (stand AreOf ran).1 ran.seen
+      (subst (λ (b : List Event). AllZip (IsToldOf sizes b ran.later) cs tells.each) seen_is tells.of_each) in
       let all = all_told sizes cs tells.each begun closes.turns told is_told (λ p. let most = once AreOf ran p in omega (arith, most)) tells.merged (rises_from told tells.rises) in
       let every = told_everything sizes (λ p. is_in cs p) begun closes.turns (λ p out. outside p out) in
       record {

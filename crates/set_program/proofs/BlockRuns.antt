@@ -1,5 +1,5 @@
 -- The lists of a block, whose passes are joined one after another.
-use Rattle.std.proofs.Common.{ℕ, zero, suc, ◌≡◌, ◌+◌, ◌≤◌, ◌<◌, ◌==◌, ◌&&◌, Bool, true, false, if◌then◌else◌, List, [], ◌∷◌, ◌++◌, length, take, refl, ap, sym, subst, ◌∙◌, arith, append_assoc, append-nil, length-append, nat_lt, ltb-true, ltb-false}
+use Rattle.std.proofs.Common.{ℕ, zero, suc, ◌≡◌, ◌+◌, ◌≤◌, ◌<◌, ◌==◌, ◌&&◌, Bool, true, false, if◌then◌else◌, List, [], ◌∷◌, ◌++◌, length, drop, refl, ap, sym, subst, ◌∙◌, arith, append_assoc, append-nil, length-append, nat_lt, ltb-true, ltb-false}
 use Rattle.std.specs.Prelude.{All, slice_index_or, Result, Ok, Err, IfOk, Vec}
 use Rattle.std.specs.List.{AllPass, AllZip, list_all}
 use Rattle.std.specs.List.Sorted.{IsNonDecreasingBy}
@@ -11,15 +11,16 @@ use native.Mathlib.Decide.{dec_le}
 use Rattle.set_model.specs.declared.command.Command.{Command}
 use Rattle.set_model.specs.declared.command.Event.{Event}
 use Rattle.set_model.specs.declared.reply.Reply.{Reply}
+use Rattle.set_model.specs.Limits.{IsRun}
 use Rattle.set_model.specs.Run.{Sizes}
 use Rattle.fault_script.specs.Merge.{Interleaves}
 use Rattle.turn_board.specs.declared.view.View.{View}
-use Rattle.turn_board.specs.History.{calls_by, events}
+use Rattle.turn_board.specs.History.{calls_by, events, names, times}
 use Rattle.turn_board.specs.Views.{half, joined, less_one, numbered_as, seen}
-use Rattle.turn_board.proofs.Sums.{prefix_same}
+use Rattle.turn_board.proofs.Sums.{prefix_same, times_append}
 use Rattle.set_world.specs.declared.error.StepError.{StepError}
 use Rattle.set_world.specs.declared.error.StepError.TheVariants.{HistoryFull, Memory}
-use Rattle.set_program.specs.Blocks.{AreOf, AreOfSome, EndsBlock, EndsList, IsSeen, IsToldOf, KeepsShort, Merges, RanBlock, RanList, Rises, TellsBlock, TellsList, told_of}
+use Rattle.set_program.specs.Blocks.{AreOf, AreOfSome, EndsBlock, EndsList, IsSeen, IsToldOf, IsUnheard, KeepsRun, KeepsShort, Merges, RanBlock, RanList, Rises, TellsBlock, TellsList, told_of}
 use Rattle.set_program.proofs.ToldMerge.{rises_to, told_rises, told_stays}
 use Rattle.set_program.proofs.ListRuns.{list_is_some, prefix_further, prefix_length, seen_further}
 use Rattle.set_program.proofs.MergeLemmas.{merge_more}
@@ -81,21 +82,20 @@ module _ {F : Type 0} where
           (λ le. omega (arith, n, m, b, least, le), λ le. refl)
 
 -- what was told of calls stays so with further turns
-still_told : {F : Type 0} (sizes : Sizes) (v w : View Event F) → w.begun ≡ v.begun → IsPrefix v.turns w.turns → (cs : ℕ × List Event) (told : List (ℕ × ℕ × Reply)) → IsSeen v.turns cs
-    → IsToldOf sizes v cs told → IsToldOf sizes w cs told
-still_told sizes v w same begins cs told at is = is
-    ∙ sym (told_stays sizes cs.0 (length cs.1) v.begun v.turns w.turns begins (prefix_length cs.1 (calls_by cs.0 v.turns) at))
-    ∙ ap (λ (b : List Event). take (length cs.1) (told_of sizes (λ p. cs.0 == p) b w.turns)) (sym same)
+module _ (sizes : Sizes) (before : List Event) (ts us : List (ℕ × Event)) (begins : IsPrefix ts us) where
+  still_told : (cs : ℕ × List Event) (told : List (ℕ × ℕ × Reply)) → IsSeen ts cs → IsToldOf sizes before ts cs told → IsToldOf sizes before us cs told
+  still_told cs told at is = is ∙ sym (told_stays sizes cs.0 (length cs.1) before ts us begins (prefix_length cs.1 (calls_by cs.0 ts) at))
 
-all_still_told : {F : Type 0} (sizes : Sizes) (v w : View Event F) → w.begun ≡ v.begun → IsPrefix v.turns w.turns → (cs : List (ℕ × List Event)) (each : List (List (ℕ × ℕ × Reply)))
-    → All (IsSeen v.turns) cs → AllZip (IsToldOf sizes v) cs each → AllZip (IsToldOf sizes w) cs each
-all_still_told sizes v w same begins [] [] at is = tt
-all_still_told sizes v w same begins [] (told ∷ each) at is = absurd is
-all_still_told sizes v w same begins (c ∷ cs) [] at is = absurd is
-all_still_told sizes v w same begins (c ∷ cs) (told ∷ each) at is = (
-  still_told sizes v w same begins c told (all_head (IsSeen v.turns) c cs at) is.0,
-  all_still_told sizes v w same begins cs each (all_tail (IsSeen v.turns) c cs at) is.1,
-)
+  all_still_told : (cs : List (ℕ × List Event)) (each : List (List (ℕ × ℕ × Reply))) → All (IsSeen ts) cs → AllZip (IsToldOf sizes before ts) cs each → AllZip (IsToldOf sizes before us) cs each
+  all_still_told [] [] at is = tt
+  all_still_told [] (told ∷ each) at is = absurd is
+  all_still_told (c ∷ cs) [] at is = absurd is
+  all_still_told (c ∷ cs) (told ∷ each) at is = (still_told c told (all_head (IsSeen ts) c cs at) is.0, all_still_told cs each (all_tail (IsSeen ts) c cs at) is.1)
+
+-- what stands behind the same begins the same
+pub same_behind : {A : Type 0} (xs ys zs : List A) → xs ++ ys ≡ xs ++ zs → ys ≡ zs
+same_behind [] ys zs same = same
+same_behind (x ∷ xs) ys zs same = same_behind xs ys zs (ap (λ l. drop 1 l) same)
 
 all_further : (ts us : List (ℕ × Event)) → IsPrefix ts us → (cs : List (ℕ × List Event)) → All (IsSeen ts) cs → All (IsSeen us) cs
 all_further ts us begins cs at = λ k d within. seen_further ts us (slice_index_or cs k d).0 (slice_index_or cs k d).1 begins (at k d within)
@@ -114,10 +114,13 @@ module _ {F : Type 0} (sizes : Sizes) where
   block_none v told none = record {
     ran = record {
       joined = [];
+      later = [];
       calls = sym (append-nil v.calls);
+      once = λ p some_of. absurd (omega arith);
       lines = tt;
+      turns = sym (append-nil v.turns);
+      unheard = λ k d within. absurd (omega arith);
       seen = λ k d within. absurd (omega arith);
-      begins = prefix_same v.turns;
       parts = refl;
       answers = prefix_same v.answers;
     };
@@ -130,10 +133,13 @@ module _ {F : Type 0} (sizes : Sizes) where
   pub block_is_some : (lists : List (List (ℕ × Command))) (v w : View Event F) (result : Result (Vec (ℕ × ℕ × Reply) Global) StepError) → EndsBlock sizes lists v w result → RanBlock AreOfSome lists v w
   block_is_some lists v w (Ok told) ends = record {
     joined = ends.ran.joined;
+    later = ends.ran.later;
     calls = ends.ran.calls;
+    once = ends.ran.once;
     lines = some_of_each lists ends.ran.joined ends.ran.lines;
+    turns = ends.ran.turns;
+    unheard = ends.ran.unheard;
     seen = ends.ran.seen;
-    begins = ends.ran.begins;
     parts = ends.ran.parts;
     answers = ends.ran.answers;
   }
@@ -143,16 +149,37 @@ module _ {F : Type 0} (sizes : Sizes) where
   -- ---- one list more
 
   module _ (others : List (List (ℕ × Command))) (last : List (ℕ × Command)) (v w u : View Event F) (number : ℕ) (some_parts : 1 < v.parts)
-      (begun_w : w.begun ≡ v.begun) (begun_u : u.begun ≡ v.begun) (of_w : IsPrefix w.turns (joined w u).turns) (of_u : IsPrefix u.turns (joined w u).turns) where
+      (begun_w : w.begun ≡ v.begun) (begun_u : u.begun ≡ v.begun) (of_w : IsPrefix w.turns (joined w u).turns) (of_u : IsPrefix u.turns (joined w u).turns)
+      (one_each : (p : ℕ) → times p (names (joined w u).calls) ≤ 1) where
+    -- what was seen behind the turns of v
+    abbrev later_is : (later : List (ℕ × Event)) → w.turns ≡ v.turns ++ later → (joined w u).turns ≡ v.turns ++ (later ++ of_w.0)
+    later_is later turns = sym of_w.1 ∙ ap (λ (l : List (ℕ × Event)). l ++ of_w.0) turns ∙ append_assoc v.turns later of_w.0
+
+    later_of_u : (later own : List (ℕ × Event)) → w.turns ≡ v.turns ++ later → u.turns ≡ v.turns ++ own → IsPrefix own (later ++ of_w.0)
+    later_of_u later own turns turns_u =
+        (of_u.0, same_behind v.turns (own ++ of_u.0) (later ++ of_w.0) (sym (append_assoc v.turns own of_u.0) ∙ ap (λ (l : List (ℕ × Event)). l ++ of_u.0) (sym turns_u) ∙ of_u.1 ∙ later_is later turns))
+
+    abbrev calls_are : (cs : List (ℕ × List Event)) (c : ℕ × List Event) → w.calls ≡ v.calls ++ cs → u.calls ≡ c ∷ [] → (joined w u).calls ≡ v.calls ++ (cs ++ c ∷ [])
+    calls_are cs c of_each own = ap (λ (l : List (ℕ × List Event)). l ++ u.calls) of_each ∙ ap (λ (l : List (ℕ × List Event)). (v.calls ++ cs) ++ l) own ∙ append_assoc v.calls cs (c ∷ [])
+
+    once_more : (cs : List (ℕ × List Event)) → (joined w u).calls ≡ v.calls ++ cs → (p : ℕ) → 0 < times p (names cs) → times p (names (joined w u).calls) ≡ 1
+    once_more cs is p some_of =
+        let most = one_each p in
+        let both = ap (λ (l : List (ℕ × List Event)). times p (names l)) is ∙ times_append p v.calls cs in
+        omega (arith, most, both, some_of)
+
     abbrev ran_more : (So : List (ℕ × Command) → List Event → Type 0) → RanBlock So others (less_one v) w → (own : RanList (So last) (numbered_as (half v) number) u)
         → RanBlock So (others ++ last ∷ []) v (joined w u)
     ran_more So ran own = record {
       joined = ran.joined ++ (own.pass, own.events) ∷ [];
-      calls = ap (λ (l : List (ℕ × List Event)). l ++ u.calls) ran.calls ∙ ap (λ (l : List (ℕ × List Event)). (v.calls ++ ran.joined) ++ l) own.calls ∙ append_assoc v.calls ran.joined ((own.pass, own.events) ∷ []);
+      later = ran.later ++ of_w.0;
+      calls = calls_are ran.joined (own.pass, own.events) ran.calls own.calls;
+      once = once_more (ran.joined ++ (own.pass, own.events) ∷ []) (calls_are ran.joined (own.pass, own.events) ran.calls own.calls);
       lines = zip_push (λ (list : List (ℕ × Command)) (c : ℕ × List Event). So list c.1) others ran.joined last (own.pass, own.events) ran.lines own.lines;
-      seen = all_push (IsSeen (joined w u).turns) ran.joined (own.pass, own.events) (all_further w.turns (joined w u).turns of_w ran.joined ran.seen)
-          (seen_further u.turns (joined w u).turns own.pass own.events of_u own.seen);
-      begins = prefix_further v.turns w.turns (joined w u).turns ran.begins of_w;
+      turns = later_is ran.later ran.turns;
+      unheard = all_push (IsUnheard v) ran.joined (own.pass, own.events) ran.unheard own.unheard;
+      seen = all_push (IsSeen (ran.later ++ of_w.0)) ran.joined (own.pass, own.events) (all_further ran.later (ran.later ++ of_w.0) (of_w.0, refl) ran.joined ran.seen)
+          (seen_further own.later (ran.later ++ of_w.0) own.pass own.events (later_of_u ran.later own.later ran.turns own.turns) own.seen);
       parts = let p = ran.parts in let q = own.parts in omega (arith, p, q, some_parts);
       answers = prefix_further v.answers w.answers (w.answers ++ u.answers) ran.answers (u.answers, refl);
     }
@@ -165,9 +192,9 @@ module _ {F : Type 0} (sizes : Sizes) where
     tells_more one other all first second merged rises = record {
       ran = ran_more AreOf first.ran second.ran;
       each = first.each ++ other ∷ [];
-      of_each = zip_push (IsToldOf sizes (joined w u)) first.ran.joined first.each (second.ran.pass, second.ran.events) other
-          (all_still_told sizes w (joined w u) refl of_w first.ran.joined first.each first.ran.seen first.of_each)
-          (still_told sizes u (joined w u) (sym same_begun) of_u (second.ran.pass, second.ran.events) other second.ran.seen second.told_is);
+      of_each = zip_push (IsToldOf sizes (seen v) (first.ran.later ++ of_w.0)) first.ran.joined first.each (second.ran.pass, second.ran.events) other
+          (all_still_told sizes (seen v) first.ran.later (first.ran.later ++ of_w.0) (of_w.0, refl) first.ran.joined first.each first.ran.seen first.of_each)
+          (still_told sizes (seen v) second.ran.later (first.ran.later ++ of_w.0) (later_of_u first.ran.later second.ran.later first.ran.turns second.ran.turns) (second.ran.pass, second.ran.events) other second.ran.seen second.told_is);
       merged = merge_more first.each other one all first.merged merged;
       rises = rises;
     }
@@ -211,17 +238,18 @@ module _ {F : Type 0} (sizes : Sizes) where
       ends_more (Ok one) (Err Memory) result first second merges =
           subst (λ r. EndsBlock sizes (others ++ last ∷ []) v (joined w u) r) (sym merges) (some_more (Err Memory) second (Ok one) first)
       ends_more (Ok one) (Err HistoryFull) result first second merges =
-          subst (λ r. EndsBlock sizes (others ++ last ∷ []) v (joined w u) r) (sym merges) (some_more (Err HistoryFull) second (Ok one) first, full_second second.0.begins second.1)
+          subst (λ r. EndsBlock sizes (others ++ last ∷ []) v (joined w u) r) (sym merges) (some_more (Err HistoryFull) second (Ok one) first, full_second (second.0.later, sym second.0.turns) second.1)
       ends_more (Err Memory) other result first second merges =
           subst (λ r. EndsBlock sizes (others ++ last ∷ []) v (joined w u) r) (sym merges) (some_more other second (Err Memory) first)
       ends_more (Err HistoryFull) other result first second merges =
-          subst (λ r. EndsBlock sizes (others ++ last ∷ []) v (joined w u) r) (sym merges) (some_more other second (Err HistoryFull) first, full_first first.0.begins first.1)
+          subst (λ r. EndsBlock sizes (others ++ last ∷ []) v (joined w u) r) (sym merges) (some_more other second (Err HistoryFull) first, full_first (first.0.later, sym first.0.turns) first.1)
 
 -- what a list is told rises
 pub list_rises : {F : Type 0} (sizes : Sizes) (lines : List (ℕ × Command)) (v w : View Event F) (result : Result (Vec (ℕ × ℕ × Reply) Global) StepError) → EndsList sizes lines v w result
     → IfOk result (λ told. Rises told.items)
 list_rises sizes lines v w (Ok told) ends =
-    subst Rises (sym ends.told_is) (IsNonDecreasingBy-take (λ (t : ℕ × ℕ × Reply). t.0) (length ends.ran.events) (told_of sizes (λ p. ends.ran.pass == p) w.begun w.turns) (rises_to (told_of sizes (λ p. ends.ran.pass == p) w.begun w.turns) (told_rises sizes (λ p. ends.ran.pass == p) w.begun w.turns)))
+    let all = told_of sizes (λ p. ends.ran.pass == p) (seen v) ends.ran.later in
+    subst Rises (sym ends.told_is) (IsNonDecreasingBy-take (λ (t : ℕ × ℕ × Reply). t.0) (length ends.ran.events) all (rises_to all (told_rises sizes (λ p. ends.ran.pass == p) (seen v) ends.ran.later)))
 list_rises sizes lines v w (Err error) ends = tt
 
 pub block_rises : {F : Type 0} (sizes : Sizes) (lists : List (List (ℕ × Command))) (v w : View Event F) (result : Result (Vec (ℕ × ℕ × Reply) Global) StepError) → EndsBlock sizes lists v w result
@@ -232,15 +260,24 @@ block_rises sizes lists v w (Err error) ends = tt
 -- the last list beside the others, in the words of the calls
 pub block_ends : {F : Type 0} (sizes : Sizes) (lists others : List (List (ℕ × Command))) (last : List (ℕ × Command)) (v v' w own u z : View Event F) (number : ℕ) (one other result : Result (Vec (ℕ × ℕ × Reply) Global) StepError)
     → lists ≡ others ++ last ∷ [] → 1 < v.parts → v' ≡ less_one v → own ≡ numbered_as (half v) number → z ≡ joined w u → w.begun ≡ v.begun → u.begun ≡ v.begun
-    → IsPrefix w.turns z.turns → IsPrefix u.turns z.turns → KeepsShort v' w → KeepsShort own u → EndsBlock sizes others v' w one → EndsList sizes last own u other → Merges one other result
+    → IsPrefix w.turns z.turns → IsPrefix u.turns z.turns → ((p : ℕ) → times p (names z.calls) ≤ 1) → KeepsShort v' w → KeepsShort own u → EndsBlock sizes others v' w one → EndsList sizes last own u other → Merges one other result
     → EndsBlock sizes lists v z result
-block_ends {F} sizes lists others last v v' w own u z number one other result lists_are some_parts left given both begun_w begun_u of_w of_u short_w short_u first second merges =
+block_ends {F} sizes lists others last v v' w own u z number one other result lists_are some_parts left given both begun_w begun_u of_w of_u one_each short_w short_u first second merges =
     subst (λ (l : List (List (ℕ × Command))). EndsBlock sizes l v z result) (sym lists_are)
     (subst (λ (y : View Event F). EndsBlock sizes (others ++ last ∷ []) v y result) (sym both)
     (ends_more sizes others last v w u number some_parts begun_w begun_u
     (subst (λ (y : View Event F). IsPrefix w.turns y.turns) both of_w) (subst (λ (y : View Event F). IsPrefix u.turns y.turns) both of_u)
-    (subst (λ (y : View Event F). KeepsShort y w) left short_w) (subst (λ (y : View Event F). KeepsShort y u) given short_u)
+    (subst (λ (y : View Event F). (p : ℕ) → times p (names y.calls) ≤ 1) both one_each) (subst (λ (y : View Event F). KeepsShort y w) left short_w) (subst (λ (y : View Event F). KeepsShort y u) given short_u)
     one other result (subst (λ (y : View Event F). EndsBlock sizes others y w one) left first) (subst (λ (y : View Event F). EndsList sizes last y u other) given second) merges))
+
+pub block_runs : {F : Type 0} (sizes : Sizes) (v v' w own u z : View Event F) (number : ℕ) → v' ≡ less_one v → own ≡ numbered_as (half v) number → z ≡ joined w u → w.begun ≡ v.begun → u.begun ≡ v.begun
+    → KeepsRun sizes v' w → KeepsRun sizes own u → KeepsRun sizes v z
+block_runs {F} sizes v v' w own u z number left given both begun_w begun_u run_w run_u defined = subst (λ (y : View Event F). IsRun sizes (seen y)) (sym both)
+    (joined_runs (nat_lt (length w.turns) (length u.turns)))
+  where
+    joined_runs : (b : Bool) → IsRun sizes (w.begun ++ events (if b then u.turns else w.turns))
+    joined_runs true = subst (λ (l : List Event). IsRun sizes (l ++ events u.turns)) (begun_u ∙ sym begun_w) (run_u (subst (λ (y : View Event F). IsRun sizes (seen y)) (sym given) defined))
+    joined_runs false = run_w (subst (λ (y : View Event F). IsRun sizes (seen y)) (sym left) defined)
 
 -- ---- which lines may be run
 

@@ -18,6 +18,8 @@ use Rattle.version_store.specs.contracts.collection.Collection as collection
 use Rattle.version_store.specs.contracts.shard.Shard as shard
 use Rattle.version_store.specs.contracts.store.VersionStore as store
 use Rattle.oplog_entry.specs.contracts.entry.Entry as entry
+use Rattle.oplog_entry.specs.contracts.entry.Op as op
+use Rattle.oplog_entry.specs.contracts.entry.SharedOp as shared_op
 use Rattle.oplog_store.specs.contracts.oplog.Oplog as oplog
 use Rattle.oplog_store.specs.contracts.places.Place as place
 use Rattle.oplog_store.specs.contracts.open_log.OpenLog as open_log
@@ -88,17 +90,26 @@ shard_send = search (sendable, heap.crosses, maps.crosses, collection_send) dept
 store_send : IsSend store.the_row
 store_send = search (sendable, heap.crosses, shard_send) depth 40 fits 20000
 
+op_send : IsSend op.the_row
+op_send = search (sendable, heap.crosses, text_send, bytes_send, doc_send, items_send) depth 40 fits 20000
+
+op_sync : IsSync op.the_row
+op_sync = search (sendable, heap.crosses, text_sync, bytes_sync, doc_sync, items_sync) depth 40 fits 20000
+
+shared_op_send : IsSend shared_op.the_row
+shared_op_send = search (sendable, heap.crosses, op_send, op_sync) depth 40 fits 20000
+
 entry_send : IsSend entry.the_row
-entry_send = search (sendable, heap.crosses, text_send, bytes_send, doc_send, items_send) depth 40 fits 20000
+entry_send = search (sendable, heap.crosses, shared_op_send) depth 40 fits 20000
 
 oplog_send : IsSend oplog.the_row
 oplog_send = search (sendable, heap.crosses, entry_send) depth 40 fits 20000
 
 place_send : IsSend place.the_row
-place_send = search (sendable, heap.crosses, text_send, bytes_send, doc_send, items_send) depth 40 fits 20000
+place_send = search (sendable, heap.crosses, shared_op_send) depth 40 fits 20000
 
 open_log_send : IsSend open_log.the_row
-open_log_send = search (sendable, heap.crosses, oplog_send, text_send, bytes_send, doc_send, items_send) depth 60 fits 20000
+open_log_send = search (sendable, heap.crosses, oplog_send, place_send, shared_op_send) depth 60 fits 20000
 
 slots_send : IsSend slots.the_row
 slots_send = search (sendable, heap.crosses, maps.crosses) depth 40 fits 20000
@@ -134,7 +145,7 @@ value_sync : IsSync value.the_row
 value_sync = search (sendable, heap.crosses, text_sync, bytes_sync, doc_sync, items_sync) depth 40 fits 20000
 
 writer_send : IsSend writer.the_row
-writer_send = search (sendable, heap.crosses, text_send, bytes_send, doc_send, items_send) depth 40 fits 20000
+writer_send = search (sendable, heap.crosses, text_send, doc_send, shared_op_send) depth 40 fits 20000
 
 document_list_send : IsSend document_list.the_row
 document_list_send = search (sendable, heap.crosses, text_send, doc_send) depth 40 fits 20000
@@ -192,10 +203,10 @@ unjournaled_send : IsSend unjournaled.the_row
 unjournaled_send = search (sendable, heap.crosses) depth 40 fits 20000
 
 held_send : IsSend held.the_row
-held_send = search (sendable, heap.crosses, text_send, bytes_send, key_send, doc_send, items_send) depth 60 fits 20000
+held_send = search (sendable, heap.crosses, text_send, bytes_send, key_send, doc_send, items_send, shared_op_send, writer_send) depth 60 fits 20000
 
 writer_map_send : IsSend writer_map.the_row
-writer_map_send = search (sendable, heap.crosses, maps.crosses, text_send, bytes_send, key_send, doc_send, items_send) depth 60 fits 20000
+writer_map_send = search (sendable, heap.crosses, maps.crosses, held_send, writer_send) depth 60 fits 20000
 
 ledger_send : IsSend ledger.the_row
 ledger_send = search (sendable, heap.crosses, open_log_send, slots_send, writer_map_send, store_send) depth 40 fits 20000

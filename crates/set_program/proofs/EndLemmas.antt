@@ -23,10 +23,11 @@ use Rattle.rs_io.specs.Put.{Puts}
 use Rattle.rs_io.specs.declared.sink.SinkError.{SinkError}
 use Rattle.rs_io.specs.declared.sink.SinkError.TheVariants.{Failed, Memory as NoRoom}
 use Rattle.set_program.specs.Causes.{of_read, of_sink}
-use Rattle.set_program.specs.Headline.{Asks, AsksNothing, AsksRun, Ends, EndsTask, EndsWithoutRun, HasNoFault, IsFaulty, IsOneOf, IsReadable, IsScriptOf, limit, status_of, usage}
+use Rattle.set_program.specs.Headline.{Asks, AsksNothing, AsksSource, Ends, EndsTask, EndsWithoutRun, HasNoFault, IsFaulty, IsOneOf, IsReadable, IsScriptOf, limit, status_of, usage}
 use Rattle.set_program.specs.declared.words.Task.{Task}
-use Rattle.set_program.specs.declared.words.Task.TheVariants.{Run, Chaos}
+use Rattle.set_program.specs.declared.words.Task.TheVariants.{Run, Trace, Chaos}
 use Rattle.set_program.specs.Left.{IfSet}
+use Rattle.set_program.specs.Tasks.{is_of_source}
 use Rattle.set_program.proofs.PlayLemmas.{Keeps-same}
 
 -- ---- the script is read
@@ -42,7 +43,7 @@ read_stops left rest held OverLimit reads = (Keeps-same held, over left rest rea
     over (Some before) (Some after) reads = omega (arith, reads)
 
 -- nothing is run, since the source has no script
-pub source_stops : (words : List (String Global)) (left rest old new : Option (List ℕ)) (stop : Stop) → AsksRun words → ReadsSource left rest old new (Err stop)
+pub source_stops : (words : List (String Global)) (left rest old new : Option (List ℕ)) (stop : Stop) → AsksSource words → ReadsSource left rest old new (Err stop)
     → EndsWithoutRun words left rest old new (Err stop)
 source_stops words left rest old new Usage asks reads = absurd reads
 source_stops words left rest old new NoScript asks reads = (asks, reads)
@@ -106,6 +107,16 @@ whatever (Some bytes) P holds = λ readable. holds
 asks_one : (P : Type 0) (words : List (String Global)) (one other : Task) → (Some one ≡ Some other → ⊥) → Asks words one → Asks words other → P
 asks_one P words one other apart first second = absurd (apart (sym first ∙ second))
 
+-- a generated script isn't the source's
+not_of_source : (task : Task) (seed events nodes : ℕ) → is_of_source task ≡ true → Some task ≡ Some (Chaos seed events nodes) → ⊥
+not_of_source Run seed events nodes of_source same = cc same
+not_of_source Trace seed events nodes of_source same = cc same
+not_of_source (Chaos s e n) seed events nodes of_source same = cc of_source
+
+reads_nothing : (P : Type 0) (words : List (String Global)) (seed events nodes : ℕ) → AsksSource words → Asks words (Chaos seed events nodes) → P
+reads_nothing P words seed events nodes (task, asked, of_source) asks =
+    asks_one P words task (Chaos seed events nodes) (not_of_source task seed events nodes of_source) asked asks
+
 asks_something : (P : Type 0) (words : List (String Global)) (task : Task) → Asks words task → AsksNothing words → P
 asks_something P words task asks none = absurd (cc (asks, none))
 
@@ -128,6 +139,13 @@ never P Run parts old new NoScript set before ends = absurd ends
 never P Run parts old new ReadFault set before ends = absurd ends
 never P Run parts old new TooLong set before ends = absurd ends
 never P Run parts old new DiskFault set before ends = absurd ends
+never P Trace parts old new Memory set before ends = absurd (cc before)
+never P Trace parts old new WriteFault set before ends = absurd (cc before)
+never P Trace parts old new Usage set before ends = absurd ends
+never P Trace parts old new NoScript set before ends = absurd ends
+never P Trace parts old new ReadFault set before ends = absurd ends
+never P Trace parts old new TooLong set before ends = absurd ends
+never P Trace parts old new DiskFault set before ends = absurd ends
 never P (Chaos seed events nodes) parts old new Memory set before ends = absurd (cc before)
 never P (Chaos seed events nodes) parts old new WriteFault set before ends = absurd (cc before)
 never P (Chaos seed events nodes) parts old new Usage set before ends = absurd ends
@@ -146,7 +164,7 @@ pub completes : {D : Type 0} (words : List (String Global)) (left rest old new :
     (SteadySource SteadySink : Type 0) (reads reads' writes writes' : ℕ)
     → Ends words left rest old new ended outcome → (status_of ended ≡ 4 → CountRose reads reads') → (status_of ended ≡ 5 → CountRose writes writes')
     → (SteadySource → status_of ended ≢ 4) → (SteadySink → status_of ended ≢ 5)
-    → AsksRun words → HasNoFault SteadySource reads reads' → HasNoFault SteadySink writes writes'
+    → AsksSource words → HasNoFault SteadySource reads reads' → HasNoFault SteadySink writes writes'
     → IfSome left (λ bytes. IsReadable bytes → IsOneOf (0 ∷ 1 ∷ 7 ∷ []) (status_of ended))
 unfolding ends_before
 completes words left rest old new (Ok done) outcome SteadySource SteadySink reads reads' writes writes' ends read_fault write_fault steady_source steady_sink asks source sink = whatever left _ refl
@@ -157,7 +175,7 @@ completes words left rest old new (Err ReadFault) outcome SteadySource SteadySin
 completes words left rest old new (Err WriteFault) outcome SteadySource SteadySink reads reads' writes writes' ends read_fault write_fault steady_source steady_sink asks source sink =
     absurd (no_fault SteadySink writes writes' sink (λ steady. steady_sink steady refl) (write_fault refl))
 completes words left rest old new (Err Usage) outcome SteadySource SteadySink reads reads' writes writes' ends read_fault write_fault steady_source steady_sink asks source sink =
-    only_unrun _ words left rest old new Usage outcome refl (λ unrun. asks_something _ words Run asks unrun.0) ends
+    only_unrun _ words left rest old new Usage outcome refl (λ unrun. asks_something _ words asks.0 asks.1 unrun.0) ends
 completes words left rest old new (Err NoScript) outcome SteadySource SteadySink reads reads' writes writes' ends read_fault write_fault steady_source steady_sink asks source sink =
     only_unrun _ words left rest old new NoScript outcome refl (λ unrun. faulty left rest unrun.1.0 _ unrun.1.1) ends
 completes words left rest old new (Err TooLong) outcome SteadySource SteadySink reads reads' writes writes' ends read_fault write_fault steady_source steady_sink asks source sink =
@@ -177,8 +195,8 @@ completes_chaos words left rest old new (Err WriteFault) outcome SteadySink writ
 completes_chaos words left rest old new (Err Usage) outcome SteadySink writes writes' ends write_fault steady_sink seed events nodes asks sink =
     only_unrun _ words left rest old new Usage outcome refl (λ unrun. asks_something _ words (Chaos seed events nodes) asks unrun.0) ends
 completes_chaos words left rest old new (Err ReadFault) outcome SteadySink writes writes' ends write_fault steady_sink seed events nodes asks sink =
-    only_unrun _ words left rest old new ReadFault outcome refl (λ unrun. asks_one _ words Run (Chaos seed events nodes) (λ same. cc same) unrun.0 asks) ends
+    only_unrun _ words left rest old new ReadFault outcome refl (λ unrun. reads_nothing _ words seed events nodes unrun.0 asks) ends
 completes_chaos words left rest old new (Err NoScript) outcome SteadySink writes writes' ends write_fault steady_sink seed events nodes asks sink =
-    only_unrun _ words left rest old new NoScript outcome refl (λ unrun. asks_one _ words Run (Chaos seed events nodes) (λ same. cc same) unrun.0 asks) ends
+    only_unrun _ words left rest old new NoScript outcome refl (λ unrun. reads_nothing _ words seed events nodes unrun.0 asks) ends
 completes_chaos words left rest old new (Err TooLong) outcome SteadySink writes writes' ends write_fault steady_sink seed events nodes asks sink =
-    only_unrun _ words left rest old new TooLong outcome refl (λ unrun. asks_one _ words Run (Chaos seed events nodes) (λ same. cc same) unrun.0 asks) ends
+    only_unrun _ words left rest old new TooLong outcome refl (λ unrun. reads_nothing _ words seed events nodes unrun.0 asks) ends

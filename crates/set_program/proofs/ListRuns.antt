@@ -11,7 +11,7 @@ use Rattle.set_model.specs.Run.{Sizes}
 use Rattle.turn_board.specs.declared.view.View.{View}
 use Rattle.turn_board.specs.History.{Stand, calls_by, events}
 use Rattle.turn_board.specs.Views.{seen}
-use Rattle.turn_board.proofs.Sums.{prefix_same}
+use Rattle.turn_board.proofs.Sums.{events_append, prefix_same}
 use Rattle.set_world.specs.declared.error.StepError.{StepError}
 use Rattle.set_world.specs.declared.error.StepError.TheVariants.{HistoryFull, Memory}
 use Rattle.shared_set.specs.Calls.{Steps, Waits}
@@ -64,15 +64,39 @@ module _ {F : Type 0} (sizes : Sizes) where
     ran = record {
       pass = new.0;
       events = [];
+      later = [];
       lines = refl;
       calls = new.1;
-      seen = (calls_by new.0 v.turns, refl);
-      begins = prefix_same v.turns;
+      begun = refl;
+      turns = sym (append-nil v.turns);
+      unheard = new.2;
+      seen = ([], refl);
       parts = refl;
       answers = refl;
     };
     told_is = refl;
   }
+
+  module _ (v u : View Event F) (lines : List (ℕ × Command)) (told : List (ℕ × ℕ × Reply)) (so : TellsList sizes lines v u told) (turns : List (ℕ × Event)) (begins : IsPrefix u.turns turns) where
+    -- the turns behind those that the pass began with
+    abbrev behind : List (ℕ × Event)
+    behind = so.ran.later ++ begins.0
+
+    turns_are : turns ≡ v.turns ++ behind
+    turns_are = sym begins.1 ∙ ap (λ (l : List (ℕ × Event)). l ++ begins.0) so.ran.turns ∙ append_assoc v.turns so.ran.later begins.0
+
+    all_behind : u.begun ++ events turns ≡ seen v ++ events behind
+    all_behind = (λ i. so.ran.begun i ++ events (turns_are i)) ∙ ap (λ (l : List Event). v.begun ++ l) (events_append v.turns behind) ∙ sym (append_assoc v.begun (events v.turns) (events behind))
+
+    calls_behind : calls_by so.ran.pass behind ≡ calls_by so.ran.pass turns
+    calls_behind = sym (ap (calls_by so.ran.pass) turns_are ∙ calls_more so.ran.pass v.turns behind ∙ ap (λ (l : List Event). l ++ calls_by so.ran.pass behind) so.ran.unheard)
+
+    told_behind : calls_by so.ran.pass turns ≡ so.ran.events → told ≡ told_of sizes (λ q. so.ran.pass == q) (seen v) behind
+    told_behind stand =
+        let count = told_count sizes so.ran.pass (seen v) behind in
+        let same = ap (λ (l : List Event). length l) (calls_behind ∙ stand) in
+        so.told_is ∙ sym (told_stays sizes so.ran.pass (length so.ran.events) (seen v) so.ran.later behind (begins.0, refl) (prefix_length so.ran.events (calls_by so.ran.pass so.ran.later) so.ran.seen))
+        ∙ take_all (length so.ran.events) (told_of sizes (λ q. so.ran.pass == q) (seen v) behind) (omega (arith, count, same))
 
   module _ (v u w : View Event F) (lines : List (ℕ × Command)) (told : List (ℕ × ℕ × Reply)) (so : TellsList sizes lines v u told) where
     pub list_step : (line : ℕ) (command : Command) (place : ℕ) (reply : Reply) → Steps sizes u w line command place reply
@@ -82,43 +106,52 @@ module _ {F : Type 0} (sizes : Sizes) where
         let pass_is : so.ran.pass ≡ s.pass = ap (λ (l : List (ℕ × List Event)). (slice_index_or l 0 (0, [])).0) one in
         let past_is : so.ran.events ≡ s.past = ap (λ (l : List (ℕ × List Event)). (slice_index_or l 0 (0, [])).1) one in
         let others_is : [] ≡ s.others = ap (λ (l : List (ℕ × List Event)). drop 1 l) one in
-        let stand : calls_by s.pass s.turns ≡ s.past = (subst (λ (l : List (ℕ × List Event)). Stand s.turns l) s.calls s.meets.calls).0 in
-        let count : length (told_of sizes (λ q. s.pass == q) u.begun s.turns) ≡ length s.past = told_count sizes s.pass u.begun s.turns ∙ ap (λ (l : List Event). length l) stand in
-        let before : told ≡ told_of sizes (λ q. s.pass == q) u.begun s.turns =
-        so.told_is ∙ sym (told_stays sizes so.ran.pass (length so.ran.events) u.begun u.turns s.turns s.meets.begins (prefix_length so.ran.events (calls_by so.ran.pass u.turns) so.ran.seen))
-        ∙ ap (λ (p : ℕ). take (length so.ran.events) (told_of sizes (λ q. p == q) u.begun s.turns)) pass_is
-        ∙ take_all (length so.ran.events) (told_of sizes (λ q. s.pass == q) u.begun s.turns) (let same = ap (λ (l : List Event). length l) past_is in omega (arith, count, same)) in
-        let more : length (told_of sizes (λ q. s.pass == q) u.begun (s.turns ++ (s.pass, s.event) ∷ [])) ≡ length (s.past ++ s.event ∷ []) =
-        told_count sizes s.pass u.begun (s.turns ++ (s.pass, s.event) ∷ []) ∙ ap (λ (l : List Event). length l) (calls_own s.pass s.turns s.event ∙ ap (λ (l : List Event). l ++ s.event ∷ []) stand) in
+        let mid = behind v u lines told so s.turns s.meets.begins in
+        let turns_is = turns_are v u lines told so s.turns s.meets.begins in
+        let stands : calls_by s.pass s.turns ≡ s.past = (subst (λ (l : List (ℕ × List Event)). Stand s.turns l) s.calls s.meets.calls).0 in
+        let stands_so : calls_by so.ran.pass s.turns ≡ so.ran.events = ap (λ (p : ℕ). calls_by p s.turns) pass_is ∙ stands ∙ sym past_is in
+        let stand : calls_by s.pass mid ≡ s.past = ap (λ (p : ℕ). calls_by p mid) (sym pass_is) ∙ calls_behind v u lines told so s.turns s.meets.begins ∙ stands_so ∙ past_is in
+        let before : told ≡ told_of sizes (λ q. s.pass == q) (seen v) mid = told_behind v u lines told so s.turns s.meets.begins stands_so
+        ∙ ap (λ (p : ℕ). told_of sizes (λ q. p == q) (seen v) mid) pass_is in
+        let more : length (told_of sizes (λ q. s.pass == q) (seen v) (mid ++ (s.pass, s.event) ∷ [])) ≡ length (s.past ++ s.event ∷ []) =
+        told_count sizes s.pass (seen v) (mid ++ (s.pass, s.event) ∷ []) ∙ ap (λ (l : List Event). length l) (calls_own s.pass mid s.event ∙ ap (λ (l : List Event). l ++ s.event ∷ []) stand) in
         subst (λ (z : View Event F). TellsList sizes (lines ++ (line, command) ∷ []) v z (told ++ (place, line, reply) ∷ [])) (sym s.now) (record {
           ran = record {
             pass = s.pass;
             events = s.past ++ s.event ∷ [];
+            later = mid ++ (s.pass, s.event) ∷ [];
             lines = map-append line_of s.past (s.event ∷ []) ∙ ap (λ (l : List Event). map line_of l ++ line_of s.event ∷ []) (sym past_is)
                 ∙ ap (λ (l : List (ℕ × Command)). l ++ line_of s.event ∷ []) so.ran.lines ∙ (λ i. lines ++ (s.line_is i, s.command_is i) ∷ []);
             calls = ap (λ (l : List (ℕ × List Event)). (s.pass, s.past ++ s.event ∷ []) ∷ l) (sym others_is);
-            seen = prefix_equal (s.past ++ s.event ∷ []) (calls_by s.pass (s.turns ++ (s.pass, s.event) ∷ [])) (calls_own s.pass s.turns s.event ∙ ap (λ (l : List Event). l ++ s.event ∷ []) stand);
-            begins = prefix_further v.turns s.turns (s.turns ++ (s.pass, s.event) ∷ []) (prefix_further v.turns u.turns s.turns so.ran.begins s.meets.begins) ((s.pass, s.event) ∷ [], refl);
+            begun = so.ran.begun;
+            turns = ap (λ (l : List (ℕ × Event)). l ++ (s.pass, s.event) ∷ []) turns_is ∙ append_assoc v.turns mid ((s.pass, s.event) ∷ []);
+            unheard = ap (λ (p : ℕ). calls_by p v.turns) (sym pass_is) ∙ so.ran.unheard;
+            seen = prefix_equal (s.past ++ s.event ∷ []) (calls_by s.pass (mid ++ (s.pass, s.event) ∷ [])) (calls_own s.pass mid s.event ∙ ap (λ (l : List Event). l ++ s.event ∷ []) stand);
             parts = so.ran.parts;
             answers = so.ran.answers;
           };
           told_is = ap (λ (l : List (ℕ × ℕ × Reply)). l ++ (place, line, reply) ∷ []) before
-              ∙ (λ i. told_of sizes (λ q. s.pass == q) u.begun s.turns ++ (s.place_is i, sym s.line_is i, s.reply_is i) ∷ [])
-              ∙ sym (told_own sizes s.pass u.begun s.turns s.event)
-              ∙ sym (take_all (length (s.past ++ s.event ∷ [])) (told_of sizes (λ q. s.pass == q) u.begun (s.turns ++ (s.pass, s.event) ∷ [])) (omega (arith, more)));
+              ∙ (λ i. told_of sizes (λ q. s.pass == q) (seen v) mid ++ (s.place_is i, sym s.line_is i, s.reply_is i) ∷ [])
+              ∙ ap (λ (es : List Event). told_of sizes (λ q. s.pass == q) (seen v) mid ++ (length es, s.event.line, reply_to sizes es s.event) ∷ []) (all_behind v u lines told so s.turns s.meets.begins)
+              ∙ sym (told_own sizes s.pass (seen v) mid s.event)
+              ∙ sym (take_all (length (s.past ++ s.event ∷ [])) (told_of sizes (λ q. s.pass == q) (seen v) (mid ++ (s.pass, s.event) ∷ [])) (omega (arith, more)));
         })
 
     -- nothing was done
     pub list_waits : Waits sizes u w → RanList (AreOf lines) v w
     list_waits s =
         let stand : calls_by so.ran.pass s.turns ≡ so.ran.events = (subst (λ (l : List (ℕ × List Event)). Stand s.turns l) so.ran.calls s.meets.calls).0 in
+        let mid = behind v u lines told so s.turns s.meets.begins in
         subst (λ (z : View Event F). RanList (AreOf lines) v z) (sym s.now) (record {
           pass = so.ran.pass;
           events = so.ran.events;
+          later = mid;
           lines = so.ran.lines;
           calls = so.ran.calls;
-          seen = prefix_equal so.ran.events (calls_by so.ran.pass s.turns) stand;
-          begins = prefix_further v.turns u.turns s.turns so.ran.begins s.meets.begins;
+          begun = so.ran.begun;
+          turns = turns_are v u lines told so s.turns s.meets.begins;
+          unheard = so.ran.unheard;
+          seen = prefix_equal so.ran.events (calls_by so.ran.pass mid) (calls_behind v u lines told so s.turns s.meets.begins ∙ stand);
           parts = so.ran.parts;
           answers = so.ran.answers;
         })
@@ -128,10 +161,13 @@ module _ {F : Type 0} (sizes : Sizes) where
   list_some v w lines all front so = record {
     pass = so.pass;
     events = so.events;
+    later = so.later;
     lines = subst (λ (l : List (ℕ × Command)). IsPrefix l all) (sym so.lines) front;
     calls = so.calls;
+    begun = so.begun;
+    turns = so.turns;
+    unheard = so.unheard;
     seen = so.seen;
-    begins = so.begins;
     parts = so.parts;
     answers = so.answers;
   }

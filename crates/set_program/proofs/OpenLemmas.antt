@@ -19,7 +19,7 @@ use Rattle.set_program.specs.declared.outcome.Left.TheVariants.{World, Parts}
 use Rattle.set_program.specs.declared.stop.Stop.{Stop}
 use Rattle.set_program.specs.declared.stop.Stop.TheVariants.{Memory, Usage, Script as NoScript, ReadFault, WriteFault, TooLong, DiskFault}
 use Rattle.set_program.specs.declared.words.Task.{Task}
-use Rattle.set_program.specs.declared.words.Task.TheVariants.{Run, Chaos}
+use Rattle.set_program.specs.declared.words.Task.TheVariants.{Run, Trace, Chaos}
 use Rattle.set_program.specs.Asking.{OpensScript, RunsScript}
 use Rattle.set_program.specs.Causes.{of_file}
 use Rattle.set_program.specs.Headline.{Asks, Ends, EndsTask, IsAsked, IsScriptOf, IsUnarmed, LeavesDisks, opening_error, status_of, status_of_stop}
@@ -82,6 +82,7 @@ not_opening task parts old new (Err NoScript) set ends seven = cc seven
 not_opening task parts old new (Err ReadFault) set ends seven = cc seven
 not_opening task parts old new (Err TooLong) set ends seven = cc seven
 not_opening Run parts old new (Err DiskFault) set ends seven = ends
+not_opening Trace parts old new (Err DiskFault) set ends seven = ends
 not_opening (Chaos seed events nodes) parts old new (Err DiskFault) set ends seven = ends
 
 -- what holds of the opening of a script's set holds where a disk failed

@@ -1,12 +1,12 @@
 -- A block that ran on a shared set, which was closed behind it.
-use Rattle.std.proofs.Common.{ℕ, zero, suc, ◌≡◌, ◌∙◌, ◌+◌, ◌≤◌, ap, sym, subst, arith, refl, true, List, [], ◌∷◌, ◌++◌, length, length-append, take, drop}
+use Rattle.std.proofs.Common.{ℕ, zero, suc, ◌≡◌, ◌∙◌, ◌+◌, ◌≤◌, ap, sym, subst, arith, refl, true, List, [], ◌∷◌, ◌++◌, length, length-append, take}
 use Rattle.std.specs.Prelude.{IfOk, OnErr, OnOk, Result, Ok, Err, Vec, map}
 use Rattle.std.specs.List.{AllPass, list_all}
 use Rattle.std.specs.declared.alloc.AllocError.{AllocError}
 use Rattle.std.specs.declared.alloc.Global.{Global}
 use Rattle.std.proofs.lemmas.Bool.{and_parts}
 use Rattle.std.proofs.lemmas.List.Sums.{AllPass-from_list_all}
-use Rattle.std.proofs.Math.Seq.{drop-append_seam, take-length}
+use Rattle.std.proofs.Math.Seq.{take-length}
 use Rattle.std.proofs.lemmas.List.{append-nil, length-map}
 use Rattle.rs_disk.specs.State.{State}
 use Rattle.set_model.specs.declared.command.Command.{Command}
@@ -28,10 +28,8 @@ use Rattle.set_program.specs.Blocks.{AreOfSome, RanBlock, TellsBlock}
 use Rattle.set_program.specs.Parts.{Stepped, SteppedSome, Steps, can_be_run, has_few_threads, unplaced}
 use Rattle.set_program.specs.Steps.{Adds, line_of}
 use Rattle.set_program.proofs.BlockLemmas.{block_adds, block_adds_some, block_told}
+use Rattle.set_program.proofs.BlockRuns.{same_behind}
 use Rattle.set_program.proofs.PartOrders.{order_long, order_of}
-
-same_behind : {A : Type 0} (xs ys zs : List A) → xs ++ ys ≡ xs ++ zs → ys ≡ zs
-same_behind xs ys zs same = sym (drop-append_seam xs ys) ∙ ap (drop (length xs)) same ∙ drop-append_seam xs zs
 
 -- ---- before and behind it
 

@@ -7,12 +7,13 @@ use mathlib.Core.List.{IsPrefix}
 use Rattle.set_model.specs.declared.command.Command.{Command}
 use Rattle.set_model.specs.declared.command.Event.{Event}
 use Rattle.set_model.specs.declared.reply.Reply.{Reply}
+use Rattle.set_model.specs.Limits.{IsRun}
 use Rattle.set_model.specs.Run.{Sizes}
 use Rattle.set_world.specs.declared.error.StepError.{StepError}
 use Rattle.set_world.specs.declared.error.StepError.TheVariants.{HistoryFull, Memory}
 use Rattle.fault_script.specs.Merge.{Interleaves, IsMerge}
 use Rattle.turn_board.specs.declared.view.View.{View}
-use Rattle.turn_board.specs.History.{calls_by}
+use Rattle.turn_board.specs.History.{calls_by, names, times}
 use Rattle.turn_board.specs.Views.{seen}
 use Rattle.set_program.specs.Steps.{line_of, reply_to}
 
@@ -36,10 +37,14 @@ told_of sizes is_one before (turn ∷ later) =
     ∷ told_of sizes is_one (before ++ turn.1 ∷ []) later
     else told_of sizes is_one (before ++ turn.1 ∷ []) later
 
--- this is told of the calls of a pass, one after another
-abbrev pub IsToldOf : {F : Type 0} → Sizes → View Event F → ℕ × List Event → List (ℕ × ℕ × Reply) → Type 0
-IsToldOf sizes w calls told =
-    told ≡ take (length calls.1) (told_of sizes (λ pass. calls.0 == pass) w.begun w.turns)
+-- this is told of the calls of a pass among the turns behind these events, one after another
+abbrev pub IsToldOf : Sizes → List Event → List (ℕ × Event) → ℕ × List Event → List (ℕ × ℕ × Reply) → Type 0
+IsToldOf sizes before later calls told =
+    told ≡ take (length calls.1) (told_of sizes (λ pass. calls.0 == pass) before later)
+
+-- the turns that this pass has seen have no call of it
+abbrev pub IsUnheard : {F : Type 0} → View Event F → ℕ × List Event → Type 0
+IsUnheard v calls = calls_by calls.0 v.turns ≡ []
 
 -- no place is below an earlier one
 abbrev pub Rises : List (ℕ × ℕ × Reply) → Type 0
@@ -47,15 +52,18 @@ Rises told = IsNonDecreasingBy (λ t. t.0) told
 
 -- ---- a block
 
--- One pass for each list was joined into v, which is then w, has its parts again, and has seen their calls.
--- Those of each pass are `So` of its list.
+-- One pass for each list was joined into v, which is then w, has its parts again, and has seen their calls
+-- behind all that it had seen. Those of each pass are `So` of its list, and no other in w has its number.
 pub record RanBlock {F : Type 0} (So : List (ℕ × Command) → List Event → Type 0)
     (lists : List (List (ℕ × Command))) (v w : View Event F) : Type 0 where
   pub joined : List (ℕ × List Event)
+  pub later : List (ℕ × Event)
   pub calls : w.calls ≡ v.calls ++ joined
+  pub once : (pass : ℕ) → 0 < times pass (names joined) → times pass (names w.calls) ≡ 1
   pub lines : AllZip (λ list calls. So list calls.1) lists joined
-  pub seen : All (IsSeen w.turns) joined
-  pub begins : IsPrefix v.turns w.turns
+  pub turns : w.turns ≡ v.turns ++ later
+  pub unheard : All (IsUnheard v) joined
+  pub seen : All (IsSeen later) joined
   pub parts : w.parts ≡ v.parts
   pub answers : IsPrefix v.answers w.answers
 
@@ -64,13 +72,17 @@ pub record TellsBlock {F : Type 0} (sizes : Sizes) (lists : List (List (ℕ × C
     (told : List (ℕ × ℕ × Reply)) : Type 0 where
   pub ran : RanBlock AreOf lists v w
   pub each : List (List (ℕ × ℕ × Reply))
-  pub of_each : AllZip (IsToldOf sizes w) ran.joined each
+  pub of_each : AllZip (IsToldOf sizes (seen v) ran.later) ran.joined each
   pub merged : IsMerge each told
   pub rises : Rises told
 
 -- no history is longer, unless the one before was
 abbrev pub KeepsShort : {F : Type 0} → View Event F → View Event F → Type 0
 KeepsShort v w = length (seen v) ≤ 4294967295 → length (seen w) ≤ 4294967295
+
+-- a whole run goes on as one
+abbrev pub KeepsRun : {F : Type 0} → Sizes → View Event F → View Event F → Type 0
+KeepsRun sizes v w = IsRun sizes (seen v) → IsRun sizes (seen w)
 
 abbrev pub EndsBlock : {F : Type 0} → Sizes → List (List (ℕ × Command)) → View Event F → View Event F
     → Result (Vec (ℕ × ℕ × Reply) Global) StepError → Type 0
@@ -81,18 +93,21 @@ EndsBlock sizes lists v w (Err HistoryFull) =
 
 -- ---- a list
 
--- the pass has made no call
+-- the pass has made no call, and has seen none of its number
 abbrev pub IsNew : {F : Type 0} → View Event F → Type 0
-IsNew v = (pass : ℕ) × (v.calls ≡ (pass, []) ∷ [])
+IsNew v = (pass : ℕ) × (v.calls ≡ (pass, []) ∷ []) × (calls_by pass v.turns ≡ [])
 
--- A new pass, which is then w, made such calls and has seen them.
+-- A new pass, which is then w, made such calls and has seen them behind all that it had seen.
 pub record RanList {F : Type 0} (So : List Event → Type 0) (v w : View Event F) : Type 0 where
   pub pass : ℕ
   pub events : List Event
+  pub later : List (ℕ × Event)
   pub lines : So events
   pub calls : w.calls ≡ (pass, events) ∷ []
-  pub seen : IsSeen w.turns (pass, events)
-  pub begins : IsPrefix v.turns w.turns
+  pub begun : w.begun ≡ v.begun
+  pub turns : w.turns ≡ v.turns ++ later
+  pub unheard : IsUnheard v (pass, events)
+  pub seen : IsSeen later (pass, events)
   pub parts : w.parts ≡ v.parts
   pub answers : w.answers ≡ v.answers
 
@@ -100,7 +115,7 @@ pub record RanList {F : Type 0} (So : List Event → Type 0) (v w : View Event F
 pub record TellsList {F : Type 0} (sizes : Sizes) (lines : List (ℕ × Command)) (v w : View Event F)
     (told : List (ℕ × ℕ × Reply)) : Type 0 where
   pub ran : RanList (AreOf lines) v w
-  pub told_is : IsToldOf sizes w (ran.pass, ran.events) told
+  pub told_is : IsToldOf sizes (seen v) ran.later (ran.pass, ran.events) told
 
 abbrev pub EndsList : {F : Type 0} → Sizes → List (ℕ × Command) → View Event F → View Event F
     → Result (Vec (ℕ × ℕ × Reply) Global) StepError → Type 0

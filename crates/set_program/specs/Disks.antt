@@ -35,7 +35,7 @@ pub record DisksBroke {D : Type 0} (state : D → State) (IsBlock : List Event �
   pub ran : DisksRun state (run set.sizes earlier).world later begun set.disks
 
 -- By its events alone. Where memory ran out at a line, maybe by one command more; where it ran out in a
--- block, by commands of it that weren't done.
+-- block, maybe by commands that weren't done.
 abbrev pub DisksRan : {D : Type 0} → (D → State) → Type 0 → (ℕ → Command → Type 0)
     → (List Event → List Event → Type 0) → List D → Set D → Type 0
 DisksRan state OutOfMemory IsNext IsBlock first set =

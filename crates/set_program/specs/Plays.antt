@@ -1,5 +1,5 @@
 -- How far a part is played, and what is put of its replies.
-use Rattle.std.specs.Prelude.{ℕ, ◌≡◌, ◌++◌, ◌⊎◌, Option, Result, Ok, Err, List, map, length, take}
+use Rattle.std.specs.Prelude.{ℕ, ◌≡◌, ◌++◌, ◌⊎◌, Option, Result, Ok, Err, List, [], map, length, take}
 use Rattle.std.specs.List.{flat_map}
 use Rattle.std.specs.Io.KnownBytes.{Appends, Keeps}
 use Rattle.rs_disk.specs.State.{State}
@@ -9,11 +9,12 @@ use Rattle.set_model.specs.declared.reply.Reply.{Reply}
 use Rattle.set_model.specs.Run.{run}
 use Rattle.fault_script.specs.declared.script.Part.{Part}
 use Rattle.transcript.specs.Replies.{line_text}
+use Rattle.run_checker.specs.Trace.{entries_text}
 use Rattle.set_world.specs.Went.{DisksPlay}
 use Rattle.set_world.specs.World.{Set}
 use Rattle.set_program.specs.declared.stop.Stop.{Stop}
 use Rattle.set_program.specs.declared.stop.Stop.TheVariants.{Memory, Usage, Script as NoScript, ReadFault, WriteFault, TooLong, DiskFault}
-use Rattle.set_program.specs.Headline.{AnyPrefix, IsOrderOf, NoPrefix, PutsReplies}
+use Rattle.set_program.specs.Headline.{AnyPrefix, IsOrderOf, NoPrefix, PutsFirst, PutsPrefix, PutsReplies, trace_put}
 use Rattle.set_program.specs.Parts.{SteppedSome}
 use Rattle.set_program.specs.Steps.{GoesOn, line_of}
 
@@ -40,6 +41,35 @@ PutsEach held now replies (Err NoScript) = ⊥
 PutsEach held now replies (Err ReadFault) = ⊥
 PutsEach held now replies (Err TooLong) = ⊥
 PutsEach held now replies (Err DiskFault) = ⊥
+
+-- ---- a trace
+
+-- events are put one after another, each with its reply
+abbrev pub PutsEntries : Option (List ℕ) → Option (List ℕ) → List Event → List (ℕ × Reply)
+    → Result (Unit {0}) Stop → Type 0
+PutsEntries held now events replies (Ok done) =
+    Appends held now (entries_text events (map (λ reply. reply.1) replies))
+PutsEntries held now events replies (Err Memory) = (count : ℕ)
+    × Appends held now (entries_text (take count events) (take count (map (λ reply. reply.1) replies)))
+PutsEntries held now events replies (Err WriteFault) =
+    (count : ℕ) × Appends held now (take count (entries_text events (map (λ reply. reply.1) replies)))
+PutsEntries held now events replies (Err Usage) = ⊥
+PutsEntries held now events replies (Err NoScript) = ⊥
+PutsEntries held now events replies (Err ReadFault) = ⊥
+PutsEntries held now events replies (Err TooLong) = ⊥
+PutsEntries held now events replies (Err DiskFault) = ⊥
+
+-- the trace of a set's run is put
+abbrev pub PutsTrace : {D : Type 0} → Option (List ℕ) → Option (List ℕ) → Set D → Result (Unit {0}) Stop
+    → Type 0
+PutsTrace held now set (Ok done) = Appends held now (trace_put set)
+PutsTrace held now set (Err Memory) = Keeps held now ⊎ PutsFirst held now set
+PutsTrace held now set (Err WriteFault) = PutsPrefix AnyPrefix held now [] (trace_put set)
+PutsTrace held now set (Err Usage) = ⊥
+PutsTrace held now set (Err NoScript) = ⊥
+PutsTrace held now set (Err ReadFault) = ⊥
+PutsTrace held now set (Err TooLong) = ⊥
+PutsTrace held now set (Err DiskFault) = ⊥
 
 -- ---- a part
 

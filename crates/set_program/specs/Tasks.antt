@@ -1,17 +1,18 @@
 -- What the words behind the program's name ask for.
 --
 --     run                        the script of the source is run
+--     trace                      the same, and in place of the replies the trace of its run is put
 --     chaos SEED EVENTS NODES    a generated script is run, and its summary put
 --
 -- SEED, EVENTS and NODES are one to twenty decimal digits: a number of 64 bits, one up to 5,000, and one from
 -- 1 to 7.
-use Rattle.std.specs.Prelude.{ℕ, ⊤, ◌≤◌, ◌&&◌, nat_le, nat_lt, List, [], ◌∷◌, length, Option, None, Some, codes, if◌then◌else◌}
+use Rattle.std.specs.Prelude.{ℕ, Bool, true, false, ⊤, ◌≤◌, ◌&&◌, nat_le, nat_lt, List, [], ◌∷◌, length, Option, None, Some, codes, if◌then◌else◌}
 use Rattle.std.specs.Char.{is_ascii_digit}
 use Rattle.std.specs.List.{list_all}
 use Rattle.std.specs.Str.{bytes_eq}
 use Rattle.std.specs.Str.Parse.{digits_value}
 use Rattle.set_program.specs.declared.words.Task.{Task}
-use Rattle.set_program.specs.declared.words.Task.TheVariants.{Run, Chaos}
+use Rattle.set_program.specs.declared.words.Task.TheVariants.{Run, Trace, Chaos}
 
 abbrev pub if_within : (least most : ℕ) → ℕ → Option ℕ
 if_within least most number = if nat_le least number && nat_le number most then Some number else None
@@ -32,9 +33,16 @@ abbrev pub chaos_of : (seed events nodes : List ℕ) → Option Task
 chaos_of seed events nodes =
     with_numbers (number_word 0 18446744073709551615 seed) (number_word 0 5000 events) (number_word 1 7 nodes)
 
+-- what one word asks for
+abbrev pub word_task : List ℕ → Option Task
+word_task name =
+    if bytes_eq name (codes "run") then Some Run
+    else if bytes_eq name (codes "trace") then Some Trace
+    else None
+
 abbrev pub task_of : List (List ℕ) → Option Task
 task_of [] = None
-task_of (name ∷ []) = if bytes_eq name (codes "run") then Some Run else None
+task_of (name ∷ []) = word_task name
 task_of (name ∷ seed ∷ []) = None
 task_of (name ∷ seed ∷ events ∷ []) = None
 task_of (name ∷ seed ∷ events ∷ nodes ∷ []) =
@@ -44,4 +52,11 @@ task_of (name ∷ seed ∷ events ∷ nodes ∷ more ∷ others) = None
 -- what is generated has at most 5,000 events, in a set of 1 to 7 nodes
 abbrev pub IsBounded : Task → Type 0
 IsBounded Run = ⊤
+IsBounded Trace = ⊤
 IsBounded (Chaos seed events nodes) = (events ≤ 5000) × (1 ≤ nodes) × (nodes ≤ 7)
+
+-- the script of a task is the source's
+abbrev pub is_of_source : Task → Bool
+is_of_source Run = true
+is_of_source Trace = true
+is_of_source (Chaos seed events nodes) = false

@@ -7,7 +7,7 @@ ghost use Rattle.fault_script.specs.Script.{lines_in, script, sizes_of};
 ghost use Rattle.transcript.specs.Faults.{fault_text};
 ghost use Rattle.chance_script.specs.Generated.{generated};
 ghost use Rattle.set_program.specs.Asking.{Reads, ReadsSource};
-ghost use Rattle.set_program.specs.Headline.{AsksRun, status_of};
+ghost use Rattle.set_program.specs.Headline.{AsksSource, status_of};
 ghost use Rattle.set_program.specs.Parts.{can_be_run};
 ghost use Rattle.set_program.specs.Plays.{PutsText};
 
@@ -23,7 +23,7 @@ use transcript::write_fault;
 /// How many bytes a script may have.
 const MAX_SCRIPT: usize = 8_388_608;
 
-const USAGE: &str = "usage: replset run | replset chaos SEED EVENTS NODES\n";
+const USAGE: &str = "usage: replset run | replset chaos SEED EVENTS NODES | replset trace\n";
 
 /// The task that the words ask for, and the script that is to be run. Where there is none, it is said why.
 pub fn read_script<S: Source, K: Sink>(
@@ -37,7 +37,7 @@ pub fn read_script<S: Source, K: Sink>(
     ensures sizes { IfOk result (λ asked. AreSizes (sizes_of asked.1)) }
     ensures fits { IfOk result (λ asked. list_all (can_be_run asked.1.nodes) asked.1.parts ≡ true) }
     ensures few { IfOk result (λ asked. length (lines_in asked.1.parts) ≤ 200000) }
-    ensures unread { ¬ AsksRun words.now → source.new ≡ source.old }
+    ensures unread { ¬ AsksSource words.now → source.new ≡ source.old }
     ensures unput { OnOk result (sink.new ≡ sink.old) }
     ensures read_fault { status_of result ≡ 4 → CountRose (S.faults source.old) (S.faults source.new) }
     ensures write_fault { status_of result ≡ 5 → CountRose (K.faults sink.old) (K.faults sink.new) }
@@ -47,6 +47,7 @@ pub fn read_script<S: Source, K: Sink>(
 {
     match read_task(words) {
         Some(Task::Run) => Ok((Task::Run, source_script(alloc, source, sink)?)),
+        Some(Task::Trace) => Ok((Task::Trace, source_script(alloc, source, sink)?)),
         Some(
             Task::Chaos {
                 seed,

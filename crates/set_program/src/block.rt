@@ -7,7 +7,7 @@ ghost use Rattle.set_world.specs.declared.error.StepError.{StepError as AStepErr
 ghost use Rattle.turn_board.specs.Passes.{IsFree, view};
 ghost use Rattle.turn_board.specs.Views.{seen};
 ghost use Rattle.shared_set.specs.Passes.{IsPass, sizes_of};
-ghost use Rattle.set_program.specs.Blocks.{AreOfSome, EndsBlock, EndsList, IsNew, KeepsShort, Merges, RanBlock, Rises, TellsBlock};
+ghost use Rattle.set_program.specs.Blocks.{AreOfSome, EndsBlock, EndsList, IsNew, KeepsRun, KeepsShort, Merges, RanBlock, Rises, TellsBlock};
 
 use crate::beside::{Job, beside};
 use crate::told_order::{Told, merged};
@@ -45,6 +45,8 @@ pub fn run_block<D: Disk + Send, G: Gate + Sync, R: Threads + Wait + Sync>(
         (λ told. TellsBlock (sizes_of set.now) lists.now (view pass.old) (view pass.new) told.items) }
     ensures err { OnErr result (RanBlock AreOfSome lists.now (view pass.old) (view pass.new)) }
     ensures full { IsErrOf result AStepError.HistoryFull → length (seen (view pass.new)) ≡ 4294967295 }
+    ensures defined { KeepsRun (sizes_of set.now) (view pass.old) (view pass.new) }
+    ensures short { KeepsShort (view pass.old) (view pass.new) }
 {
     let (pass, told) = run_lists(rt, alloc, set, pass, lists, gate);
     take_back(pass);
@@ -67,6 +69,7 @@ fn run_lists<'a, D: Disk + Send, G: Gate + Sync, R: Threads + Wait + Sync>(
     ensures lent { result.0.ghost_name ≡ pass.entry.ghost_name }
     ensures pass { IsPass set.now result.0.now × IsFree result.0.now }
     ensures short { KeepsShort (view pass.old) (view result.0.now) }
+    ensures defined { KeepsRun (sizes_of set.now) (view pass.old) (view result.0.now) }
     ensures ends { EndsBlock (sizes_of set.now) lists.now (view pass.old) (view result.0.now) result.1 }
 {
     let Some((lines, others)) = lists.split_last() else {
@@ -93,6 +96,7 @@ fn run_lists<'a, D: Disk + Send, G: Gate + Sync, R: Threads + Wait + Sync>(
             ensures { (result.0.ghost_name ≡ pass.entry.ghost_name)
                 × IsPass set.entry.now result.0.now × IsFree result.0.now
                 × KeepsShort (view pass.entry.now) (view result.0.now)
+                × KeepsRun (sizes_of set.entry.now) (view pass.entry.now) (view result.0.now)
                 × EndsBlock (sizes_of set.entry.now) others.entry.now (view pass.entry.now)
                 (view result.0.now) result.1 }
         { run_lists(rt, alloc, set, pass, others, gate) },
@@ -138,6 +142,7 @@ impl<'a, D: Disk, G: Gate, R: Threads + Wait + Sync> Job for ListJob<'a, D, G, R
         × AllPass (λ line. is_for (sizes_of j.set.now).nodes line.1) j.lines.now };
 
     ghost ends = { λ j e. IsPass j.set.now e.pass × IsFree e.pass × KeepsShort (view j.pass) (view e.pass)
+        × KeepsRun (sizes_of j.set.now) (view j.pass) (view e.pass)
         × EndsList (sizes_of j.set.now) j.lines.now (view j.pass) (view e.pass) e.told };
 
     fn run(self) -> ListEnd<D> {
@@ -167,6 +172,7 @@ fn step_each<D: Disk, R: Threads + Wait + Sync>(
     requires fits { AllPass (λ line. is_for (sizes_of set.now).nodes line.1) lines.now }
     ensures pass { IsPass set.now pass.new × IsFree pass.new }
     ensures short { KeepsShort (view pass.old) (view pass.new) }
+    ensures defined { KeepsRun (sizes_of set.now) (view pass.old) (view pass.new) }
     ensures ends { EndsList (sizes_of set.now) lines.now (view pass.old) (view pass.new) result }
 {
     let mut told = Vec::new(alloc);

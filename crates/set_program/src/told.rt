@@ -1,8 +1,8 @@
-// A script, played for its replies or for its summary.
+// A script, played for its replies, for its trace or for its summary.
 ghost use Rattle.std.specs.Prelude.{◌≡◌, ◌≢◌, ◌≤◌, [], length, Err, IsErrOf};
 ghost use Rattle.std.specs.List.{AllPass};
 ghost use Rattle.rs_io.specs.Fault.{HasCause};
-ghost use Rattle.fault_script.specs.Script.{lines_in};
+ghost use Rattle.fault_script.specs.Script.{lines_in, sizes_of};
 ghost use Rattle.set_model.specs.Run.{run};
 ghost use Rattle.transcript.specs.Summaries.{summary_text};
 ghost use Rattle.set_program.specs.Headline.{EndsTask, EndsWithSummary, summary_put};
@@ -13,9 +13,10 @@ use crate::play::play;
 use crate::steps::step_parts;
 use crate::stop::Stop;
 use crate::summary::summary;
+use crate::traced::play_traced;
 use crate::words::Task;
 use batch_applier::Gate;
-use fault_script::Parts;
+use fault_script::{Parts, Script};
 use rs_disk::Disk;
 use rs_io::Sink;
 use set_model::Reply;
@@ -25,29 +26,31 @@ use std::sync::Wait;
 use std::thread::Threads;
 use transcript::{Summary, write_summary};
 
-/// Plays the parts of a script as a task asks: it puts each reply, or only the summary of the run. An error
+/// Plays a script as a task asks: it puts each reply, or the trace of the run, or only its summary. An error
 /// says why it stopped before the end.
 pub fn play_task<K: Sink, D: Disk + Send, G: Gate + Sync, R: Threads + Wait + Sync>(
     rt: &R,
     alloc: Global,
     gate: &G,
     task: Task,
-    parts: Parts,
+    script: Script,
     sink: &mut K,
     world: World<D>,
 ) -> (Result<(), Stop>, World<D>)
     requires start { world.history ≡ [] }
-    requires few { length (lines_in parts) ≤ 200000 }
-    requires fits { AllPass (can_be_run world.sizes.nodes) parts }
-    ensures ends { EndsTask task parts (K.held sink.old) (K.held sink.new) result.0 result.1 }
+    requires script { world.sizes ≡ sizes_of script }
+    requires few { length (lines_in script.parts) ≤ 200000 }
+    requires fits { AllPass (can_be_run world.sizes.nodes) script.parts }
+    ensures ends { EndsTask task script.parts (K.held sink.old) (K.held sink.new) result.0 result.1 }
     ensures sizes { result.1.sizes ≡ world.sizes }
-    ensures disks { DisksGo D.state parts world.disks result.1 (result.0 ≡ Err Stop.Memory) }
+    ensures disks { DisksGo D.state script.parts world.disks result.1 (result.0 ≡ Err Stop.Memory) }
     ensures cause { HasCause (K.faults sink.old) (K.faults sink.new) (IsErrOf result.0 Stop.WriteFault) }
     ensures steady { K.steady sink.old → K.steady sink.new × (result.0 ≢ Err Stop.WriteFault) }
 {
     match task {
-        Task::Run => play(rt, alloc, gate, parts, sink, world),
-        Task::Chaos { .. } => play_told(rt, alloc, gate, parts, sink, world),
+        Task::Run => play(rt, alloc, gate, script.parts, sink, world),
+        Task::Trace => play_traced(rt, alloc, gate, script, sink, world),
+        Task::Chaos { .. } => play_told(rt, alloc, gate, script.parts, sink, world),
     }
 }
 

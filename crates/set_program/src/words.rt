@@ -2,13 +2,15 @@
 ghost use Rattle.std.specs.Prelude.{◌≡◌, IfSome, map, string_bytes};
 ghost use Rattle.std.specs.Char.{is_ascii_digit};
 ghost use Rattle.std.specs.List.{list_all};
-ghost use Rattle.set_program.specs.Tasks.{IsBounded, chaos_of, number_word, task_of};
+ghost use Rattle.set_program.specs.Tasks.{IsBounded, chaos_of, number_word, task_of, word_task};
 
 /// What is to be done.
 #[derive(Clone, Copy)]
 pub enum Task {
     /// The script of the source is run.
     Run,
+    /// It is run, and in place of the replies the trace of its run is put.
+    Trace,
     /// A generated script is run, and its summary put.
     Chaos { seed: u64, events: u32, nodes: u32 },
 }
@@ -19,10 +21,21 @@ pub fn read_task(words: &[String]) -> Option<Task>
     ensures bounds { IfSome result IsBounded }
 {
     match words {
-        [name] if name.as_str() == "run" => Some(Task::Run),
+        [name] => alone(name.as_str()),
         [name, seed, events, nodes] if name.as_str() == "chaos" => {
             chaos(seed.as_str(), events.as_str(), nodes.as_str())
         }
+        _ => None,
+    }
+}
+
+/// The task that one word asks for.
+fn alone(name: &str) -> Option<Task>
+    ensures { result ≡ word_task name.now }
+{
+    match name {
+        "run" => Some(Task::Run),
+        "trace" => Some(Task::Trace),
         _ => None,
     }
 }

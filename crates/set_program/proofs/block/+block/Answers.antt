@@ -6,12 +6,13 @@ use Rattle.std.specs.Prelude.{ℕ}
 use Rattle.std.proofs.lemmas.List.{nil_from_length}
 use Rattle.set_model.specs.declared.command.Command.{Command}
 use Rattle.set_model.specs.Limits.{is_for}
+use Rattle.turn_board.specs.History.{calls_by}
 use Rattle.turn_board.specs.Passes.{view}
 use Rattle.shared_set.specs.Passes.{sizes_of}
 use Rattle.set_program.specs.Blocks.{EndsList, TellsBlock}
 use Rattle.set_program.specs.contracts.block.ListEnd as list_end
 use Rattle.set_program.specs.contracts.block.ListJob as list_job
-use Rattle.set_program.proofs.BlockRuns.{block_ends, block_none, fits_last, fits_others, list_rises}
+use Rattle.set_program.proofs.BlockRuns.{block_ends, block_none, block_runs, fits_last, fits_others, list_rises}
 use Rattle.set_program.proofs.Crosses.{list_end_send, list_job_send}
 use Rattle.set_program.proofs.block.+block.Goals as goal
 
@@ -42,7 +43,11 @@ beside-ended-requires-clause-job g t c κs within = (
   search rules,
   c.split-own.ensures.given.0,
   c.split-own.ensures.given.1,
-  (c.split-own.ensures.given.2.0, ap (λ v. v.calls) c.split-own.ensures.given.2.1),
+  (
+    c.split-own.ensures.given.2.0,
+    ap (λ v. v.calls) c.split-own.ensures.given.2.1,
+    ap (λ v. calls_by c.split-own.ensures.given.2.0 v.turns) c.split-own.ensures.given.2.1 ∙ c.split-own.ensures.given.2.2,
+  ),
   fits_last (λ (line : ℕ × Command). is_for (sizes_of c.args.set.now).nodes line.1) c.args.lists.now c.in-Some.others.now c.in-Some.lines.now c.in-Some.ensures.cases.0 c.requires.fits,
 )
 
@@ -76,7 +81,7 @@ beside-ended-requires-clause-rest g t c κs within =
 
 pub both-requires-clause-later : goal.both-requires-clause-later
 both-requires-clause-later g t c =
-    let ends : EndsList (sizes_of c.args.set.now) c.in-Some.lines.now (view c.split-own.result) (view c.beside-ended.result.0.pass) c.beside-ended.result.0.told = c.beside-ended.ensures.job.3 in
+    let ends : EndsList (sizes_of c.args.set.now) c.in-Some.lines.now (view c.split-own.result) (view c.beside-ended.result.0.pass) c.beside-ended.result.0.told = c.beside-ended.ensures.job.4 in
     list_rises (sizes_of c.args.set.now) c.in-Some.lines.now (view c.split-own.result) (view c.beside-ended.result.0.pass) c.beside-ended.result.0.told ends
 
 pub returns-clause-ends : goal.returns-clause-ends
@@ -87,4 +92,11 @@ returns-clause-ends g t c =
     block_ends (sizes_of c.args.set.now) c.args.lists.now c.in-Some.others.now c.in-Some.lines.now (view c.args.pass.now) (view c.split-own.new.pass) (view c.beside-ended.result.1.0.now)
     (view c.split-own.result) (view c.beside-ended.result.0.pass) (view c.join.new.pass) c.split-own.ensures.given.2.0 c.beside-ended.result.1.1 c.beside-ended.result.0.told c.both.result
     c.in-Some.ensures.cases.0 some_parts c.split-own.ensures.pass.2 c.split-own.ensures.given.2.1 c.join.ensures.pass.2 (lent.1.3 ∙ sym c.requires.pass.0.3) (own.0.3 ∙ sym c.requires.pass.0.3)
-    c.join.ensures.seen.0 c.join.ensures.seen.1 lent.3 own.2 lent.4 own.3 c.both.ensures
+    c.join.ensures.seen.0 c.join.ensures.seen.1 c.join.ensures.once lent.3 own.2 lent.5 own.4 c.both.ensures
+
+pub returns-clause-defined : goal.returns-clause-defined
+returns-clause-defined g t c =
+    let own = c.beside-ended.ensures.job in
+    let lent = c.beside-ended.ensures.rest in
+    block_runs (sizes_of c.args.set.now) (view c.args.pass.now) (view c.split-own.new.pass) (view c.beside-ended.result.1.0.now) (view c.split-own.result) (view c.beside-ended.result.0.pass) (view c.join.new.pass)
+    c.split-own.ensures.given.2.0 c.split-own.ensures.pass.2 c.split-own.ensures.given.2.1 c.join.ensures.pass.2 (lent.1.3 ∙ sym c.requires.pass.0.3) (own.0.3 ∙ sym c.requires.pass.0.3) lent.4 own.3
