@@ -2,7 +2,7 @@
 // says what was copied, also when what was copied has changed or is gone.
 use bson_doc::{Bytes, Doc, IdKey, Items, Text, Value};
 use member_config::{Config, Member, MemberList};
-use oplog_entry::{Entry, Op};
+use oplog_entry::{Entry, Op, SharedOp};
 use repl_msg::{Beat, Body, EntryList, FetchReply, Kept, Message, OptimeList, Record};
 use rs_optime::OpTime;
 use std::alloc::Global;
@@ -66,16 +66,17 @@ fn a_key_is_copied_with_its_text(rt: HostRuntime) -> Result<(), Fail> {
 #[test]
 fn an_entry_is_copied_with_its_document(rt: HostRuntime) -> Result<(), Fail> {
     let alloc = rt.alloc();
+    let op = Op::Insert {
+        ns: Text::from_str(alloc, "t")?,
+        o: nested(alloc)?,
+    };
     let entry = Entry {
         optime: AT,
-        op: Op::Insert {
-            ns: Text::from_str(alloc, "t")?,
-            o: nested(alloc)?,
-        },
+        op: SharedOp::new(alloc, op)?,
     };
     let copy = entry.copy()?;
     drop(entry);
-    let found = match &copy.op {
+    let found = match copy.op.or(&Op::Noop) {
         Op::Insert { o, .. } => is_nested(o),
         _ => false,
     };
@@ -283,12 +284,13 @@ fn optimes_are_copied(rt: HostRuntime) -> Result<(), Fail> {
 /// One entry, which deletes a document.
 fn deletion(alloc: Global) -> Result<EntryList, Fail> {
     let mut entries = Vec::new(alloc);
+    let op = Op::Delete {
+        ns: Text::from_str(alloc, LONG)?,
+        id: Value::Int32(5),
+    };
     entries.push(Entry {
         optime: AT,
-        op: Op::Delete {
-            ns: Text::from_str(alloc, LONG)?,
-            id: Value::Int32(5),
-        },
+        op: SharedOp::new(alloc, op)?,
     })?;
     Ok(EntryList::new(entries))
 }
@@ -296,7 +298,7 @@ fn deletion(alloc: Global) -> Result<EntryList, Fail> {
 /// Whether there is one entry, which deletes from the collection with the long name.
 fn is_deletion(entries: &EntryList) -> bool {
     match entries.as_slice() {
-        [entry] => deletes(&entry.op),
+        [entry] => deletes(entry.op.or(&Op::Noop)),
         _ => false,
     }
 }

@@ -4,7 +4,7 @@ ghost use Rattle.oplog_entry.specs.Lawful.{IsLawfulOp};
 
 use bson_doc::{Doc, IdKey, Items, Text, Value};
 use doc_fold::apply_entry;
-use oplog_entry::{Entry, Op, with_changes};
+use oplog_entry::{Entry, Op, SharedOp, with_changes};
 use rs_optime::OpTime;
 use std::alloc::Global;
 use std::collections::BTreeMap;
@@ -30,6 +30,7 @@ fn an_inserted_document_is_there(rt: HostRuntime) -> Result<(), Fail> {
     let op = insert_five(alloc)?;
     let optime = OpTime { term: 1, ts: 1 };
     let mut docs = BTreeMap::new(alloc);
+    let op = SharedOp::new(alloc, op)?;
     apply_entry(alloc, &mut docs, &Entry { optime, op })?;
     let five = (Text::from_str(alloc, "t")?, IdKey::Number(5));
     assert!(rt; docs.get(&five).is_some());

@@ -11,3 +11,5 @@ mod lines;
 mod notation;
 #[cfg(test)]
 mod scripts;
+#[cfg(test)]
+mod traces;

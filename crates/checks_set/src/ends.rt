@@ -41,9 +41,10 @@ fn scripts_are_answered(rt: HostRuntime) -> Result<(), Fail> {
 }
 
 /// Words that ask for nothing: too few, too many, other ones, and numbers that are too long or out of range.
-const WRONG_WORDS: [&[&str]; 9] = [
+const WRONG_WORDS: [&[&str]; 10] = [
     &[],
     &["run", "x"],
+    &["trace", "x"],
     &["chaos", "1", "0"],
     &["chaos", "1", "0", "1", "1"],
     &["chaos", "18446744073709551616", "0", "1"],
@@ -60,7 +61,7 @@ fn wrong_words_are_refused(rt: HostRuntime) -> Result<(), Fail> {
         assert_eq!(rt; outcome.status, 2);
         assert_eq!(rt;
             sink.bytes(),
-            b"usage: replset run | replset chaos SEED EVENTS NODES\n".as_slice()
+            b"usage: replset run | replset chaos SEED EVENTS NODES | replset trace\n".as_slice()
         );
     }
     Ok(())

@@ -6,7 +6,7 @@ ghost use Rattle.shared_set.specs.Passes.{IsPass, sizes_of};
 ghost use Rattle.set_model.specs.Run.{AreSizes};
 ghost use Rattle.turn_board.specs.Passes.{IsFree, view};
 
-use crate::blocks::Held;
+use crate::blocks::{Held, LISTS, block};
 use fault_script::{Part, parse};
 use rs_disk::MemDisk;
 use set_model::Reply;
@@ -83,10 +83,6 @@ fn a_look_gives_what_is_committed(rt: HostRuntime) -> Result<(), Fail> {
     Ok(())
 }
 
-// The lists' lines are 4 and 5, and 7 and 8.
-const TWO_LISTS: &str =
-    "set 1\npar\nthread\nclock n0 1\nclock n0 2\nthread\nclock n0 3\nclock n0 4\nend\n";
-
 // Runs a block, the only part, on a shared set.
 fn run_only_block<R: Threads + Wait + Sync>(
     rt: &R,
@@ -110,30 +106,47 @@ fn run_only_block<R: Threads + Wait + Sync>(
     Ok(run_block(rt, alloc, set, pass, lists, held)?)
 }
 
+// How many lines each list has.
+const LINES: u32 = 50;
+
 fn told_of_block<R: Threads + Wait + Sync>(
     rt: &R,
     alloc: Global,
     held: &Held,
 ) -> Result<Vec<(u32, u32, Reply)>, Fail> {
-    let script = parse(alloc, TWO_LISTS.as_bytes())?;
+    let script = parse(alloc, block(alloc, LINES)?.as_bytes())?;
     let (set, mut pass) = shared(alloc, script.nodes, script.members)?;
     run_only_block(rt, alloc, &set, &mut pass, script.parts.as_slice(), held)
 }
 
-// Whether the lines of a list are told in their order.
-fn tells(told: &[(u32, u32, Reply)], lines: &[u32]) -> bool {
-    told.iter()
-        .map(|one| one.1)
-        .filter(|line| lines.contains(line))
-        .eq(lines.iter().copied())
+// The line that a list begins with, behind `set 1`, `par`, and the lists before, each with its `thread`.
+fn first_of(list: u32) -> u32 {
+    list.saturating_mul(LINES + 1).saturating_add(4)
 }
 
+// Whether the lines of a list are told in their order.
+fn tells(told: &[(u32, u32, Reply)], list: u32) -> bool {
+    let first = first_of(list);
+    let behind = first.saturating_add(LINES);
+    told.iter()
+        .map(|one| one.1)
+        .filter(|line| first <= *line && *line < behind)
+        .eq(first..behind)
+}
+
+// Whether this is told of the line that some list begins with.
+fn is_first(told: &(u32, u32, Reply)) -> bool {
+    (0..LISTS).any(|list| told.1 == first_of(list))
+}
+
+// Where a list passed the gate behind its first line, those of all lists would be done before any second one.
 #[test]
 fn a_block_runs_its_lists_side_by_side(rt: HostRuntime) -> Result<(), Fail> {
     let held = Held::new();
     let told = told_of_block(&rt, rt.alloc(), &held)?;
     assert!(rt; held.passed_in_time());
-    assert!(rt; told.iter().map(|one| one.0).eq(0..4));
-    assert!(rt; tells(&told, &[4, 5]) && tells(&told, &[7, 8]));
+    assert!(rt; told.iter().map(|one| one.0).eq(0..LISTS * LINES));
+    assert!(rt; (0..LISTS).all(|list| tells(&told, list)));
+    assert!(rt; !told.iter().take(LISTS as usize).all(is_first));
     Ok(())
 }

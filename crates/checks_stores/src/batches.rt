@@ -5,7 +5,7 @@ ghost use Rattle.oplog_entry.specs.Lawful.{IsLawful};
 
 use batch_applier::{Gate, NoGate, apply_batch};
 use bson_doc::{Doc, IdKey, Items, Text, Value};
-use oplog_entry::{Entry, Op};
+use oplog_entry::{Entry, Op, SharedOp};
 use rs_optime::OpTime;
 use std::alloc::Global;
 use std::sync::atomic::{AtomicU64, Ordering};
@@ -110,7 +110,8 @@ fn batch(alloc: Global, changes: &[Change]) -> Result<Vec<Entry>, Fail>
             term: 1,
             ts: place as u64 + 1,
         };
-        let op = op_of(alloc, changes[place])?;
+        let change = op_of(alloc, changes[place])?;
+        let op = SharedOp::new(alloc, change)?;
         entries.push(Entry { optime, op })?;
     }
     Ok(entries)

@@ -2,7 +2,7 @@
 ghost use Rattle.std.specs.Prelude.{◌≡◌};
 ghost use Rattle.oplog_entry.specs.declared.entry.Op.TheVariants.{Noop};
 
-use oplog_entry::{Entry, Op};
+use oplog_entry::{Entry, SharedOp};
 use oplog_store::Oplog;
 use optime_slots::{NoSuchSlot, Slots};
 use rs_optime::OpTime;
@@ -14,7 +14,7 @@ fn noop(optime: OpTime) -> Entry
 {
     Entry {
         optime,
-        op: Op::Noop,
+        op: SharedOp::noop(),
     }
 }
 

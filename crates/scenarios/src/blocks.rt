@@ -43,7 +43,7 @@ pub const SCRIPTS: [Block; 5] = [
         name: "fetch_beside_writers",
         written: 5,
         ending: 3,
-        states: &[],
+        states: &["found {_id: 12}"],
     },
     Block {
         name: "race",
@@ -81,12 +81,14 @@ impl Block {
         written: &str,
     ) -> Result<bool> {
         let written = replies(alloc, written)?;
+        let lines: Result<Vec<&str>, _> = script.lines().collect(alloc);
+        let lines = lines?;
         for _ in 0..RUNS {
             let told = played(rt, alloc, script)?;
-            if !(self.is_as_written(script, &written, &told)
-                && self.never_goes_back(&told)
+            if !(self.is_as_written(&lines, &written, &told)
+                && self.never_goes_back(&lines, &told)
                 && writes_rise(&told, self.written)
-                && is_a_run_of_its_order(rt, alloc, script, &told)?)
+                && is_a_run_of_its_order(rt, alloc, &lines, &told)?)
             {
                 return Ok(false);
             }
@@ -95,8 +97,8 @@ impl Block {
     }
 
     /// Whether the replies before the block and the last ones are as written.
-    fn is_as_written(&self, script: &str, written: &[String], told: &[String]) -> bool {
-        let begin = script.lines().take_while(|line| *line != "par").count();
+    fn is_as_written(&self, lines: &[&str], written: &[String], told: &[String]) -> bool {
+        let begin = lines.iter().take_while(|line| **line != "par").count();
         let before = written
             .iter()
             .take_while(|reply| line(reply).is_some_and(|number| number <= begin))
@@ -107,15 +109,16 @@ impl Block {
             && written.iter().skip(behind).eq(told.iter().skip(behind))
     }
 
-    /// Whether no read tells an older state behind a newer one.
-    fn never_goes_back(&self, told: &[String]) -> bool {
+    /// Whether each read tells one of the states, and none an older one behind a newer one.
+    fn never_goes_back(&self, lines: &[&str], told: &[String]) -> bool {
         let mut newest = 0;
         for reply in told {
-            if let Some(place) = self.states.iter().position(|state| *state == said(reply)) {
-                if place < newest {
-                    return false;
-                }
-                newest = place;
+            if !line_of(lines, reply).is_some_and(|own| own.starts_with("read ")) {
+                continue;
+            }
+            match self.states.iter().position(|state| *state == said(reply)) {
+                Some(place) if newest <= place => newest = place,
+                _ => return false,
             }
         }
         true
@@ -154,17 +157,15 @@ fn writes_rise(told: &[String], written: usize) -> bool {
 fn is_a_run_of_its_order<R: Threads + Wait + Sync>(
     rt: &R,
     alloc: Global,
-    script: &str,
+    lines: &[&str],
     told: &[String],
 ) -> Result<bool> {
-    let lines: Result<Vec<&str>, _> = script.lines().collect(alloc);
-    let lines = lines?;
     let mut ordered = String::new(alloc);
     if let Some(sizes) = lines.iter().find(|line| line.starts_with("set ")) {
         ordered.push_str(sizes)?;
     }
     for reply in told {
-        let Some(own) = line_of(&lines, reply) else {
+        let Some(own) = line_of(lines, reply) else {
             return Ok(false);
         };
         ordered.push('\n')?;
@@ -185,31 +186,71 @@ fn line_of<'a>(lines: &[&'a str], reply: &str) -> Option<&'a str> {
     lines.get(line(reply)?.checked_sub(1)?).copied()
 }
 
-/// How many lists a large block has, how many lines each, and how often it is run.
+/// How many lists a large block has, and how many lines each. So many take longer than a thread is left alone
+/// on one processor.
 const LISTS: usize = 16;
 
-const LINES: usize = 50;
+const LINES: usize = 2000;
 
-const LARGE_RUNS: usize = 10;
+/// The number of the line that begins the first list.
+const FIRST: usize = 6;
 
 /// Whether each run of a large block, on one document and on many, is one of its lines in the order that it
-/// shows, and one of them at least in another order than list after list.
+/// shows, where each list's lines stand in their order; and one of them at least goes from list to list more
+/// often than one whole list after another does.
 pub fn run_side_by_side<R: Threads + Wait + Sync>(rt: &R, alloc: Global) -> Result<bool> {
     let mut mixed = false;
     for is_one in [true, false] {
         let script = large(alloc, is_one)?;
-        for _ in 0..LARGE_RUNS {
-            let told = played(rt, alloc, &script)?;
-            if !is_a_run_of_its_order(rt, alloc, &script, &told)? {
-                return Ok(false);
-            }
-            mixed = mixed
-                || !told
-                    .iter()
-                    .is_sorted_by_key(|reply| line(reply).unwrap_or(0));
+        let lines: Result<Vec<&str>, _> = script.lines().collect(alloc);
+        let lines = lines?;
+        let told = played(rt, alloc, &script)?;
+        if !(tells_each_list(alloc, &told)? && is_a_run_of_its_order(rt, alloc, &lines, &told)?) {
+            return Ok(false);
         }
+        mixed = mixed || LISTS < stretches(&told);
     }
     Ok(mixed)
+}
+
+/// The list that a reply's line is of, and the line's place in it, both from 0.
+fn place(reply: &str) -> Option<(usize, usize)> {
+    let behind = line(reply)?.checked_sub(FIRST)?;
+    let place = (behind % (LINES + 1)).checked_sub(1)?;
+    Some((behind / (LINES + 1), place))
+}
+
+/// Whether each line of a large block is told once, those of a list in their order.
+fn tells_each_list(alloc: Global, told: &[String]) -> Result<bool> {
+    let mut next = vec![in alloc; 0_usize; LISTS]?;
+    for reply in told {
+        let Some((list, place)) = place(reply) else {
+            continue;
+        };
+        let Some(due) = next.get_mut(list) else {
+            return Ok(false);
+        };
+        if *due != place {
+            return Ok(false);
+        }
+        *due = place.saturating_add(1);
+    }
+    Ok(next.iter().all(|due| *due == LINES))
+}
+
+/// How many stretches of lines of the same list a run of a large block has.
+fn stretches(told: &[String]) -> usize {
+    let mut last = None;
+    let mut count = 0_usize;
+    for reply in told {
+        if let Some((list, _)) = place(reply) {
+            if last != Some(list) {
+                count = count.saturating_add(1);
+            }
+            last = Some(list);
+        }
+    }
+    count
 }
 
 /// A block of inserts, or of updates of one document.

@@ -11,6 +11,7 @@ mod refused;
 mod repeated;
 mod replies;
 mod runs;
+mod traces;
 
 use anyhow::{Context, Result};
 use blocks::Block;
@@ -23,9 +24,10 @@ use std::thread::Threads;
 
 fn main(rt: HostRuntime) -> Result<ExitCode> {
     let examples = examples(&rt, &rt)?;
+    let traces = traced(&rt, &rt)?;
     let limits = limits(&rt, &rt)?;
     let faults = faults(&rt, &rt)?;
-    Ok(if examples && limits && faults {
+    Ok(if examples && traces && limits && faults {
         ExitCode::SUCCESS
     } else {
         ExitCode::FAILURE
@@ -62,6 +64,17 @@ fn examples<R: Threads + Wait + Sync>(rt: &HostRuntime, threads: &R) -> Result<b
                 println!(rt; "{name}: line {line} of the transcript differs")?;
             }
         }
+    }
+    Ok(as_written)
+}
+
+fn traced<R: Threads + Wait + Sync>(rt: &HostRuntime, threads: &R) -> Result<bool> {
+    let mut as_written = true;
+    for name in traces::SCRIPTS {
+        let (script, trace) = (text(rt, name, "replset")?, text(rt, name, "trace")?);
+        let holds = traces::are_as_written(threads, rt.alloc(), &script, &trace)?;
+        let what = format!(in rt.alloc(); "the trace of {name}")?;
+        as_written = tell(rt, &what, holds)? && as_written;
     }
     Ok(as_written)
 }
