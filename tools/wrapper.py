@@ -2,6 +2,7 @@
 
 usage: replset run < SCRIPT
        replset chaos SEED EVENTS NODES
+       replset trace < SCRIPT
 
        replset --prove [WORD ..]    proves and builds the program first, then runs it on the words, where there are any
        replset --unproved WORD ..   runs the program that is built without proofs, even where a proved one stands
