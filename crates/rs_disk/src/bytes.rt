@@ -30,6 +30,18 @@ pub(crate) fn overwrite(list: &mut Vec<u8>, at: usize, bytes: &[u8])
 }
 
 // Makes room for so many, without making the list longer.
+pub(crate) fn extend_room(list: &mut Vec<u8>, room: usize) -> Result<(), AllocError>
+    ensures items { list.new.items ≡ list.old.items }
+    ensures enough { room ≤ length list.old.items → IsOk result }
+{
+    if room <= list.len() {
+        return Ok(());
+    }
+    list.reserve(room - list.len())
+}
+
+// Makes room for so many, without making the list longer. What is in the list moves, and none of its room: so
+// room that was never used takes no memory.
 pub(crate) fn widen<T: Copy + Drop>(list: &mut Vec<T>, room: usize) -> Result<(), AllocError>
     ensures ok { OnOk result (room ≤ vec_capacity list.new) }
     ensures items { list.new.items ≡ list.old.items }
@@ -39,7 +51,11 @@ pub(crate) fn widen<T: Copy + Drop>(list: &mut Vec<T>, room: usize) -> Result<()
     if room <= list.capacity() {
         return Ok(());
     }
-    list.reserve(room - list.len())
+    let doubled = list.capacity().saturating_mul(2);
+    let mut wider = Vec::with_capacity(*list.allocator(), room.max(doubled))?;
+    wider.extend_from_slice(list)?;
+    *list = wider;
+    Ok(())
 }
 
 // Puts bytes before the others. There is room for them.

@@ -2,7 +2,9 @@
 ghost use Rattle.std.specs.Prelude.{◌≡◌, ◌+◌, ◌≤◌, IsOk, OnOk, [], length, max, min, take};
 ghost use Rattle.rs_disk.specs.File.{File, changed, write, cut, settled};
 
-use crate::bytes::{fill_open, lengthen, mark_part, overwrite, prepend, prepend_unset, widen};
+use crate::bytes::{
+    extend_room, fill_open, lengthen, mark_part, overwrite, prepend, prepend_unset, widen,
+};
 use crate::past::Call;
 use std::alloc::{AllocError, Global};
 
@@ -52,6 +54,8 @@ impl Pages {
         ensures bound { room_of self.new ≤ max (room_of self.old) room }
         ensures enough { room ≤ room_of self.old → IsOk result }
     {
+        // First that of the bytes: they can then take the place of others, and the rest stays untouched.
+        extend_room(&mut self.now, room)?;
         widen(&mut self.kept, room)?;
         widen(&mut self.marks, room)?;
         lengthen(&mut self.now, room, 0)?;
