@@ -162,16 +162,33 @@ impl Shard {
         );
     }
 
-    /// Adds the documents that a read at an optime shows, by collection and then in order of their keys.
-    pub(crate) fn add_shown<'a>(&'a self, at: OpTime, gathered: &mut Vec<Shown<'a>>) -> Mem<()>
+    /// Adds the documents that a read at an optime shows, a run for each collection in order of its keys, and
+    /// how long each run is.
+    pub(crate) fn add_shown<'a>(
+        &'a self,
+        at: OpTime,
+        gathered: &mut Vec<Shown<'a>>,
+        lengths: &mut Vec<usize>,
+    ) -> Mem<()>
         ensures shown { OnOk result (AddsShown gathered.old.items gathered.new.items (λ place.
             shown at (past_of self.now place).versions)) }
         ensures own { HasItsOwn self.now }
     {
         for (name, collection) in &self.collections {
+            let before = gathered.len();
             collection.add_shown(name, at, gathered)?;
+            lengths.push(gathered.len().saturating_sub(before))?;
         }
         Ok(())
+    }
+
+    /// How many documents have a history.
+    pub(crate) fn len(&self) -> usize {
+        let mut len: usize = 0;
+        for (_, collection) in &self.collections {
+            len = len.saturating_add(collection.len());
+        }
+        len
     }
 
     fn collection(&self, ns: &str) -> Option<&Collection>

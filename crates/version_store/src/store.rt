@@ -12,7 +12,7 @@ use crate::cut::Cut;
 use crate::history::History;
 use crate::place::shard_of;
 use crate::shard::Shard;
-use crate::shown::{Shown, keys_of, put_in_order};
+use crate::shown::{Shown, in_order, keys_of};
 use bson_doc::{Doc, IdKey, Text};
 use rs_optime::{Mem, OpTime};
 use std::alloc::{AllocError, Global};
@@ -190,9 +190,10 @@ impl VersionStore {
     pub fn documents_at(&self, at: OpTime) -> Mem<Vec<Shown<'_>>>
         ensures { IfOk result (λ documents. AreShown self.now at documents.items) }
     {
-        let mut documents = self.gathered(at)?;
-        put_in_order(&mut documents)?;
-        Ok(documents)
+        let mut lengths = Vec::new(*self.shards.allocator());
+        let documents = self.gathered(at, &mut lengths)?;
+        let ordered = in_order(documents, lengths)?;
+        Ok(ordered)
     }
 
     /// Drops every version behind an optime.
@@ -266,16 +267,26 @@ impl VersionStore {
         Ok(())
     }
 
-    // The documents that a read at an optime shows, in no order.
-    fn gathered(&self, at: OpTime) -> Mem<Vec<Shown<'_>>>
+    // The documents that a read at an optime shows, in runs that are each in order of their keys, and how
+    // long each of them is.
+    fn gathered(&self, at: OpTime, lengths: &mut Vec<usize>) -> Mem<Vec<Shown<'_>>>
         ensures { IfOk result (λ documents.
             AddsShown [] documents.items (λ place. shown_at self.now place at)) }
     {
-        let mut documents = Vec::new(*self.shards.allocator());
+        let mut documents = Vec::with_capacity(*self.shards.allocator(), self.len())?;
         for shard in &self.shards {
-            shard.add_shown(at, &mut documents)?;
+            shard.add_shown(at, &mut documents, lengths)?;
         }
         Ok(documents)
+    }
+
+    // How many documents have a history.
+    fn len(&self) -> usize {
+        let mut len: usize = 0;
+        for shard in &self.shards {
+            len = len.saturating_add(shard.len());
+        }
+        len
     }
 
     fn history(&self, ns: &str, id: &IdKey) -> Option<&History>
