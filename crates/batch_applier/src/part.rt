@@ -40,7 +40,7 @@ impl<'a> Model for Touch<'a> {
 }
 
 impl<'a> Touch<'a> {
-    /// What an entry touches. None for a no-op.
+    /// What an entry touches. None for a no-op and a note.
     fn of(entry: &'a Entry) -> Mem<Option<Self>>
         requires { IsLawful entry.now }
         ensures { IfOk result (λ touch.
@@ -83,7 +83,7 @@ impl<'a> Touch<'a> {
             ≡ document_after self.now.op (latest_of (past_of shard.now place).versions) }
     {
         match self.entry.op.or(&Op::Noop) {
-            Op::Fields { .. } | Op::Noop => shard.latest(self.ns.as_str(), &self.id),
+            Op::Fields { .. } | Op::Noop | Op::Note => shard.latest(self.ns.as_str(), &self.id),
             Op::Insert { .. } | Op::Replace { .. } | Op::Delete { .. } => None,
         }
     }

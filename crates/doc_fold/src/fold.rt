@@ -11,7 +11,7 @@ use std::alloc::Global;
 use std::collections::BTreeMap;
 
 /// What an op leaves of the document that it touches, where `before` is what stood there. None where the
-/// document is gone, or where there was none to change fields of. A no-op leaves what stood there.
+/// document is gone, or where there was none to change fields of. A no-op and a note leave what stood there.
 pub fn document_after(alloc: Global, op: &Op, before: Option<&Doc>) -> Mem<Option<Doc>>
     ensures after { IfOk result (λ after. after ≡ document_after op.now (option_copied before.entry)) }
 
@@ -23,8 +23,8 @@ pub fn document_after(alloc: Global, op: &Op, before: Option<&Doc>) -> Mem<Optio
         (Op::Fields { sets, unsets, .. }, Some(document)) => Some(with_changes(
             alloc, document, sets, unsets,
         )?),
-        (Op::Noop, Some(document)) => Some(document.copy()?),
-        (Op::Fields { .. } | Op::Noop, None) | (Op::Delete { .. }, _) => None,
+        (Op::Noop | Op::Note, Some(document)) => Some(document.copy()?),
+        (Op::Fields { .. } | Op::Noop | Op::Note, None) | (Op::Delete { .. }, _) => None,
     })
 }
 

@@ -45,6 +45,7 @@ IsShort (ops.Fields ns id sets unsets) =
     (fields_length sets ≤ 262139) × (fields_levels sets ≤ 99) × (value_length (tree_of id) + 2 * strings_length unsets ≤ 524278) × (value_levels (tree_of id) ≡ 0)
 IsShort (ops.Delete ns id) = (value_length (tree_of id) ≤ 262143) × (value_levels (tree_of id) ≡ 0)
 IsShort ops.Noop = ⊤
+IsShort ops.Note = ⊤
 
 pub record IsLogged (place : Place) (before : Option Fields) (op : Op) : Type 0 where
   pub lawful : IsLawfulOp op

@@ -1,5 +1,7 @@
 -- What the readers of ops and entries answer.
-use Rattle.std.proofs.Common.{◌≡◌, ℕ, List, Some, Result, Ok, Err, IsErrAnd, codes, refl, sym, ap, subst, ◌∙◌}
+use Rattle.std.proofs.Common.{◌≡◌, ℕ, List, Some, Result, Ok, Err, IsErrAnd, Option, codes, refl, sym, ap, subst, ◌∙◌}
+use Rattle.std.specs.Prelude.{IfSome, IsSome}
+use Rattle.rs_optime.specs.declared.optime.OpTime.{OpTime}
 use Rattle.bson_doc.specs.Tree.{Fields, Trees}
 use Rattle.bson_doc.specs.View.{tree_of}
 use Rattle.bson_doc.specs.declared.doc.Value.{Value}
@@ -7,15 +9,17 @@ use Rattle.bson_codec.specs.Outcome.{Gives}
 use Rattle.bson_codec.specs.declared.error.DecodeError.{DecodeError}
 use Rattle.bson_codec.specs.declared.error.DecodeError.TheVariants as rules
 use Rattle.oplog_entry.specs.Lawful.{IsLawful, IsLawfulOp}
+use Rattle.oplog_entry.specs.Step.{place_of}
+use Rattle.oplog_entry.specs.declared.entry.Session.{Session}
 use Rattle.oplog_entry.specs.declared.entry.Op.{Op}
 use Rattle.oplog_entry.specs.declared.entry.Op.TheVariants.{Fields as SetFields}
 use Rattle.oplog_entry.specs.declared.entry.Entry.{Entry}
 use Rattle.entry_bytes.specs.declared.error.EntryError.{EntryError}
 use Rattle.entry_bytes.specs.declared.error.EntryError.TheVariants.{Codec, Shape, Memory}
 use Rattle.entry_bytes.specs.Answer.{Answers, IsReadAs, error_of_decode}
-use Rattle.entry_bytes.specs.Layout.{only_id, marks, changes, document_of}
+use Rattle.entry_bytes.specs.Layout.{only_id, marks, changes, members, document_of}
 use Rattle.entry_bytes.specs.Parts.{AreMembersOf, ReadsFields, ReadsChange}
-use Rattle.entry_bytes.proofs.LayoutLemmas.{same_sets, same_unsets, entries_apart}
+use Rattle.entry_bytes.proofs.LayoutLemmas.{same_sets, same_unsets, entries_apart, members_apart, same_op, session_apart}
 
 -- the members of a change
 members_change : (op : Op) (ns : List ℕ) (id : Value) (sets : Fields) (unsets : Trees) → op ≡ SetFields ns id sets unsets → AreMembersOf op (codes "u") ns (changes sets (marks unsets)) (Some (only_id (tree_of id)))
@@ -64,3 +68,21 @@ not_refused rules.Trailing e same = cc
 pub answered : (e : Entry) (error : EntryError) (r : Result Entry EntryError) → IsErrAnd r (λ x. x ≡ error) → IsReadAs e (Err error) → IsReadAs e r
 answered e error (Ok x) is holds = absurd is
 answered e error (Err x) is holds = subst (λ x. IsReadAs e (Err x)) (sym is) holds
+
+-- two lawful ops that have the same members are one
+same_members : (a b : Op) (letter ns : List ℕ) (o : Fields) (target : Option Fields) → IsLawfulOp a → IsLawfulOp b → AreMembersOf a letter ns o target → AreMembersOf b letter ns o target → a ≡ b
+same_members a b letter ns o target la lb ma mb = same_op a b la lb (record {
+  letter_is = ma.letter_is ∙ sym mb.letter_is;
+  collection_is = ma.collection_is ∙ sym mb.collection_is;
+  body_is = ma.body_is ∙ sym mb.body_is;
+  target_is = ma.target_is ∙ sym mb.target_is;
+})
+
+-- where a lawful entry has these members, its op may be a write of its session
+pub has_been_written : (entry : Entry) (op : Op) (optime : OpTime) (letter ns : List ℕ) (o : Fields) (target : Option Fields) (session : Option Session) → IsLawful entry → IsLawfulOp op
+    → AreMembersOf op letter ns o target → document_of entry ≡ members optime letter ns o target session → IfSome session (λ _. IsSome (place_of op))
+has_been_written entry op optime letter ns o target session law lawful own same =
+    let op_is : entry.op ≡ op = same_members entry.op op letter ns o target law.op lawful (members_apart entry optime letter ns o target session same) own in
+    let session_is : entry.session ≡ session = session_apart entry optime letter ns o target session same in
+    subst (λ (x : Op). IfSome session (λ _. IsSome (place_of x))) op_is
+    (subst (λ (s : Option Session). IfSome s (λ _. IsSome (place_of entry.op))) session_is law.write)

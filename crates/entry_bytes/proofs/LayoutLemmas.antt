@@ -1,5 +1,5 @@
 -- The members of an entry tell its op.
-use Rattle.std.proofs.Common.{◌≡◌, ◌≢◌, ℕ, List, [], ◌∷◌, Option, None, Some, codes, refl, sym, ap, ◌∙◌, subst, arith}
+use Rattle.std.proofs.Common.{◌≡◌, ◌≢◌, ℕ, List, [], ◌∷◌, Option, None, Some, codes, length, refl, sym, ap, ◌∙◌, subst, arith}
 use Rattle.rs_optime.specs.declared.optime.OpTime.{OpTime}
 use Rattle.bson_doc.specs.Tree.{Tree, null, int32, int64, text, document, array, binary, object_id, boolean, date, timestamp, Fields, no_fields, field, Trees, found}
 use Rattle.bson_doc.specs.View.{tree_of}
@@ -7,9 +7,10 @@ use Rattle.bson_doc.specs.declared.doc.Value.{Value}
 use Rattle.bson_doc.specs.declared.doc.Value.TheVariants as values
 use Rattle.oplog_entry.specs.Lawful.{BeginsWithId, IsLawful, IsLawfulOp}
 use Rattle.oplog_entry.specs.declared.entry.Op.{Op}
-use Rattle.oplog_entry.specs.declared.entry.Op.TheVariants.{Insert, Replace, Fields as SetFields, Delete, Noop}
+use Rattle.oplog_entry.specs.declared.entry.Op.TheVariants.{Insert, Replace, Fields as SetFields, Delete, Noop, Note}
 use Rattle.oplog_entry.specs.declared.entry.Entry.{Entry}
-use Rattle.entry_bytes.specs.Layout.{letter_of, collection_of, body_of, target_of, only_id, marks, changes, new_primary, last_member, members, document_of}
+use Rattle.oplog_entry.specs.declared.entry.Session.{Session}
+use Rattle.entry_bytes.specs.Layout.{letter_of, collection_of, body_of, target_of, only_id, marks, changes, new_primary, note, last_members, session_members, members, document_of}
 use Rattle.entry_bytes.specs.Parts.{AreMembersOf, names_in}
 use Rattle.entry_bytes.proofs.MarkLemmas.{names_in-marks}
 
@@ -97,6 +98,7 @@ as_insert (Replace own id body) ns o target m = apart (codes "u") (codes "i") m.
 as_insert (SetFields own id sets unsets) ns o target m = apart (codes "u") (codes "i") m.letter_is (omega arith)
 as_insert (Delete own id) ns o target m = apart (codes "d") (codes "i") m.letter_is (omega arith)
 as_insert Noop ns o target m = apart (codes "n") (codes "i") m.letter_is (omega arith)
+as_insert Note ns o target m = apart (codes "n") (codes "i") m.letter_is (omega arith)
 
 pub as_delete : (op : Op) (ns : List ℕ) (o : Fields) (target : Option Fields) → AreMembersOf op (codes "d") ns o target → (id : Value) × (op ≡ Delete ns id) × (o ≡ only_id (tree_of id)) × (target ≡ None)
 as_delete (Insert own body) ns o target m = apart (codes "i") (codes "d") m.letter_is (omega arith)
@@ -104,13 +106,27 @@ as_delete (Replace own id body) ns o target m = apart (codes "u") (codes "d") m.
 as_delete (SetFields own id sets unsets) ns o target m = apart (codes "u") (codes "d") m.letter_is (omega arith)
 as_delete (Delete own id) ns o target m = (id, cc, sym m.body_is, sym m.target_is)
 as_delete Noop ns o target m = apart (codes "n") (codes "d") m.letter_is (omega arith)
+as_delete Note ns o target m = apart (codes "n") (codes "d") m.letter_is (omega arith)
 
-pub as_noop : (op : Op) (ns : List ℕ) (o : Fields) (target : Option Fields) → AreMembersOf op (codes "n") ns o target → (op ≡ Noop) × (ns ≡ []) × (o ≡ new_primary) × (target ≡ None)
-as_noop (Insert own body) ns o target m = apart (codes "i") (codes "n") m.letter_is (omega arith)
-as_noop (Replace own id body) ns o target m = apart (codes "u") (codes "n") m.letter_is (omega arith)
-as_noop (SetFields own id sets unsets) ns o target m = apart (codes "u") (codes "n") m.letter_is (omega arith)
-as_noop (Delete own id) ns o target m = apart (codes "d") (codes "n") m.letter_is (omega arith)
-as_noop Noop ns o target m = (refl, sym m.collection_is, sym m.body_is, sym m.target_is)
+-- an op that touches no document: a no-op, or a note
+pub data IsIdle (op : Op) (o : Fields) : Type 0 where
+  begins : (is : op ≡ Noop) (body : o ≡ new_primary) → IsIdle op o
+  notes : (is : op ≡ Note) (body : o ≡ note) → IsIdle op o
+
+pub as_idle : (op : Op) (ns : List ℕ) (o : Fields) (target : Option Fields) → AreMembersOf op (codes "n") ns o target → IsIdle op o × (ns ≡ []) × (target ≡ None)
+as_idle (Insert own body) ns o target m = apart (codes "i") (codes "n") m.letter_is (omega arith)
+as_idle (Replace own id body) ns o target m = apart (codes "u") (codes "n") m.letter_is (omega arith)
+as_idle (SetFields own id sets unsets) ns o target m = apart (codes "u") (codes "n") m.letter_is (omega arith)
+as_idle (Delete own id) ns o target m = apart (codes "d") (codes "n") m.letter_is (omega arith)
+as_idle Noop ns o target m = (begins refl (sym m.body_is), sym m.collection_is, sym m.target_is)
+as_idle Note ns o target m = (notes refl (sym m.body_is), sym m.collection_is, sym m.target_is)
+
+-- their messages differ
+pub messages_apart : {A : Type 0} → new_primary ≡ note → A
+messages_apart same = absurd (omega (arith, ap length (message_is same)))
+  where
+    message_is : new_primary ≡ note → codes "new primary" ≡ codes "note"
+    message_is same = cc
 
 -- an update: a replacement, or a change of fields
 pub data IsUpdate (op : Op) (ns : List ℕ) (id : Value) (o : Fields) : Type 0 where
@@ -123,36 +139,76 @@ as_update (Replace own id body) ns o target m = (id, replaces cc, sym m.target_i
 as_update (SetFields own id sets unsets) ns o target m = (id, sets_fields sets unsets (cc) (sym m.body_is), sym m.target_is)
 as_update (Delete own id) ns o target m = apart (codes "d") (codes "u") m.letter_is (omega arith)
 as_update Noop ns o target m = apart (codes "n") (codes "u") m.letter_is (omega arith)
+as_update Note ns o target m = apart (codes "n") (codes "u") m.letter_is (omega arith)
 
 -- ---- entries
-same_target : (s t : Option Fields) → last_member s ≡ last_member t → s ≡ t
-same_target None None same = refl
-same_target None (Some t) same = cc
-same_target (Some s) None same = cc
-same_target (Some s) (Some t) same = cc
+pub same_session : (p q : Session) → p.id ≡ q.id → p.number ≡ q.number → p ≡ q
+same_session p q id number = λ i. record { id = id i; number = number i }
 
-pub members_apart : (entry : Entry) (optime : OpTime) (letter ns : List ℕ) (o : Fields) (target : Option Fields) → document_of entry ≡ members optime letter ns o target → AreMembersOf entry.op letter ns o target
-members_apart entry optime letter ns o target same = record {
+same_sessions : (p q : Option Session) → session_members p ≡ session_members q → p ≡ q
+same_sessions None None same = refl
+same_sessions None (Some q) same = cc
+same_sessions (Some p) None same = cc
+same_sessions (Some p) (Some q) same = ap (λ (s : Session). Some s) (same_session p q (same_id same) (same_number same))
+  where
+    same_id : session_members (Some p) ≡ session_members (Some q) → p.id ≡ q.id
+    same_id same = cc
+
+    same_number : session_members (Some p) ≡ session_members (Some q) → p.number ≡ q.number
+    same_number same = cc
+
+pub no_session : {A : Type 0} (target : Fields) (q : Option Session) (rest : Fields) → field (codes "o2") (document target) rest ≡ session_members q → A
+no_session target None rest same = cc
+no_session target (Some q) rest same = apart (codes "lsid") (codes "o2") (sym (name_is same)) (omega arith)
+  where
+    name_is : field (codes "o2") (document target) rest ≡ session_members (Some q) → codes "o2" ≡ codes "lsid"
+    name_is same = cc
+
+same_last : (s t : Option Fields) (p q : Option Session) → last_members s p ≡ last_members t q → (s ≡ t) × (p ≡ q)
+same_last None None p q same = (refl, same_sessions p q same)
+same_last None (Some t) p q same = no_session t p (session_members q) (sym same)
+same_last (Some s) None p q same = no_session s q (session_members p) same
+same_last (Some s) (Some t) p q same = (target_is same, same_sessions p q (rest_is same))
+  where
+    target_is : last_members (Some s) p ≡ last_members (Some t) q → Some s ≡ Some t
+    target_is same = cc
+
+    rest_is : last_members (Some s) p ≡ last_members (Some t) q → session_members p ≡ session_members q
+    rest_is same = cc
+
+last_of_members : (entry : Entry) (optime : OpTime) (letter ns : List ℕ) (o : Fields) (target : Option Fields) (session : Option Session) → document_of entry ≡ members optime letter ns o target session → last_members (target_of entry.op) entry.session ≡ last_members target session
+last_of_members entry optime letter ns o target session same = cc
+
+pub members_apart : (entry : Entry) (optime : OpTime) (letter ns : List ℕ) (o : Fields) (target : Option Fields) (session : Option Session) → document_of entry ≡ members optime letter ns o target session → AreMembersOf entry.op letter ns o target
+members_apart entry optime letter ns o target session same = record {
   letter_is = cc;
   collection_is = cc;
   body_is = cc;
-  target_is = same_target (target_of entry.op) target cc;
+  target_is = (same_last (target_of entry.op) target entry.session session (last_of_members entry optime letter ns o target session same)).0;
 }
 
-same_entry : (a b : Entry) → a.optime.term ≡ b.optime.term → a.optime.ts ≡ b.optime.ts → a.op ≡ b.op → a ≡ b
-same_entry a b term ts op =
-    let first : a ≡ record { optime = record { term = b.optime.term; ts = a.optime.ts }; op = a.op } =
-    ap (λ n. record { optime = record { term = n; ts = a.optime.ts }; op = a.op }) term in
-    let second : record { optime = record { term = b.optime.term; ts = a.optime.ts }; op = a.op } ≡ record { optime = b.optime; op = a.op } =
-    ap (λ n. record { optime = record { term = b.optime.term; ts = n }; op = a.op }) ts in
-    first ∙ second ∙ ap (λ o. record { optime = b.optime; op = o }) op
+pub session_apart : (entry : Entry) (optime : OpTime) (letter ns : List ℕ) (o : Fields) (target : Option Fields) (session : Option Session) → document_of entry ≡ members optime letter ns o target session → entry.session ≡ session
+session_apart entry optime letter ns o target session same =
+    (same_last (target_of entry.op) target entry.session session (last_of_members entry optime letter ns o target session same)).1
 
-same_op : (a b : Op) → IsLawfulOp a → IsLawfulOp b → AreMembersOf a (letter_of b) (collection_of b) (body_of b) (target_of b) → a ≡ b
+same_entry : (a b : Entry) → a.optime.term ≡ b.optime.term → a.optime.ts ≡ b.optime.ts → a.op ≡ b.op → a.session ≡ b.session → a ≡ b
+same_entry a b term ts op session = λ i. record { optime = record { term = term i; ts = ts i }; op = op i; session = session i }
+
+pub same_op : (a b : Op) → IsLawfulOp a → IsLawfulOp b → AreMembersOf a (letter_of b) (collection_of b) (body_of b) (target_of b) → a ≡ b
 same_op a (Insert ns o) la lb m = (as_insert a ns o None m).0
 same_op a (Delete ns id) la lb m =
     let d = as_delete a ns (only_id (tree_of id)) None m in
     d.1 ∙ ap (λ v. Delete ns v) (sym (same_only_id id d.0 d.2))
-same_op a Noop la lb m = (as_noop a [] new_primary None m).0
+same_op a Noop la lb m = idle (as_idle a [] new_primary None m).0
+  where
+    idle : IsIdle a new_primary → a ≡ Noop
+    idle (begins is body) = is
+    idle (notes is body) = messages_apart body
+same_op a Note la lb m = idle (as_idle a [] note None m).0
+  where
+    idle : IsIdle a note → a ≡ Note
+    idle (begins is body) = messages_apart (sym body)
+    idle (notes is body) = is
 same_op a (Replace ns id o) la lb m =
     let u = as_update a ns o (Some (only_id (tree_of id))) m in
     let own : id ≡ u.0 = same_only_id id u.0 (some_only u.2) in
@@ -187,8 +243,9 @@ same_op a (SetFields ns id sets unsets) la lb m =
 -- two lawful entries that have one document are one
 pub entries_apart : (a b : Entry) → IsLawful a → IsLawful b → document_of a ≡ document_of b → a ≡ b
 entries_apart a b la lb same =
-    let m = members_apart a b.optime (letter_of b.op) (collection_of b.op) (body_of b.op) (target_of b.op) same in
+    let m = members_apart a b.optime (letter_of b.op) (collection_of b.op) (body_of b.op) (target_of b.op) b.session same in
     same_entry a b (same_term same) (same_ts same) (same_op a.op b.op la.op lb.op m)
+    (session_apart a b.optime (letter_of b.op) (collection_of b.op) (body_of b.op) (target_of b.op) b.session same)
   where
     same_term : document_of a ≡ document_of b → a.optime.term ≡ b.optime.term
     same_term same = cc

@@ -1,10 +1,14 @@
 -- The two parts of a change, by how many fields there are.
-use Rattle.std.proofs.Common.{◌≡◌, ◌≢◌, ◌<◌, ◌≤◌, ℕ, Bool, IsTrue, List, Option, None, Some, codes, ap, sym, ◌∙◌, arith}
+use Rattle.std.proofs.Common.{◌≡◌, ◌≢◌, ◌<◌, ◌≤◌, ◌+◌, ◌^◌, ℕ, pos, Bool, IsTrue, List, Option, None, Some, codes, ap, sym, ◌∙◌, arith}
+use Rattle.std.specs.Prelude.{IfSome}
 use Rattle.std.specs.Str.{bytes_eq}
-use Rattle.bson_doc.specs.Tree.{Tree, text, document, Fields, no_fields, field, count, fields_from}
+use Rattle.bson_doc.specs.Tree.{Tree, int64, text, document, Fields, no_fields, field, count, fields_from}
 use Rattle.bson_doc.proofs.DocLemmas.{fields_from-zero, fields_from-end}
+use Rattle.oplog_entry.specs.Lawful.{IsSession}
+use Rattle.oplog_entry.specs.declared.entry.Session.{Session}
 use Rattle.oplog_entry.proofs.FieldLemmas.{same_name, same_itself}
-use Rattle.entry_bytes.specs.Layout.{part, new_primary, last_member}
+use Rattle.entry_bytes.specs.Layout.{part, only_message, last_members, session_members}
+use Rattle.entry_bytes.proofs.LayoutLemmas.{no_session}
 use Rattle.entry_bytes.proofs.PlaceLemmas.{count-from, count-none, fields_from-next}
 
 -- no part of this name stands at a place
@@ -37,28 +41,50 @@ no_second_part o three no_unsets (field n v rest) no_fields here = absurd (omega
 no_second_part o three no_unsets (field n v rest) (field m w others) here =
     no_unsets m w others no_fields (fields_from-next o 1 _ _ _ here)
 
--- ---- the last member of an entry
-pub too_many : (d : Fields) → 7 < count d → (target : Option Fields) → fields_from 6 d ≢ last_member target
-too_many d many None here = absurd (omega (arith, count-none d 6 here))
-too_many d many (Some target) here = absurd (omega (arith, count-from d 6 _ _ _ here))
+-- ---- the last members of an entry
+-- no session stands where no number does
+abbrev pub HasNoNumber : Fields → ℕ → List ℕ → Type 0
+HasNoNumber d place name = (n : ℕ) (rest : Fields) → n < 2 ^ 32 → fields_from place d ≢ field name (int64 (pos n)) rest
 
-pub no_target : (d : Fields) → 6 < count d → ((fields rest : Fields) → fields_from 6 d ≢ field (codes "o2") (document fields) rest) → (target : Option Fields) → fields_from 6 d ≢ last_member target
-no_target d more none None here = absurd (omega (arith, count-none d 6 here))
-no_target d more none (Some target) here = none target no_fields here
+pub past_session : (d : Fields) (place : ℕ) → place < count d → count d ≢ place + 2 → (session : Option Session) → IfSome session IsSession → fields_from place d ≢ session_members session
+past_session d place more other None within here = absurd (omega (arith, count-none d place here))
+past_session d place more other (Some s) within here =
+    absurd (other (omega (arith, count-from d place _ _ _ here)))
 
--- ---- the message of a no-op
+pub no_id : (d : Fields) (place : ℕ) → place < count d → HasNoNumber d place (codes "lsid") → (session : Option Session) → IfSome session IsSession → fields_from place d ≢ session_members session
+no_id d place more none None within here = absurd (omega (arith, count-none d place here))
+no_id d place more none (Some s) within here = none s.id _ within.id here
+
+pub no_number : (d : Fields) (place : ℕ) → place < count d → HasNoNumber d (place + 1) (codes "txnNumber") → (session : Option Session) → IfSome session IsSession → fields_from place d ≢ session_members session
+no_number d place more none None within here = absurd (omega (arith, count-none d place here))
+no_number d place more none (Some s) within here = none s.number no_fields within.number (fields_from-next d place _ _ _ here)
+
+-- nothing is behind a target but a session, and where there is no target a session alone
+pub behind_target : (d target : Fields) → fields_from 6 d ≡ field (codes "o2") (document target) (fields_from 7 d)
+    → ((session : Option Session) → IfSome session IsSession → fields_from 7 d ≢ session_members session)
+    → (other : Option Fields) (session : Option Session) → IfSome session IsSession → fields_from 6 d ≢ last_members other session
+behind_target d target here none None session within is = no_session target session (fields_from 7 d) (sym here ∙ is)
+behind_target d target here none (Some other) session within is = none session within (fields_from-next d 6 _ _ _ is)
+
+pub without_target : (d : Fields) → ((fields rest : Fields) → fields_from 6 d ≢ field (codes "o2") (document fields) rest)
+    → ((session : Option Session) → IfSome session IsSession → fields_from 6 d ≢ session_members session)
+    → (other : Option Fields) (session : Option Session) → IfSome session IsSession → fields_from 6 d ≢ last_members other session
+without_target d no_o2 none None session within is = none session within is
+without_target d no_o2 none (Some other) session within is = no_o2 other (session_members session) is
+
+-- ---- the message of a no-op or a note
 same_letters : (n m a b : List ℕ) (r s : Fields) → field n (text a) r ≡ field m (text b) s → a ≡ b
 same_letters n m a b r s same = cc
 
-pub is_message : (d : Fields) (letters : List ℕ) (same : Bool) → count d ≡ 1 → fields_from 0 d ≡ field (codes "msg") (text letters) (fields_from 1 d) → same ≡ bytes_eq letters (codes "new primary") → IsTrue same → d ≡ new_primary
-is_message d letters same one here is holds =
+pub is_message : (d : Fields) (letters wanted : List ℕ) (same : Bool) → count d ≡ 1 → fields_from 0 d ≡ field (codes "msg") (text letters) (fields_from 1 d) → same ≡ bytes_eq letters wanted → IsTrue same → d ≡ only_message wanted
+is_message d letters wanted same one here is holds =
     sym (fields_from-zero d)
     ∙ here
     ∙ ap (λ rest. field (codes "msg") (text letters) rest) (fields_from-end d 1 (omega arith))
-    ∙ ap (λ l. field (codes "msg") (text l) no_fields) (same_name letters (codes "new primary") (sym is ∙ holds))
+    ∙ ap (λ l. field (codes "msg") (text l) no_fields) (same_name letters wanted (sym is ∙ holds))
 
-pub message_is : (d : Fields) (letters : List ℕ) (same : Bool) → fields_from 0 d ≡ field (codes "msg") (text letters) (fields_from 1 d) → same ≡ bytes_eq letters (codes "new primary") → d ≡ new_primary → IsTrue same
-message_is d letters same here is whole =
-    let own : letters ≡ codes "new primary" =
-    same_letters (codes "msg") (codes "msg") letters (codes "new primary") (fields_from 1 d) no_fields (sym here ∙ fields_from-zero d ∙ whole) in
-    is ∙ ap (λ l. bytes_eq l (codes "new primary")) own ∙ same_itself (codes "new primary")
+pub message_is : (d : Fields) (letters wanted : List ℕ) (same : Bool) → fields_from 0 d ≡ field (codes "msg") (text letters) (fields_from 1 d) → same ≡ bytes_eq letters wanted → d ≡ only_message wanted → IsTrue same
+message_is d letters wanted same here is whole =
+    let own : letters ≡ wanted =
+    same_letters (codes "msg") (codes "msg") letters wanted (fields_from 1 d) no_fields (sym here ∙ fields_from-zero d ∙ whole) in
+    is ∙ ap (λ l. bytes_eq l wanted) own ∙ same_itself wanted

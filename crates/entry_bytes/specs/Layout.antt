@@ -4,8 +4,9 @@ use Rattle.rs_optime.specs.declared.optime.OpTime.{OpTime}
 use Rattle.bson_doc.specs.Tree.{Tree, int32, int64, text, document, boolean, timestamp, Fields, no_fields, field, Trees, no_items, item}
 use Rattle.bson_doc.specs.View.{tree_of}
 use Rattle.oplog_entry.specs.declared.entry.Op.{Op}
-use Rattle.oplog_entry.specs.declared.entry.Op.TheVariants.{Insert, Replace, Fields as SetFields, Delete, Noop}
+use Rattle.oplog_entry.specs.declared.entry.Op.TheVariants.{Insert, Replace, Fields as SetFields, Delete, Noop, Note}
 use Rattle.oplog_entry.specs.declared.entry.Entry.{Entry}
+use Rattle.oplog_entry.specs.declared.entry.Session.{Session}
 
 -- what an op does: to insert, update or delete, or nothing
 abbrev pub letter_of : Op → List ℕ
@@ -14,6 +15,7 @@ letter_of (Replace ns id o) = codes "u"
 letter_of (SetFields ns id sets unsets) = codes "u"
 letter_of (Delete ns id) = codes "d"
 letter_of Noop = codes "n"
+letter_of Note = codes "n"
 
 abbrev pub collection_of : Op → List ℕ
 collection_of (Insert ns o) = ns
@@ -21,6 +23,7 @@ collection_of (Replace ns id o) = ns
 collection_of (SetFields ns id sets unsets) = ns
 collection_of (Delete ns id) = ns
 collection_of Noop = []
+collection_of Note = []
 
 -- `{_id: id}`
 abbrev pub only_id : Tree → Fields
@@ -42,9 +45,16 @@ abbrev pub changes : Fields → Fields → Fields
 changes sets unsets =
     field (codes "$v") (int32 (pos 1)) (part (codes "$set") sets (part (codes "$unset") unsets no_fields))
 
--- `{msg: "new primary"}`
+-- `{msg: message}`
+abbrev pub only_message : List ℕ → Fields
+only_message message = field (codes "msg") (text message) no_fields
+
+-- what a no-op says, and what a note does
 abbrev pub new_primary : Fields
-new_primary = field (codes "msg") (text (codes "new primary")) no_fields
+new_primary = only_message (codes "new primary")
+
+abbrev pub note : Fields
+note = only_message (codes "note")
 
 -- the member `o` of an op's entry
 abbrev pub body_of : Op → Fields
@@ -53,6 +63,7 @@ body_of (Replace ns id o) = o
 body_of (SetFields ns id sets unsets) = changes sets (marks unsets)
 body_of (Delete ns id) = only_id (tree_of id)
 body_of Noop = new_primary
+body_of Note = note
 
 -- the member `o2`, which an update has
 abbrev pub target_of : Op → Option Fields
@@ -61,22 +72,36 @@ target_of (Replace ns id o) = Some (only_id (tree_of id))
 target_of (SetFields ns id sets unsets) = Some (only_id (tree_of id))
 target_of (Delete ns id) = None
 target_of Noop = None
+target_of Note = None
 
-abbrev pub last_member : Option Fields → Fields
-last_member None = no_fields
-last_member (Some target) = field (codes "o2") (document target) no_fields
+-- an update's target, in front of the members behind it
+abbrev pub targeted : Option Fields → Fields → Fields
+targeted None rest = rest
+targeted (Some target) rest = field (codes "o2") (document target) rest
+
+-- the members `lsid` and `txnNumber`, which a write of a session has
+abbrev pub session_members : Option Session → Fields
+session_members None = no_fields
+session_members (Some session) =
+    field (codes "lsid") (int64 (pos session.id))
+    (field (codes "txnNumber") (int64 (pos session.number)) no_fields)
+
+-- the members behind `o`
+abbrev pub last_members : Option Fields → Option Session → Fields
+last_members target session = targeted target (session_members session)
 
 -- the members of an entry in their order
-abbrev pub members : OpTime → List ℕ → List ℕ → Fields → Option Fields → Fields
-members optime letter collection body target =
+abbrev pub members : OpTime → List ℕ → List ℕ → Fields → Option Fields → Option Session → Fields
+members optime letter collection body target session =
     field (codes "ts") (timestamp optime.ts)
     (field (codes "t") (int64 (pos optime.term))
     (field (codes "v") (int32 (pos 2))
     (field (codes "op") (text letter)
     (field (codes "ns") (text collection)
-    (field (codes "o") (document body) (last_member target))))))
+    (field (codes "o") (document body) (last_members target session))))))
 
 -- the document of an entry
 abbrev pub document_of : Entry → Fields
 document_of entry =
     members entry.optime (letter_of entry.op) (collection_of entry.op) (body_of entry.op) (target_of entry.op)
+    entry.session

@@ -9,6 +9,7 @@ use Rattle.oplog_entry.specs.Lawful.{IsLawfulOp}
 use Rattle.oplog_entry.specs.declared.entry.Op.{Op}
 use Rattle.oplog_entry.specs.declared.entry.Op.TheVariants.{Fields as SetFields}
 use Rattle.oplog_entry.specs.declared.entry.Entry.{Entry}
+use Rattle.oplog_entry.specs.declared.entry.Session.{Session}
 use Rattle.entry_bytes.specs.Answer.{Reads}
 use Rattle.entry_bytes.specs.Layout.{letter_of, collection_of, body_of, target_of, changes, marks, only_id, part}
 use Rattle.entry_bytes.specs.declared.error.EntryError.{EntryError}
@@ -24,6 +25,13 @@ with_part before name (field first value others) =
 abbrev pub with_target : Fields → Option Fields → Fields
 with_target before None = before
 with_target before (Some target) = with_field before (codes "o2") (document target)
+
+-- the members of a session's write more, where the entry is one
+abbrev pub with_session : Fields → Option Session → Fields
+with_session before None = before
+with_session before (Some session) =
+    with_field (with_field before (codes "lsid") (int64 (pos session.id))) (codes "txnNumber")
+    (int64 (pos session.number))
 
 -- an optime and the version, in front of the other members
 abbrev pub stamped : OpTime → Fields → Fields

@@ -1,18 +1,18 @@
 // The bytes of an entry, appended to others. No document is made of it, but of an update's target and
 // of short bodies.
-ghost use Rattle.std.specs.Prelude.{◌≡◌, ◌+◌, ◌<◌, ◌≤◌, ◌^◌, ◌++◌, codes, length, OnOk, vec_capacity};
+ghost use Rattle.std.specs.Prelude.{◌≡◌, ◌+◌, ◌<◌, ◌≤◌, ◌^◌, ◌++◌, codes, length, IfSome, OnOk, Some, pos, vec_capacity};
 ghost use Rattle.bson_doc.specs.Length.{document_length, fields_length};
 ghost use Rattle.bson_doc.specs.Sound.{AreSoundFields, IsSound};
-ghost use Rattle.bson_doc.specs.Tree.{no_fields};
-ghost use Rattle.bson_codec.specs.Spelling.{document_bytes, element, fields_bytes};
-ghost use Rattle.oplog_entry.specs.Lawful.{IsLawful, IsLawfulOp};
-ghost use Rattle.entry_bytes.specs.Layout.{body_of, collection_of, document_of, last_member, target_of};
+ghost use Rattle.bson_doc.specs.Tree.{int64, no_fields};
+ghost use Rattle.bson_codec.specs.Spelling.{document_bytes, element, fields_bytes, value_bytes};
+ghost use Rattle.oplog_entry.specs.Lawful.{IsLawful, IsLawfulOp, IsSession};
+ghost use Rattle.entry_bytes.specs.Layout.{body_of, collection_of, document_of, session_members, target_of, targeted};
 ghost use Rattle.entry_bytes.specs.Parts.{members_in_front, stamped};
 
 use crate::writing::{body, letter, target};
 use bson_codec::{close, put_document, put_field, put_string};
 use bson_doc::{Mem, Value};
-use oplog_entry::{Entry, Op};
+use oplog_entry::{Entry, Op, Session};
 use rs_optime::OpTime;
 use std::alloc::Global;
 
@@ -25,7 +25,7 @@ fn collection_in(op: &Op) -> &str
         | Op::Replace { ns, .. }
         | Op::Fields { ns, .. }
         | Op::Delete { ns, .. } => ns.as_str(),
-        Op::Noop => "",
+        Op::Noop | Op::Note => "",
     }
 }
 
@@ -69,7 +69,7 @@ fn put_body(alloc: Global, op: &Op, out: &mut Vec<u8>) -> Mem<()>
             o.recall_sound();
             put_document(alloc, out, "o", o)
         }
-        Op::Fields { .. } | Op::Delete { .. } | Op::Noop => {
+        Op::Fields { .. } | Op::Delete { .. } | Op::Noop | Op::Note => {
             let body = body(alloc, op)?;
             body.recall_sound();
             put_document(alloc, out, "o", &body)
@@ -79,10 +79,10 @@ fn put_body(alloc: Global, op: &Op, out: &mut Vec<u8>) -> Mem<()>
 
 // Appends the member `o2`, where there is one.
 fn put_target(alloc: Global, op: &Op, out: &mut Vec<u8>) -> Mem<()>
-    requires { fields_length (last_member (target_of op.now)) < 2 ^ 31 }
+    requires { fields_length (targeted (target_of op.now) no_fields) < 2 ^ 31 }
     ensures laid { OnOk result (out.new.items
-        ≡ out.old.items ++ fields_bytes (last_member (target_of op.now))) }
-    ensures sound { OnOk result (AreSoundFields (last_member (target_of op.now))) }
+        ≡ out.old.items ++ fields_bytes (targeted (target_of op.now) no_fields)) }
+    ensures sound { OnOk result (AreSoundFields (targeted (target_of op.now) no_fields)) }
     ensures longer { OnOk result (vec_capacity out.old ≤ vec_capacity out.new) }
 {
     let Some(target) = target(alloc, op)? else {
@@ -90,6 +90,40 @@ fn put_target(alloc: Global, op: &Op, out: &mut Vec<u8>) -> Mem<()>
     };
     target.recall_sound();
     put_document(alloc, out, "o2", &target)
+}
+
+// Appends a number as an int64.
+fn put_number(alloc: Global, name: &str, number: u32, out: &mut Vec<u8>) -> Mem<()>
+    ensures laid { OnOk result (out.new.items
+        ≡ out.old.items ++ element 18 name.now (value_bytes (int64 (pos number)))) }
+    ensures longer { OnOk result (vec_capacity out.old ≤ vec_capacity out.new) }
+{
+    put_field(alloc, out, name, &Value::Int64(i64::from(number)))
+}
+
+// Appends the members `lsid` and `txnNumber`.
+fn put_numbers(alloc: Global, session: Session, out: &mut Vec<u8>) -> Mem<()>
+    requires { IsSession session }
+    ensures laid { OnOk result (out.new.items
+        ≡ out.old.items ++ fields_bytes (session_members (Some session))) }
+    ensures sound { OnOk result (AreSoundFields (session_members (Some session))) }
+    ensures longer { OnOk result (vec_capacity out.old ≤ vec_capacity out.new) }
+{
+    put_number(alloc, "lsid", session.id, out)?;
+    put_number(alloc, "txnNumber", session.number, out)
+}
+
+// Appends the members of a write of a session, where the entry is one.
+fn put_session(alloc: Global, session: Option<Session>, out: &mut Vec<u8>) -> Mem<()>
+    requires { IfSome session IsSession }
+    ensures laid { OnOk result (out.new.items ≡ out.old.items ++ fields_bytes (session_members session)) }
+    ensures sound { OnOk result (AreSoundFields (session_members session)) }
+    ensures longer { OnOk result (vec_capacity out.old ≤ vec_capacity out.new) }
+{
+    match session {
+        Some(session) => put_numbers(alloc, session, out),
+        None => Ok(()),
+    }
 }
 
 /// Appends the bytes of a lawful entry, the one spelling of its document.
@@ -117,5 +151,6 @@ fn put_entry(alloc: Global, entry: &Entry, op: &Op, out: &mut Vec<u8>) -> Mem<()
     put_head(alloc, entry.optime, op, out)?;
     put_body(alloc, op, out)?;
     put_target(alloc, op, out)?;
+    put_session(alloc, entry.session, out)?;
     close(out, start)
 }

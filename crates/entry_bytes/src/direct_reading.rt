@@ -1,20 +1,20 @@
 // Entries without a target, read without a document of their members. In the layout in which entries are
 // written each part has its place, and between the parts stand bytes that are the same in every entry.
-ghost use Rattle.std.specs.Prelude.{◌≡◌, ◌<◌, ◌^◌, ◌∷◌, ◌++◌, [], codes, length, None, true, IfOk, IfSome};
+ghost use Rattle.std.specs.Prelude.{◌≡◌, ◌<◌, ◌^◌, ◌↔◌, ◌∷◌, ◌++◌, [], codes, length, None, Some, true, IfOk, IfSome, IsTrue};
 ghost use Rattle.std.specs.Str.{is_utf8};
 ghost use Rattle.bson_doc.specs.Tree.{no_fields, text};
 ghost use Rattle.bson_codec.specs.Numbers.{number_bytes};
 ghost use Rattle.bson_codec.specs.Sound.{IsSound};
 ghost use Rattle.bson_codec.specs.Spelling.{IsSpelling, element, fields_bytes, value_bytes};
-ghost use Rattle.oplog_entry.specs.Lawful.{IsLawful};
-ghost use Rattle.entry_bytes.specs.Layout.{body_of, document_of};
+ghost use Rattle.oplog_entry.specs.Lawful.{IsLawful, IsSession};
+ghost use Rattle.entry_bytes.specs.Layout.{body_of, document_of, session_members};
 ghost use Rattle.entry_bytes.specs.Parts.{AreMembersOf, stamped};
 
 use crate::EntryError;
-use crate::ops::other_of;
+use crate::ops::{may_have, other_of};
 use bson_codec::{ENTRY, decode, u32_of, u64_of};
 use bson_doc::{Bounds, Mem, Text};
-use oplog_entry::{Entry, SharedOp};
+use oplog_entry::{Entry, Session, SharedOp};
 use rs_optime::OpTime;
 use std::alloc::{AllocError, Global};
 use std::str::from_utf8;
@@ -32,6 +32,7 @@ struct Parts<'a> {
     letter: &'a str,
     ns: &'a str,
     o: &'a [u8],
+    session: Option<Session>,
 }
 
 /// What stands behind the name of the timestamp.
@@ -79,6 +80,41 @@ fn behind_ns(bytes: &[u8]) -> Option<&[u8]>
     ensures { IfSome result (λ rest. bytes.now ≡ 2 ∷ 110 ∷ 115 ∷ 0 ∷ rest.now) }
 {
     let [0x02, b'n', b's', 0, rest @ ..] = bytes else {
+        return None;
+    };
+    Some(rest)
+}
+
+/// What stands behind the name of a session.
+fn behind_lsid(bytes: &[u8]) -> Option<&[u8]>
+    ensures { IfSome result (λ rest. bytes.now ≡ 18 ∷ 108 ∷ 115 ∷ 105 ∷ 100 ∷ 0 ∷ rest.now) }
+{
+    let [0x12, b'l', b's', b'i', b'd', 0, rest @ ..] = bytes else {
+        return None;
+    };
+    Some(rest)
+}
+
+/// What stands behind the name of a write's number.
+fn behind_number(bytes: &[u8]) -> Option<&[u8]>
+    ensures { IfSome result (λ rest. bytes.now
+        ≡ 18 ∷ 116 ∷ 120 ∷ 110 ∷ 78 ∷ 117 ∷ 109 ∷ 98 ∷ 101 ∷ 114 ∷ 0 ∷ rest.now) }
+{
+    let [
+        0x12,
+        b't',
+        b'x',
+        b'n',
+        b'N',
+        b'u',
+        b'm',
+        b'b',
+        b'e',
+        b'r',
+        0,
+        rest @ ..,
+    ] = bytes
+    else {
         return None;
     };
     Some(rest)
@@ -167,18 +203,60 @@ fn strings_of(bytes: &[u8]) -> Option<((&str, &str), &[u8])>
     Some(((letter, ns), rest))
 }
 
-/// The document `o`, behind which the entry's document ends.
-fn body_in(bytes: &[u8]) -> Option<&[u8]>
-    ensures { IfSome result (λ o. bytes.now ≡ element 3 (codes "o") o.now ++ 0 ∷ []) }
+/// The document `o`, which begins with its length, and what stands behind it.
+fn body_in(bytes: &[u8]) -> Option<(&[u8], &[u8])>
+    ensures { IfSome result (λ x. bytes.now ≡ element 3 (codes "o") x.0.now ++ x.1.now) }
 {
     let [3, b'o', 0, rest @ ..] = bytes else {
         return None;
     };
-    let (end, o) = rest.split_last()?;
-    if *end != 0 {
+    let (size, _) = short_of(rest)?;
+    if rest.len() < size as usize {
         return None;
     }
-    Some(o)
+    Some(rest.split_at(size as usize))
+}
+
+/// The number in the first eight bytes, where four are enough for it, and what stands behind them.
+fn narrow_of(bytes: &[u8]) -> Option<(u32, &[u8])>
+    ensures { IfSome result (λ x. bytes.now ≡ number_bytes 8 x.0 ++ x.1.now) }
+{
+    let (number, rest) = long_of(bytes)?;
+    if number >= 1 << 32 {
+        return None;
+    }
+    Some((number as u32, rest))
+}
+
+/// Whether nothing is left but the zero that closes a document.
+fn is_end(bytes: &[u8]) -> bool
+    ensures { IsTrue result ↔ (bytes.now ≡ 0 ∷ []) }
+{
+    bytes.len() == 1 && bytes[0] == 0
+}
+
+/// The members of a session's write, behind which the entry's document ends.
+fn numbers_in(bytes: &[u8]) -> Option<Session>
+    ensures session { IfSome result IsSession }
+    ensures spelled { IfSome result (λ s. bytes.now ≡ fields_bytes (session_members (Some s)) ++ 0 ∷ []) }
+{
+    let (id, rest) = narrow_of(behind_lsid(bytes)?)?;
+    let (number, rest) = narrow_of(behind_number(rest)?)?;
+    if !is_end(rest) {
+        return None;
+    }
+    Some(Session { id, number })
+}
+
+/// The members of a session's write, or none where the entry's document ends here.
+fn session_in(bytes: &[u8]) -> Option<Option<Session>>
+    ensures session { IfSome result (λ s. IfSome s IsSession) }
+    ensures spelled { IfSome result (λ s. bytes.now ≡ fields_bytes (session_members s) ++ 0 ∷ []) }
+{
+    if is_end(bytes) {
+        return Some(None);
+    }
+    Some(Some(numbers_in(bytes)?))
 }
 
 /// Letters are UTF-8: a fact for the proofs here, which costs nothing.
@@ -192,11 +270,12 @@ fn recall_utf8(letters: &str)
 fn parts_in(bytes: &[u8]) -> Option<Parts<'_>>
     ensures ts { IfSome result (λ p. p.optime.ts < 2 ^ 64) }
     ensures term { IfSome result (λ p. p.optime.term < 2 ^ 63) }
+    ensures session { IfSome result (λ p. IfSome p.session IsSession) }
     ensures spelled { IfSome result (λ p. bytes.now
         ≡ number_bytes 4 (length bytes.now) ++ (fields_bytes (stamped p.optime no_fields)
         ++ (element 2 (codes "op") (value_bytes (text p.letter.now))
         ++ (element 2 (codes "ns") (value_bytes (text p.ns.now))
-        ++ (element 3 (codes "o") p.o.now ++ 0 ∷ []))))) }
+        ++ (element 3 (codes "o") p.o.now ++ (fields_bytes (session_members p.session) ++ 0 ∷ [])))))) }
 {
     let (size, rest) = short_of(bytes)?;
     if size as usize != bytes.len() {
@@ -204,20 +283,24 @@ fn parts_in(bytes: &[u8]) -> Option<Parts<'_>>
     }
     let (optime, rest) = stamp_of(rest)?;
     let ((letter, ns), rest) = strings_of(rest)?;
-    let o = body_in(rest)?;
+    let (o, rest) = body_in(rest)?;
+    let session = session_in(rest)?;
     Some(Parts {
         optime,
         letter,
         ns,
         o,
+        session,
     })
 }
 
 /// The entry of these parts.
 fn entry_at(alloc: Global, parts: &Parts<'_>) -> Result<Entry, EntryError>
-    requires { parts.now.optime.term < 2 ^ 63 }
+    requires term { parts.now.optime.term < 2 ^ 63 }
+    requires session { IfSome parts.now.session IsSession }
     ensures lawful { IfOk result IsLawful }
     ensures optime { IfOk result (λ e. e.optime ≡ parts.now.optime) }
+    ensures session { IfOk result (λ e. e.session ≡ parts.now.session) }
     ensures op { IfOk result (λ e.
         AreMembersOf e.op parts.now.letter.now parts.now.ns.now (body_of e.op) None) }
     ensures body { IfOk result (λ e. IsSound (body_of e.op)
@@ -226,9 +309,13 @@ fn entry_at(alloc: Global, parts: &Parts<'_>) -> Result<Entry, EntryError>
     let ns = Text::from_str(alloc, parts.ns)?;
     let o = decode(alloc, parts.o, BODY)?;
     let op = other_of(parts.letter, ns, o)?;
+    if !may_have(&op, parts.session) {
+        return Err(EntryError::Shape);
+    }
     Ok(Entry {
         optime: parts.optime,
         op: SharedOp::new(alloc, op)?,
+        session: parts.session,
     })
 }
 

@@ -1,18 +1,18 @@
 // Ops from the members of their entries.
-ghost use Rattle.std.specs.Prelude.{◌≡◌, ◌≢◌, ◌<◌, ◌↔◌, Some, None, IsSome, IsTrue, IfOk, codes, option_map};
+ghost use Rattle.std.specs.Prelude.{◌≡◌, ◌≢◌, ◌<◌, ◌↔◌, Some, None, IsSome, IsTrue, IfOk, IfSome, codes, option_map};
 ghost use Rattle.std.specs.Option.{option_copied};
 ghost use Rattle.bson_doc.specs.Tree.{Trees, count};
 ghost use Rattle.bson_doc.specs.View.{tree_of};
-ghost use Rattle.oplog_entry.specs.Lawful.{AreUnsets, BeginsWithId};
-ghost use Rattle.oplog_entry.specs.Step.{id_key};
+ghost use Rattle.oplog_entry.specs.Lawful.{AreUnsets, BeginsWithId, IsLawfulOp};
+ghost use Rattle.oplog_entry.specs.Step.{id_key, place_of};
 ghost use Rattle.entry_bytes.specs.Answer.{Reads};
-ghost use Rattle.entry_bytes.specs.Layout.{marks, new_primary};
+ghost use Rattle.entry_bytes.specs.Layout.{marks, only_message};
 ghost use Rattle.entry_bytes.specs.Parts.{are_marks, given, is_mark, names_in, ReadsChange, ReadsFields, ReadsIfLawful, ReadsOp, ReadsParts};
 
 use crate::EntryError;
 use crate::places::{int32_at, member, only_id, part_at, text_at};
 use bson_doc::{Doc, IdKey, Items, Mem, Text, Value};
-use oplog_entry::Op;
+use oplog_entry::{Op, Session};
 use std::alloc::Global;
 
 /// The key of a document that begins with its `_id`.
@@ -226,22 +226,29 @@ fn removal_of(ns: &Text, o: &Doc) -> Result<Op, EntryError>
     }
 }
 
-fn is_new_primary(o: &Doc) -> bool
-    ensures { IsTrue result ↔ (o.now ≡ new_primary) }
+fn says(o: &Doc, wanted: &str) -> bool
+    ensures { IsTrue result ↔ (o.now ≡ only_message wanted.now) }
 {
     match text_at(o, 0, "msg") {
-        Some(message) => o.len() == 1 && message.as_str() == "new primary",
+        Some(message) => o.len() == 1 && message.as_str() == wanted,
         None => false,
     }
 }
 
-fn noop_of(ns: &Text, o: &Doc) -> Result<Op, EntryError>
+/// An op that touches no document.
+fn idle_of(ns: &Text, o: &Doc) -> Result<Op, EntryError>
     ensures { ReadsOp (codes "n") ns.now o.now None result }
 {
-    if !ns.as_str().is_empty() || !is_new_primary(o) {
+    if !ns.as_str().is_empty() {
         return Err(EntryError::Shape);
     }
-    Ok(Op::Noop)
+    if says(o, "new primary") {
+        return Ok(Op::Noop);
+    }
+    if says(o, "note") {
+        return Ok(Op::Note);
+    }
+    Err(EntryError::Shape)
 }
 
 /// An op that is no update.
@@ -255,7 +262,7 @@ pub(crate) fn other_of(letter: &str, ns: Text, o: Doc) -> Result<Op, EntryError>
         return removal_of(&ns, &o);
     }
     if letter == "n" {
-        return noop_of(&ns, &o);
+        return idle_of(&ns, &o);
     }
     Err(EntryError::Shape)
 }
@@ -277,4 +284,15 @@ pub(crate) fn op_of(
         return Err(EntryError::Shape);
     }
     update_of(alloc, ns, o, target)
+}
+
+/// Whether the op may be a write of a session, where there is one: a no-op and a note are none.
+pub(crate) fn may_have(op: &Op, session: Option<Session>) -> bool
+    requires { IsLawfulOp op.now }
+    ensures { IsTrue result ↔ IfSome session (λ _. IsSome (place_of op.now)) }
+{
+    match op {
+        Op::Noop | Op::Note => session.is_none(),
+        Op::Insert { .. } | Op::Replace { .. } | Op::Fields { .. } | Op::Delete { .. } => true,
+    }
 }

@@ -43,6 +43,21 @@ pub(crate) fn count_at(doc: &Doc, place: usize, name: &str) -> Option<u64>
     }
 }
 
+/// The number of an int64 from 0 to 4,294,967,295.
+pub(crate) fn short_at(doc: &Doc, place: usize, name: &str) -> Option<u32>
+    ensures value { MatchOption result
+        ((n : ℕ) (rest : Fields) → n < 2 ^ 32
+        → fields_from place doc.now ≢ field name.now (int64 (pos n)) rest)
+        (λ n. fields_from place doc.now ≡ field name.now (int64 (pos n)) (fields_from (place + 1) doc.now)) }
+    ensures fits { IfSome result (λ n. n < 2 ^ 32) }
+{
+    let number = count_at(doc, place, name)?;
+    if number >= 1 << 32 {
+        return None;
+    }
+    Some(number as u32)
+}
+
 pub(crate) fn int32_at(doc: &Doc, place: usize, name: &str) -> Option<i32>
     ensures { MatchOption result
         ((n : ℤ) (rest : Fields) → fields_from place doc.now ≢ field name.now (int32 n) rest)

@@ -1,23 +1,24 @@
-ghost use Rattle.std.specs.Prelude.{◌≡◌, ◌≢◌, ◌<◌, ◌^◌, Option, MatchOption, IfOk, Ok};
+ghost use Rattle.std.specs.Prelude.{◌≡◌, ◌≢◌, ◌<◌, ◌≤◌, ◌^◌, Option, MatchOption, IfOk, IfSome, Ok};
 ghost use Rattle.std.specs.Option.{option_copied};
 ghost use Rattle.rs_optime.specs.declared.optime.OpTime.{OpTime};
 ghost use Rattle.bson_doc.specs.Tree.{Fields, fields_from};
 ghost use Rattle.bson_codec.specs.Sound.{IsSound};
 ghost use Rattle.bson_codec.specs.Spelling.{IsSpelling};
 ghost use Rattle.bson_codec.specs.Wholes.{read_document};
-ghost use Rattle.oplog_entry.specs.Lawful.{IsLawful};
+ghost use Rattle.oplog_entry.specs.Lawful.{IsLawful, IsSession};
 ghost use Rattle.oplog_entry.specs.declared.entry.Entry.{Entry};
+ghost use Rattle.oplog_entry.specs.declared.entry.Session.{Session};
 ghost use Rattle.entry_bytes.specs.Answer.{Answers, IsReadAs};
-ghost use Rattle.entry_bytes.specs.Layout.{document_of, last_member, members};
+ghost use Rattle.entry_bytes.specs.Layout.{document_of, last_members, members, session_members};
 ghost use Rattle.entry_bytes.specs.Parts.{stamped};
 
 use crate::EntryError;
 use crate::direct_reading::direct;
-use crate::ops::op_of;
-use crate::places::{count_at, document_at, int32_at, text_at, timestamp_at};
+use crate::ops::{may_have, op_of};
+use crate::places::{count_at, document_at, int32_at, short_at, text_at, timestamp_at};
 use bson_codec::{ENTRY, decode};
 use bson_doc::{Doc, Text};
-use oplog_entry::{Entry, SharedOp};
+use oplog_entry::{Entry, Session, SharedOp};
 use rs_optime::OpTime;
 use std::alloc::Global;
 
@@ -28,21 +29,52 @@ struct Members<'a> {
     letter: &'a Text,
     ns: &'a Text,
     o: &'a Doc,
-    target: Option<&'a Doc>,
+    last: Last<'a>,
 }
 
-/// The member `o2`, which need not be there.
-fn target_in(document: &Doc) -> Option<Option<&Doc>>
-    ensures { MatchOption result ((target : Option Fields) → fields_from 6 document.now ≢ last_member target)
-        (λ target. fields_from 6 document.now ≡ last_member (option_copied target)) }
+/// The members behind `o`: which document an update changes, and which write of a session the entry is.
+#[derive(Drop)]
+struct Last<'a> {
+    target: Option<&'a Doc>,
+    session: Option<Session>,
+}
+
+/// The members `lsid` and `txnNumber` at a place, or none where the document ends there.
+fn session_at(document: &Doc, place: usize) -> Option<Option<Session>>
+    requires { place ≤ 7 }
+    ensures value { MatchOption result ((session : Option Session) → IfSome session IsSession
+        → fields_from place document.now ≢ session_members session)
+        (λ session. fields_from place document.now ≡ session_members session) }
+    ensures within { IfSome result (λ session. IfSome session IsSession) }
 {
-    if document.len() <= 6 {
+    if document.len() <= place {
         return Some(None);
     }
-    if document.len() > 7 {
+    if document.len() != place + 2 {
         return None;
     }
-    Some(Some(document_at(document, 6, "o2")?))
+    Some(Some(Session {
+        id: short_at(document, place, "lsid")?,
+        number: short_at(document, place + 1, "txnNumber")?,
+    }))
+}
+
+fn last_in(document: &Doc) -> Option<Last<'_>>
+    ensures value { MatchOption result ((target : Option Fields) (session : Option Session)
+        → IfSome session IsSession → fields_from 6 document.now ≢ last_members target session)
+        (λ l. fields_from 6 document.now ≡ last_members (option_copied l.target) l.session) }
+    ensures within { IfSome result (λ l. IfSome l.session IsSession) }
+{
+    match document_at(document, 6, "o2") {
+        Some(target) => Some(Last {
+            target: Some(target),
+            session: session_at(document, 7)?,
+        }),
+        None => Some(Last {
+            target: None,
+            session: session_at(document, 6)?,
+        }),
+    }
 }
 
 /// The optime, behind which the version stands.
@@ -61,15 +93,16 @@ fn optime_in(document: &Doc) -> Option<OpTime>
 
 fn members_in(document: &Doc) -> Option<Members<'_>>
     ensures { MatchOption result ((entry : Entry) → IsLawful entry → document_of entry ≢ document.now)
-        (λ m. (m.optime.term < 2 ^ 63)
-        × (document.now ≡ members m.optime m.letter.now m.ns.now m.o.now (option_copied m.target))) }
+        (λ m. (m.optime.term < 2 ^ 63) × (IfSome m.last.session IsSession)
+        × (document.now ≡ members m.optime m.letter.now m.ns.now m.o.now (option_copied m.last.target)
+        m.last.session)) }
 {
     Some(Members {
         optime: optime_in(document)?,
         letter: text_at(document, 3, "op")?,
         ns: text_at(document, 4, "ns")?,
         o: document_at(document, 5, "o")?,
-        target: target_in(document)?,
+        last: last_in(document)?,
     })
 }
 
@@ -85,11 +118,15 @@ fn entry_of(alloc: Global, document: &Doc) -> Result<Entry, EntryError>
         members.letter.as_str(),
         members.ns,
         members.o,
-        members.target,
+        members.last.target,
     )?;
+    if !may_have(&op, members.last.session) {
+        return Err(EntryError::Shape);
+    }
     Ok(Entry {
         optime: members.optime,
         op: SharedOp::new(alloc, op)?,
+        session: members.last.session,
     })
 }
 

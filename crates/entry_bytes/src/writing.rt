@@ -6,11 +6,11 @@ ghost use Rattle.bson_doc.specs.Tree.{text, found, field, no_fields, with_field,
 ghost use Rattle.bson_doc.specs.View.{tree_of};
 ghost use Rattle.oplog_entry.specs.Lawful.{AreUnsets, IsLawful, IsLawfulOp};
 ghost use Rattle.entry_bytes.specs.Layout.{body_of, changes, collection_of, document_of, letter_of, marks, target_of};
-ghost use Rattle.entry_bytes.specs.Parts.{head_of, with_part, with_target};
+ghost use Rattle.entry_bytes.specs.Parts.{head_of, with_part, with_session, with_target};
 
 use bson_codec::{ENTRY, EncodeError, encode};
 use bson_doc::{Doc, Items, Mem, Text, Value};
-use oplog_entry::{Entry, Op};
+use oplog_entry::{Entry, Op, Session};
 use std::alloc::Global;
 
 /// Appends a field under a name that is new and has no zero byte.
@@ -82,7 +82,7 @@ fn only(alloc: Global, name: &str, value: Value) -> Mem<Doc>
 
 /// What an op says of its document, the member `o` of its entry: the document that an insert or a
 /// replacement stores, `{$v: 1, $set: {..}, $unset: {..}}` for fields, `{_id: ..}` for a delete, and a
-/// message for a no-op.
+/// message for a no-op and a note.
 pub fn body(alloc: Global, op: &Op) -> Mem<Doc>
     requires { IsLawfulOp op.now }
     ensures { IfOk result (λ d. d ≡ body_of op.now) }
@@ -96,6 +96,7 @@ pub fn body(alloc: Global, op: &Op) -> Mem<Doc>
             "msg",
             Value::Text(Text::from_str(alloc, "new primary")?),
         ),
+        Op::Note => only(alloc, "msg", Value::Text(Text::from_str(alloc, "note")?)),
     }
 }
 
@@ -107,7 +108,7 @@ pub(crate) fn target(alloc: Global, op: &Op) -> Mem<Option<Doc>>
         Op::Replace { id, .. } | Op::Fields { id, .. } => {
             Ok(Some(only(alloc, "_id", id.copy()?)?))
         }
-        Op::Insert { .. } | Op::Delete { .. } | Op::Noop => Ok(None),
+        Op::Insert { .. } | Op::Delete { .. } | Op::Noop | Op::Note => Ok(None),
     }
 }
 
@@ -120,7 +121,7 @@ pub fn letter(op: &Op) -> &'static str
         Op::Insert { .. } => "i",
         Op::Replace { .. } | Op::Fields { .. } => "u",
         Op::Delete { .. } => "d",
-        Op::Noop => "n",
+        Op::Noop | Op::Note => "n",
     }
 }
 
@@ -132,7 +133,7 @@ fn collection(alloc: Global, op: &Op) -> Mem<Text>
         | Op::Replace { ns, .. }
         | Op::Fields { ns, .. }
         | Op::Delete { ns, .. } => ns.copy(),
-        Op::Noop => Text::from_str(alloc, ""),
+        Op::Noop | Op::Note => Text::from_str(alloc, ""),
     }
 }
 
@@ -143,6 +144,26 @@ fn put_target(alloc: Global, document: &mut Doc, target: Option<Doc>) -> Mem<()>
 {
     match target {
         Some(target) => put(alloc, document, "o2", Value::Document(target)),
+        None => Ok(()),
+    }
+}
+
+/// Appends the members `lsid` and `txnNumber`, where the entry is a write of a session.
+fn put_session(alloc: Global, document: &mut Doc, session: Option<Session>) -> Mem<()>
+    requires id { found (codes "lsid") document.old ≡ None }
+    requires number { found (codes "txnNumber") document.old ≡ None }
+    ensures { OnOk result (document.new ≡ with_session document.old session) }
+{
+    match session {
+        Some(session) => {
+            put(alloc, document, "lsid", Value::Int64(i64::from(session.id)))?;
+            put(
+                alloc,
+                document,
+                "txnNumber",
+                Value::Int64(i64::from(session.number)),
+            )
+        }
         None => Ok(()),
     }
 }
@@ -187,6 +208,7 @@ fn document_with(alloc: Global, entry: &Entry, op: &Op) -> Mem<Doc>
     put(alloc, &mut document, "o", Value::Document(body))?;
     let target = target(alloc, op)?;
     put_target(alloc, &mut document, target)?;
+    put_session(alloc, &mut document, entry.session)?;
     Ok(document)
 }
 

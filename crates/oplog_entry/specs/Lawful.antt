@@ -1,14 +1,15 @@
 -- What an entry owes.
-use Rattle.std.specs.Prelude.{◌≡◌, ◌<◌, ◌^◌, ℕ, Bool, false, List, Contains, None, IsSome, ⊤, codes}
+use Rattle.std.specs.Prelude.{◌≡◌, ◌<◌, ◌^◌, ℕ, Bool, false, List, Contains, None, IsSome, IfSome, ⊤, codes}
 use Rattle.std.specs.List.{list_any}
 use Rattle.std.specs.Str.{bytes_eq}
 use Rattle.bson_doc.specs.Tree.{text, Fields, no_fields, field, Trees, no_items, item, found}
 use Rattle.bson_doc.specs.Key.{key_of}
 use Rattle.bson_doc.specs.View.{tree_of}
 use Rattle.oplog_entry.specs.declared.entry.Op.{Op}
-use Rattle.oplog_entry.specs.declared.entry.Op.TheVariants.{Insert, Replace, Fields as SetFields, Delete, Noop}
+use Rattle.oplog_entry.specs.declared.entry.Op.TheVariants.{Insert, Replace, Fields as SetFields, Delete, Noop, Note}
 use Rattle.oplog_entry.specs.declared.entry.Entry.{Entry}
-use Rattle.oplog_entry.specs.Step.{id_key, strings_of}
+use Rattle.oplog_entry.specs.declared.entry.Session.{Session}
+use Rattle.oplog_entry.specs.Step.{id_key, place_of, strings_of}
 
 -- the first field is `_id`
 abbrev pub BeginsWithId : Fields → Type 0
@@ -35,8 +36,17 @@ IsLawfulOp (SetFields ns id sets unsets) =
     IsSome (key_of (tree_of id)) × (found (codes "_id") sets ≡ None) × AreUnsets unsets
 IsLawfulOp (Delete ns id) = IsSome (key_of (tree_of id))
 IsLawfulOp Noop = ⊤
+IsLawfulOp Note = ⊤
 
--- a term below 2^63, and a lawful op
+-- a session and the number of a write in it, each below 2^32
+pub record IsSession (session : Session) : Type 0 where
+  pub id : session.id < 2 ^ 32
+  pub number : session.number < 2 ^ 32
+
+-- A term below 2^63, and a lawful op. What is a write of a session touches a document: a no-op and a note
+-- have no session.
 pub record IsLawful (entry : Entry) : Type 0 where
   pub term : entry.optime.term < 2 ^ 63
   pub op : IsLawfulOp entry.op
+  pub session : IfSome entry.session IsSession
+  pub write : IfSome entry.session (λ _. IsSome (place_of entry.op))

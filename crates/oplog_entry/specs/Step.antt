@@ -7,7 +7,7 @@ use Rattle.bson_doc.specs.Place.{Place, place_cmp}
 use Rattle.bson_doc.specs.View.{tree_of}
 use Rattle.bson_doc.specs.declared.key.IdKey.{IdKey}
 use Rattle.oplog_entry.specs.declared.entry.Op.{Op}
-use Rattle.oplog_entry.specs.declared.entry.Op.TheVariants.{Insert, Replace, Fields as SetFields, Delete, Noop}
+use Rattle.oplog_entry.specs.declared.entry.Op.TheVariants.{Insert, Replace, Fields as SetFields, Delete, Noop, Note}
 
 -- the key of a document: that of its `_id`
 abbrev pub id_key : Fields → Option IdKey
@@ -24,6 +24,7 @@ place_of (Replace ns id o) = place_in ns (key_of (tree_of id))
 place_of (SetFields ns id sets unsets) = place_in ns (key_of (tree_of id))
 place_of (Delete ns id) = place_in ns (key_of (tree_of id))
 place_of Noop = None
+place_of Note = None
 
 -- what an op touches is the document at a place
 abbrev pub is_at : Option Place → Place → Bool
@@ -54,3 +55,4 @@ document_after (SetFields ns id sets unsets) before =
     option_map (λ document. changed document sets unsets) before
 document_after (Delete ns id) before = None
 document_after Noop before = before
+document_after Note before = before

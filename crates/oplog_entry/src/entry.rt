@@ -37,14 +37,27 @@ pub enum Op {
     },
     /// Nothing happens to any document. A new primary writes it.
     Noop,
+    /// Nothing happens to any document. A client has it written.
+    Note,
+}
+
+/// Which of a client's writes an entry is, so that the client may ask for it again: the number of the
+/// client's session, and the number of the write in it.
+#[derive(Clone, Copy, Debug, PartialEq, Eq)]
+pub struct Session {
+    pub id: u32,
+    pub number: u32,
 }
 
 /// One entry of an oplog. An entry is lawful (`IsLawful`) where its term is below 2^63, its `_id` is one that
-/// tells documents apart, and its fields leave that `_id` alone.
+/// tells documents apart, its fields leave that `_id` alone, and it has no session where it is a no-op or a
+/// note.
 #[derive(Drop)]
 pub struct Entry {
     pub optime: OpTime,
     pub op: SharedOp,
+    /// The write of a session that the entry is, where a client may ask for it again.
+    pub session: Option<Session>,
 }
 
 /// An op with as many owners as there are copies. A no-op takes no memory.
@@ -137,10 +150,11 @@ impl Op {
                 id: id.copy()?,
             },
             Op::Noop => Op::Noop,
+            Op::Note => Op::Note,
         })
     }
 
-    /// The collection and the key of the document that the op touches. None for a no-op.
+    /// The collection and the key of the document that the op touches. None for a no-op and a note.
     pub fn touched(&self) -> Mem<Option<(&Text, IdKey)>>
         requires { IsLawfulOp self.now }
         ensures { IfOk result (λ touched. option_map (λ t. (t.0.now, t.1)) touched ≡ place_of self.now) }
@@ -153,7 +167,7 @@ impl Op {
             Op::Replace { ns, id, .. } | Op::Fields { ns, id, .. } | Op::Delete { ns, id } => (
                 ns, id,
             ),
-            Op::Noop => return Ok(None),
+            Op::Noop | Op::Note => return Ok(None),
         };
         let key = match IdKey::of(id) {
             Ok(key) => key,
@@ -183,10 +197,11 @@ impl Entry {
         Ok(Entry {
             optime: self.optime,
             op: self.op.copy()?,
+            session: self.session,
         })
     }
 
-    /// The collection and the key of the document that the entry touches. None for a no-op.
+    /// The collection and the key of the document that the entry touches. None for a no-op and a note.
     pub fn touched(&self) -> Mem<Option<(&Text, IdKey)>>
         requires { IsLawful self.now }
         ensures { IfOk result (λ touched. option_map (λ t. (t.0.now, t.1)) touched ≡ place_of self.now.op) }

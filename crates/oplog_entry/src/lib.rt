@@ -11,5 +11,5 @@ mod index;
 mod names;
 
 pub use change::with_changes;
-pub use entry::{Entry, Op, SharedOp};
+pub use entry::{Entry, Op, Session, SharedOp};
 pub use index::FieldIndex;

@@ -13,6 +13,7 @@ config_kept (records.Vote vote) = None
 config_kept (records.Config config) = Some config
 config_kept (records.Entries list point) = None
 config_kept (records.Cut at) = None
+config_kept (records.Form form) = None
 
 -- the entries that a record keeps
 abbrev pub entries_kept : Record → List Entry
@@ -20,6 +21,7 @@ entries_kept (records.Vote vote) = []
 entries_kept (records.Config config) = []
 entries_kept (records.Entries list point) = list
 entries_kept (records.Cut at) = []
+entries_kept (records.Form form) = []
 
 -- the configuration that a message carries
 abbrev pub config_carried : Body → Option Config

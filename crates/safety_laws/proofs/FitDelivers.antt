@@ -68,7 +68,7 @@ module _ (node : Node) (fit : FitNow (standing_of node)) where
       outcome_if (not (asked == node.term)) _ _ (λ other. same (standing_of node) fit) (λ here. counted why))
     where
       counted : (reason : Option VoteRefusal) → FitsOn (standing_of (vote_counted node from reason).node)
-      counted None = outcome_if (is_elected (record node { tally = with_vote node.config node.tally from })) _ _ (λ is up leads. follower_fit _ refl (fit up).stored) (λ is. same (standing_of node) fit)
+      counted None = outcome_if (is_elected (record node { tally = with_vote node.config node.tally from })) _ _ (λ is up leads. follower_fit _ refl (fit up).stored (fit up).ascends) (λ is. same (standing_of node) fit)
       counted (Some reason) = same (standing_of node) fit
 
   vote_reply_fits : (from asked : ℕ) (dry : Bool) (why : Option VoteRefusal) → FitsOn (standing_of (vote_reply_told node from asked dry why).node)
@@ -113,5 +113,5 @@ pub deliver_fits : (next : ℕ) (node : Node) (message : Message) → FitNow (st
 deliver_fits next node message fit =
     plan_up node _ fit (λ up. plan_unless node (body_refusal node message.term message.body) _ fit
     (plan_if (brings_term message.body && nat_lt node.term message.term) _ _
-    (λ is. (ended _ refl, told_fits next message.from message.term message.body _ (λ up. follower_fit _ refl (fit up).stored)))
+    (λ is. (ended _ refl, told_fits next message.from message.term message.body _ (λ up. follower_fit _ refl (fit up).stored (fit up).ascends)))
     (λ is. told_fits next message.from message.term message.body node fit)))

@@ -1,7 +1,7 @@
 -- What each row leaves of a node that leads behind it: its log is fit, where it was before.
-use Rattle.std.proofs.Common.{◌≡◌, ◌≢◌, inl, inr, ap, subst, refl, ℕ, zero, suc, Bool, true, false, nat_lt, ◌+◌, Option, None, Some, if◌then◌else◌, Result, Ok, Err, List, [], ◌∷◌}
+use Rattle.std.proofs.Common.{◌≡◌, ◌≢◌, ◌<◌, ◌&&◌, inl, inr, ap, sym, subst, refl, arith, ltb-true, ℕ, zero, suc, Bool, true, false, nat_lt, ◌+◌, Option, None, Some, if◌then◌else◌, Result, Ok, Err, List, [], ◌∷◌}
 use Rattle.std.proofs.lemmas.Bool.{and_parts, cases_Bool}
-use Rattle.std.specs.Prelude.{IfSome}
+use Rattle.std.specs.Prelude.{IfSome, nat_le}
 use Rattle.std.specs.FinMap as maps
 use Rattle.bson_doc.specs.Key.{key_of}
 use Rattle.bson_doc.specs.Tree.{Tree}
@@ -15,6 +15,8 @@ use Rattle.rs_optime.specs.declared.optime.OpTime.{OpTime}
 use Rattle.rs_optime.specs.Membership.{In}
 use Rattle.oplog_entry.specs.declared.entry.Entry.{Entry}
 use Rattle.oplog_entry.specs.declared.entry.Op.{Op}
+use Rattle.oplog_entry.specs.declared.entry.Session.{Session}
+use Rattle.oplog_entry.specs.Lawful.{IsSession}
 use Rattle.member_config.specs.declared.config.Config.{Config}
 use Rattle.member_config.specs.Numbers.{lowest}
 use Rattle.repl_msg.specs.Kept.{kept}
@@ -42,13 +44,18 @@ use Rattle.set_model.specs.Roles.{is_secondary, is_draining, is_primary, is_lead
 use Rattle.set_model.specs.Rows.{row}
 use Rattle.set_model.specs.Stores.{Plan, finished, storing, done, stored, unless_refused, if_up, vote_record, in_doubt, config_record}
 use Rattle.set_model.specs.Votes.{is_elected}
-use Rattle.set_model.specs.Write.{write, written}
+use Rattle.set_model.specs.Changes.{logged}
+use Rattle.set_model.specs.Sessions.{GoesUp}
+use Rattle.set_model.specs.Write.{write, write_in, written, retry, note}
+use Rattle.set_model.proofs.RetryLemmas.{primary_cases, retry_cases}
+use Rattle.set_model.proofs.SessionLemmas.{Ascends, ascends_last, ascends_with, past_goes_up, up_to}
+use Rattle.safety_laws.proofs.Logged.{next_entry, logged_log}
 use Rattle.set_model.specs.Writers.{begin, begun, unless_open, with_open, commit, abort}
-use Rattle.oplog_entry.specs.declared.entry.Op.TheVariants.{Noop}
+use Rattle.oplog_entry.specs.declared.entry.Op.TheVariants.{Noop, Note}
 use Rattle.oplog_store.specs.Log.{with_entry}
-use Rattle.set_model.specs.Limits.{IsSoundWrite, collection_of, is_collection, is_within, write_of}
+use Rattle.set_model.specs.Limits.{IsSoundWrite, collection_of, is_collection, is_within, is_within_session, write_of}
 use Rattle.member_config.specs.Config.{in_term}
-use Rattle.set_model.proofs.EntrySizes.{noop_within}
+use Rattle.set_model.proofs.EntrySizes.{noop_within, note_within}
 use Rattle.safety_laws.proofs.FitNodes.{AreReady, IsAdmitted, IsFit, Standing, admitted_ready, fewer_ready, follower_fit, opened_ready, standing_of, written_ready}
 use Rattle.safety_laws.proofs.Rel.{HasLog}
 use Rattle.safety_laws.proofs.Slots.{open_with, open_without}
@@ -104,22 +111,52 @@ plan_up node plan fit goes = plan_if node.up plan _ goes (λ is. same (standing_
 
 -- ---- writes
 
+numbered_session : (session : Session) → is_within_session session ≡ true → IsSession session
+numbered_session session within =
+    let both : (nat_lt session.id 4294967296 ≡ true) × ((nat_le 1 session.number && nat_lt session.number 2147483648) ≡ true) = and_parts _ _ within in
+    let number : session.number < 2147483648 = ltb-true session.number 2147483648 (and_parts (nat_le 1 session.number) (nat_lt session.number 2147483648) both.1).1 in
+    record { id = ltb-true session.id 4294967296 both.0; number = omega (arith, number) }
+
 module _ (node : Node) (fit : IsFit (standing_of node)) (log : HasLog node) where
-  write_fits : (op : WriteOp) → IsSoundWrite op → is_collection (collection_of op) ≡ true → FitsOn (standing_of (write node op).node)
-  write_fits op sound name = go node.role refl (admitted node op) refl
+  -- an entry behind the log that was ready, of which the numbers of its session go up
+  logged_fits : (op : Op) (session : Option Session) → is_primary node.role ≡ true → IsAdmitted node op session
+      → ((other : Entry) → In other node.log → GoesUp other (next_entry node op session)) → IsFit (standing_of (logged node op session))
+  logged_fits op session primary new above =
+      let both : AreStored (with_entry node.log (next_entry node op session)) × AreReady node.term (with_entry node.log (next_entry node op session)) node.writers =
+      written_ready node.term node.log node.writers (next_optime node) op session log.rises fit.stored (fit.ready primary) new.0 new.1 in
+      record {
+        stored = both.0;
+        ascends = subst (λ (l : List Entry). Ascends l) (sym (logged_log node op session log)) (ascends_last node.log (next_entry node op session) fit.ascends above);
+        ready = λ _. both.1;
+      }
+
+  write_in_fits : (session : Option Session) (op : WriteOp) → IsSoundWrite op → is_collection (collection_of op) ≡ true → IfSome session IsSession → is_primary node.role ≡ true
+      → ((logged : Op) (other : Entry) → In other node.log → GoesUp other (next_entry node logged session)) → FitsOn (standing_of (write_in node session op).node)
+  write_in_fits session op sound name numbered primary above = go (admitted node op) refl
     where
-      go : (role : Role) → node.role ≡ role → (found : Result Prepared Refusal) → admitted node op ≡ found → FitsOn (standing_of (if_primary role (written node found) (refused NotPrimary node)).node)
-      go roles.Primary role (Err why) is = λ up leads. fit
-      go roles.Primary role (Ok prepared.NoMatch) is = λ up leads. fit
-      go roles.Primary role (Ok prepared.Unchanged) is = λ up leads. fit
-      go roles.Primary role (Ok (prepared.Entry logged after)) is = λ up leads.
-          let new : IsAdmitted node logged = admitted_ready node op logged after log fit.stored sound name is in
-          let both : AreStored (with_entry node.log (record { optime = next_optime node; op = logged })) × AreReady node.term (with_entry node.log (record { optime = next_optime node; op = logged })) node.writers =
-          written_ready node.term node.log node.writers (next_optime node) logged log.rises fit.stored (fit.ready (ap is_primary role)) new.0 new.1 in
-          record { stored = both.0; ready = λ primary. both.1 }
-      go roles.Secondary role found is = λ up leads. fit
-      go roles.Candidate role found is = λ up leads. fit
-      go roles.Draining role found is = λ up leads. fit
+      go : (found : Result Prepared Refusal) → admitted node op ≡ found → FitsOn (standing_of (written node session found).node)
+      go (Err why) is = λ up leads. fit
+      go (Ok prepared.NoMatch) is = λ up leads. fit
+      go (Ok prepared.Unchanged) is = λ up leads. fit
+      go (Ok (prepared.Entry op_of after)) is = λ up leads.
+          logged_fits op_of session primary (admitted_ready node session op op_of after log fit.stored sound name numbered is) (above op_of)
+
+  write_fits : (op : WriteOp) → IsSoundWrite op → is_collection (collection_of op) ≡ true → FitsOn (standing_of (write node op).node)
+  write_fits op sound name = primary_cases (λ outcome. FitsOn (standing_of outcome.node)) node _ (λ up leads. fit)
+      (λ primary. write_in_fits None op sound name tt primary (λ logged other there. up_to other (next_entry node logged None) refl))
+
+  retry_fits : (session : Session) (op : WriteOp) → is_within_session session ≡ true → IsSoundWrite op → is_collection (collection_of op) ≡ true → FitsOn (standing_of (retry node session op).node)
+  retry_fits session op within sound name = retry_cases (λ outcome. FitsOn (standing_of outcome.node)) node session op
+      (λ why up leads. fit)
+      (λ last is same up leads. fit)
+      (λ primary past. write_in_fits (Some session) op sound name (numbered_session session within) primary
+      (λ logged. past_goes_up node.log session (next_entry node logged (Some session)) refl past))
+
+  note_fits : FitsOn (standing_of (note node).node)
+  note_fits = primary_cases (λ outcome. FitsOn (standing_of outcome.node)) node _ (λ up leads. fit)
+      (λ primary up leads. logged_fits Note None primary
+      (record { fit = (tt, note_within (next_optime node), (tt, tt)); newest = λ place here. cc here }, λ number at other there place touches. cc touches)
+      (λ other there. up_to other (next_entry node Note None) refl))
 
   begin_fits : (writer : ℕ) (op : WriteOp) → IsSoundWrite op → is_collection (collection_of op) ≡ true → FitsOn (standing_of (begin node writer op).node)
   begin_fits writer op sound name = go node.role refl (maps.get node.writers writer)
@@ -129,8 +166,8 @@ module _ (node : Node) (fit : IsFit (standing_of node)) (log : HasLog node) wher
       effect primary (Ok prepared.NoMatch) is = λ up leads. fit
       effect primary (Ok prepared.Unchanged) is = λ up leads. fit
       effect primary (Ok (prepared.Entry logged after)) is = λ up leads.
-          let new : IsAdmitted node logged = admitted_ready node op logged after log fit.stored sound name is in
-          record { stored = fit.stored; ready = λ _. opened_ready node.term node.log node.writers writer (next_optime node) logged (fit.ready primary) new.0 new.1 }
+          let new : IsAdmitted node logged None = admitted_ready node None op logged after log fit.stored sound name tt is in
+          record { stored = fit.stored; ascends = fit.ascends; ready = λ _. opened_ready node.term node.log node.writers writer (next_optime node) logged (fit.ready primary) new.0 new.1 }
 
       go : (role : Role) → node.role ≡ role → (found : Option Writer) → FitsOn (standing_of (if_primary role (unless_open node found (begun node writer (admitted node op))) (refused NotPrimary node)).node)
       go roles.Primary role (Some (writers.Open at entry)) = λ up leads. fit
@@ -157,13 +194,13 @@ module _ (node : Node) (fit : IsFit (standing_of node)) (log : HasLog node) wher
   commit_fits : (writer : ℕ) → FitsOn (standing_of (commit node writer).node)
   commit_fits writer = with_open_fits (maps.get node.writers writer) _ (λ at op is up leads.
       let ready : AreReady node.term node.log node.writers = fit.ready (open_primary writer at op is) in
-      let both : AreStored (with_entry node.log (record { optime = at; op = op })) × AreReady node.term (with_entry node.log (record { optime = at; op = op })) (maps.insert node.writers writer (writers.Done at)) =
-      written_ready node.term node.log (maps.insert node.writers writer (writers.Done at)) at op log.rises fit.stored
+      let both : AreStored (with_entry node.log (record { optime = at; op = op; session = None })) × AreReady node.term (with_entry node.log (record { optime = at; op = op; session = None })) (maps.insert node.writers writer (writers.Done at)) =
+      written_ready node.term node.log (maps.insert node.writers writer (writers.Done at)) at op None log.rises fit.stored
       (fewer_ready node.term node.log node.writers (maps.insert node.writers writer (writers.Done at)) ready (λ number by other there. (still writer at number by other there).1))
       (ready.open_ops writer at op is)
       (λ number by other there place touches touches_too.
       (still writer at number by other there).0 (ready.alone number writer by at other op place (still writer at number by other there).1 is touches_too touches)) in
-      record { stored = both.0; ready = λ _. both.1 })
+      record { stored = both.0; ascends = ascends_with node.log (record { optime = at; op = op; session = None }) refl fit.ascends; ready = λ _. both.1 })
     where
       still : (writer : ℕ) (at : OpTime) (number : ℕ) (by : OpTime) (other : Op) → maps.get (maps.insert node.writers writer (writers.Done at)) number ≡ Some (writers.Open by other)
           → (number ≢ writer) × (maps.get node.writers number ≡ Some (writers.Open by other))
@@ -175,6 +212,7 @@ module _ (node : Node) (fit : IsFit (standing_of node)) (log : HasLog node) wher
   abort_fits : (writer : ℕ) → FitsOn (standing_of (abort node writer).node)
   abort_fits writer = with_open_fits (maps.get node.writers writer) _ (λ at op is up leads. record {
     stored = fit.stored;
+    ascends = fit.ascends;
     ready = λ primary. fewer_ready node.term node.log node.writers (maps.remove node.writers writer) (fit.ready primary) (λ number by other there. (open_without node.writers writer number by other there).1);
   })
 
@@ -194,13 +232,13 @@ module _ (node : Node) (fit : IsFit (standing_of node)) (log : HasLog node) wher
         alone = λ one two at by op other place there there_too touches touches_too. absurd (cc (open_primary one at op there, not_primary is));
       }
 
-      begun_fit : is_draining node.role ≡ true → IsFit (record { up = node.up; role = roles.Primary; term = node.term; log = with_entry node.log (record { optime = next_optime node; op = Noop }); writers = node.writers })
+      begun_fit : is_draining node.role ≡ true → IsFit (record { up = node.up; role = roles.Primary; term = node.term; log = with_entry node.log (record { optime = next_optime node; op = Noop; session = None }); writers = node.writers })
       begun_fit is =
-          let both : AreStored (with_entry node.log (record { optime = next_optime node; op = Noop })) × AreReady node.term (with_entry node.log (record { optime = next_optime node; op = Noop })) node.writers =
-          written_ready node.term node.log node.writers (next_optime node) Noop log.rises fit.stored (ready is)
-          (record { fit = (tt, noop_within (next_optime node)); newest = λ place here. cc here })
+          let both : AreStored (with_entry node.log (record { optime = next_optime node; op = Noop; session = None })) × AreReady node.term (with_entry node.log (record { optime = next_optime node; op = Noop; session = None })) node.writers =
+          written_ready node.term node.log node.writers (next_optime node) Noop None log.rises fit.stored (ready is)
+          (record { fit = (tt, noop_within (next_optime node), (tt, tt)); newest = λ place here. cc here })
           (λ number at other there place touches. cc touches) in
-          record { stored = both.0; ready = λ _. both.1 }
+          record { stored = both.0; ascends = ascends_with node.log (record { optime = next_optime node; op = Noop; session = None }) refl fit.ascends; ready = λ _. both.1 }
 
 -- ---- what is asked
 
@@ -236,7 +274,7 @@ module _ (node : Node) (fit : FitNow (standing_of node)) where
   campaign_fits next = plan_unless node (candidate_refusal node) _ fit (
     ended (standing_of (in_doubt node (vote_record (node.term + 1) (Some node.number)))) refl,
     outcome_if (is_elected (candidate (stored node (vote_record (node.term + 1) (Some node.number))))) _ _
-        (λ is up leads. follower_fit _ refl (fit up).stored) (λ is. follows _ refl),
+        (λ is up leads. follower_fit _ refl (fit up).stored (fit up).ascends) (λ is. follows _ refl),
   )
 
   dry_run_fits : (next : ℕ) → FitOn (dry_run next node)
@@ -298,6 +336,8 @@ row_fits nodes next there node (Command.Insert number collection document) fit l
 row_fits nodes next there node (Command.Replace number collection id document) fit log fresh within sound = plan_up node _ fit (λ up. write_fits node (fit up) (log up) (ops.Replace collection id document) sound within)
 row_fits nodes next there node (Command.Update number collection id operators) fit log fresh within sound = plan_up node _ fit (λ up. write_fits node (fit up) (log up) (ops.Update collection id operators) sound within)
 row_fits nodes next there node (Command.Delete number collection id) fit log fresh within sound = plan_up node _ fit (λ up. write_fits node (fit up) (log up) (ops.Delete collection id) sound within)
+row_fits nodes next there node (Command.Retry number session op) fit log fresh within sound = plan_up node _ fit (λ up. retry_fits node (fit up) (log up) session op (and_parts (is_within_session session) (is_collection (collection_of op)) within).0 sound (and_parts (is_within_session session) (is_collection (collection_of op)) within).1)
+row_fits nodes next there node (Command.Note number) fit log fresh within sound = plan_up node _ fit (λ up. note_fits node (fit up) (log up))
 row_fits nodes next there node (Command.Begin number writer op) fit log fresh within sound = plan_up node _ fit (λ up. begin_fits node (fit up) (log up) writer op sound (and_parts (nat_lt writer 1000) (is_collection (collection_of op)) within).1)
 row_fits nodes next there node (Command.Commit number writer) fit log fresh within sound = plan_up node _ fit (λ up. commit_fits node (fit up) (log up) writer)
 row_fits nodes next there node (Command.Abort number writer) fit log fresh within sound = plan_up node _ fit (λ up. abort_fits node (fit up) (log up) writer)

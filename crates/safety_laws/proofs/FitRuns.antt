@@ -17,6 +17,7 @@ use Rattle.set_model.specs.Roles.{is_draining, is_leading, is_primary}
 use Rattle.set_model.specs.Run.{Sizes, AreSizes, opening, world_at}
 use Rattle.set_model.specs.Safety as safety
 use Rattle.set_model.specs.Stores.{Plan, done}
+use Rattle.set_model.proofs.SessionLemmas.{Ascends, ascends_left}
 use Rattle.set_model.specs.World.{World, Task, acts, takes, nothing, task, touched_node, plan_of, by_plan, with_outcome, step}
 use Rattle.commit_machine.specs.Nodes.{Snapshot, State, Was}
 use Rattle.commit_machine.specs.Words.{Has}
@@ -31,7 +32,7 @@ use Rattle.safety_laws.proofs.Opening.{get_from}
 use Rattle.safety_laws.proofs.Places.{get_set_same, get_set_other}
 use Rattle.safety_laws.proofs.Rel.{Rel, IsUp, role_of, snapshot_of}
 use Rattle.safety_laws.proofs.Replies.{AreFit}
-use Rattle.safety_laws.proofs.Runs.{along_of, had_of, kept_of, state_of, up_of}
+use Rattle.safety_laws.proofs.Runs.{along_of, had_of, kept_of, rel_of, state_of, up_of}
 use Rattle.safety_laws.proofs.Steps.{draining_is, in_has, not_leading}
 use Rattle.safety_laws.proofs.StoredLogs.{AreStored, none_too_large, stored_front}
 use Rattle.safety_laws.proofs.Visibles.{visible_unless_primary}
@@ -68,6 +69,12 @@ front_stored worlds front led (inl none) = subst (λ (l : List Entry). AreStored
 front_stored worlds front led (inr begun) =
     stored_front front begun.node.log begun.begins (led begun.world begun.among begun.number begun.node begun.leads.there begun.leads.up begun.leads.leads).stored
 
+front_ascends : (worlds : List World) (front : List Entry) → LedFit worlds → IsFront worlds front → Ascends front
+front_ascends worlds front led (inl none) = subst (λ (l : List Entry). Ascends l) (sym none) tt
+front_ascends worlds front led (inr begun) =
+    ascends_left front begun.begins.0 (subst (λ (l : List Entry). Ascends l) begun.begins.1
+    (led begun.world begun.among begun.number begun.node begun.leads.there begun.leads.up begun.leads.leads).ascends)
+
 -- and so is each node that is up, in the last of them
 now_fit : (past : List World) (world : World) (state : State) → Rel world state → AreLedFit past world state → (number : ℕ) (node : Node) → slice_get world.nodes number ≡ Some node → FitNow (standing_of node)
 now_fit past world state rel fits number node there up = elim (cases_Bool (is_leading node.role)) [
@@ -75,6 +82,8 @@ now_fit past world state rel fits number node there up = elim (cases_Bool (is_le
   | inr none ↦ follower_fit (standing_of node) (not_leading node.role none)
       (subst (λ (l : List Entry). AreStored l) (visible_unless_primary node (up_is world state rel number node there up).1.log (not_leading node.role none))
       (front_stored (world ∷ past) (visible_log node) fits.led (fits.fronts number (snapshot_of node) (was_is world state rel number node there up))))
+      (subst (λ (l : List Entry). Ascends l) (visible_unless_primary node (up_is world state rel number node there up).1.log (not_leading node.role none))
+      (front_ascends (world ∷ past) (visible_log node) fits.led (fits.fronts number (snapshot_of node) (was_is world state rel number node there up))))
 ]
 
 -- ---- one event
@@ -141,11 +150,17 @@ module _ (rows_tied : RowsTied) (deliveries_tied : DeliveriesTied) (sizes : Size
   leader_fit : (j m term : ℕ) (leader : Node) → safety.Leads sizes events j m term leader → IsFit (standing_of leader)
   leader_fit j m term leader leads = (led_at j).led (world_at sizes events j) (inl refl) m leader leads.at.there leads.at.up leads.role
 
+  -- the log of each node that is up is fit
+  pub fit_at : (place number : ℕ) (node : Node) → safety.IsAt sizes events place number node → IsFit (standing_of node)
+  fit_at place number node at =
+      now_fit (worlds_before (opening sizes) [] events place) (world_at sizes events place) (state_of rows_tied deliveries_tied sizes events are is place)
+      (rel_of rows_tied deliveries_tied sizes events are is place) (led_at place) number node at.there at.up
+
   pub fit_run : AreFit rows_tied deliveries_tied sizes events are is
   fit_run = record {
     ops = λ j m term leader leads entry there same.
         let fit : IsFitEntry entry = own_fit j m term leader leads entry there same in
-        (fit.0, record { bytes = fit.1.0; levels = fit.1.1 });
+        (fit.0, record { bytes = fit.1.0; levels = fit.1.1 }, fit.2);
     documents = λ j m term leader leads front begins. none_too_large front (stored_front front leader.log begins (leader_fit j m term leader leads).stored);
   }
     where

@@ -77,6 +77,7 @@ FineRecord nodes time (records.Vote vote) = IfSome vote.candidate (λ candidate.
 FineRecord nodes time (records.Config config) = IsLawfulConfig nodes config
 FineRecord nodes time (records.Entries list point) = AreTimely time list
 FineRecord nodes time (records.Cut at) = ⊤
+FineRecord nodes time (records.Form form) = ⊤
 
 abbrev pub FineStore : ℕ → ℕ → Store → Type 0
 FineStore nodes time (stores.Record item) = FineRecord nodes time item
@@ -184,10 +185,10 @@ opened_times time seen later log open_ones writer at op has within new = record 
 }
 
 pub settled_times : (time seen : ℕ) (log : List Entry) (open_ones : maps.FinMap nat_cmp Writer) (writer : ℕ) (at : OpTime) (op : Op) → HasTimes time seen log open_ones
-    → at.ts ≤ time → HasTimes time seen (with_entry log (record { optime = at; op = op })) (maps.insert open_ones writer (writers.Done at))
+    → at.ts ≤ time → HasTimes time seen (with_entry log (record { optime = at; op = op; session = None })) (maps.insert open_ones writer (writers.Done at))
 settled_times time seen log open_ones writer at op has new = record {
   seen_most = has.seen_most;
-  timely = with_timely time log (record { optime = at; op = op }) has.timely new;
+  timely = with_timely time log (record { optime = at; op = op; session = None }) has.timely new;
   slots = λ number by other there. elim (open_with open_ones writer number (writers.Done at) by other there) [
     | inl same ↦ absurd (cc same.1)
     | inr before ↦ has.slots number by other before.1
@@ -334,6 +335,7 @@ kept_with nodes time found (records.Entries list point) fine new = record {
   timely = λ entry there. elim (in_entries entry found.entries list there) [ inl before ↦ fine.timely entry before | inr added ↦ new entry added ];
 }
 kept_with nodes time found (records.Cut at) fine new = record { voted = fine.voted; config = fine.config; timely = filter_timely time _ found.entries fine.timely }
+kept_with nodes time found (records.Form form) fine new = record { voted = fine.voted; config = fine.config; timely = fine.timely }
 
 kept_from : (nodes time : ℕ) (found : Kept) (items : List Record) → FineKept nodes time found → ((item : Record) → In item items → FineRecord nodes time item)
     → FineKept nodes time (fold with_record found items)

@@ -19,7 +19,8 @@ use Rattle.rs_optime.proofs.MembershipLemmas.{in_filter, length-passed}
 use Rattle.oplog_entry.specs.Visible.{last_of}
 use Rattle.oplog_entry.specs.declared.entry.Entry.{Entry}
 use Rattle.oplog_entry.specs.declared.entry.Op.{Op}
-use Rattle.oplog_entry.specs.declared.entry.Op.TheVariants.{Noop}
+use Rattle.oplog_entry.specs.declared.entry.Session.{Session}
+use Rattle.oplog_entry.specs.declared.entry.Op.TheVariants.{Noop, Note}
 use Rattle.member_config.specs.declared.config.Config.{Config}
 use Rattle.member_config.specs.Config.{in_term}
 use Rattle.member_config.specs.Numbers.{lowest}
@@ -37,6 +38,8 @@ use Rattle.set_model.specs.declared.command.ReadLevel.{ReadLevel}
 use Rattle.set_model.specs.declared.command.Target.{Target}
 use Rattle.set_model.specs.declared.reply.Refusal.{Refusal}
 use Rattle.set_model.specs.declared.reply.Refusal.TheVariants.{NotPrimary}
+use Rattle.set_model.specs.declared.reply.Reply.{Reply}
+use Rattle.set_model.specs.declared.reply.Reply.TheVariants as reply
 use Rattle.set_model.specs.declared.role.Role.{Role}
 use Rattle.set_model.specs.declared.role.Role.TheVariants as roles
 use Rattle.set_model.specs.declared.store.Store.{Store}
@@ -50,7 +53,7 @@ use Rattle.set_model.specs.Elections.{campaign, candidate, candidate_refusal, dr
 use Rattle.set_model.specs.Fetching.{fetch, fetch_from, sources}
 use Rattle.set_model.specs.Limits.{is_for}
 use Rattle.set_model.specs.Node.{Node}
-use Rattle.set_model.specs.Outcome.{Outcome, refused, message_to}
+use Rattle.set_model.specs.Outcome.{Outcome, refused, replied, message_to}
 use Rattle.set_model.specs.Points.{if_primary, next_optime, same_optime}
 use Rattle.set_model.specs.Reads.{read, read_key}
 use Rattle.set_model.specs.Reconfig.{reconfig, reconfig_refusal, change_refusal, unknown_member, unless_unknown, unless_broken}
@@ -59,7 +62,9 @@ use Rattle.set_model.specs.Rollback.{cut_record}
 use Rattle.set_model.specs.Rows.{row}
 use Rattle.set_model.specs.Stores.{Plan, stored, unless_refused, if_up, vote_record, config_record}
 use Rattle.set_model.specs.Votes.{asks, ask_of, other_voters, is_elected}
-use Rattle.set_model.specs.Write.{write, written}
+use Rattle.set_model.specs.Changes.{logged}
+use Rattle.set_model.specs.Write.{write, written, retry, note}
+use Rattle.set_model.proofs.RetryLemmas.{primary_cases, retry_cases}
 use Rattle.set_model.specs.Writers.{begin, begun, unless_open, with_open, commit, abort}
 use Rattle.safety_laws.specs.Bounds.{IsLawfulConfig}
 use Rattle.safety_laws.proofs.Reconfigs.{none_broken}
@@ -103,18 +108,25 @@ number_known l node ok = let same : node.number ≡ l.place = ok.1.number_is in 
 -- ---- rows
 
 module _ (l : Limits) (node : Node) (ok : NodeFine l node) where
+  logged_fine : (answer : Reply) (op : Op) (session : Option Session) → RoomFor l node → FineOutcome l (replied answer (logged node op session))
+  logged_fine answer op session room =
+      quiet l _ _ (logged_times l.time node.seen (next_optime node).ts node.log node.writers (record { optime = next_optime node; op = op; session = session }) ok.0 room.next room.next, ok.1, ok.2, ok.3)
+
+  written_fine : (session : Option Session) → RoomFor l node → (found : Result Prepared Refusal) → FineOutcome l (written node session found)
+  written_fine session room (Err why) = quiet l _ node ok
+  written_fine session room (Ok prepared.NoMatch) = quiet l _ node ok
+  written_fine session room (Ok prepared.Unchanged) = quiet l _ node ok
+  written_fine session room (Ok (prepared.Entry entry after)) = logged_fine (reply.Written (next_optime node)) entry session room
+
   write_fine : (op : WriteOp) → RoomFor l node → FineOutcome l (write node op)
-  write_fine op room = go node.role (admitted node op)
-    where
-      go : (role : Role) (found : Result Prepared Refusal) → FineOutcome l (if_primary role (written node found) (refused NotPrimary node))
-      go roles.Primary (Err why) = quiet l _ node ok
-      go roles.Primary (Ok prepared.NoMatch) = quiet l _ node ok
-      go roles.Primary (Ok prepared.Unchanged) = quiet l _ node ok
-      go roles.Primary (Ok (prepared.Entry entry after)) =
-          quiet l _ _ (logged_times l.time node.seen (next_optime node).ts node.log node.writers (record { optime = next_optime node; op = entry }) ok.0 room.next room.next, ok.1, ok.2, ok.3)
-      go roles.Secondary found = quiet l _ node ok
-      go roles.Candidate found = quiet l _ node ok
-      go roles.Draining found = quiet l _ node ok
+  write_fine op room = primary_cases (FineOutcome l) node _ (quiet l _ node ok) (λ primary. written_fine None room (admitted node op))
+
+  retry_fine : (session : Session) (op : WriteOp) → RoomFor l node → FineOutcome l (retry node session op)
+  retry_fine session op room = retry_cases (FineOutcome l) node session op (λ why. quiet l _ node ok) (λ last is same. quiet l _ node ok)
+      (λ primary past. written_fine (Some session) room (admitted node op))
+
+  note_fine : RoomFor l node → FineOutcome l (note node)
+  note_fine room = primary_cases (FineOutcome l) node _ (quiet l _ node ok) (λ primary. logged_fine (reply.Written (next_optime node)) Note None room)
 
   begin_fine : (writer : ℕ) (op : WriteOp) → RoomFor l node → FineOutcome l (begin node writer op)
   begin_fine writer op room = go node.role (maps.get node.writers writer)
@@ -230,7 +242,7 @@ module _ (l : Limits) (node : Node) (ok : NodeFine l node) (room : RoomFor l nod
         doubt_fine l node (config_record (in_term node.config node.term)) ok config,
         let kept_more : NodeFine l (stored node (config_record (in_term node.config node.term))) = stored_fine l node (config_record (in_term node.config node.term)) ok config (one_more l node room) in
             quiet l _ _ (
-              logged_times l.time node.seen (next_optime node).ts node.log node.writers (record { optime = next_optime node; op = Noop }) ok.0 room.next room.next,
+              logged_times l.time node.seen (next_optime node).ts node.log node.writers (record { optime = next_optime node; op = Noop; session = None }) ok.0 room.next room.next,
               record { number_is = ok.1.number_is; known = ok.1.known; voted = ok.1.voted; config_fine = config; first_fine = ok.1.first_fine },
               kept_more.2,
               kept_more.3,
@@ -360,6 +372,8 @@ row_fine l next there node (Command.Insert number collection document) ok room f
 row_fine l next there node (Command.Replace number collection id document) ok room fits = plan_up l node _ ok (write_fine l node ok (ops.Replace collection id document) room)
 row_fine l next there node (Command.Update number collection id operators) ok room fits = plan_up l node _ ok (write_fine l node ok (ops.Update collection id operators) room)
 row_fine l next there node (Command.Delete number collection id) ok room fits = plan_up l node _ ok (write_fine l node ok (ops.Delete collection id) room)
+row_fine l next there node (Command.Retry number session op) ok room fits = plan_up l node _ ok (retry_fine l node ok session op room)
+row_fine l next there node (Command.Note number) ok room fits = plan_up l node _ ok (note_fine l node ok room)
 row_fine l next there node (Command.Begin number writer op) ok room fits = plan_up l node _ ok (begin_fine l node ok writer op room)
 row_fine l next there node (Command.Commit number writer) ok room fits = plan_up l node _ ok (commit_fine l node ok writer)
 row_fine l next there node (Command.Abort number writer) ok room fits = plan_up l node _ ok (abort_fine l node ok writer)

@@ -41,7 +41,7 @@ use Rattle.safety_laws.proofs.TermBounds.{asked_term, termed_at, sent_in}
 -- ---- the limits behind so many events
 
 abbrev limits : ℕ → ℕ → ℕ → Limits
-limits nodes events place = record { nodes = nodes; place = place; time = last_timestamp events; rollbacks = events; records = 2 * events }
+limits nodes events place = record { nodes = nodes; place = place; time = last_timestamp events; rollbacks = events; records = 2 * events + 1 }
 
 record IsFineWorld (nodes events : ℕ) (world : World) : Type 0 where
   count : length world.nodes ≡ nodes
@@ -57,6 +57,7 @@ record_more nodes events (records.Vote vote) fine = fine
 record_more nodes events (records.Config config) fine = fine
 record_more nodes events (records.Entries list point) fine = timely_more events list fine
 record_more nodes events (records.Cut at) fine = tt
+record_more nodes events (records.Form form) fine = tt
 
 doubt_more : (nodes events : ℕ) (doubt : Option Store) → IfSome doubt (FineStore nodes (last_timestamp events)) → IfSome doubt (FineStore nodes (last_timestamp (suc events)))
 doubt_more nodes events None fine = tt
@@ -75,7 +76,7 @@ node_more nodes events place node ok = (
   record {
     clock_most = ok.3.clock_most;
     rollback_most = let within : node.rollback ≤ events = ok.3.rollback_most in omega (arith, within);
-    records_most = let within : length node.records ≤ 2 * events = ok.3.records_most in omega (arith, within);
+    records_most = let within : length node.records ≤ 2 * events + 1 = ok.3.records_most in omega (arith, within);
   },
 )
 
@@ -84,7 +85,7 @@ room_of : (nodes events place : ℕ) (node : Node) → NodeFine (limits nodes ev
 room_of nodes events place node ok = record {
   next = at_most node.clock node.seen ok.3.clock_most ok.0.seen_most;
   rollbacks = let within : node.rollback ≤ events = ok.3.rollback_most in omega (arith, within);
-  records = let within : length node.records ≤ 2 * events = ok.3.records_most in omega (arith, within);
+  records = let within : length node.records ≤ 2 * events + 1 = ok.3.records_most in omega (arith, within);
 }
   where
     at_most : (clock seen : ℕ) → clock < 2147483648 → seen ≤ last_timestamp events → timestamp_after clock seen ≤ last_timestamp (suc events)
@@ -241,7 +242,7 @@ opening_fine : (nodes place : ℕ) (first : Config) → place < nodes → IsLawf
 opening_fine nodes place first less fine = (
   closed_times (last_timestamp 0) 0 [] (omega arith) (λ entry there. absurd there),
   record { number_is = refl; known = less; voted = tt; config_fine = fine; first_fine = fine },
-  record { each = λ item there. absurd there; doubted = tt },
+  record { each = λ item there. elim there [ inl same ↦ subst (λ (r : Record). FineRecord nodes (last_timestamp 0) r) same tt | inr none ↦ absurd none ]; doubted = tt },
   record { clock_most = omega arith; rollback_most = omega arith; records_most = omega arith },
 )
 
@@ -269,12 +270,14 @@ kept_timed nodes events (records.Vote vote) fine = timed_of events [] (λ entry 
 kept_timed nodes events (records.Config config) fine = timed_of events [] (λ entry there. absurd there)
 kept_timed nodes events (records.Entries list point) fine = timed_of events list fine
 kept_timed nodes events (records.Cut at) fine = timed_of events [] (λ entry there. absurd there)
+kept_timed nodes events (records.Form form) fine = timed_of events [] (λ entry there. absurd there)
 
 kept_lawful : (nodes time : ℕ) (item : Record) → FineRecord nodes time item → IfSome (config_kept item) (IsLawfulConfig nodes)
 kept_lawful nodes time (records.Vote vote) fine = tt
 kept_lawful nodes time (records.Config config) fine = fine
 kept_lawful nodes time (records.Entries list point) fine = tt
 kept_lawful nodes time (records.Cut at) fine = tt
+kept_lawful nodes time (records.Form form) fine = tt
 
 asked_small : (events : ℕ) (body : Body) → asked_term body ≤ events → IfSome (term_asked body) (λ asked. asked ≤ events)
 asked_small events (bodies.Fetch base) within = tt

@@ -30,7 +30,7 @@ pub record IsSmallNode (nodes events place : ℕ) (node : Node) : Type 0 where
   pub clock : node.clock < 2147483648
   pub seen : node.seen ≤ last_timestamp events
   pub log : AreTimed events node.log
-  pub records : length node.records ≤ 2 * events
+  pub records : length node.records ≤ 2 * events + 1
   pub kept : All (λ record_. AreTimed events (entries_kept record_)) node.records
 
 pub record IsSmallMessage (nodes events : ℕ) (message : Message) : Type 0 where
@@ -40,8 +40,8 @@ pub record IsSmallMessage (nodes events : ℕ) (message : Message) : Type 0 wher
   pub asked : IfSome (term_asked message.body) (λ asked. asked ≤ events)
   pub entries : AreTimed events (entries_carried message.body)
 
--- After n events terms and rollback ids are at most n, a journal has at most 2n records, there are at most 7n
--- messages, and no timestamp is later than clocks and n events can make it.
+-- After n events terms and rollback ids are at most n, a journal has at most 2n + 1 records, there are at
+-- most 7n messages, and no timestamp is later than clocks and n events can make it.
 pub record NumbersStaySmall (sizes : Sizes) (events : List Event) : Type 0 where
   pub count : (place : ℕ) → length (world_at sizes events place).nodes ≡ sizes.nodes
   pub nodes :
