@@ -11,7 +11,8 @@ use Rattle.oplog_entry.specs.Visible.{ZERO, last_of}
 use Rattle.repl_msg.specs.Kept.{kept, with_record}
 use Rattle.repl_msg.specs.declared.record.Kept.{Kept}
 use Rattle.repl_msg.specs.declared.record.Record.{Record}
-use Rattle.node_journal.specs.Files.{HasJournal, IsJournalDisk, IsOneOf as IsOneJournal}
+use Rattle.node_journal.specs.Files.{HasJournal, IsJournalDisk, IsOneOfRenewed}
+use Rattle.node_journal.specs.Renewed.{renewed}
 use Rattle.node_journal.proofs.DiskLemmas.{rest_only}
 use Rattle.checkpoint_store.specs.Checkpoint.{no_stable}
 use Rattle.checkpoint_store.specs.Files.{HasCheckpoint, IsCheckpointDisk, IsBeforeOrAfter, IsOneOf as IsOneCheckpoint}
@@ -21,7 +22,7 @@ use Rattle.initial_sync.specs.Copies.{AreCopyDisks, Copy, IsOf, IsPartOrWhole, I
 use Rattle.initial_sync.specs.Missing.{HasFront, missing}
 use Rattle.initial_sync.specs.Moments.{BesideCheckpoints, BesideJournal, EachMomentOfBoth, IsBeforeOrBehind}
 use Rattle.initial_sync.specs.Runs.{Fills, IsFound, OpensBoth}
-use Rattle.initial_sync.proofs.PartLemmas.{IsBase, come_to, come_whole, gives, moved, part_or_whole}
+use Rattle.initial_sync.proofs.PartLemmas.{IsBase, come_to, come_whole, gives, missing_renewed, moved, part_or_whole}
 
 -- ---- disks that a copy can use
 
@@ -60,9 +61,9 @@ at_the_end P j j' c c' moments = λ x left y here. moments.writes_checkpoints.no
 
 -- ---- what is left of disks of a copy
 
-pub of_before : (j c : State) (own copy : Copy) → LeaveBoth (IsPartOrWhole own) j.file c.file → (x y : List ℕ) → IsOneJournal j x → IsOneCheckpoint c y → IsPartOrWhole own x y
+pub of_before : (j c : State) (own copy : Copy) → LeaveBoth (IsPartOrWhole own) j.file c.file → (x y : List ℕ) → IsOneOfRenewed j x → IsOneCheckpoint c y → IsPartOrWhole own x y
 of_before j c own copy leave x y one two =
-    moved own one.2.0 x two.2.0 y one.0 two.0 one.2.2 one.1 two.2.2 two.1 (leave one.2.0 one.2.1 two.2.0 two.2.1)
+    moved own one.1.0 x two.2.0 y one.0 two.0 one.1.2 one.2 two.2.2 two.1 (leave one.1.0 one.1.1 two.2.0 two.2.1)
 
 pub law : (j j' c c' : State) (copy : Copy) → EachMomentOfBoth (IsBeforeOrBehind j c copy) j j' c c' → LeaveBoth (IsPartOrWhole copy) j.file c.file → EachMomentOfBoth (IsPartOrWhole copy) j j' c c'
 law j j' c c' copy moments leave =
@@ -75,8 +76,8 @@ copy_disks j j' c c' copy above are moments = record {
       (λ before.
       let one = before.0 in
       let two = before.1 in
-      let of = are.leave one.2.0 one.2.1 two.2.0 two.2.1 in
-      (of.0, of.1, moved of.0 one.2.0 x two.2.0 y one.0 two.0 one.2.2 one.1 two.2.2 two.1 of.2))
+      let of = are.leave one.1.0 one.1.1 two.2.0 two.2.1 in
+      (of.0, of.1, moved of.0 one.1.0 x two.2.0 y one.0 two.0 one.1.2 one.2 two.2.2 two.1 of.2))
       (λ behind. (copy, above, behind.0))
       (at_the_end (IsBeforeOrBehind j c copy) j j' c c' moments x left y here);
 }
@@ -85,7 +86,7 @@ copy_disks j j' c c' copy above are moments = record {
 
 module _ (j j1 c c1 : State) (copy : Copy) (disk : IsCheckpointDisk c) (opens : OpensBoth j j1 c c1) where
   opens_first : EachMoment (BesideCheckpoints (IsBeforeOrBehind j c copy) c.file) j j1
-  opens_first = weakens (IsOneJournal j) (BesideCheckpoints (IsBeforeOrBehind j c copy) c.file) (λ x one y left. inl (one, one_checkpoint c disk y left)) j j1 opens.journal
+  opens_first = weakens (IsOneOfRenewed j) (BesideCheckpoints (IsBeforeOrBehind j c copy) c.file) (λ x one y left. inl (one, one_checkpoint c disk y left)) j j1 opens.journal
 
   opens_then : EachMoment (BesideJournal (IsBeforeOrBehind j c copy) j1.file) c c1
   opens_then = weakens (IsOneCheckpoint c) (BesideJournal (IsBeforeOrBehind j c copy) j1.file) (λ y one x left. inl (opens.journal.now x left, one)) c c1 opens.checkpoints
@@ -102,37 +103,46 @@ module _ (j j1 c c1 : State) (copy : Copy) (disk : IsCheckpointDisk c) (opens : 
   }
 
   module _ (found : Kept) (stable : Stable) (is : IsFound found stable j j1 c c1) (base : IsBase copy found stable) (order : AllPairs StandsBefore copy.entries) where
+    abbrev items : List Record
+    items = renewed is.items
+
+    missing_is : missing copy found ≡ missing copy (kept is.items)
+    missing_is = ap (missing copy) is.kept_is ∙ missing_renewed copy is.items
+
     split_as : (f g : List Record) → missing copy (kept is.items) ≡ f ++ g → missing copy found ≡ f ++ g
-    split_as f g split = ap (missing copy) is.kept_is ∙ split
+    split_as f g split = missing_is ∙ split
 
     shows : LeavesOnly (λ y. HasCheckpoint y stable) c1.file
     shows = rest_has c1 stable is.checkpoints
 
     -- the first of the missing records beside the checkpoint that was found
-    beside_found : (x y : List ℕ) → HasFront is.items (missing copy (kept is.items)) x → HasCheckpoint y stable → IsBeforeOrBehind j c copy x y
+    beside_found : (x y : List ℕ) → HasFront items (missing copy (kept is.items)) x → HasCheckpoint y stable → IsBeforeOrBehind j c copy x y
     beside_found x y (f, g, split, has) here = ⊎_elim
         (λ none.
-        let same : HasJournal x is.items = subst (HasJournal x) (ap (λ (l : List Record). is.items ++ l) none ∙ append-nil is.items) has in
-        inl ((is.items, same, (contents j.file, read_is_image j.file, is.records)), (stable, here, (contents c.file, read_is_image c.file, is.documents))))
-        (λ come. inr (part_or_whole copy found stable is.items f x y base is.kept_is come has here, (is.items, is.records, (f, g, split, has))))
+        let same : HasJournal x items = subst (HasJournal x) (ap (λ (l : List Record). items ++ l) none ∙ append-nil items) has in
+        inl ((is.items, (contents j.file, read_is_image j.file, is.records), inr same), (stable, here, (contents c.file, read_is_image c.file, is.documents))))
+        (λ come. inr (part_or_whole copy found stable items f x y base is.kept_is come has here, (is.items, is.records, (f, g, split, has))))
         (come_to copy found base.is base.begins order f g (split_as f g split))
 
-    all_of : (x : List ℕ) → HasJournal x (is.items ++ missing copy (kept is.items)) → HasFront is.items (missing copy (kept is.items)) x
+    all_of : (x : List ℕ) → HasJournal x (items ++ missing copy (kept is.items)) → HasFront items (missing copy (kept is.items)) x
     all_of x has = (missing copy (kept is.items), [], sym (append-nil (missing copy (kept is.items))), has)
 
     whole_journal : IsOf copy.term copy.entries (fold with_record found (missing copy (kept is.items)))
-    whole_journal = come_whole copy found base.is base.begins order is.items (missing copy (kept is.items)) (ap (missing copy) is.kept_is)
+    whole_journal = come_whole copy found base.is base.begins order items (missing copy (kept is.items)) missing_is
 
     -- all of them beside the documents
-    pub whole_now : (x y : List ℕ) → HasJournal x (is.items ++ missing copy (kept is.items)) → HasCheckpoint y (documents_of copy.entries) → IsWhole copy x y
+    pub whole_now : (x y : List ℕ) → HasJournal x (items ++ missing copy (kept is.items)) → HasCheckpoint y (documents_of copy.entries) → IsWhole copy x y
     whole_now x y has here =
-        record { log = gives copy.term copy.entries is.items (missing copy (kept is.items)) found x is.kept_is whole_journal has; documents = here }
+        record { log = gives copy.term copy.entries items (missing copy (kept is.items)) found x is.kept_is whole_journal has; documents = here }
 
-    module _ {Done : Type 0} (j' c' : State) (fills : Fills copy is.items stable Done j1 j' c1 c') where
+    module _ {Done : Type 0} (j' c' : State) (fills : Fills copy items stable Done j1 j' c1 c') where
+      adds : EachMoment (HasFront items (missing copy (kept is.items))) j1 j'
+      adds = subst (λ (l : List Record). EachMoment (HasFront items l) j1 j') (missing_renewed copy is.items) fills.adds
+
       writes_first : EachMoment (BesideCheckpoints (IsBeforeOrBehind j c copy) c1.file) j1 j'
       writes_first =
-          weakens (HasFront is.items (missing copy (kept is.items))) (BesideCheckpoints (IsBeforeOrBehind j c copy) c1.file)
-          (λ x front y left. beside_found x y front (shows y left)) j1 j' fills.adds
+          weakens (HasFront items (missing copy (kept is.items))) (BesideCheckpoints (IsBeforeOrBehind j c copy) c1.file)
+          (λ x front y left. beside_found x y front (shows y left)) j1 j' adds
 
       writes_then : EachMoment (BesideJournal (IsBeforeOrBehind j c copy) j'.file) c1 c'
       writes_then = ⊎_elim
@@ -140,7 +150,7 @@ module _ (j j1 c c1 : State) (copy : Copy) (disk : IsCheckpointDisk c) (opens : 
           (starts (BesideJournal (IsBeforeOrBehind j c copy) j'.file) c1 (λ y here x left. writes_first.now x left y here)))
           (λ rests. weakens (IsBeforeOrAfter stable (documents_of copy.entries)) (BesideJournal (IsBeforeOrBehind j c copy) j'.file)
           (λ y either x left.
-          let has = rest_only j' (is.items ++ missing copy (kept is.items)) rests x left in
+          let has = subst (λ (l : List Record). HasJournal x (items ++ l)) (missing_renewed copy is.items) (rest_only j' (items ++ missing copy (kept items)) rests x left) in
           ⊎_elim (λ before. beside_found x y (all_of x has) before) (λ after. inr (inr (whole_now x y has after), (is.items, is.records, all_of x has))) either) c1 c' fills.saves)
           fills.in_turn
 

@@ -5,6 +5,7 @@ use Rattle.std.specs.List.{AllPairs}
 use Rattle.std.proofs.lemmas.List.{drop_at}
 use Rattle.std.proofs.lemmas.List.Sums.{fold-append}
 use Rattle.std.proofs.lemmas.Bool.Decides.{nat_tests}
+use Rattle.rs_optime.specs.declared.optime.OpTime.{OpTime}
 use Rattle.vote_store.specs.declared.vote.Vote.{Vote}
 use Rattle.oplog_entry.specs.Log.{Begins, StandsBefore}
 use Rattle.oplog_entry.specs.Visible.{last_of}
@@ -13,8 +14,10 @@ use Rattle.repl_msg.specs.Kept.{kept, nothing_kept, with_record}
 use Rattle.repl_msg.specs.declared.record.Kept.{Kept}
 use Rattle.repl_msg.specs.declared.record.Record.{Record}
 use Rattle.repl_msg.specs.declared.record.Record.TheVariants as records
-use Rattle.node_journal.specs.Files.{HasJournal}
+use Rattle.node_journal.specs.Files.{HasJournal, IsThemOrRenewed}
+use Rattle.node_journal.specs.Renewed.{renewed}
 use Rattle.node_journal.proofs.ApartLemmas.{one_journal}
+use Rattle.node_journal.proofs.RenewLemmas.{same_but_form}
 use Rattle.checkpoint_store.specs.Checkpoint.{no_stable}
 use Rattle.checkpoint_store.specs.Files.{HasCheckpoint}
 use Rattle.checkpoint_store.specs.declared.stable.Stable.{Stable}
@@ -22,6 +25,27 @@ use Rattle.checkpoint_store.proofs.OnceLemmas.{checkpoint_once}
 use Rattle.initial_sync.specs.Copies.{Copy, GivesBack, IsOf, IsOfSomeCopy, IsPartOrWhole, documents_of}
 use Rattle.initial_sync.specs.Missing.{IsOfThis, batches, missing}
 use Rattle.initial_sync.proofs.FrontLemmas.{Grows, begins_both, fronts, same_last}
+
+-- ---- the same records in the newest form
+
+pub missing_renewed : (copy : Copy) (items : List Record) → missing copy (kept (renewed items)) ≡ missing copy (kept items)
+missing_renewed copy items = ap (missing copy) (same_but_form items)
+
+pub of_renewed : (term : ℕ) (log : List Entry) (items : List Record) → IsOf term log (kept items) → IsOf term log (kept (renewed items))
+of_renewed term log items is = record {
+  vote = ap (λ (k : Kept). k.vote) (same_but_form items) ∙ is.vote;
+  entries = ap (λ (k : Kept). k.entries) (same_but_form items) ∙ is.entries;
+  point = ap (λ (k : Kept). k.point) (same_but_form items) ∙ is.point;
+}
+
+pub this_as_it_was : (copy : Copy) (items : List Record) (stable : OpTime) → IsOfThis copy (kept (renewed items)) stable → IsOfThis copy (kept items) stable
+this_as_it_was copy items stable this =
+    let same = subst (λ (k : Kept). IsOfThis copy k stable) (same_but_form items) this in
+    record { term = same.term; entries = same.entries; checkpoint = same.checkpoint }
+
+pub this_renewed : (copy : Copy) (items : List Record) (stable : OpTime) → IsOfThis copy (kept items) stable → IsOfThis copy (kept (renewed items)) stable
+this_renewed copy items stable this =
+    subst (λ (k : Kept). IsOfThis copy k stable) (sym (same_but_form items)) (record { term = this.term; entries = this.entries; checkpoint = this.checkpoint })
 
 -- ---- what was found is of a copy
 
@@ -41,12 +65,13 @@ is_of_itself term log found is = record {
     vote_of : ℕ → Vote
     vote_of t = record { term = t; candidate = None }
 
-given_back : (term : ℕ) (log : List Entry) (image : List ℕ) (items : List Record) (found : Kept) → GivesBack term log image → HasJournal image items → found ≡ kept items → IsOf term log found
+given_back : (term : ℕ) (log : List Entry) (image : List ℕ) (items : List Record) (found : Kept) → GivesBack term log image → HasJournal image items → found ≡ kept (renewed items) → IsOf term log found
 given_back term log image items found gives has is =
-    subst (IsOf term log) (ap kept (one_journal image gives.records items gives.has has) ∙ sym is) gives.is
+    subst (IsOf term log) (sym is)
+    (of_renewed term log items (subst (λ (l : List Record). IsOf term log (kept l)) (one_journal image gives.records items gives.has has) gives.is))
 
 pub base_of : (copy : Copy) (found : Kept) (stable : Stable) (items : List Record) (x y : List ℕ) → AllPairs StandsBefore copy.entries → IsOfSomeCopy x y
-    → HasJournal x items → found ≡ kept items → HasCheckpoint y stable → IsOfThis copy found stable.at → IsBase copy found stable
+    → HasJournal x items → found ≡ kept (renewed items) → HasCheckpoint y stable → IsOfThis copy found stable.at → IsBase copy found stable
 base_of copy found stable items x y order (own, above, inl part) has is shows this = record {
   is = is_of_itself part.term part.front found (given_back part.term part.front x items found part.log has is);
   begins = this.entries;
@@ -161,8 +186,8 @@ part_or_whole copy found stable items f x y base same come has shows =
     inr (record { log = subst (λ (l : List Entry). GivesBack copy.term l x) whole log; documents = subst (HasCheckpoint y) all.0 shows }))
     base.stable_is
 
--- the same records and the same checkpoint elsewhere
-pub moved : (copy : Copy) (x x' y y' : List ℕ) (items : List Record) (stable : Stable) → HasJournal x items → HasJournal x' items → HasCheckpoint y stable → HasCheckpoint y' stable
+-- the same records, also in the newest form, and the same checkpoint elsewhere
+pub moved : (copy : Copy) (x x' y y' : List ℕ) (items : List Record) (stable : Stable) → HasJournal x items → IsThemOrRenewed items x' → HasCheckpoint y stable → HasCheckpoint y' stable
     → IsPartOrWhole copy x y → IsPartOrWhole copy x' y'
 moved copy x x' y y' items stable has has' shows shows' of = ⊎_elim (λ part. inl (record {
   front = part.front;
@@ -177,8 +202,6 @@ moved copy x x' y y' items stable has has' shows shows' of = ⊎_elim (λ part. 
 })) of
   where
     log_moved : (term : ℕ) (log : List Entry) → GivesBack term log x → GivesBack term log x'
-    log_moved term log back = record {
-      records = items;
-      has = has';
-      is = subst (λ (l : List Record). IsOf term log (kept l)) (one_journal x back.records items back.has has) back.is;
-    }
+    log_moved term log back =
+        let is : IsOf term log (kept items) = subst (λ (l : List Record). IsOf term log (kept l)) (one_journal x back.records items back.has has) back.is in
+        ⊎_elim (λ them. record { records = items; has = them; is = is }) (λ in_form. record { records = renewed items; has = in_form; is = of_renewed term log items is }) has'

@@ -14,6 +14,7 @@ use Rattle.repl_msg.specs.Kept.{kept}
 use Rattle.repl_msg.specs.declared.record.Kept.{Kept}
 use Rattle.repl_msg.specs.declared.record.Record.{Record}
 use Rattle.node_journal.specs.Files.{HasJournal, IsAtRest as JournalAtRest}
+use Rattle.node_journal.specs.Renewed.{renewed}
 use Rattle.node_journal.proofs.ApartLemmas.{one_journal}
 use Rattle.node_journal.proofs.DiskLemmas.{rest_only}
 use Rattle.checkpoint_store.specs.Files.{HasCheckpoint, IsAtRest as CheckpointsAtRest}
@@ -27,7 +28,7 @@ use Rattle.initial_sync.specs.Runs.{Fills, Goes, IsFound, IsStop, OpensBoth, Ran
 use Rattle.initial_sync.specs.declared.error.CopyError.{CopyError}
 use Rattle.initial_sync.specs.declared.error.CopyError.TheVariants.{Disk, OtherCopy, Memory}
 use Rattle.initial_sync.proofs.MomentLemmas.{checkpoint_disk, filled, opened_only, whole_now}
-use Rattle.initial_sync.proofs.PartLemmas.{IsBase, base_of}
+use Rattle.initial_sync.proofs.PartLemmas.{IsBase, base_of, missing_renewed, this_as_it_was, this_renewed}
 use Rattle.initial_sync.proofs.WritingLemmas.{saved_none}
 
 other_or_not : (error : Option CopyError) → (error ≡ Some OtherCopy) ⊎ (error ≢ Some OtherCopy)
@@ -105,7 +106,7 @@ module _ (copy : Copy) (order : AllPairs StandsBefore copy.entries) (error : Opt
       let on : WentOn copy found stable error ran.journal j' ran.checkpoints c' = went.3 in
       ⊎_elim (λ other. still (on.other other).1 (on.other other).2)
       (λ this. filled j ran.journal c ran.checkpoints copy (checkpoint_disk j c are) ran.opens found stable is
-      (found_base copy found stable j ran.journal c ran.checkpoints order are is (on.this this)) order j' c' (on.fills this is.items is.journal is.kept_is))
+      (found_base copy found stable j ran.journal c ran.checkpoints order are is (on.this this)) order j' c' (on.fills this (renewed is.items) is.journal is.kept_is))
       (other_or_not error)) ran.went
 
   -- it was done
@@ -113,21 +114,26 @@ module _ (copy : Copy) (order : AllPairs StandsBefore copy.entries) (error : Opt
     found_so : (found : Kept) × (stable : Stable) × IsFound found stable j ran.journal c ran.checkpoints × WentOn copy found stable error ran.journal j' ran.checkpoints c'
     found_so = ⊎_elim (λ stop. absurd (no_stop error done stop.0)) (λ went. went) ran.went
 
-    all_done : (items : List Record) → HasJournal (contents j.file) items → JournalAtRest j' (items ++ missing copy (kept items)) × CheckpointsAtRest c' (documents_of copy.entries)
+    abbrev IsDone : List Record → Type 0
+    IsDone items = JournalAtRest j' (renewed items ++ missing copy (kept items)) × CheckpointsAtRest c' (documents_of copy.entries)
+
+    all_done : (items : List Record) → HasJournal (contents j.file) items → IsDone items
     all_done items has =
         let is = found_so.2 in
-        subst (λ (l : List Record). JournalAtRest j' (l ++ missing copy (kept l)) × CheckpointsAtRest c' (documents_of copy.entries)) (one_journal (contents j.file) is.items items is.records has)
-        ((found_so.3.fills (not_other error done) is.items is.journal is.kept_is).done done)
+        let both = (found_so.3.fills (not_other error done) (renewed is.items) is.journal is.kept_is).done done in
+        subst IsDone (one_journal (contents j.file) is.items items is.records has)
+        (subst (λ (l : List Record). JournalAtRest j' (renewed is.items ++ l)) (missing_renewed copy is.items) both.0, both.1)
 
-    pub goes_on : (items : List Record) → HasJournal (contents j.file) items → JournalAtRest j' (items ++ missing copy (kept items))
+    pub goes_on : (items : List Record) → HasJournal (contents j.file) items → JournalAtRest j' (renewed items ++ missing copy (kept items))
     goes_on items has = (all_done items has).0
 
     pub this_found : (items : List Record) (stable : Stable) → HasJournal (contents j.file) items → HasCheckpoint (contents c.file) stable → IsOfThis copy (kept items) stable.at
     this_found items stable has shows =
         let is = found_so.2 in
         subst (λ (s : Stable). IsOfThis copy (kept items) s.at) (checkpoint_once (contents c.file) found_so.1 stable is.documents shows)
-        (subst (λ (k : Kept). IsOfThis copy k found_so.1.at) (is.kept_is ∙ ap kept (one_journal (contents j.file) is.items items is.records has))
-        (found_so.3.this (not_other error done)))
+        (this_as_it_was copy items found_so.1.at
+        (subst (λ (k : Kept). IsOfThis copy k found_so.1.at) (is.kept_is ∙ ap (λ (l : List Record). kept (renewed l)) (one_journal (contents j.file) is.items items is.records has))
+        (found_so.3.this (not_other error done))))
 
     pub whole : LeaveBoth (IsWhole copy) j'.file c'.file
     whole x left y here =
@@ -135,7 +141,7 @@ module _ (copy : Copy) (order : AllPairs StandsBefore copy.entries) (error : Opt
         let both = all_done is.items is.records in
         let base = found_base copy found_so.0 found_so.1 j ran.journal c ran.checkpoints order are is (found_so.3.this (not_other error done)) in
         whole_now j ran.journal c ran.checkpoints copy (checkpoint_disk j c are) ran.opens found_so.0 found_so.1 is base order x y
-        (rest_only j' (is.items ++ missing copy (kept is.items)) both.0 x left) (rest_has c' (documents_of copy.entries) both.1 y here)
+        (rest_only j' (renewed is.items ++ missing copy (kept is.items)) both.0 x left) (rest_has c' (documents_of copy.entries) both.1 y here)
 
   -- it was refused
   module _ (other : error ≡ Some OtherCopy) where
@@ -147,13 +153,14 @@ module _ (copy : Copy) (order : AllPairs StandsBefore copy.entries) (error : Opt
         let is = found_other.2 in
         (found_other.3.other other).0
         (subst (λ (s : Stable). IsOfThis copy found_other.0 s.at) (sym (checkpoint_once (contents c.file) found_other.1 stable is.documents shows))
-        (subst (λ (k : Kept). IsOfThis copy k stable.at) (sym (is.kept_is ∙ ap kept (one_journal (contents j.file) is.items items is.records has))) this))
+        (subst (λ (k : Kept). IsOfThis copy k stable.at)
+        (sym (is.kept_is ∙ ap (λ (l : List Record). kept (renewed l)) (one_journal (contents j.file) is.items items is.records has))) (this_renewed copy items stable.at this)))
 
     pub as_read : LeavesAsRead j j' c c'
     as_read = record {
       journal = λ items has.
-          subst (λ (s : State). JournalAtRest s items) (sym (found_other.3.other other).1)
-          (subst (JournalAtRest ran.journal) (one_journal (contents j.file) found_other.2.items items found_other.2.records has) found_other.2.journal);
+          subst (λ (s : State). JournalAtRest s (renewed items)) (sym (found_other.3.other other).1)
+          (subst (λ (l : List Record). JournalAtRest ran.journal (renewed l)) (one_journal (contents j.file) found_other.2.items items found_other.2.records has) found_other.2.journal);
       checkpoints = λ stable shows.
           subst (λ (s : State). CheckpointsAtRest s stable) (sym (found_other.3.other other).2)
           (subst (CheckpointsAtRest ran.checkpoints) (checkpoint_once (contents c.file) found_other.1 stable found_other.2.documents shows) found_other.2.checkpoints);
@@ -170,7 +177,7 @@ module _ {D : Type 0} (state : D → State) (copy : Copy) (order : AllPairs Stan
   whole_of (Err refused) ran = tt
 
   pub goes_on_of : (result : Result (D × D) (D × D × CopyError)) → RanTo result
-      → IfOk result (λ disks. (items : List Record) → HasJournal (contents j.file) items → JournalAtRest (state disks.0) (items ++ missing copy (kept items)))
+      → IfOk result (λ disks. (items : List Record) → HasJournal (contents j.file) items → JournalAtRest (state disks.0) (renewed items ++ missing copy (kept items)))
   goes_on_of (Ok disks) ran = goes_on copy order None j (state disks.0) c (state disks.1) are ran refl
   goes_on_of (Err refused) ran = tt
 

@@ -5,6 +5,7 @@ use Rattle.rs_disk.specs.File.{contents}
 use Rattle.rs_disk.specs.State.{State, Keeps}
 use Rattle.repl_msg.specs.declared.record.Record.{Record}
 use Rattle.node_journal.specs.Files.{HasJournal, IsAtRest as JournalAtRest}
+use Rattle.node_journal.specs.Renewed.{renewed}
 use Rattle.checkpoint_store.specs.Files.{HasCheckpoint, IsAtRest as CheckpointsAtRest}
 use Rattle.checkpoint_store.specs.declared.stable.Stable.{Stable}
 use Rattle.record_file.specs.declared.error.FileError.{FileError}
@@ -42,8 +43,8 @@ abbrev pub copy_error : FileError → CopyError
 copy_error Disk = CopyDisk
 copy_error Memory = CopyMemory
 
--- The records that were read stand there now, and so does the last checkpoint that was read: nothing was
--- added, and every crash leaves them.
+-- The records that were read stand there now, in the newest form, and so does the last checkpoint that was
+-- read: nothing else was added, and every crash leaves them.
 pub record LeavesAsRead (j j' c c' : State) : Type 0 where
-  pub journal : (items : List Record) → HasJournal (contents j.file) items → JournalAtRest j' items
+  pub journal : (items : List Record) → HasJournal (contents j.file) items → JournalAtRest j' (renewed items)
   pub checkpoints : (stable : Stable) → HasCheckpoint (contents c.file) stable → CheckpointsAtRest c' stable

@@ -83,7 +83,8 @@ empty_part copy j c no_journal no_checkpoints journal left checkpoints here = in
   log = record {
     records = [];
     has = record {
-      each = λ k d within. absurd (omega arith);
+      pieces = [];
+      spelled = tt;
       has = inl (omega (arith, ap length (no_journal.leaves journal left)), refl);
     };
     is = record { vote = refl; entries = refl; point = refl };
@@ -109,4 +110,7 @@ empty_disks j c no_journal no_checkpoints = record {
 }
   where
     one : Copy
-    one = record { term = 0; entries = record { optime = record { term = 0; ts = 1 }; op = Noop } ∷ [] }
+    one = record {
+      term = 0;
+      entries = record { optime = record { term = 0; ts = 1 }; op = Noop; session = None } ∷ [];
+    }

@@ -5,7 +5,8 @@ use Rattle.rs_disk.specs.Moments.{EachMoment}
 use Rattle.rs_disk.specs.State.{State}
 use Rattle.repl_msg.specs.Kept.{kept}
 use Rattle.repl_msg.specs.declared.record.Record.{Record}
-use Rattle.node_journal.specs.Files.{HasJournal, IsOneOf as IsOneJournal}
+use Rattle.node_journal.specs.Files.{HasJournal, IsOneOfRenewed}
+use Rattle.node_journal.specs.Renewed.{renewed}
 use Rattle.checkpoint_store.specs.Files.{IsOneOf as IsOneCheckpoint}
 use Rattle.initial_sync.specs.Copies.{Copy, IsPartOrWhole}
 use Rattle.initial_sync.specs.Missing.{HasFront, missing}
@@ -27,15 +28,15 @@ pub record EachMomentOfBoth (P : List ℕ → List ℕ → Type 0) (j j' c c' : 
   pub writes_journal : EachMoment (BesideCheckpoints P checkpoints.file) journal j'
   pub writes_checkpoints : EachMoment (BesideJournal P j'.file) checkpoints c'
 
--- behind the records that are read now stand the first of those that the copy adds
+-- behind the records that are read now, in the newest form, stand the first of those that the copy adds
 abbrev pub IsBehind : Copy → State → List ℕ → Type 0
 IsBehind copy state image =
     (items : List Record) × HasJournal (contents state.file) items
-    × HasFront items (missing copy (kept items)) image
+    × HasFront (renewed items) (missing copy (kept items)) image
 
--- what a crash before might have left of both disks; or a part or the whole of the copy, behind what
--- is there now
+-- what a crash before might have left of both disks, or that with the newest form of the journal; or a part
+-- or the whole of the copy, behind what is there now
 abbrev pub IsBeforeOrBehind : State → State → Copy → List ℕ → List ℕ → Type 0
 IsBeforeOrBehind j c copy journal checkpoints =
-    (IsOneJournal j journal × IsOneCheckpoint c checkpoints)
+    (IsOneOfRenewed j journal × IsOneCheckpoint c checkpoints)
     ⊎ (IsPartOrWhole copy journal checkpoints × IsBehind copy j journal)

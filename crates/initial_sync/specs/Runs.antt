@@ -6,7 +6,8 @@ use Rattle.rs_disk.specs.State.{State}
 use Rattle.repl_msg.specs.Kept.{kept}
 use Rattle.repl_msg.specs.declared.record.Kept.{Kept}
 use Rattle.repl_msg.specs.declared.record.Record.{Record}
-use Rattle.node_journal.specs.Files.{HasJournal, IsAtRest as JournalAtRest, IsOneOf as IsOneJournal}
+use Rattle.node_journal.specs.Files.{HasJournal, IsAtRest as JournalAtRest, IsOneOfRenewed}
+use Rattle.node_journal.specs.Renewed.{renewed}
 use Rattle.checkpoint_store.specs.Files.{HasCheckpoint, IsAtRest as CheckpointsAtRest, IsBeforeOrAfter, IsOneOf as IsOneCheckpoint}
 use Rattle.checkpoint_store.specs.declared.stable.Stable.{Stable}
 use Rattle.initial_sync.specs.Copies.{Copy, documents_of}
@@ -16,15 +17,15 @@ use Rattle.initial_sync.specs.declared.error.CopyError.TheVariants.{Disk, OtherC
 
 -- both disks were opened, or as far as that went
 pub record OpensBoth (j j' c c' : State) : Type 0 where
-  pub journal : EachMoment (IsOneJournal j) j j'
+  pub journal : EachMoment (IsOneOfRenewed j) j j'
   pub checkpoints : EachMoment (IsOneCheckpoint c) c c'
 
--- this was read of both disks, and stands there now
+-- this was read of both disks, and stands there now, the records in the newest form
 pub record IsFound (found : Kept) (stable : Stable) (j j' c c' : State) : Type 0 where
   pub items : List Record
   pub records : HasJournal (contents j.file) items
-  pub kept_is : found ≡ kept items
-  pub journal : JournalAtRest j' items
+  pub kept_is : found ≡ kept (renewed items)
+  pub journal : JournalAtRest j' (renewed items)
   pub documents : HasCheckpoint (contents c.file) stable
   pub checkpoints : CheckpointsAtRest c' stable
 

@@ -4,6 +4,7 @@ ghost use Rattle.rs_disk.specs.File.{contents};
 ghost use Rattle.repl_msg.specs.declared.record.Record.{Record as ARecord};
 ghost use Rattle.repl_msg.specs.Kept.{kept};
 ghost use Rattle.node_journal.specs.Files.{HasJournal, IsAtRest as JournalAtRest, IsJournalDisk};
+ghost use Rattle.node_journal.specs.Renewed.{renewed};
 ghost use Rattle.checkpoint_store.specs.Files.{HasCheckpoint, IsAtRest as CheckpointsAtRest, IsCheckpointDisk};
 ghost use Rattle.checkpoint_store.specs.declared.stable.Stable.{Stable as AStable};
 ghost use Rattle.initial_sync.specs.Answers.{LeavesAsRead, RanBoth, checkpoints_after, error_after, error_of, journal_after};
@@ -216,7 +217,8 @@ fn run<D: Disk>(
 /// # Errors
 /// `Disk` where a disk failed. `OtherCopy` where the disks have another term than 0 and that of the copy,
 /// entries with which those of the copy don't begin, or a checkpoint of another optime; nothing was added
-/// then. After each error both disks are handed back, and a copy may be tried again on them.
+/// then but the newest form of the journal. After each error both disks are handed back, and a copy may be
+/// tried again on them.
 pub fn copy<D: Disk>(
     alloc: Global,
     pinned: &Pinned,
@@ -229,10 +231,10 @@ pub fn copy<D: Disk>(
     // Every crash leaves the whole copy.
     ensures whole { IfOk result (λ disks. LeaveBoth (IsWhole (copy_of pinned.now))
         (D.state disks.0).file (D.state disks.1).file) }
-    // The records that were there stay, and behind them stand those that were missing.
+    // The records that were there stay, in the newest form, and behind them stand those that were missing.
     ensures goes_on { IfOk result (λ disks.
         (items : List ARecord) → HasJournal (contents (D.state journal).file) items
-        → JournalAtRest (D.state disks.0) (items ++ missing (copy_of pinned.now) (kept items))) }
+        → JournalAtRest (D.state disks.0) (renewed items ++ missing (copy_of pinned.now) (kept items))) }
 
     // Another copy is refused, and no other is.
     ensures other { error_after result ≡ Some CopyError.OtherCopy → (items : List ARecord) (stable : AStable)
@@ -248,8 +250,8 @@ pub fn copy<D: Disk>(
         (D.state checkpoints) (D.state (checkpoints_after result)) }
     ensures left { AreCopyDisks (D.state (journal_after result)) (D.state (checkpoints_after result)) }
 
-    // A crash at any moment leaves what one before the call might have left, or a part or the whole of the
-    // copy behind it.
+    // A crash at any moment leaves what one before the call might have left, with or without the newest form
+    // of the journal, or a part or the whole of the copy behind it.
     ensures any_moment { EachMomentOfBoth
         (IsBeforeOrBehind (D.state journal) (D.state checkpoints) (copy_of pinned.now))
         (D.state journal) (D.state (journal_after result))

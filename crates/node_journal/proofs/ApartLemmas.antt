@@ -1,9 +1,10 @@
 -- Records with the same bytes are one record.
-use Rattle.std.proofs.Common.{◌≡◌, ℕ, suc, Bool, List, [], ◌∷◌, ◌++◌, length, drop, map, Option, None, Some, refl, sym, ap, ◌∙◌, arith}
+use Rattle.std.proofs.Common.{◌≡◌, ◌⊎◌, ◌<◌, ◌^◌, inl, inr, ℕ, suc, Bool, List, [], ◌∷◌, ◌++◌, length, drop, Option, None, Some, refl, sym, ap, subst, ◌∙◌, arith}
 use Rattle.std.specs.Prelude.{◌≢◌, All, unwrap_or, slice_index}
 use Rattle.std.specs.List.{flat_map}
 use Rattle.std.proofs.lemmas.List.{take_at, drop_at}
 use Rattle.rs_optime.specs.declared.optime.OpTime.{OpTime}
+use Rattle.bson_codec.specs.Numbers.{number_bytes}
 use Rattle.bson_codec.proofs.AgainLemmas.{one_document}
 use Rattle.bson_codec.proofs.NumberLemmas.{number_once}
 use Rattle.oplog_entry.specs.declared.entry.Entry.{Entry}
@@ -16,11 +17,10 @@ use Rattle.vote_store.specs.declared.vote.Vote.{Vote}
 use Rattle.repl_msg.specs.declared.record.Record.{Record}
 use Rattle.repl_msg.specs.declared.record.Record.TheVariants as records
 use Rattle.record_file.proofs.ParseLemmas.{one_list}
-use Rattle.record_file.proofs.ItemLemmas.{same_head, same_tail}
 use Rattle.record_file.proofs.ListLemmas.{piece_is, behind_is}
 use Rattle.node_journal.specs.Files.{HasJournal}
 use Rattle.node_journal.specs.Layout.{NOBODY, vote_bytes, truth_byte, member_bytes, config_bytes, entry_bytes, sized_entry, batch_bytes, record_bytes}
-use Rattle.node_journal.specs.Spelled.{IsOptime, IsVote, IsMember, IsConfig, IsEntry, AreEntries, IsRecord}
+use Rattle.node_journal.specs.Spelled.{IsOptime, IsVote, IsMember, IsConfig, IsEntry, AreEntries, IsRecord, IsOfFirstForm, IsSpelled, AreSpelled}
 use Rattle.node_journal.proofs.NumberLemmas.{truth_read, truth_rest, truth_back}
 use Rattle.node_journal.proofs.PartLemmas.{member_parts, entry_parts, entry_short, spelled_here}
 
@@ -97,43 +97,97 @@ batch_tells one other point point' fits fits' are are' same =
     let count = number_once 4 (length one) (length other) _ _ (omega (arith, are.0)) (omega (arith, are'.0)) first.1 in
     (items_tell IsEntry sized_entry entry_tells one other are.1 are'.1 count.0 count.1, first.0)
 
+entries_once : (one other : List Entry) (point point' : OpTime) → IsOptime point × AreEntries one → IsOptime point' × AreEntries other
+    → batch_bytes one point ≡ batch_bytes other point' → records.Entries one point ≡ records.Entries other point'
+entries_once one other point point' is is' same =
+    let both = batch_tells one other point point' is.0 is'.0 is.1 is'.1 same in λ i. records.Entries (both.0 i) (both.1 i)
+
+form_once : (one other : ℕ) → one < 2 ^ 32 → other < 2 ^ 32 → number_bytes 4 one ≡ number_bytes 4 other → one ≡ other
+form_once one other fits fits' same = (number_once 4 one other [] [] (omega (arith, fits)) (omega (arith, fits')) (ap (λ (l : List ℕ). l ++ []) same)).0
+
 abbrev kind : List ℕ → ℕ
 kind bytes = slice_index bytes 0
 
 behind_kind : {k : ℕ} (one other : List ℕ) → k ∷ one ≡ k ∷ other → one ≡ other
 behind_kind one other same = ap (λ (l : List ℕ). drop 1 l) same
 
--- records with the same bytes are one record
-pub one_record : (one other : Record) → IsRecord one → IsRecord other → record_bytes one ≡ record_bytes other → one ≡ other
-one_record (records.Vote x) (records.Vote y) is is' same = ap (λ (v : Vote). records.Vote v) (vote_tells x y is is' (behind_kind (vote_bytes x) (vote_bytes y) same))
-one_record (records.Config x) (records.Config y) is is' same = ap (λ (c : Config). records.Config c) (config_tells x y is is' (behind_kind (config_bytes x) (config_bytes y) same))
-one_record (records.Entries x p) (records.Entries y q) is is' same =
-    let both = batch_tells x y p q is.0 is'.0 is.1 is'.1 (behind_kind (batch_bytes x p) (batch_bytes y q) same) in λ i. records.Entries (both.0 i) (both.1 i)
-one_record (records.Cut x) (records.Cut y) is is' same = ap (λ (o : OpTime). records.Cut o) (optime_once x y is is' (behind_kind (optime_bytes x) (optime_bytes y) same))
-one_record (records.Vote x) (records.Config y) is is' same = absurd (omega (arith, ap kind same))
-one_record (records.Vote x) (records.Entries y q) is is' same = absurd (omega (arith, ap kind same))
-one_record (records.Vote x) (records.Cut y) is is' same = absurd (omega (arith, ap kind same))
-one_record (records.Config x) (records.Vote y) is is' same = absurd (omega (arith, ap kind same))
-one_record (records.Config x) (records.Entries y q) is is' same = absurd (omega (arith, ap kind same))
-one_record (records.Config x) (records.Cut y) is is' same = absurd (omega (arith, ap kind same))
-one_record (records.Entries x p) (records.Vote y) is is' same = absurd (omega (arith, ap kind same))
-one_record (records.Entries x p) (records.Config y) is is' same = absurd (omega (arith, ap kind same))
-one_record (records.Entries x p) (records.Cut y) is is' same = absurd (omega (arith, ap kind same))
-one_record (records.Cut x) (records.Vote y) is is' same = absurd (omega (arith, ap kind same))
-one_record (records.Cut x) (records.Config y) is is' same = absurd (omega (arith, ap kind same))
-one_record (records.Cut x) (records.Entries y q) is is' same = absurd (omega (arith, ap kind same))
+-- records that are written with the same bytes are one record
+written_once : (one other : Record) → IsRecord one → IsRecord other → record_bytes one ≡ record_bytes other → one ≡ other
+written_once (records.Vote x) (records.Vote y) is is' same = ap (λ (v : Vote). records.Vote v) (vote_tells x y is is' (behind_kind (vote_bytes x) (vote_bytes y) same))
+written_once (records.Config x) (records.Config y) is is' same = ap (λ (c : Config). records.Config c) (config_tells x y is is' (behind_kind (config_bytes x) (config_bytes y) same))
+written_once (records.Entries x p) (records.Entries y q) is is' same = entries_once x y p q is is' (behind_kind (batch_bytes x p) (batch_bytes y q) same)
+written_once (records.Cut x) (records.Cut y) is is' same = ap (λ (o : OpTime). records.Cut o) (optime_once x y is is' (behind_kind (optime_bytes x) (optime_bytes y) same))
+written_once (records.Form x) (records.Form y) is is' same = ap (λ (n : ℕ). records.Form n) (form_once x y is is' (behind_kind (number_bytes 4 x) (number_bytes 4 y) same))
+written_once (records.Vote x) (records.Config y) is is' same = absurd (omega (arith, ap kind same))
+written_once (records.Vote x) (records.Entries y q) is is' same = absurd (omega (arith, ap kind same))
+written_once (records.Vote x) (records.Cut y) is is' same = absurd (omega (arith, ap kind same))
+written_once (records.Vote x) (records.Form y) is is' same = absurd (omega (arith, ap kind same))
+written_once (records.Config x) (records.Vote y) is is' same = absurd (omega (arith, ap kind same))
+written_once (records.Config x) (records.Entries y q) is is' same = absurd (omega (arith, ap kind same))
+written_once (records.Config x) (records.Cut y) is is' same = absurd (omega (arith, ap kind same))
+written_once (records.Config x) (records.Form y) is is' same = absurd (omega (arith, ap kind same))
+written_once (records.Entries x p) (records.Vote y) is is' same = absurd (omega (arith, ap kind same))
+written_once (records.Entries x p) (records.Config y) is is' same = absurd (omega (arith, ap kind same))
+written_once (records.Entries x p) (records.Cut y) is is' same = absurd (omega (arith, ap kind same))
+written_once (records.Entries x p) (records.Form y) is is' same = absurd (omega (arith, ap kind same))
+written_once (records.Cut x) (records.Vote y) is is' same = absurd (omega (arith, ap kind same))
+written_once (records.Cut x) (records.Config y) is is' same = absurd (omega (arith, ap kind same))
+written_once (records.Cut x) (records.Entries y q) is is' same = absurd (omega (arith, ap kind same))
+written_once (records.Cut x) (records.Form y) is is' same = absurd (omega (arith, ap kind same))
+written_once (records.Form x) (records.Vote y) is is' same = absurd (omega (arith, ap kind same))
+written_once (records.Form x) (records.Config y) is is' same = absurd (omega (arith, ap kind same))
+written_once (records.Form x) (records.Entries y q) is is' same = absurd (omega (arith, ap kind same))
+written_once (records.Form x) (records.Cut y) is is' same = absurd (omega (arith, ap kind same))
 
-same_records : (one other : List Record) → All IsRecord one → All IsRecord other → map record_bytes one ≡ map record_bytes other → one ≡ other
-same_records [] [] each each' same = refl
-same_records [] (y ∷ other) each each' same = absurd (omega (arith, ap length same))
-same_records (x ∷ one) [] each each' same = absurd (omega (arith, ap length same))
-same_records (x ∷ one) (y ∷ other) each each' same =
-    let first = one_record x y (each 0 x (omega arith)) (each' 0 y (omega arith)) (same_head (record_bytes x) (record_bytes y) (map record_bytes one) (map record_bytes other) same) in
-    let rest = same_records one other (λ k d within. each (suc k) d (omega arith)) (λ k d within. each' (suc k) d (omega arith))
-    (same_tail (record_bytes x) (record_bytes y) (map record_bytes one) (map record_bytes other) same) in
+-- of the kind that entries have in the first form no record is written
+first_kind : (item : Record) (bytes : List ℕ) → IsOfFirstForm item bytes → kind bytes ≡ 3
+first_kind (records.Entries x p) bytes is = ap kind is.0
+first_kind (records.Vote _) bytes is = absurd is
+first_kind (records.Config _) bytes is = absurd is
+first_kind (records.Cut _) bytes is = absurd is
+first_kind (records.Form _) bytes is = absurd is
+
+other_kind : (item : Record) (bytes : List ℕ) → bytes ≡ record_bytes item → kind bytes ≡ 3 → ⊥
+other_kind (records.Vote x) bytes is third = absurd (omega (arith, ap kind is, third))
+other_kind (records.Config x) bytes is third = absurd (omega (arith, ap kind is, third))
+other_kind (records.Entries x p) bytes is third = absurd (omega (arith, ap kind is, third))
+other_kind (records.Cut x) bytes is third = absurd (omega (arith, ap kind is, third))
+other_kind (records.Form x) bytes is third = absurd (omega (arith, ap kind is, third))
+
+first_once : (one other : Record) (bytes : List ℕ) → IsRecord one → IsRecord other → IsOfFirstForm one bytes → IsOfFirstForm other bytes → one ≡ other
+first_once (records.Entries x p) (records.Entries y q) bytes is is' old old' = entries_once x y p q is is' (behind_kind (batch_bytes x p) (batch_bytes y q) (sym old.0 ∙ old'.0))
+first_once (records.Entries x p) (records.Vote _) bytes is is' old old' = absurd old'
+first_once (records.Entries x p) (records.Config _) bytes is is' old old' = absurd old'
+first_once (records.Entries x p) (records.Cut _) bytes is is' old old' = absurd old'
+first_once (records.Entries x p) (records.Form _) bytes is is' old old' = absurd old'
+first_once (records.Vote _) other bytes is is' old old' = absurd old
+first_once (records.Config _) other bytes is is' old old' = absurd old
+first_once (records.Cut _) other bytes is is' old old' = absurd old
+first_once (records.Form _) other bytes is is' old old' = absurd old
+
+-- bytes are of one record
+pub one_record : (one other : Record) (bytes : List ℕ) → IsSpelled one bytes → IsSpelled other bytes → one ≡ other
+one_record one other bytes is is' = by_form is.spelled is'.spelled
+  where
+    by_form : (bytes ≡ record_bytes one) ⊎ IsOfFirstForm one bytes → (bytes ≡ record_bytes other) ⊎ IsOfFirstForm other bytes → one ≡ other
+    by_form (inl new) (inl new') = written_once one other is.lawful is'.lawful (sym new ∙ new')
+    by_form (inl new) (inr old') = absurd (other_kind one bytes new (first_kind other bytes old'))
+    by_form (inr old) (inl new') = absurd (other_kind other bytes new' (first_kind one bytes old))
+    by_form (inr old) (inr old') = first_once one other bytes is.lawful is'.lawful old old'
+
+same_records : (one other : List Record) (pieces : List (List ℕ)) → AreSpelled one pieces → AreSpelled other pieces → one ≡ other
+same_records [] [] [] spelled spelled' = refl
+same_records [] other (piece ∷ pieces) spelled spelled' = absurd spelled
+same_records [] (y ∷ other) [] spelled spelled' = absurd spelled'
+same_records (x ∷ one) other [] spelled spelled' = absurd spelled
+same_records (x ∷ one) [] (piece ∷ pieces) spelled spelled' = absurd spelled'
+same_records (x ∷ one) (y ∷ other) (piece ∷ pieces) spelled spelled' =
+    let first = one_record x y piece spelled.0 spelled'.0 in
+    let rest = same_records one other pieces spelled.1 spelled'.1 in
     λ i. first i ∷ rest i
 
 -- a file has one list of records
 pub one_journal : (bytes : List ℕ) (one other : List Record) → HasJournal bytes one → HasJournal bytes other → one ≡ other
 one_journal bytes one other has has' =
-    same_records one other has.each has'.each (one_list bytes (map record_bytes one) (map record_bytes other) has.has has'.has)
+    same_records one other has.pieces has.spelled
+    (subst (λ (l : List (List ℕ)). AreSpelled other l) (one_list bytes has'.pieces has.pieces has'.has has.has) has'.spelled)

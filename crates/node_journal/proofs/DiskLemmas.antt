@@ -1,18 +1,16 @@
 -- What crates above cite of a journal's disk while it is at rest: what leaves its list of records, and how many there are.
-use Rattle.std.proofs.Common.{◌≡◌, ℕ, ◌+◌, ◌*◌, ◌^◌, ◌<◌, ◌≤◌, List, [], ◌∷◌, length, map, ap, ◌∙◌, arith, length-append}
+use Rattle.std.proofs.Common.{◌≡◌, ℕ, ◌+◌, ◌*◌, ◌^◌, ◌<◌, ◌≤◌, List, [], ◌∷◌, length, ap, ◌∙◌, arith, length-append}
 use Rattle.std.specs.Prelude.{fold}
 use Rattle.std.specs.Int.{to_le_bytes, w32}
-use Rattle.std.proofs.lemmas.List.{length-map}
 use Rattle.rs_disk.specs.File.{File, contents}
 use Rattle.rs_disk.specs.State.{State, SameButRoom}
 use Rattle.record_file.specs.Records.{AreOpen, body}
 use Rattle.repl_msg.specs.declared.record.Record.{Record}
 use Rattle.repl_msg.specs.declared.record.Kept.{Kept}
 use Rattle.repl_msg.specs.Kept.{kept, nothing_kept, with_record}
-use Rattle.node_journal.specs.Layout.{record_bytes}
 use Rattle.node_journal.specs.Files.{IsAtRest, HasOnly}
 use Rattle.node_journal.proofs.JournalLemmas.{rest_leaves}
-use Rattle.node_journal.proofs.LoopLemmas.{count_more}
+use Rattle.node_journal.proofs.LoopLemmas.{count_more, spelled_length}
 
 -- every crash leaves its records
 pub rest_only : (state : State) (records : List Record) → IsAtRest state records → HasOnly state records
@@ -21,7 +19,8 @@ rest_only state records rest = rest_leaves state records rest
 -- what leaves the file leaves it at rest
 pub rest_stays : (old new : State) (records : List Record) → new.file ≡ old.file → IsAtRest old records → IsAtRest new records
 rest_stays old new records same rest = record {
-  each = rest.each;
+  pieces = rest.pieces;
+  spelled = rest.spelled;
   rests = record { front = rest.rests.front; open_records = rest.rests.open_records; file = same ∙ rest.rests.file };
 }
 
@@ -37,7 +36,7 @@ each_takes_five (piece ∷ pieces) bytes (gate, rest, is_open, small, is, others
 pub rest_count : (state : State) (records : List Record) → length (contents state.file) < 2 ^ 63 → IsAtRest state records → length records < 2 ^ 63
 rest_count state records short rest =
     let size = ap (λ (f : File). length (contents f)) rest.rests.file in
-    omega (arith, short, size, length-append rest.rests.front (0 ∷ []), each_takes_five (map record_bytes records) rest.rests.front rest.rests.open_records, length-map records record_bytes)
+    omega (arith, short, size, length-append rest.rests.front (0 ∷ []), each_takes_five rest.pieces rest.rests.front rest.rests.open_records, spelled_length records rest.pieces rest.spelled)
 
 -- the count is that of the records
 pub kept_count : (list : List Record) → (kept list).count ≡ length list

@@ -7,11 +7,12 @@ ghost use Rattle.record_file.specs.Records.{body};
 ghost use Rattle.repl_msg.specs.declared.record.Record.{Record as ARecord};
 ghost use Rattle.repl_msg.specs.Kept.{kept};
 ghost use Rattle.node_journal.specs.Bounds.{CanBeKept};
-ghost use Rattle.node_journal.specs.Files.{HasJournal, IsAtRest, IsBeforeOrAfter, IsJournalDisk, IsOneOf, IsOpen};
+ghost use Rattle.node_journal.specs.Files.{AddsForm, HasJournal, IsAtRest, IsBeforeOrAfter, IsJournalDisk, IsKeptOf, IsOneOf, IsOneOfRenewed, IsOpen, IsThemOrRenewed, OpensInForm};
 ghost use Rattle.node_journal.specs.Layout.{record_bytes};
+ghost use Rattle.node_journal.specs.Renewed.{is_first, renewed};
 ghost use Rattle.node_journal.specs.Room.{IsShort};
 
-use crate::fold::kept_of;
+use crate::fold::{FIRST_FORM, kept_of, with_form};
 use crate::writing::lay;
 use record_file::{FileError, RecordFile};
 use repl_msg::{Kept, Record};
@@ -19,6 +20,9 @@ use rs_disk::Disk;
 use rs_optime::Mem;
 use std::alloc::Global;
 use std::marker::Model;
+
+// The newest form of a journal.
+const FORM: u32 = 2;
 
 /// The journal of a node on one disk. Contracts see it as its disk, and how many bytes its buffers can take.
 #[derive(Drop)]
@@ -36,7 +40,8 @@ impl<D: Disk> Model for Journal<D> {
 }
 
 impl<D: Disk> Journal<D> {
-    /// Reads what the journal on a disk keeps. The disk is empty, or a journal left it.
+    /// Reads what the journal on a disk keeps. The disk is empty, or a journal left it. A journal of the
+    /// first form has a record of the newest one behind the others before it is open.
     ///
     /// # Errors
     /// `Disk` where the disk failed. Either error hands the disk back, and an opening may be tried
@@ -46,16 +51,19 @@ impl<D: Disk> Journal<D> {
 
         ensures kept { IfOk result (λ opened.
             (records : List ARecord) → HasJournal (contents (D.state disk).file) records
-            → opened.1 ≡ kept records) }
+            → opened.1 ≡ kept (renewed records)) }
         ensures at_rest { IfOk result (λ opened.
             (records : List ARecord) → HasJournal (contents (D.state disk).file) records
-            → IsAtRest (D.state opened.0.0) records) }
+            → IsAtRest (D.state opened.0.0) (renewed records)) }
         ensures open { IfOk result (λ opened. IsOpen (D.state opened.0.0)) }
         ensures handed_back { IfErr result (λ refused. IsJournalDisk (D.state refused.0)) }
-        ensures calls { OpensBy (answer_of result) (D.state disk) (D.state (disk_after result)) }
+        ensures calls { (records : List ARecord) → HasJournal (contents (D.state disk).file) records
+            → OpensInForm (is_first records) (answer_of result) (D.state disk)
+            (D.state (disk_after result)) }
 
-        // A crash at any moment leaves records that a crash before the call might have left.
-        ensures any_moment { EachMoment (IsOneOf (D.state disk)) (D.state disk)
+        // A crash at any moment leaves records that a crash before the call might have left, in the newest
+        // form or as they were.
+        ensures any_moment { EachMoment (IsOneOfRenewed (D.state disk)) (D.state disk)
             (D.state (disk_after result)) }
         ensures keeps { Keeps (IsErrOf (answer_of result) FileError.Disk) (D.state disk)
             (D.state (disk_after result)) }
@@ -64,10 +72,56 @@ impl<D: Disk> Journal<D> {
             file: RecordFile::unopened(alloc, disk),
             buffer: Vec::new(alloc),
         };
-        match journal.reopen() {
+        match journal.open_renewed() {
             Ok(kept) => Ok((journal, kept)),
             Err(error) => Err((journal.close(), error)),
         }
+    }
+
+    // Reads what the journal on its disk keeps, once its records are in the newest form.
+    fn open_renewed(&mut self) -> Result<Kept, FileError>
+        requires { IsJournalDisk (D.state self.old.0) }
+        ensures kept { IfOk result (λ read.
+            (records : List ARecord) → HasJournal (contents (D.state self.old.0).file) records
+            → read ≡ kept (renewed records)) }
+        ensures at_rest { OnOk result
+            ((records : List ARecord) → HasJournal (contents (D.state self.old.0).file) records
+            → IsAtRest (D.state self.new.0) (renewed records)) }
+        ensures open { OnOk result (IsOpen (D.state self.new.0)) }
+        ensures left { IsJournalDisk (D.state self.new.0) }
+        ensures calls { (records : List ARecord) → HasJournal (contents (D.state self.old.0).file) records
+            → OpensInForm (is_first records) result (D.state self.old.0) (D.state self.new.0) }
+        ensures any_moment { EachMoment (IsOneOfRenewed (D.state self.old.0)) (D.state self.old.0)
+            (D.state self.new.0) }
+        ensures keeps { Keeps (IsErrOf result FileError.Disk) (D.state self.old.0) (D.state self.new.0) }
+    {
+        let read = self.reopen()?;
+        self.renew(read)
+    }
+
+    // Adds the newest form behind records of the first one.
+    fn renew(&mut self, read: Kept) -> Result<Kept, FileError>
+        requires open { IsOpen (D.state self.old.0) }
+        requires read { IsKeptOf read (D.state self.old.0) }
+        ensures kept { IfOk result (λ found.
+            (records : List ARecord) → IsAtRest (D.state self.old.0) records
+            → found ≡ kept (renewed records)) }
+        ensures at_rest { OnOk result ((records : List ARecord) → IsAtRest (D.state self.old.0) records
+            → IsAtRest (D.state self.new.0) (renewed records)) }
+        ensures open { OnOk result (IsOpen (D.state self.new.0)) }
+        ensures left { IsJournalDisk (D.state self.new.0) }
+        ensures calls { (records : List ARecord) → IsAtRest (D.state self.old.0) records
+            → AddsForm (is_first records) result (D.state self.old.0) (D.state self.new.0) }
+        ensures any_moment { (records : List ARecord) → IsAtRest (D.state self.old.0) records
+            → EachMoment (IsThemOrRenewed records) (D.state self.old.0) (D.state self.new.0) }
+        ensures keeps { Keeps (IsErrOf result FileError.Disk) (D.state self.old.0) (D.state self.new.0) }
+    {
+        if read.form != FIRST_FORM {
+            return Ok(read);
+        }
+        self.recall_count_fits();
+        self.add(&Record::Form(FORM))?;
+        Ok(with_form(read, FORM))
     }
 
     /// Reads anew what the journal on its disk keeps, also where it has failed.
@@ -98,7 +152,7 @@ impl<D: Disk> Journal<D> {
     }
 
     /// Adds a record: a vote for anyone but 4,294,967,295, a configuration of at most 50 members, at most
-    /// 2,000 entries, each within the bounds of an entry, or a cut. After `Ok` every crash leaves it.
+    /// 2,000 entries, each within the bounds of an entry, a cut or a form. After `Ok` every crash leaves it.
     ///
     /// # Errors
     /// `Memory` leaves the journal as it was. After `Disk` it has failed, and only `close` is left.

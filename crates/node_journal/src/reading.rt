@@ -1,5 +1,6 @@
 // Records as they are read.
-ghost use Rattle.std.specs.Prelude.{◌≡◌, List, IfOk};
+ghost use Rattle.std.specs.Prelude.{◌≡◌, ◌<◌, ◌^◌, ℕ, List, IfOk};
+ghost use Rattle.bson_codec.specs.Numbers.{number_bytes};
 ghost use Rattle.entry_bytes.specs.Optimes.{optime_bytes};
 ghost use Rattle.record_file.specs.Turn.{BeginsWith, Reads, StandInTurn};
 ghost use Rattle.oplog_entry.specs.declared.entry.Entry.{Entry as AnEntry};
@@ -122,17 +123,25 @@ fn entries_of(alloc: Global, count: u32, bytes: &[u8]) -> Mem<Vec<Entry>>
     Ok(entries)
 }
 
-fn batch_of(alloc: Global, bytes: &[u8]) -> Mem<(Vec<Entry>, OpTime)>
+// The record of a point and of entries.
+fn batch_of(alloc: Global, bytes: &[u8]) -> Mem<Record>
     requires { (entries : List AnEntry) × (point : OpTime) × IsOptime point × AreEntries entries
         × (bytes.now ≡ batch_bytes entries point) }
     ensures { IfOk result (λ read.
         (entries : List AnEntry) (point : OpTime) → IsOptime point → AreEntries entries
-        → bytes.now ≡ batch_bytes entries point → (read.0.items ≡ entries) × (read.1 ≡ point)) }
+        → bytes.now ≡ batch_bytes entries point → read ≡ ARecord.Entries entries point) }
 {
     let (point, rest) = optime_of(bytes);
     let (count, rest) = u32_of(rest);
-    let entries = entries_of(alloc, count, rest)?;
-    Ok((entries, point))
+    let list = EntryList::new(entries_of(alloc, count, rest)?);
+    Ok(Record::Entries { list, point })
+}
+
+fn form_of(bytes: &[u8]) -> u32
+    requires { (form : ℕ) × (form < 2 ^ 32) × (bytes.now ≡ number_bytes 4 form) }
+    ensures { (form : ℕ) → form < 2 ^ 32 → bytes.now ≡ number_bytes 4 form → result ≡ form }
+{
+    u32_of(bytes).0
 }
 
 // The record that these bytes are of.
@@ -144,11 +153,8 @@ pub(crate) fn record_of(alloc: Global, bytes: &[u8]) -> Mem<Record>
     match bytes[0] {
         1 => Ok(Record::Vote(vote_of(rest))),
         2 => Ok(Record::Config(config_of(alloc, rest)?)),
-        3 => {
-            let (entries, point) = batch_of(alloc, rest)?;
-            let list = EntryList::new(entries);
-            Ok(Record::Entries { list, point })
-        }
+        3 | 6 => batch_of(alloc, rest),
+        5 => Ok(Record::Form(form_of(rest))),
         _ => Ok(Record::Cut(cut_of(rest))),
     }
 }
@@ -165,7 +171,7 @@ pub(crate) fn entries_in(pieces: &[Vec<u8>]) -> usize {
 // The number behind the point, where these bytes are of a record of entries.
 fn entry_count(bytes: &[u8]) -> usize {
     match bytes.get(17..21) {
-        Some(number) if bytes[0] == 3 => u32_of(number).0 as usize,
+        Some(number) if matches!(bytes[0], 3 | 6) => u32_of(number).0 as usize,
         _ => 0,
     }
 }

@@ -1,8 +1,9 @@
-use Rattle.std.proofs.Common.{◌≡◌, ◌∙◌, ap, rules}
+use Rattle.std.proofs.Common.{◌≡◌, ℕ, List, ap, rules, subst, sym}
 use Rattle.std.specs.Prelude.{Err}
 use Rattle.record_file.specs.Records.{lists}
 use Rattle.record_file.specs.declared.error.FileError.TheVariants.{Memory}
 use Rattle.record_file.proofs.OpenLemmas.{opened_calls}
+use Rattle.node_journal.specs.Spelled.{AreSpelled}
 use Rattle.node_journal.proofs.JournalLemmas.{found_records, open_now, opened_left, opens, pieces_are, rests_now}
 use Rattle.node_journal.proofs.journal.Journal.reopen.Goals as goal
 
@@ -17,7 +18,7 @@ pub kept_of-requires : goal.kept_of-requires
 kept_of-requires g c =
     let has = rw (← c.self.view_is) at c.requires in
     let found = found_records _ (lists c.in_ok-pieces.pieces.items) has c.in_ok-pieces.ensures.records in
-    (found.0, found.1, ap lists c.deref.ensures.value ∙ found.2)
+    (found.0, subst (λ (l : List (List ℕ)). AreSpelled found.0 l) (sym (ap lists c.deref.ensures.value)) found.1)
 
 pub returns-in_err-kept_of-clause-left : goal.returns-in_err-kept_of-clause-left
 returns-in_err-kept_of-clause-left g c = let has = rw (← c.self.view_is) at c.requires in opened_left _ _ has c.in_ok-pieces.ensures.any_moment
@@ -34,12 +35,13 @@ returns-in_err-kept_of-clause-any_moment g c =
 pub returns-clause-kept : goal.returns-clause-kept
 returns-clause-kept g c =
     rw (← c.self.view_is)
-    (λ records journal. c.in_ok-kept_of.ensures records journal.each (ap lists c.deref.ensures.value ∙ pieces_are _ (lists c.in_ok-pieces.pieces.items) records c.in_ok-pieces.ensures.records journal))
+    (λ records journal. c.in_ok-kept_of.ensures records
+    (subst (λ (l : List (List ℕ)). AreSpelled records l) (sym (ap lists c.deref.ensures.value)) (pieces_are _ (lists c.in_ok-pieces.pieces.items) records c.in_ok-pieces.ensures.records journal)))
 
 pub returns-clause-at_rest : goal.returns-clause-at_rest
 returns-clause-at_rest g c =
     rw (← c.self.view_is)
-    (λ records journal. rests_now _ (lists c.in_ok-pieces.pieces.items) records journal.each (pieces_are _ (lists c.in_ok-pieces.pieces.items) records c.in_ok-pieces.ensures.records journal) c.in_ok-pieces.ensures.at_rest)
+    (λ records journal. rests_now _ (lists c.in_ok-pieces.pieces.items) records (pieces_are _ (lists c.in_ok-pieces.pieces.items) records c.in_ok-pieces.ensures.records journal) c.in_ok-pieces.ensures.at_rest)
 
 pub returns-clause-open : goal.returns-clause-open
 returns-clause-open g c =
