@@ -30,21 +30,24 @@ all_earlier log entry all k d within = let before : StandsBefore (get_or log k d
 regrouped : (old done rest whole : List Entry) (entry : Entry) → done ++ entry ∷ rest ≡ whole → IsOplog (old ++ whole) → IsOplog ((old ++ done) ++ entry ∷ rest)
 regrouped old done rest whole entry is oplog = subst (λ (w : List Entry). IsOplog w) (ap (λ w. old ++ w) (sym is) ∙ sym (append_assoc old done (entry ∷ rest))) oplog
 
--- the next of them goes to the end
+-- the next of them is later than all
+pub next_later : (old done rest whole : List Entry) (entry : Entry) → done ++ entry ∷ rest ≡ whole → IsOplog (old ++ whole)
+    → All (λ (other : Entry). other.optime.ts < entry.optime.ts) (old ++ done)
+next_later old done rest whole entry is oplog =
+    all_earlier (old ++ done) entry (all_before StandsBefore (old ++ done) entry rest (regrouped old done rest whole entry is oplog).order)
+
+-- and goes to the end
 pub next_last : (old done rest whole : List Entry) (entry : Entry) → done ++ entry ∷ rest ≡ whole → IsOplog (old ++ whole)
     → with_entry (old ++ done) entry ≡ old ++ (done ++ entry ∷ [])
 next_last old done rest whole entry is oplog =
-    let all = regrouped old done rest whole entry is oplog in
-    with_last (old ++ done) entry (all_earlier (old ++ done) entry (all_before StandsBefore (old ++ done) entry rest all.order))
-    ∙ append_assoc old done (entry ∷ [])
+    with_last (old ++ done) entry (next_later old done rest whole entry is oplog) ∙ append_assoc old done (entry ∷ [])
 
 pub next_oplog : (old done rest whole : List Entry) (entry : Entry) → done ++ entry ∷ rest ≡ whole → IsOplog (old ++ whole)
     → IsOplog (with_entry (old ++ done) entry)
 next_oplog old done rest whole entry is oplog =
     let all = regrouped old done rest whole entry is oplog in
     let front : IsOplog ((old ++ done) ++ entry ∷ []) = oplog_front ((old ++ done) ++ entry ∷ []) rest (subst (λ (w : List Entry). IsOplog w) (sym (append_assoc (old ++ done) (entry ∷ []) rest)) all) in
-    subst (λ (w : List Entry). IsOplog w)
-    (sym (with_last (old ++ done) entry (all_earlier (old ++ done) entry (all_before StandsBefore (old ++ done) entry rest all.order)))) front
+    subst (λ (w : List Entry). IsOplog w) (sym (with_last (old ++ done) entry (next_later old done rest whole entry is oplog))) front
 
 pub seen_more : (seen : ℕ) (done : List Entry) (entry : Entry) → max (seen_after seen done) entry.optime.ts ≡ seen_after seen (done ++ entry ∷ [])
 seen_more seen [] entry = refl

@@ -21,7 +21,7 @@ use Rattle.set_model.specs.Node.{Node}
 use Rattle.node_ledger.specs.Writers.{HasOpen}
 use Rattle.node_ledger.specs.Kept.{is_held_by, IsHolder, IsKept}
 use Rattle.node_ledger.specs.Writers.{Writers}
-use Rattle.node_ledger.proofs.WriterLemmas.{same_or_apart, get-with-same, get-with-other}
+use Rattle.node_ledger.proofs.MapLemmas.{same_or_apart, get-with-same, get-with-other}
 
 -- ---- one writer
 

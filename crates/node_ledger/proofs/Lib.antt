@@ -7,11 +7,13 @@ pub mod HasLemmas
 pub mod HolderLemmas
 pub mod LedgerLemmas
 pub mod LogLemmas
+pub mod MapLemmas
 pub mod OpenLemmas
 pub mod OwnLemmas
 pub mod ReleaseLemmas
 pub mod RestoreLemmas
 pub mod RoleLemmas
+pub mod SessionLogLemmas
 pub mod ShownLemmas
 pub mod SizeLemmas
 pub mod SoundLemmas

@@ -15,7 +15,7 @@ use Rattle.optime_slots.proofs.SlotLemmas.{optime_total, optime_exact}
 use Rattle.set_model.specs.declared.writer.Writer.TheVariants.{Open, Done}
 use Rattle.node_ledger.specs.Kept.{FitsBeside, IsNewest}
 use Rattle.node_ledger.specs.Writers.{Writers, HasOpen}
-use Rattle.node_ledger.proofs.WriterLemmas.{same_or_apart, get-with-same, get-with-other, get-without-same, get-without-other}
+use Rattle.node_ledger.proofs.MapLemmas.{same_or_apart, get-with-same, get-with-other, get-without-same, get-without-other}
 
 -- and stays so where another entry comes that fits beside it, unless that is later and of its document
 pub newest_with : (log : List Entry) (entry other : Entry) → IsNewest log entry → FitsBeside entry other → (entry.optime.ts < other.optime.ts → place_of other.op ≢ place_of entry.op) → IsNewest (with_entry log other) entry

@@ -13,7 +13,7 @@ use Rattle.oplog_entry.specs.Lawful.{BeginsWithId, AreUnsets, IsLawful, IsLawful
 use Rattle.oplog_entry.specs.Step.{id_key, place_in, place_of, document_after, with_sets, strings_of, changed, is_at}
 use Rattle.oplog_entry.specs.declared.entry.Entry.{Entry}
 use Rattle.oplog_entry.specs.declared.entry.Op.{Op}
-use Rattle.oplog_entry.specs.declared.entry.Op.TheVariants.{Insert, Replace, Fields as SetFields, Delete, Noop}
+use Rattle.oplog_entry.specs.declared.entry.Op.TheVariants.{Insert, Replace, Fields as SetFields, Delete, Noop, Note}
 use Rattle.oplog_entry.proofs.FieldLemmas.{same_itself, alike_swapped}
 use Rattle.oplog_entry.proofs.PlaceLemmas.{is_at-only}
 use Rattle.set_model.proofs.HoldLemmas.{get-step}
@@ -84,6 +84,7 @@ own_after (SetFields ns id sets unsets) place None lawful at own = tt
 own_after (SetFields ns id sets unsets) place (Some document) lawful at own = own_changed place.1 document sets unsets lawful.1 lawful.2 own
 own_after (Delete ns id) place before lawful at own = tt
 own_after Noop place before lawful at own = own
+own_after Note place before lawful at own = own
 
 abbrev AreOwn : Documents → Type 0
 AreOwn documents = (place : Place) → IfSome (get documents place) (λ d. IsOwn place.1 d)

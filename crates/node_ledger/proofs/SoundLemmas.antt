@@ -1,5 +1,5 @@
 -- A node's log stays in order as it is written.
-use Rattle.std.proofs.Common.{◌≡◌, ◌≢◌, ◌⊎◌, inl, inr, ◌<◌, ◌≤◌, ◌∙◌, ℕ, suc, zero, true, false, not, IsTrue, IsSome, List, [], ◌∷◌, Option, None, Some, refl, sym, ap, subst, arith}
+use Rattle.std.proofs.Common.{◌≡◌, ◌≢◌, ◌⊎◌, inl, inr, ◌<◌, ◌≤◌, ◌∙◌, ℕ, suc, zero, true, false, not, IsTrue, IfSome, IsSome, List, [], ◌∷◌, Option, None, Some, refl, sym, ap, subst, arith}
 use Rattle.std.specs.Prelude.{slice_index_or}
 use Rattle.std.specs.List.{All, AllPairs}
 use Rattle.std.specs.FinMap.{get, insert}
@@ -12,8 +12,9 @@ use Rattle.rs_optime.proofs.Optimes.{at_most_before_trans, before_both}
 use Rattle.entry_bytes.specs.Sizes.{IsWithinEntry}
 use Rattle.oplog_entry.specs.declared.entry.Entry.{Entry}
 use Rattle.oplog_entry.specs.declared.entry.Op.{Op}
+use Rattle.oplog_entry.specs.declared.entry.Session.{Session}
 use Rattle.oplog_entry.specs.Docs.{docs}
-use Rattle.oplog_entry.specs.Lawful.{IsLawfulOp}
+use Rattle.oplog_entry.specs.Lawful.{IsLawfulOp, IsSession}
 use Rattle.oplog_entry.specs.Log.{StandsBefore}
 use Rattle.oplog_entry.specs.Step.{place_of, document_after}
 use Rattle.oplog_entry.specs.Visible.{ZERO, last_of, visible}
@@ -59,13 +60,11 @@ writing_primary node writer sound writing = primary_if node.role (λ not. (sound
 pub primary_point : (role : Role) (a b : OpTime) → role ≡ Primary → if_primary role a b ≡ a
 primary_point role a b is = ap (λ r. if_primary r a b) is
 
--- ---- the next optime
-
 -- ---- the newest entry
 
 -- an entry past all others is the newest of its document
-pub newest_past : (node : Node) (at : OpTime) (op : Op) → IsSound node → at.term ≡ node.term → node.seen < at.ts → IsNewest node.log (record { optime = at; op = op })
-newest_past node at op sound term past = record {
+pub newest_past : (node : Node) (at : OpTime) (op : Op) (session : Option Session) → IsSound node → at.term ≡ node.term → node.seen < at.ts → IsNewest node.log (record { optime = at; op = op; session = session })
+newest_past node at op session sound term past = record {
   fits = λ k d within. inl (record { earlier = omega (arith, sound.marked k d within); term = omega (arith, sound.terms k d within) });
   last = λ k d within after. absurd (omega (arith, sound.marked k d within));
 }
@@ -141,33 +140,42 @@ stable_stays role log later slots after applied o primary order new into stable 
 
 -- ---- an entry past all others
 
+-- an entry that is written next, and one that a slot waits for
+abbrev pub next_entry : Node → Op → Option Session → Entry
+next_entry node op session = record { optime = next_optime node; op = op; session = session }
+
+abbrev pub slot_entry : OpTime → Op → Entry
+slot_entry at op = record { optime = at; op = op; session = None }
+
 -- what a new entry owes
-pub record IsNew (node : Node) (op : Op) : Type 0 where
+pub record IsNew (node : Node) (op : Op) (session : Option Session) : Type 0 where
   pub role : node.role ≡ Primary
   pub lawful : IsLawfulOp op
-  pub within : IsWithinEntry (record { optime = next_optime node; op = op })
+  pub session_too : IfSome session IsSession
+  pub write : IfSome session (λ _. IsSome (place_of op))
+  pub within : IsWithinEntry (next_entry node op session)
   pub small : (place : Place) → place_of op ≡ Some place → IsSmall (document_after op (get (docs node.log) place))
 
-pub next_newest : (node : Node) (op : Op) → IsSound node → IsNewest node.log (record { optime = next_optime node; op = op })
-next_newest node op sound = newest_past node (next_optime node) op sound refl (next_past node)
+pub next_newest : (node : Node) (op : Op) (session : Option Session) → IsSound node → IsNewest node.log (next_entry node op session)
+next_newest node op session sound = newest_past node (next_optime node) op session sound refl (next_past node)
 
-pub sound_logged : (node : Node) (op : Op) → IsSound node → IsNew node op → IsSound (logged node op)
-sound_logged node op sound new =
-    let newest : IsNewest node.log (record { optime = next_optime node; op = op }) = next_newest node op sound in
+pub sound_logged : (node : Node) (op : Op) (session : Option Session) → IsSound node → IsNew node op session → IsSound (logged node op session)
+sound_logged node op session sound new =
+    let newest : IsNewest node.log (next_entry node op session) = next_newest node op session sound in
     let past : node.seen < (next_optime node).ts = next_past node in
-    let oplog : IsOplog (with_entry node.log (record { optime = next_optime node; op = op })) =
-    with_entry_keeps node.log (record { optime = next_optime node; op = op }) sound.oplog (record { term = sound.term; op = new.lawful }) newest.fits in
+    let oplog : IsOplog (with_entry node.log (next_entry node op session)) =
+    with_entry_keeps node.log (next_entry node op session) sound.oplog (record { term = sound.term; op = new.lawful; session = new.session_too; write = new.write }) newest.fits in
     record {
       oplog = oplog;
-      entries = all_with_entry IsWithinEntry node.log (record { optime = next_optime node; op = op }) new.within sound.entries;
-      documents = small_with node.log (record { optime = next_optime node; op = op }) sound.oplog.order newest new.small sound.documents;
+      entries = all_with_entry IsWithinEntry node.log (next_entry node op session) new.within sound.entries;
+      documents = small_with node.log (next_entry node op session) sound.oplog.order newest new.small sound.documents;
       term = sound.term;
-      terms = all_with_entry (λ (e : Entry). e.optime.term ≤ node.term) node.log (record { optime = next_optime node; op = op }) (omega arith) sound.terms;
-      marked = all_with_entry (λ (e : Entry). e.optime.ts ≤ (next_optime node).ts) node.log (record { optime = next_optime node; op = op }) (omega arith) (λ k d within. omega (arith, sound.marked k d within));
+      terms = all_with_entry (λ (e : Entry). e.optime.term ≤ node.term) node.log (next_entry node op session) (omega arith) sound.terms;
+      marked = all_with_entry (λ (e : Entry). e.optime.ts ≤ (next_optime node).ts) node.log (next_entry node op session) (omega arith) (λ k d within. omega (arith, sound.marked k d within));
       idle = λ not. absurd (primary_not node.role new.role not);
-      applied = last-with node.log (record { optime = next_optime node; op = op }) node.applied oplog.order sound.applied;
-      stable = stable_stays node.role node.log (with_entry node.log (record { optime = next_optime node; op = op })) node.slots node.slots node.applied node.stable new.role oplog.order
-          (λ k d within slot there. inl there) (some_with (λ e. (is_before e node.stable ≡ false) × IsBeforeSlots node.slots e) node.log (record { optime = next_optime node; op = op })) sound.stable;
+      applied = last-with node.log (next_entry node op session) node.applied oplog.order sound.applied;
+      stable = stable_stays node.role node.log (with_entry node.log (next_entry node op session)) node.slots node.slots node.applied node.stable new.role oplog.order
+          (λ k d within slot there. inl there) (some_with (λ e. (is_before e node.stable ≡ false) × IsBeforeSlots node.slots e) node.log (next_entry node op session)) sound.stable;
     }
 
 before_next : (node : Node) → IsSound node → All (λ (e : Entry). is_before e.optime (next_optime node) ≡ true) node.log
@@ -185,11 +193,11 @@ next_unstable node sound primary = elim (visible_shown node.log node.slots node.
       (some_both (λ e. (is_before e node.stable ≡ false) × IsBeforeSlots node.slots e) (λ e. is_before e (next_optime node) ≡ true) node.log (before_next node sound) some))
 ]
 
-pub apart_logged : (node : Node) (op : Op) → IsSound node → AreApart node → IsNew node op
-    → ((v : ℕ) (by : OpTime) (other : Op) → HasOpen node.writers v by other → place_of op ≢ place_of other) → AreApart (logged node op)
-apart_logged node op sound writers new free = record { pending = pending; apart = writers.apart; alone = writers.alone }
+pub apart_logged : (node : Node) (op : Op) (session : Option Session) → IsSound node → AreApart node → IsNew node op session
+    → ((v : ℕ) (by : OpTime) (other : Op) → HasOpen node.writers v by other → place_of op ≢ place_of other) → AreApart (logged node op session)
+apart_logged node op session sound writers new free = record { pending = pending; apart = writers.apart; alone = writers.alone }
   where
-    pending : (v : ℕ) (by : OpTime) (other : Op) → HasOpen node.writers v by other → IsPending (logged node op) by other
+    pending : (v : ℕ) (by : OpTime) (other : Op) → HasOpen node.writers v by other → IsPending (logged node op session) by other
     pending v by other opens =
         let old : IsPending node by other = writers.pending v by other opens in
         let past : node.seen < (next_optime node).ts = next_past node in
@@ -202,8 +210,8 @@ apart_logged node op sound writers new free = record { pending = pending; apart 
           lawful = old.lawful;
           within = old.within;
           place = old.place;
-          small = small_still node.log (record { optime = next_optime node; op = op }) other sound.oplog.order (next_newest node op sound) (free v by other opens) old.small;
-          newest = newest_with node.log (record { optime = by; op = other }) (record { optime = next_optime node; op = op }) old.newest
+          small = small_still node.log (next_entry node op session) other sound.oplog.order (next_newest node op session sound) (free v by other opens) old.small;
+          newest = newest_with node.log (slot_entry by other) (next_entry node op session) old.newest
               (inr (record { earlier = omega (arith, old.seen, past); term = omega (arith, old.term) })) (λ _. free v by other opens);
         }
 
@@ -230,7 +238,7 @@ sound_opened node writer op sound primary =
       | inr old ↦ inl old
     ]
 
-pub apart_opened : (node : Node) (writer : ℕ) (op : Op) → IsSound node → AreApart node → IsNew node op → IsSome (place_of op)
+pub apart_opened : (node : Node) (writer : ℕ) (op : Op) → IsSound node → AreApart node → IsNew node op None → IsSome (place_of op)
     → ((v : ℕ) (by : OpTime) (other : Op) → HasOpen node.writers v by other → place_of op ≢ place_of other) → AreApart (opened node writer op)
 apart_opened node writer op sound writers new place free = record { pending = pending; apart = apart; alone = alone }
   where
@@ -248,7 +256,7 @@ apart_opened node writer op sound writers new place free = record { pending = pe
       within = new.within;
       place = place;
       small = new.small;
-      newest = next_newest node op sound;
+      newest = next_newest node op None sound;
     }
 
     pending : (v : ℕ) (by : OpTime) (other : Op) → HasOpen (insert node.writers writer (Open (next_optime node) op)) v by other → IsPending (opened node writer op) by other
@@ -309,19 +317,19 @@ pub sound_settled : (node : Node) (writer : ℕ) (at : OpTime) (op : Op) → IsS
 sound_settled node writer at op sound writers opens =
     let here : IsPending node at op = writers.pending writer at op opens in
     let primary : node.role ≡ Primary = writing_primary node writer sound (at, op, opens) in
-    let oplog : IsOplog (with_entry node.log (record { optime = at; op = op })) =
-    with_entry_keeps node.log (record { optime = at; op = op }) sound.oplog (record { term = omega (arith, sound.term, here.term); op = here.lawful }) here.newest.fits in
+    let oplog : IsOplog (with_entry node.log (slot_entry at op)) =
+    with_entry_keeps node.log (slot_entry at op) sound.oplog (record { term = omega (arith, sound.term, here.term); op = here.lawful; session = tt; write = tt }) here.newest.fits in
     record {
       oplog = oplog;
-      entries = all_with_entry IsWithinEntry node.log (record { optime = at; op = op }) here.within sound.entries;
-      documents = small_with node.log (record { optime = at; op = op }) sound.oplog.order here.newest here.small sound.documents;
+      entries = all_with_entry IsWithinEntry node.log (slot_entry at op) here.within sound.entries;
+      documents = small_with node.log (slot_entry at op) sound.oplog.order here.newest here.small sound.documents;
       term = sound.term;
-      terms = all_with_entry (λ (e : Entry). e.optime.term ≤ node.term) node.log (record { optime = at; op = op }) (omega (arith, here.term)) sound.terms;
-      marked = all_with_entry (λ (e : Entry). e.optime.ts ≤ node.seen) node.log (record { optime = at; op = op }) here.seen sound.marked;
+      terms = all_with_entry (λ (e : Entry). e.optime.term ≤ node.term) node.log (slot_entry at op) (omega (arith, here.term)) sound.terms;
+      marked = all_with_entry (λ (e : Entry). e.optime.ts ≤ node.seen) node.log (slot_entry at op) here.seen sound.marked;
       idle = λ not. absurd (primary_not node.role primary not);
-      applied = last-with node.log (record { optime = at; op = op }) node.applied oplog.order sound.applied;
-      stable = stable_stays node.role node.log (with_entry node.log (record { optime = at; op = op })) node.slots (sets.remove node.slots at) node.applied node.stable primary oplog.order
-          (λ k d within slot there. inl (open_without node.slots at slot there)) (some_with (λ e. (is_before e node.stable ≡ false) × IsBeforeSlots (sets.remove node.slots at) e) node.log (record { optime = at; op = op })) sound.stable;
+      applied = last-with node.log (slot_entry at op) node.applied oplog.order sound.applied;
+      stable = stable_stays node.role node.log (with_entry node.log (slot_entry at op)) node.slots (sets.remove node.slots at) node.applied node.stable primary oplog.order
+          (λ k d within slot there. inl (open_without node.slots at slot there)) (some_with (λ e. (is_before e node.stable ≡ false) × IsBeforeSlots (sets.remove node.slots at) e) node.log (slot_entry at op)) sound.stable;
     }
 
 pub apart_settled : (node : Node) (writer : ℕ) (at : OpTime) (op : Op) → IsSound node → AreApart node → HasOpen node.writers writer at op → AreApart (settled node writer at op)
@@ -343,8 +351,8 @@ apart_settled node writer at op sound writers opens = record {
           lawful = was.lawful;
           within = was.within;
           place = was.place;
-          small = small_still node.log (record { optime = at; op = op }) other sound.oplog.order here.newest (λ places. old.0 (writers.alone v writer by at other op old.1 opens (sym places))) was.small;
-          newest = newest_with node.log (record { optime = by; op = other }) (record { optime = at; op = op }) was.newest
+          small = small_still node.log (slot_entry at op) other sound.oplog.order here.newest (λ places. old.0 (writers.alone v writer by at other op old.1 opens (sym places))) was.small;
+          newest = newest_with node.log (slot_entry by other) (slot_entry at op) was.newest
               (elim (three_ways by.ts at.ts) [
                 | inl less ↦ inr (record { earlier = less; term = omega (arith, here.term, was.term) })
                 | inr rest ↦ elim rest [

@@ -40,11 +40,11 @@ pub record IsPending (node : Node) (at : OpTime) (op : Op) : Type 0 where
   pub term : at.term ≡ node.term
   pub unstable : is_before node.stable at ≡ true
   pub lawful : IsLawfulOp op
-  pub within : IsWithinEntry (record { optime = at; op = op })
+  pub within : IsWithinEntry (record { optime = at; op = op; session = None })
   pub place : IsSome (place_of op)
   pub small : (place : Place) → place_of op ≡ Some place
       → IsSmall (document_after op (maps.get (docs node.log) place))
-  pub newest : IsNewest node.log (record { optime = at; op = op })
+  pub newest : IsNewest node.log (record { optime = at; op = op; session = None })
 
 -- no two writers share a slot or a document
 pub record AreApart (node : Node) : Type 0 where

@@ -2,6 +2,7 @@ pub mod Code
 pub mod Kept
 pub mod Ledger
 pub mod Records
+pub mod SessionLog
 pub mod Sound
 pub mod Versions
 pub mod Writers

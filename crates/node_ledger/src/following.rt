@@ -13,10 +13,10 @@ ghost use Rattle.node_ledger.specs.Ledger.{applied_at, applied_with};
 ghost use Rattle.node_ledger.specs.Versions.{AreSmall};
 
 use crate::Ledger;
+use crate::session_log::SessionLog;
 use batch_applier::{NoGate, apply_batch};
 use bson_doc::Mem;
 use oplog_entry::Entry;
-use oplog_store::OpenLog;
 use optime_slots::Slots;
 use rs_optime::OpTime;
 use std::thread::Threads;
@@ -28,7 +28,7 @@ const BATCH: usize = 5_000;
 const WORKERS: u32 = 4;
 
 /// Writes entries behind a log, in the room that there is.
-pub(crate) fn insert_all(log: &mut OpenLog, slots: &mut Slots, entries: Vec<Entry>)
+pub(crate) fn insert_all(log: &mut SessionLog, slots: &mut Slots, entries: Vec<Entry>)
     requires room { length entries.items ≤ log.old.spare }
     requires stays { IsOplog (log.old.entries ++ entries.items) }
     ensures entries { log.new.entries ≡ log.old.entries ++ entries.items }
@@ -38,7 +38,7 @@ pub(crate) fn insert_all(log: &mut OpenLog, slots: &mut Slots, entries: Vec<Entr
 {
     for entry in entries {
         slots.seen(entry.optime.ts);
-        log.insert(entry);
+        log.take_in(entry);
     }
 }
 
@@ -97,7 +97,7 @@ impl Ledger {
         ensures same { self.new ≡ self.old }
     {
         self.log.gather();
-        let log = self.log.settled();
+        let log = self.log.written().settled();
         log.up_to(to)
             .len()
             .saturating_sub(log.up_to(self.applied).len())
@@ -132,7 +132,7 @@ impl Ledger {
         ensures err { OnErr result (self.new ≡ self.old) }
     {
         self.log.gather();
-        let entries = self.log.settled().after(self.applied);
+        let entries = self.log.written().settled().after(self.applied);
         let batch = &entries[..most.min(entries.len())];
         let Some(last) = batch.last() else {
             return Ok(0);

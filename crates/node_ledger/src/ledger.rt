@@ -4,17 +4,18 @@ ghost use Rattle.std.specs.Option.{option_copied};
 ghost use Rattle.std.specs.FinMap as maps;
 ghost use Rattle.set_model.specs.Node.{opening_node};
 ghost use Rattle.set_model.specs.Points.{applied_point, last_point, visible_point, next_optime};
+ghost use Rattle.set_model.specs.Sessions.{last_write};
 ghost use Rattle.node_ledger.specs.Kept.{AreApart};
 ghost use Rattle.node_ledger.specs.Ledger.{nobody};
 ghost use Rattle.node_ledger.specs.Sound.{IsSound};
 ghost use Rattle.node_ledger.specs.Writers.{is_open};
 
+use crate::session_log::SessionLog;
 use crate::writer_map::WriterMap;
 use bson_doc::Mem;
-use oplog_store::OpenLog;
 use optime_slots::Slots;
 use rs_optime::{OpTime, next_after};
-use set_model::{Role, Writer};
+use set_model::{LastWrite, Role, Writer};
 use std::alloc::Global;
 use std::marker::Model;
 use version_store::VersionStore;
@@ -34,7 +35,7 @@ pub struct Ledger {
     pub(crate) term: u64,
     pub(crate) role: Role,
     pub(crate) clock: u32,
-    pub(crate) log: OpenLog,
+    pub(crate) log: SessionLog,
     pub(crate) slots: Slots,
     pub(crate) writers: WriterMap,
     pub(crate) store: VersionStore,
@@ -95,7 +96,7 @@ impl Ledger {
             term: 0,
             role: Role::Secondary,
             clock: 0,
-            log: OpenLog::new(alloc),
+            log: SessionLog::new(alloc),
             slots: Slots::new(alloc),
             writers: WriterMap::new(alloc),
             store: VersionStore::new(alloc, SHARDS)?,
@@ -170,14 +171,14 @@ impl Ledger {
     pub fn last(&self) -> OpTime
         ensures { result ≡ last_point self.now.node }
     {
-        self.log.last()
+        self.log.written().last()
     }
 
     /// The optime of the last entry before the earliest open slot, or ZERO.
     pub fn visible(&self) -> OpTime
         ensures { result ≡ visible_point self.now.node }
     {
-        visible_open(&self.slots, &self.log)
+        visible_open(&self.slots, self.log.written())
     }
 
     /// The greatest timestamp seen.
@@ -213,6 +214,14 @@ impl Ledger {
             Some(Writer::Open { .. }) => true,
             Some(Writer::Done(_) | Writer::Lost(_)) | None => false,
         }
+    }
+
+    /// The last write of a session in the log: the greatest number, and the optime of its entry.
+    pub fn last_write(&mut self, id: u32) -> Option<LastWrite>
+        ensures last { result ≡ last_write id self.old.node.log }
+        ensures same { self.new ≡ self.old }
+    {
+        self.log.last_write(id)
     }
 
     /// Reserves memory for `more` entries, which are then written without taking any. Out of memory changes

@@ -8,6 +8,7 @@ mod ledger;
 mod records;
 mod restoring;
 mod roles;
+mod session_log;
 mod sharing;
 mod slots;
 mod writer_map;

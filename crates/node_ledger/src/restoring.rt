@@ -15,9 +15,9 @@ ghost use Rattle.version_store.specs.Store.{versions_at, holder_at};
 use crate::Ledger;
 use crate::following::insert_all;
 use crate::ledger::SHARDS;
+use crate::session_log::SessionLog;
 use crate::writer_map::WriterMap;
 use bson_doc::{Doc, IdKey, Mem, Text};
-use oplog_store::OpenLog;
 use optime_slots::Slots;
 use rs_optime::OpTime;
 use set_model::{EntryList, Role};
@@ -62,11 +62,11 @@ impl Ledger {
         ensures { IfOk result (λ ledger. ledger.node ≡ restored term clock entries at) }
     {
         let entries = entries.into_entries();
-        let mut log = OpenLog::new(alloc);
+        let mut log = SessionLog::new(alloc);
         log.reserve(entries.len())?;
         let mut slots = Slots::new(alloc);
         insert_all(&mut log, &mut slots, entries);
-        let last = log.last();
+        let last = log.written().last();
         let mut ledger = Ledger {
             alloc,
             term,

@@ -43,6 +43,7 @@ impl Ledger {
         requires applied { self.old.node.applied ≡ last_point self.old.node }
         ensures { self.new ≡ record self.old { node = record self.old.node { role = Primary } } }
     {
+        self.log.tabulate();
         self.role = Role::Primary;
     }
 
@@ -65,7 +66,7 @@ impl Ledger {
         ensures { result ≡ if_primary self.now.node.role (last_point self.now.node) self.now.node.applied }
     {
         if self.role == Role::Primary {
-            self.log.last()
+            self.log.written().last()
         } else {
             self.applied
         }

@@ -40,7 +40,7 @@ impl Ledger {
         ensures found { IfSome (option_copied result) (λ entry. IsEntryAt self.now.node.log at entry) }
         ensures none { IfNone result (All (λ entry. entry.optime ≢ at) self.now.node.log) }
     {
-        self.log.get(at)
+        self.log.written().get(at)
     }
 
     /// `entry_at`, which looks at a likely place of the log first, and leaves there the place behind the
@@ -49,14 +49,14 @@ impl Ledger {
         ensures found { IfSome (option_copied result) (λ entry. IsEntryAt self.now.node.log at entry) }
         ensures none { IfNone result (All (λ entry. entry.optime ≢ at) self.now.node.log) }
     {
-        self.log.get_near(likely, at)
+        self.log.written().get_near(likely, at)
     }
 
     /// Copies of all entries, in their order. Out of memory is the one error.
     pub fn entries(&self) -> Mem<EntryList>
         ensures { IfOk result (λ list. list ≡ self.now.node.log) }
     {
-        Ok(EntryList::new(self.log.copies(self.alloc)?))
+        Ok(EntryList::new(self.log.written().copies(self.alloc)?))
     }
 
     /// The answer to a node whose last optime is `base`, where the log is visible up to `visible`, as
@@ -75,7 +75,7 @@ impl Ledger {
         self.log.gather_up_to(visible);
         reply_to(
             self.alloc,
-            self.log.settled(),
+            self.log.written().settled(),
             visible,
             base,
             commit,
@@ -89,7 +89,7 @@ impl Ledger {
         ensures same { self.new ≡ self.old }
     {
         self.log.gather_up_to(to);
-        behind(self.log.settled().up_to(to), after).len()
+        behind(self.log.written().settled().up_to(to), after).len()
     }
 
     /// How many entries stand up to an optime.
@@ -98,7 +98,7 @@ impl Ledger {
         ensures same { self.new ≡ self.old }
     {
         self.log.gather_up_to(to);
-        self.log.settled().up_to(to).len() as u64
+        self.log.written().settled().up_to(to).len() as u64
     }
 
     /// The optimes of the entries that stand behind an optime, up to another one.
@@ -108,7 +108,10 @@ impl Ledger {
         ensures same { self.new ≡ self.old }
     {
         self.log.gather_up_to(to);
-        optimes_of(self.alloc, behind(self.log.settled().up_to(to), after))
+        optimes_of(
+            self.alloc,
+            behind(self.log.written().settled().up_to(to), after),
+        )
     }
 
     /// Up to where the log is rolled back for a source that has these optimes behind `after`, as
@@ -127,8 +130,8 @@ impl Ledger {
         self.log.gather();
         plan(
             term,
-            self.log.settled(),
-            self.log.last(),
+            self.log.written().settled(),
+            self.log.written().last(),
             source_last,
             after,
             optimes,
@@ -141,7 +144,7 @@ impl Ledger {
         ensures same { self.new ≡ self.old }
     {
         self.log.gather();
-        self.log.settled().after(at).len() as u64
+        self.log.written().settled().after(at).len() as u64
     }
 
     /// The documents that the entries behind an optime touched, each once, as a read at `local` shows them:
@@ -153,6 +156,10 @@ impl Ledger {
         ensures same { self.new ≡ self.old }
     {
         self.log.gather();
-        lost_documents(self.alloc, &self.store, self.log.settled().after(at))
+        lost_documents(
+            self.alloc,
+            &self.store,
+            self.log.written().settled().after(at),
+        )
     }
 }

@@ -78,7 +78,11 @@ impl Ledger {
         requires free { holder self.old.node (ns.now, id.now) ≡ None }
         requires closed { ¬ IsWriting self.old.node.writers number }
         requires lawful { IsLawfulOp op }
-        requires within { IsWithinEntry (record { optime = next_optime self.old.node; op = op }) }
+        requires within { IsWithinEntry (record {
+          optime = next_optime self.old.node;
+          op = op;
+          session = None;
+        }) }
         requires place { place_of op ≡ Some (ns.now, id.now) }
         requires small { IsSmall (document_after op (maps.get (docs self.old.node.log) (ns.now, id.now))) }
         ensures at { IfOk result (λ at. at ≡ next_optime self.old.node) }
@@ -124,6 +128,7 @@ impl Ledger {
         self.log.insert(Entry {
             optime: slot.at,
             op,
+            session: None,
         });
         let _ = self.slots.settle(slot.at);
         self.store.release(slot.ns.as_str(), &slot.id);

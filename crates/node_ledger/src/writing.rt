@@ -1,11 +1,11 @@
 // Entries that a primary writes at once.
-ghost use Rattle.std.specs.Prelude.{◌≡◌, ◌-◌, ◌^◌, ◌<◌, None, Some, IfOk, OnOk, OnErr};
+ghost use Rattle.std.specs.Prelude.{◌≡◌, ◌⊎◌, ◌-◌, ◌^◌, ◌<◌, All, None, Some, IfOk, IfSome, OnOk, OnErr};
 ghost use Rattle.std.specs.FinMap as maps;
 ghost use Rattle.entry_bytes.specs.Sizes.{IsWithinEntry};
 ghost use Rattle.oplog_entry.specs.Docs.{docs};
-ghost use Rattle.oplog_entry.specs.Lawful.{IsLawfulOp};
+ghost use Rattle.oplog_entry.specs.Lawful.{IsLawfulOp, IsSession};
 ghost use Rattle.oplog_entry.specs.Step.{place_of, document_after};
-ghost use Rattle.oplog_entry.specs.declared.entry.Op.TheVariants.{Noop};
+ghost use Rattle.oplog_entry.specs.declared.entry.Op.TheVariants.{Noop, Note};
 ghost use Rattle.oplog_store.specs.Log.{IsOplog, with_entry};
 ghost use Rattle.optime_slots.specs.Reserved.{with_seen};
 ghost use Rattle.set_model.specs.Changes.{logged};
@@ -15,45 +15,65 @@ ghost use Rattle.set_model.specs.declared.role.Role.TheVariants.{Primary};
 ghost use Rattle.node_ledger.specs.Versions.{IsSmall};
 
 use crate::Ledger;
+use crate::session_log::SessionLog;
 use bson_doc::{Doc, IdKey, Mem, Text};
-use oplog_entry::{Entry, Op, SharedOp};
-use oplog_store::OpenLog;
+use oplog_entry::{Entry, Op, Session, SharedOp};
 use optime_slots::Slots;
 use rs_optime::OpTime;
 
 /// Writes an entry past all others, in the room that there is.
-fn append(log: &mut OpenLog, slots: &mut Slots, optime: OpTime, op: SharedOp)
+fn append(log: &mut SessionLog, slots: &mut Slots, entry: Entry)
     requires room { 0 < log.old.spare }
-    requires stays { IsOplog (with_entry log.old.entries (record { optime = optime; op = op })) }
-    ensures entries { log.new.entries ≡ with_entry log.old.entries (record { optime = optime; op = op }) }
+    requires stays { IsOplog (with_entry log.old.entries entry) }
+    requires newest { All (λ other. other.optime.ts < entry.optime.ts) log.old.entries }
+    ensures entries { log.new.entries ≡ with_entry log.old.entries entry }
     ensures spare { log.new.spare ≡ log.old.spare - 1 }
-    ensures slots { slots.new ≡ with_seen slots.old optime.ts }
+    ensures slots { slots.new ≡ with_seen slots.old entry.optime.ts }
 {
-    log.insert(Entry { optime, op });
-    slots.seen(optime.ts);
+    let ts = entry.optime.ts;
+    log.insert(entry);
+    slots.seen(ts);
 }
 
 impl Ledger {
     /// Writes an entry at the next optime, which it gives, for a document that no writer holds. `after` is
-    /// what the op leaves of the document. Out of memory leaves all as it was.
-    pub fn write(&mut self, ns: Text, id: IdKey, op: Op, after: Option<Doc>) -> Mem<OpTime>
+    /// what the op leaves of the document, and `session` the write of a session that the entry is, where it
+    /// is one. Out of memory leaves all as it was.
+    pub fn write(
+        &mut self,
+        ns: Text,
+        id: IdKey,
+        op: Op,
+        after: Option<Doc>,
+        session: Option<Session>,
+    ) -> Mem<OpTime>
         requires role { self.old.node.role ≡ Primary }
         requires room { self.old.node.seen < 2 ^ 64 - 1 }
         requires free { holder self.old.node (ns, id) ≡ None }
         requires lawful { IsLawfulOp op }
-        requires within { IsWithinEntry (record { optime = next_optime self.old.node; op = op }) }
+        requires session { IfSome session IsSession }
+        requires within { IsWithinEntry (record {
+          optime = next_optime self.old.node;
+          op = op;
+          session = session;
+        }) }
         requires place { place_of op ≡ Some (ns, id) }
         requires left { after ≡ document_after op (maps.get (docs self.old.node.log) (ns, id)) }
         requires small { IsSmall after }
         ensures at { IfOk result (λ at. at ≡ next_optime self.old.node) }
-        ensures ok { OnOk result (self.new.node ≡ logged self.old.node op) }
+        ensures ok { OnOk result (self.new.node ≡ logged self.old.node op session) }
         ensures err { OnErr result (self.new.node ≡ self.old.node) }
     {
         let at = self.next();
         self.log.reserve(1)?;
         let op = SharedOp::new(self.alloc, op)?;
         self.store.put(ns, id, at, after)?;
-        append(&mut self.log, &mut self.slots, at, op);
+        let entry = Entry {
+            optime: at,
+            op,
+            session,
+        };
+        append(&mut self.log, &mut self.slots, entry);
         Ok(at)
     }
 
@@ -63,10 +83,42 @@ impl Ledger {
         requires room { self.old.node.seen < 2 ^ 64 - 1 }
         requires spare { 0 < self.old.spare }
         ensures at { result ≡ next_optime self.old.node }
-        ensures ok { self.new ≡ record { node = logged self.old.node Noop; spare = self.old.spare - 1 } }
+        ensures ok { self.new
+            ≡ record { node = logged self.old.node Noop None; spare = self.old.spare - 1 } }
+    {
+        self.append_idle(SharedOp::noop())
+    }
+
+    /// Writes a note at the next optime, which it gives. Out of memory leaves all as it was.
+    pub fn write_note(&mut self) -> Mem<OpTime>
+        requires role { self.old.node.role ≡ Primary }
+        requires room { self.old.node.seen < 2 ^ 64 - 1 }
+        ensures at { IfOk result (λ at. at ≡ next_optime self.old.node) }
+        ensures ok { OnOk result (self.new.node ≡ logged self.old.node Note None) }
+        ensures err { OnErr result (self.new.node ≡ self.old.node) }
+    {
+        self.log.reserve(1)?;
+        let op = SharedOp::new(self.alloc, Op::Note)?;
+        Ok(self.append_idle(op))
+    }
+
+    /// Writes an entry that touches no document at the next optime, which it gives.
+    fn append_idle(&mut self, op: SharedOp) -> OpTime
+        requires role { self.old.node.role ≡ Primary }
+        requires room { self.old.node.seen < 2 ^ 64 - 1 }
+        requires spare { 0 < self.old.spare }
+        requires idle { (op ≡ Noop) ⊎ (op ≡ Note) }
+        ensures at { result ≡ next_optime self.old.node }
+        ensures ok { self.new
+            ≡ record { node = logged self.old.node op None; spare = self.old.spare - 1 } }
     {
         let at = self.next();
-        append(&mut self.log, &mut self.slots, at, SharedOp::noop());
+        let entry = Entry {
+            optime: at,
+            op,
+            session: None,
+        };
+        append(&mut self.log, &mut self.slots, entry);
         at
     }
 }

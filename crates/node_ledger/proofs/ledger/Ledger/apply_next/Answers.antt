@@ -12,14 +12,14 @@ use Rattle.node_ledger.proofs.ledger.Ledger.apply_next.Goals as goal
 pub apply_batch-requires-clause-batch : goal.apply_batch-requires-clause-batch
 apply_batch-requires-clause-batch c c' κs within =
     let role = rw (← c'.self.view_is) at c'.requires.role in
-    rw (c'.min.ensures, c'.after-entries.ensures, c'.settled.ensures, c'.gather.ensures)
+    rw (c'.min.ensures, c'.after-entries.ensures, c'.settled.ensures, c'.written.ensures, c'.gather.ensures)
     (rw (take_min c'.args.most _) (batch_fits _ c'.self.inside.store c'.args.most c'.self.invariant role))
 
 pub invariant_of-self-2 : goal.invariant_of-self-2
 invariant_of-self-2 c c' =
     let role = rw (← c'.self.view_is) at c'.requires.role in
     let behind : c'.after-entries.result.now ≡ log_behind c'.self.inside.applied c'.self.inside.log.entries =
-    c'.after-entries.ensures ∙ ap (log_behind c'.self.inside.applied) (c'.settled.ensures ∙ ap (λ (l : LogWithHoles). l.settled) c'.gather.ensures) in
+    c'.after-entries.ensures ∙ ap (log_behind c'.self.inside.applied) (c'.settled.ensures ∙ ap (λ (l : LogWithHoles). l.settled) (c'.written.ensures ∙ c'.gather.ensures)) in
     let same : take c'.min.result c'.after-entries.result.now ≡ batch_of c'.args.most c'.self.inside.applied c'.self.inside.log.entries =
     ap (λ n. take n c'.after-entries.result.now) c'.min.ensures ∙ take_min c'.args.most c'.after-entries.result.now ∙ ap (λ l. take c'.args.most l) behind in
     rw c'.gather.ensures
@@ -30,7 +30,7 @@ invariant_of-self-2 c c' =
 pub returns-clause-ok : goal.returns-clause-ok
 returns-clause-ok c c' =
     let behind : c'.after-entries.result.now ≡ log_behind c'.self.inside.applied c'.self.inside.log.entries =
-    c'.after-entries.ensures ∙ ap (log_behind c'.self.inside.applied) (c'.settled.ensures ∙ ap (λ (l : LogWithHoles). l.settled) c'.gather.ensures) in
+    c'.after-entries.ensures ∙ ap (log_behind c'.self.inside.applied) (c'.settled.ensures ∙ ap (λ (l : LogWithHoles). l.settled) (c'.written.ensures ∙ c'.gather.ensures)) in
     let same : take c'.min.result c'.after-entries.result.now ≡ batch_of c'.args.most c'.self.inside.applied c'.self.inside.log.entries =
     ap (λ n. take n c'.after-entries.result.now) c'.min.ensures ∙ take_min c'.args.most c'.after-entries.result.now ∙ ap (λ l. take c'.args.most l) behind in
     let at = applied_is c'.self.inside.applied (batch_of c'.args.most c'.self.inside.applied c'.self.inside.log.entries) c'.in-Some.last.now

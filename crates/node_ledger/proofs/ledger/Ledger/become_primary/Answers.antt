@@ -5,4 +5,4 @@ pub invariant_of-self : goal.invariant_of-self
 invariant_of-self c =
     let role = rw (← c.self.view_is) at c.requires.role in
     let applied = rw (← c.self.view_is) at c.requires.applied in
-    kept_primary _ c.self.inside.store c.self.invariant role applied
+    rw c.tabulate.ensures.entries (kept_primary _ c.self.inside.store c.self.invariant role applied)

@@ -2,7 +2,8 @@ use Rattle.std.proofs.Common.{◌∙◌, ap, refl, rules}
 use Rattle.oplog_store.specs.Places.{LogWithHoles}
 use Rattle.node_ledger.proofs.HolderLemmas.{holder_is}
 use Rattle.node_ledger.proofs.LedgerLemmas.{kept_put_back, kept_slot_opened, new_open}
-use Rattle.node_ledger.proofs.WriterLemmas.{get-with-same, put_back-insert}
+use Rattle.node_ledger.proofs.MapLemmas.{get-with-same}
+use Rattle.node_ledger.proofs.WriterLemmas.{put_back-insert}
 use Rattle.node_ledger.proofs.ledger.Ledger.open.Goals as goal
 
 pub hold-requires-clause-free : goal.hold-requires-clause-free

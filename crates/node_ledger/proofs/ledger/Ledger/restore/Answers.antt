@@ -3,7 +3,7 @@ use Rattle.std.specs.FinMap as maps
 use Rattle.std.specs.FinSet as sets
 use Rattle.oplog_entry.specs.Visible.{last_of}
 use Rattle.oplog_entry.specs.declared.entry.Entry.{Entry}
-use Rattle.oplog_store.specs.Places.{LogWithHoles, written}
+use Rattle.oplog_store.specs.Places.{LogWithHoles}
 use Rattle.optime_slots.specs.Reserved.{Reserved}
 use Rattle.set_model.specs.Fetching.{seen_after}
 use Rattle.node_ledger.specs.Ledger.{Ledger as Seen}
@@ -13,7 +13,7 @@ use Rattle.node_ledger.proofs.ledger.Ledger.restore.Goals as goal
 
 pub invariant_of-ledger-2 : goal.invariant_of-ledger-2
 invariant_of-ledger-2 g c =
-    let log : c.log-2.inside.settled.entries ++ written c.log-2.inside.beyond.items ≡ c.args.entries =
+    let log : c.log-2.inside.log.entries ≡ c.args.entries =
     ap (λ (l : LogWithHoles). l.entries) c.log-2.view_is ∙ c.insert_all.ensures.entries ∙ ap (λ (es : List Entry). es ++ c.into_entries-entries.result.items) (c.in_ok-reserve.ensures.entries ∙ c.new-log.ensures)
     ∙ c.into_entries-entries.ensures.entries in
     let slots : c.insert_all.new.slots.slots ≡ sets.empty = ap (λ (s : Reserved). s.slots) c.insert_all.ensures.slots ∙ ap (λ (s : Reserved). s.slots) c.new-slots.ensures in
@@ -25,14 +25,14 @@ invariant_of-ledger-2 g c =
 
 pub returns : goal.returns
 returns g c =
-    let log : c.log-2.inside.settled.entries ++ written c.log-2.inside.beyond.items ≡ c.args.entries =
+    let log : c.log-2.inside.log.entries ≡ c.args.entries =
     ap (λ (l : LogWithHoles). l.entries) c.log-2.view_is ∙ c.insert_all.ensures.entries ∙ ap (λ (es : List Entry). es ++ c.into_entries-entries.result.items) (c.in_ok-reserve.ensures.entries ∙ c.new-log.ensures)
     ∙ c.into_entries-entries.ensures.entries in
     let slots : c.insert_all.new.slots.slots ≡ sets.empty = ap (λ (s : Reserved). s.slots) c.insert_all.ensures.slots ∙ ap (λ (s : Reserved). s.slots) c.new-slots.ensures in
     let seen : c.insert_all.new.slots.mark ≡ seen_after 0 c.args.entries =
     ap (λ (s : Reserved). s.mark) c.insert_all.ensures.slots ∙ ap (λ (s : Reserved). seen_after s.mark c.into_entries-entries.result.items) c.new-slots.ensures ∙ ap (λ es. seen_after 0 es) c.into_entries-entries.ensures.entries in
-    let end : c.last-last.result ≡ last_of c.args.entries = c.last-last.ensures ∙ ap (λ (es : List Entry). last_of es) c.insert_all.ensures.entries
+    let end : c.last-last.result ≡ last_of c.args.entries = c.last-last.ensures ∙ ap (λ (l : LogWithHoles). last_of l.entries) c.written.ensures ∙ ap (λ (es : List Entry). last_of es) c.insert_all.ensures.entries
     ∙ ap (λ (es : List Entry). last_of (es ++ c.into_entries-entries.result.items)) (c.in_ok-reserve.ensures.entries ∙ c.new-log.ensures) ∙ ap last_of c.into_entries-entries.ensures.entries in
     ap (λ (l : Seen). l.node) c.in_ok-apply_to.ensures.ok
-    ∙ restored_is c.args.term c.args.clock c.insert_all.new.slots.mark (c.log-2.inside.settled.entries ++ written c.log-2.inside.beyond.items) c.args.entries c.insert_all.new.slots.slots c.new.result c.last-last.result c.args.at log slots c.new.ensures seen end
+    ∙ restored_is c.args.term c.args.clock c.insert_all.new.slots.mark c.log-2.inside.log.entries c.args.entries c.insert_all.new.slots.slots c.new.result c.last-last.result c.args.at log slots c.new.ensures seen end
     c.requires.oplog.order c.requires.reached

@@ -14,8 +14,8 @@ append-requires-clause-stays c =
     let role = rw (← c.self.view_is) at c.requires.role in
     let within = rw (← c.self.view_is) at c.requires.within in
     let left = rw (← c.self.view_is) at c.requires.left in
-    let new = new_write _ c.args.op (c.args.ns, c.args.id) c.args.after role c.requires.lawful within c.requires.place left c.requires.small in
-    rw (c.in_ok-reserve.ensures.entries, next, c.in_ok-op.ensures) (sound_logged _ c.args.op c.self.invariant.sound new).oplog
+    let new = new_write _ c.args.op c.args.session (c.args.ns, c.args.id) c.args.after role c.requires.lawful c.requires.session within c.requires.place left c.requires.small in
+    rw (c.in_ok-reserve.ensures.entries, next, c.in_ok-op.ensures) (sound_logged _ c.args.op c.args.session c.self.invariant.sound new).oplog
 
 pub invariant_of-self-2 : goal.invariant_of-self-2
 invariant_of-self-2 c =
@@ -24,7 +24,7 @@ invariant_of-self-2 c =
     let within = rw (← c.self.view_is) at c.requires.within in
     let free = rw (← c.self.view_is) at c.requires.free in
     let left = rw (← c.self.view_is) at c.requires.left in
-    let new = new_write _ c.args.op (c.args.ns, c.args.id) c.args.after role c.requires.lawful within c.requires.place left c.requires.small in
+    let new = new_write _ c.args.op c.args.session (c.args.ns, c.args.id) c.args.after role c.requires.lawful c.requires.session within c.requires.place left c.requires.small in
     let changes = rw next at c.in_ok-put.ensures.ok in
     rw (c.append.ensures.entries, c.in_ok-op.ensures, c.in_ok-reserve.ensures.entries, c.append.ensures.slots, raised_to c.self.inside.term c.self.inside.slots.mark c.self.inside.clock _ next, next)
-    (kept_logged _ c.self.inside.store c.put.new.self c.args.op (c.args.ns, c.args.id) c.args.after c.self.invariant new c.requires.place free left changes)
+    (kept_logged _ c.self.inside.store c.put.new.self c.args.op c.args.session (c.args.ns, c.args.id) c.args.after c.self.invariant new c.requires.place free left changes)
