@@ -11,6 +11,7 @@ use Rattle.oplog_entry.specs.Docs.{Documents, docs, applied}
 use Rattle.oplog_entry.specs.Lawful.{BeginsWithId}
 use Rattle.oplog_entry.specs.Step.{id_key, place_of, document_after, is_at}
 use Rattle.oplog_entry.specs.declared.entry.Entry.{Entry}
+use Rattle.oplog_entry.specs.declared.entry.Session.{Session}
 use Rattle.oplog_entry.proofs.DocsLemmas.{get-applied-here, get-applied-other, applied-nothing}
 use Rattle.oplog_entry.proofs.PlaceLemmas.{is_at-only}
 use Rattle.doc_update.proofs.StoredLemmas.{IsLogged, IsStored, write-logged}
@@ -120,10 +121,10 @@ pub effect_can : (node : Node) (op : WriteOp) (place : Place) (before : Option F
 effect_can node op place before made.NoMatch small sound name is stands own does lawful = tt
 effect_can node op place before made.Unchanged small sound name is stands own does lawful = tt
 effect_can node op place before (made.Entry logged after) small sound name is stands own does lawful =
-    (lawful.0, lawful.1, lawful.2 ∙ ap (document_after logged) stands, subst IsSmall (sym lawful.2) (is_small place (document_after logged before) known.stored), record { bytes = within.0; levels = within.1 })
+    (lawful.0, lawful.1, lawful.2 ∙ ap (document_after logged) stands, subst IsSmall (sym lawful.2) (is_small place (document_after logged before) known.stored), λ session. record { bytes = (within session).0; levels = (within session).1 })
   where
     known : IsLogged place before logged
     known = write-logged op before place logged after (sound_update op sound) (is_stored place before own (subst IsSmall (sym stands) (small_docs node.log place small))) is does
 
-    within : IsWithin (record { optime = next_optime node; op = logged })
-    within = short_within (next_optime node) logged place known.at (short_name op place is name) known.short
+    within : (session : Option Session) → IsWithin (record { optime = next_optime node; op = logged; session = session })
+    within session = short_within (next_optime node) logged session place known.at (short_name op place is name) known.short

@@ -1,5 +1,5 @@
 -- A primary's writes keep the node coherent.
-use Rattle.std.proofs.Common.{◌≡◌, ◌≤◌, ◌<◌, inl, inr, sym, subst, arith, ℕ, true, Option, List}
+use Rattle.std.proofs.Common.{◌≡◌, ◌≤◌, ◌<◌, inl, inr, sym, subst, arith, ℕ, true, Option, None, List}
 use Rattle.std.specs.List.{All}
 use Rattle.std.specs.FinMap as maps
 use Rattle.std.specs.FinSet as sets
@@ -9,6 +9,7 @@ use Rattle.rs_optime.specs.Membership.{In}
 use Rattle.rs_optime.proofs.MembershipLemmas.{contains_in, all_in, in_all, in_more}
 use Rattle.oplog_entry.specs.declared.entry.Entry.{Entry}
 use Rattle.oplog_entry.specs.declared.entry.Op.{Op}
+use Rattle.oplog_entry.specs.declared.entry.Session.{Session}
 use Rattle.oplog_entry.specs.Visible.{ZERO, is_before, least, entries_before}
 use Rattle.oplog_entry.proofs.Optimes.{zero_at_most}
 use Rattle.oplog_entry.proofs.LogLemmas.{in_with}
@@ -40,8 +41,8 @@ before_next node sound entry there =
     let later : node.seen < (next_optime node).ts = next_past node in
     before_both entry.optime (next_optime node) term (omega (arith, seen, later))
 
-fits_next : (node : Node) (op : Op) → IsSound node → All (FitsBeside (record { optime = next_optime node; op = op })) node.log
-fits_next node op sound = in_all (FitsBeside (record { optime = next_optime node; op = op })) node.log (λ entry there.
+fits_next : (node : Node) (op : Op) (session : Option Session) → IsSound node → All (FitsBeside (record { optime = next_optime node; op = op; session = session })) node.log
+fits_next node op session sound = in_all (FitsBeside (record { optime = next_optime node; op = op; session = session })) node.log (λ entry there.
     let seen : entry.optime.ts ≤ node.seen = all_in (λ (e : Entry). e.optime.ts ≤ node.seen) node.log entry sound.marked there in
     let later : node.seen < (next_optime node).ts = next_past node in
     inl (record { earlier = omega (arith, seen, later); term = all_in (λ (e : Entry). e.optime.term ≤ node.term) node.log entry sound.terms there }))
@@ -57,17 +58,17 @@ zero_before stable at behind = at_most_before_trans ZERO stable at (zero_at_most
 
 -- ---- each write
 
-pub coherent-logged : (n m : Node) (rest : BesideLedger) (op : Op) (tally : Option Tallied) (optimes : List OpTime) → m ≡ logged n op → IsSound n → IsSound m
+pub coherent-logged : (n m : Node) (rest : BesideLedger) (op : Op) (session : Option Session) (tally : Option Tallied) (optimes : List OpTime) → m ≡ logged n op session → IsSound n → IsSound m
     → IsCoherent (seen_node n rest) tally optimes → IsCoherent (seen_node m rest) tally (with_optime optimes (next_optime n))
-coherent-logged n m rest op tally optimes is sound after old =
+coherent-logged n m rest op session tally optimes is sound after old =
     subst (λ (k : Node). IsCoherent (seen_node k rest) tally (with_optime optimes (next_optime n))) (sym is)
-    (coherent-written (seen_node n rest) (record { optime = next_optime n; op = op }) n.slots n.writers (next_optime n).ts tally optimes sound.oplog
+    (coherent-written (seen_node n rest) (record { optime = next_optime n; op = op; session = session }) n.slots n.writers (next_optime n).ts tally optimes sound.oplog
     (record {
       behind = durable_before (seen_node n rest) (next_optime n) old.points.durable (before_both ZERO (next_optime n) (omega arith) (omega (arith, next_past n)))
           (λ entry there. before_next n sound entry (in_visible (sets.items n.slots) n.log entry there).0);
-      fits = fits_next n op sound;
-      grows = visible_grows (sets.items n.slots) (sets.items n.slots) n.log (with_entry n.log (record { optime = next_optime n; op = op })) (subst (λ (k : Node). IsOplog k.log) is after.oplog)
-          (in_with n.log (record { optime = next_optime n; op = op })) (λ slot listed. inl listed);
+      fits = fits_next n op session sound;
+      grows = visible_grows (sets.items n.slots) (sets.items n.slots) n.log (with_entry n.log (record { optime = next_optime n; op = op; session = session })) (subst (λ (k : Node). IsOplog k.log) is after.oplog)
+          (in_with n.log (record { optime = next_optime n; op = op; session = session })) (λ slot listed. inl listed);
     })
     old)
 
@@ -87,13 +88,13 @@ pub coherent-settled : (n m : Node) (rest : BesideLedger) (number : ℕ) (at : O
     → IsSound n → AreApart n → IsSound m → IsCoherent (seen_node n rest) tally optimes → IsCoherent (seen_node m rest) tally (with_optime optimes at)
 coherent-settled n m rest number at op tally optimes is has sound writers after old =
     subst (λ (k : Node). IsCoherent (seen_node k rest) tally (with_optime optimes at)) (sym is)
-    (coherent-written (seen_node n rest) (record { optime = at; op = op }) (sets.remove n.slots at) (maps.insert n.writers number (Done at)) n.seen tally optimes sound.oplog
+    (coherent-written (seen_node n rest) (record { optime = at; op = op; session = None }) (sets.remove n.slots at) (maps.insert n.writers number (Done at)) n.seen tally optimes sound.oplog
     (record {
       behind = durable_before (seen_node n rest) at old.points.durable (zero_before n.stable at pending.unstable)
           (λ entry there. (in_visible (sets.items n.slots) n.log entry there).1 at (contains_in n.slots at pending.open_slot));
       fits = pending.newest.fits;
-      grows = visible_grows (sets.items n.slots) (sets.items (sets.remove n.slots at)) n.log (with_entry n.log (record { optime = at; op = op })) (subst (λ (k : Node). IsOplog k.log) is after.oplog)
-          (in_with n.log (record { optime = at; op = op })) (λ slot listed. inl (in_fewer n.slots at slot listed));
+      grows = visible_grows (sets.items n.slots) (sets.items (sets.remove n.slots at)) n.log (with_entry n.log (record { optime = at; op = op; session = None })) (subst (λ (k : Node). IsOplog k.log) is after.oplog)
+          (in_with n.log (record { optime = at; op = op; session = None })) (λ slot listed. inl (in_fewer n.slots at slot listed));
     })
     old)
   where

@@ -1,10 +1,12 @@
 -- Which writes a node takes.
-use Rattle.std.specs.Prelude.{◌≡◌, ⊤, Result, Ok, Err, None, Some, option_map}
+use Rattle.std.specs.Prelude.{◌≡◌, ⊤, Option, Result, Ok, Err, None, Some, option_map}
 use Rattle.std.specs.FinMap as maps
 use Rattle.entry_bytes.specs.Sizes.{IsWithinEntry}
 use Rattle.oplog_entry.specs.Docs.{docs}
 use Rattle.oplog_entry.specs.Lawful.{IsLawfulOp}
 use Rattle.oplog_entry.specs.Step.{place_of, document_after}
+use Rattle.oplog_entry.specs.declared.entry.Op.{Op}
+use Rattle.oplog_entry.specs.declared.entry.Session.{Session}
 use Rattle.doc_update.specs.declared.write.Prepared.{Prepared}
 use Rattle.doc_update.specs.declared.write.Prepared.TheVariants.{Entry, NoMatch, Unchanged}
 use Rattle.doc_update.specs.declared.write.WriteOp.{WriteOp}
@@ -23,13 +25,18 @@ use Rattle.node_state.specs.declared.admitted.Admission.{Admission}
 abbrev pub IsRefusal : WriteRefusal → Refusal → Type 0
 IsRefusal why refusal = option_map refusal_of (reason_of why) ≡ Some refusal
 
--- An op that is logged is lawful, touches the document at the place, and leaves one that isn't too large. At
--- the node's next optime its entry fits into a record.
+-- at the node's next optime the op's entry fits into a record, whatever session it is of
+abbrev pub FitsNext : Node → Op → Type 0
+FitsNext node op =
+    (session : Option Session)
+    → IsWithinEntry (record { optime = next_optime node; op = op; session = session })
+
+-- an op that is logged is lawful, touches the document at the place, leaves one that isn't too large, and
+-- fits
 abbrev pub CanBeLogged : Node → Place → Prepared → Type 0
 CanBeLogged node place (Entry op after) =
     IsLawfulOp op × (place_of op ≡ Some place)
-    × (after ≡ document_after op (maps.get (docs node.log) place)) × IsSmall after
-    × IsWithinEntry (record { optime = next_optime node; op = op })
+    × (after ≡ document_after op (maps.get (docs node.log) place)) × IsSmall after × FitsNext node op
 CanBeLogged node place NoMatch = ⊤
 CanBeLogged node place Unchanged = ⊤
 

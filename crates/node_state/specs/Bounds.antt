@@ -1,7 +1,7 @@
 -- How large the numbers are that a node is handed, and which commands are its own.
 use Rattle.std.specs.Prelude.{◌<◌, ◌-◌, ◌^◌, ℕ, Bool, true, false, ◌||◌}
 use Rattle.set_model.specs.declared.command.Command.{Command}
-use Rattle.set_model.specs.declared.command.Command.TheVariants.{Insert, Replace, Update, Delete, Begin, Commit, Abort, Read, Dump, Log, State, Rolled, Deliver, DeliverLatest, Flush, Checkpoint, Crash, Restart, DiskFail, Clock}
+use Rattle.set_model.specs.declared.command.Command.TheVariants.{Insert, Replace, Update, Delete, Retry, Note, Begin, Commit, Abort, Read, Dump, Log, State, Rolled, Deliver, DeliverLatest, Flush, Checkpoint, Crash, Restart, DiskFail, Clock}
 use Rattle.set_model.specs.Node.{Node}
 
 -- one more term, one more timestamp and one more rollback have numbers
@@ -36,6 +36,8 @@ is_write (Insert node collection document) = true
 is_write (Replace node collection id document) = true
 is_write (Update node collection id operators) = true
 is_write (Delete node collection id) = true
+is_write (Retry node session op) = true
+is_write (Note node) = true
 is_write (Begin node writer op) = true
 is_write (Commit node writer) = true
 is_write (Abort node writer) = true

@@ -158,6 +158,7 @@ CanBeStored (stores.Record (records.Vote vote)) = IfSome vote.candidate (λ c. c
 CanBeStored (stores.Record (records.Config config)) = rule config ≡ None
 CanBeStored (stores.Record (records.Entries list point)) = (length list ≤ 2000) × All IsWithinEntry list
 CanBeStored (stores.Record (records.Cut at)) = ⊤
+CanBeStored (stores.Record (records.Form form)) = ⊤
 CanBeStored (stores.Checkpoint at) = ⊤
 
 abbrev pub IsReadyTurn : Turn → StateView → Type 0

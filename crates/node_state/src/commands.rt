@@ -30,6 +30,8 @@ fn is_write(command: &Command) -> bool
             | Command::Replace { .. }
             | Command::Update { .. }
             | Command::Delete { .. }
+            | Command::Retry { .. }
+            | Command::Note { .. }
             | Command::Begin { .. }
             | Command::Commit { .. }
             | Command::Abort { .. }
@@ -87,24 +89,26 @@ impl State {
                 collection: ns,
                 document: doc,
                 ..
-            } => self.write_at_once(BorrowedWrite::Insert { ns, doc }),
+            } => self.write_at_once(BorrowedWrite::Insert { ns, doc }, None),
             Command::Replace {
                 collection: ns,
                 id,
                 document: doc,
                 ..
-            } => self.write_at_once(BorrowedWrite::Replace { ns, id, doc }),
+            } => self.write_at_once(BorrowedWrite::Replace { ns, id, doc }, None),
             Command::Update {
                 collection: ns,
                 id,
                 operators,
                 ..
-            } => self.write_at_once(BorrowedWrite::Update { ns, id, operators }),
+            } => self.write_at_once(BorrowedWrite::Update { ns, id, operators }, None),
             Command::Delete {
                 collection: ns,
                 id,
                 ..
-            } => self.write_at_once(BorrowedWrite::Delete { ns, id }),
+            } => self.write_at_once(BorrowedWrite::Delete { ns, id }, None),
+            Command::Retry { session, op, .. } => self.retry(*session, op.borrowed()),
+            Command::Note { .. } => self.note(),
             _ => unreachable!(),
         }
     }

@@ -70,7 +70,7 @@ impl State {
         requires seen { self.old.node.seen < 2 ^ 64 - 1 }
         requires room { 0 < self.old.spare }
         ensures at { result ≡ next_optime self.old.node }
-        ensures node { self.new.node ≡ logged self.old.node Noop }
+        ensures node { self.new.node ≡ logged self.old.node Noop None }
     {
         self.ledger.recall_sound();
         let at = self.ledger.append_noop();

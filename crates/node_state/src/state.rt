@@ -27,7 +27,7 @@ use election_core::{DryRun, Tally};
 use member_config::Config;
 use node_ledger::{Ledger, Records};
 use oplog_store::Unjournaled;
-use repl_msg::Message;
+use repl_msg::{Message, Record};
 use rs_optime::OpTime;
 use set_model::{Command, LostList, Refusal, Reply, Store};
 use std::alloc::Global;
@@ -156,7 +156,8 @@ impl State {
             lost: LostList::new(alloc),
             rollback: 0,
             unjournaled: Unjournaled::new(alloc),
-            records: Records::none(),
+            // a journal that is opened empty is of the second form
+            records: Records::none().with(&Store::Record(Record::Form(2))),
         })
     }
 
@@ -222,6 +223,8 @@ impl State {
             | Command::Begin { .. }
             | Command::Commit { .. }
             | Command::Abort { .. }
+            | Command::Retry { .. }
+            | Command::Note { .. }
             | Command::Insert { .. }
             | Command::Replace { .. }
             | Command::Update { .. }
@@ -249,7 +252,7 @@ impl State {
     }
 
     /// Goes on once `item`, which a turn asked to store, is on the node's disk: `then` is what the turn gave
-    /// with it. It takes no memory.
+    /// with it. It can't run out of memory.
     pub fn go_on(&mut self, item: &Store, then: Continuation) -> Turn
         requires ready { IsReady item.now then self.old }
         ensures turn { Means result self.new.node (rest_of then (stored self.old.node item.now)) }

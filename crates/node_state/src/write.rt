@@ -1,17 +1,21 @@
 // Writes that are reserved and committed at once.
-ghost use Rattle.std.specs.Prelude.{◌≡◌, ◌-◌, ◌^◌, ◌<◌, true, None, Ok, IfOk, OnErr};
+ghost use Rattle.std.specs.Prelude.{◌≡◌, ◌-◌, ◌^◌, ◌<◌, true, None, Ok, IfOk, IfSome, OnErr};
 ghost use Rattle.doc_update.specs.Check.{checked};
 ghost use Rattle.doc_update.specs.Borrowed.{shown};
+ghost use Rattle.oplog_entry.specs.Lawful.{IsSession};
 ghost use Rattle.set_model.specs.Holds.{holder};
 ghost use Rattle.set_model.specs.Limits.{IsSoundWrite, is_collection, collection_of};
-ghost use Rattle.set_model.specs.Outcome.{replied};
-ghost use Rattle.set_model.specs.Write.{write, written};
+ghost use Rattle.set_model.specs.Outcome.{refused, replied};
+ghost use Rattle.set_model.specs.Write.{note, retry, write_in, written};
+ghost use Rattle.set_model.specs.Points.{if_primary};
+ghost use Rattle.set_model.specs.declared.reply.Refusal.TheVariants.{NotPrimary};
 ghost use Rattle.node_state.specs.Admits.{Admits, CanBeLogged};
 
 use crate::State;
 use crate::admitted::{Admission, refusal};
 use bson_doc::{IdKey, Mem, Text};
 use doc_update::{BorrowedWrite, Prepared, check_borrowed, prepare_borrowed};
+use oplog_entry::Session;
 use set_model::{Refusal, Reply, Role};
 
 impl State {
@@ -54,31 +58,78 @@ impl State {
     }
 
     /// Writes an entry for a write that is taken, at once.
-    pub(crate) fn write_at_once(&mut self, borrowed: BorrowedWrite<'_>) -> Mem<Reply>
+    pub(crate) fn write_at_once(
+        &mut self,
+        borrowed: BorrowedWrite<'_>,
+        session: Option<Session>,
+    ) -> Mem<Reply>
         requires seen { self.old.node.seen < 2 ^ 64 - 1 }
         requires name { is_collection (collection_of (shown borrowed)) ≡ true }
+        requires session { IfSome session IsSession }
         ensures ok { IfOk result (λ reply.
-            write self.old.node (shown borrowed.entry) ≡ replied reply self.new.node) }
+            if_primary self.old.node.role (write_in self.old.node session (shown borrowed.entry))
+            (refused NotPrimary self.old.node) ≡ replied reply self.new.node) }
         ensures err { OnErr result (self.new.node ≡ self.old.node) }
     {
         if self.ledger.role() != Role::Primary {
             return Ok(Reply::Refused(Refusal::NotPrimary));
         }
         match self.admit(borrowed) {
-            Ok(Ok(admission)) => self.write_admitted(admission),
+            Ok(Ok(admission)) => self.write_admitted(admission, session),
             Ok(Err(why)) => Ok(Reply::Refused(why)),
             Err(error) => Err(error),
         }
     }
 
+    /// Does a write of a session, unless it was done before or is behind what was.
+    pub(crate) fn retry(&mut self, session: Session, borrowed: BorrowedWrite<'_>) -> Mem<Reply>
+        requires seen { self.old.node.seen < 2 ^ 64 - 1 }
+        requires name { is_collection (collection_of (shown borrowed)) ≡ true }
+        requires session { IsSession session }
+        ensures ok { IfOk result (λ reply.
+            retry self.old.node session (shown borrowed.entry) ≡ replied reply self.new.node) }
+        ensures err { OnErr result (self.new.node ≡ self.old.node) }
+    {
+        if self.ledger.role() != Role::Primary {
+            return Ok(Reply::Refused(Refusal::NotPrimary));
+        }
+        if let Some(last) = self.ledger.last_write(session.id) {
+            if session.number < last.number {
+                return Ok(Reply::Refused(Refusal::OldNumber(last.number)));
+            }
+            if session.number == last.number {
+                return Ok(Reply::Written(last.at));
+            }
+        }
+        self.write_at_once(borrowed, Some(session))
+    }
+
+    /// Writes an entry that touches no document.
+    pub(crate) fn note(&mut self) -> Mem<Reply>
+        requires seen { self.old.node.seen < 2 ^ 64 - 1 }
+        ensures ok { IfOk result (λ reply. note self.old.node ≡ replied reply self.new.node) }
+        ensures err { OnErr result (self.new.node ≡ self.old.node) }
+    {
+        if self.ledger.role() != Role::Primary {
+            return Ok(Reply::Refused(Refusal::NotPrimary));
+        }
+        self.ledger.recall_sound();
+        self.unjournaled.reserve(1)?;
+        let at = self.ledger.write_note()?;
+        self.unjournaled.add(at);
+        self.ledger.recall_sound();
+        Ok(Reply::Written(at))
+    }
+
     /// Writes an entry for a write that nothing refuses.
-    fn write_admitted(&mut self, admission: Admission) -> Mem<Reply>
+    fn write_admitted(&mut self, admission: Admission, session: Option<Session>) -> Mem<Reply>
         requires seen { self.old.node.seen < 2 ^ 64 - 1 }
         requires role { self.old.node.role ≡ Role.Primary }
         requires free { holder self.old.node (admission.ns, admission.id) ≡ None }
+        requires session { IfSome session IsSession }
         requires can { CanBeLogged self.old.node (admission.ns, admission.id) admission.effect }
         ensures ok { IfOk result (λ reply.
-            written self.old.node (Ok admission.effect) ≡ replied reply self.new.node) }
+            written self.old.node session (Ok admission.effect) ≡ replied reply self.new.node) }
         ensures err { OnErr result (self.new.node ≡ self.old.node) }
     {
         let Admission { ns, id, effect } = admission;
@@ -88,7 +139,7 @@ impl State {
             Prepared::Entry { op, after } => {
                 self.ledger.recall_sound();
                 self.unjournaled.reserve(1)?;
-                let at = self.ledger.write(ns, id, op, after)?;
+                let at = self.ledger.write(ns, id, op, after, session)?;
                 self.unjournaled.add(at);
                 self.ledger.recall_sound();
                 Ok(Reply::Written(at))

@@ -1,6 +1,16 @@
+use Rattle.std.proofs.Common.{subst, sym, None}
+use Rattle.entry_bytes.specs.Sizes.{IsWithinEntry}
+use Rattle.set_model.specs.Points.{next_optime}
+use Rattle.node_state.specs.Admits.{CanBeLogged}
+use Rattle.node_state.specs.StateView.{StateView}
 use Rattle.node_state.proofs.Inside.{rest_in}
 use Rattle.node_state.proofs.WrittenLemmas.{coherent-opened}
 use Rattle.node_state.proofs.state.State.begin_admitted.Goals as goal
+
+pub open-requires-clause-within : goal.open-requires-clause-within
+open-requires-clause-within c =
+    let can = subst (CanBeLogged c.args.self.now.node (c.args.admission.ns, c.args.admission.id)) c.in-Entry.is c.requires.can in
+    subst (λ (s : StateView). IsWithinEntry (record { optime = next_optime s.node; op = c.in-Entry.op; session = None })) (sym c.self.view_is) (can.4 None)
 
 pub invariant_of-self-in-Entry : goal.invariant_of-self-in-Entry
 invariant_of-self-in-Entry c =

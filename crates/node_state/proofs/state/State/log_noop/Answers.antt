@@ -1,4 +1,4 @@
-use Rattle.std.proofs.Common.{◌≡◌, ◌∙◌, ap, sym, subst, List}
+use Rattle.std.proofs.Common.{◌≡◌, ◌∙◌, ap, sym, subst, List, None}
 use Rattle.rs_optime.specs.declared.optime.OpTime.{OpTime}
 use Rattle.oplog_entry.specs.declared.entry.Op.TheVariants.{Noop}
 use Rattle.oplog_store.specs.Unjournaled.{Optimes, with_optime}
@@ -15,5 +15,5 @@ invariant_of-self c =
     let added : c.add.new.self.optimes ≡ with_optime c.self.inside.unjournaled.optimes (next_optime c.self.inside.ledger.node) =
     ap (λ (u : Optimes). u.optimes) c.add.ensures ∙ ap (with_optime c.self.inside.unjournaled.optimes) c.append_noop-at.ensures.at in
     subst (λ (optimes : List OpTime). IsCoherent (seen_node c.append_noop-at.new.self.node (rest_in c.self.inside)) c.self.inside.tally optimes) (sym added)
-    (coherent-logged c.self.inside.ledger.node c.append_noop-at.new.self.node (rest_in c.self.inside) Noop c.self.inside.tally c.self.inside.unjournaled.optimes
+    (coherent-logged c.self.inside.ledger.node c.append_noop-at.new.self.node (rest_in c.self.inside) Noop None c.self.inside.tally c.self.inside.unjournaled.optimes
     (ap (λ (l : Ledger). l.node) c.append_noop-at.ensures.ok) c.recall_sound.ensures.node c.recall_sound-2.ensures.node c.self.invariant)
