@@ -161,6 +161,7 @@ module _ (standing : StateView) (next : Turn) (node new : Node) (room left : ℕ
   room_on (stores.Record (records.Config config)) then ready spare means = short_room (spare tt)
   room_on (stores.Record (records.Entries list point)) then ready spare means = entries_room list point then ready means
   room_on (stores.Record (records.Cut at)) then ready spare means = short_room (spare tt)
+  room_on (stores.Record (records.Form form)) then ready spare means = short_room (spare tt)
   room_on (stores.Checkpoint at) then ready spare means = checkpoint_room at then ready means
 
 -- ---- turns that never want memory

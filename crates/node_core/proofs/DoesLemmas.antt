@@ -15,13 +15,14 @@ use Rattle.member_config.specs.declared.config.Config.{Config}
 use Rattle.member_config.specs.Numbers.{lowest}
 use Rattle.oplog_entry.specs.declared.entry.Entry.{Entry as LogEntry}
 use Rattle.oplog_entry.specs.declared.entry.Op.{Op}
+use Rattle.oplog_entry.specs.declared.entry.Session.{Session}
 use Rattle.repl_msg.specs.Fetching as fetching
 use Rattle.repl_msg.specs.declared.message.FetchReply.{FetchReply}
 use Rattle.repl_msg.specs.declared.record.Record.{Record}
 use Rattle.set_model.specs.declared.command.AckConcern.{AckConcern}
 use Rattle.set_model.specs.declared.command.ReadLevel.{ReadLevel}
 use Rattle.set_model.specs.declared.command.Command.{Command}
-use Rattle.set_model.specs.declared.command.Command.TheVariants.{Campaign, Drain, Insert, Replace, Update, Delete, Begin, Commit, Abort, Ack, Read, Dump, Log, State, Rolled, DryRun, StepDown, Heartbeat, Report, Common, Fetch, Deliver, DeliverLatest, Apply, Flush, Checkpoint, Reconfig, Crash, Restart, DiskFail, Clock}
+use Rattle.set_model.specs.declared.command.Command.TheVariants.{Campaign, Drain, Insert, Replace, Update, Delete, Retry, Note, Begin, Commit, Abort, Ack, Read, Dump, Log, State, Rolled, DryRun, StepDown, Heartbeat, Report, Common, Fetch, Deliver, DeliverLatest, Apply, Flush, Checkpoint, Reconfig, Crash, Restart, DiskFail, Clock}
 use Rattle.set_model.specs.declared.command.Target.{Target}
 use Rattle.set_model.specs.declared.reply.Refusal.{Refusal}
 use Rattle.set_model.specs.declared.role.Role.{Role}
@@ -43,8 +44,9 @@ use Rattle.set_model.specs.Roles.{is_secondary, is_draining, is_primary}
 use Rattle.set_model.specs.Rows.{row}
 use Rattle.set_model.specs.Stores.{Plan, finished, storing, records_after, stable_after, stored, unless_refused, if_up, vote_record}
 use Rattle.set_model.specs.Votes.{is_elected}
-use Rattle.set_model.specs.Write.{write, written}
+use Rattle.set_model.specs.Write.{note, retry, write, written}
 use Rattle.set_model.specs.Writers.{begin, begun, unless_open, with_open, commit, abort}
+use Rattle.set_model.proofs.RetryLemmas.{retry_cases}
 use Rattle.node_state.specs.Bounds.{is_own}
 use Rattle.node_core.specs.Putting.{IsShortStore}
 use Rattle.node_state.specs.MessageContinuation.{message_plan, heard_outcome}
@@ -166,14 +168,22 @@ primary_kept node x y one other = go node.role
     go Candidate = other
     go Draining = other
 
-written_kept : (node : Node) (prepared : Result Prepared Refusal) → IsKept node.records node.stable (written node prepared)
-written_kept node (Err why) = (refl, refl)
-written_kept node (Ok NoMatch) = (refl, refl)
-written_kept node (Ok Unchanged) = (refl, refl)
-written_kept node (Ok (Entry op after)) = (refl, refl)
+written_kept : (node : Node) (session : Option Session) (prepared : Result Prepared Refusal) → IsKept node.records node.stable (written node session prepared)
+written_kept node session (Err why) = (refl, refl)
+written_kept node session (Ok NoMatch) = (refl, refl)
+written_kept node session (Ok Unchanged) = (refl, refl)
+written_kept node session (Ok (Entry op after)) = (refl, refl)
 
 write_kept : (node : Node) (op : WriteOp) → IsKept node.records node.stable (write node op)
-write_kept node op = primary_kept node _ _ (written_kept node (admitted node op)) (refl, refl)
+write_kept node op = primary_kept node _ _ (written_kept node None (admitted node op)) (refl, refl)
+
+retry_kept : (node : Node) (session : Session) (op : WriteOp) → IsKept node.records node.stable (retry node session op)
+retry_kept node session op =
+    retry_cases (IsKept node.records node.stable) node session op (λ why. (refl, refl)) (λ last found same. (refl, refl))
+    (λ primary past. written_kept node (Some session) (admitted node op))
+
+note_kept : (node : Node) → IsKept node.records node.stable (note node)
+note_kept node = primary_kept node _ _ (refl, refl) (refl, refl)
 
 begun_kept : (node : Node) (writer : ℕ) (prepared : Result Prepared Refusal) → IsKept node.records node.stable (begun node writer prepared)
 begun_kept node writer (Err why) = (refl, refl)
@@ -268,6 +278,8 @@ row_does nodes next node (Insert number collection document) own = up_does _ 1 n
 row_does nodes next node (Replace number collection id document) own = up_does _ 1 node _ (write_kept node (ops.Replace collection id document))
 row_does nodes next node (Update number collection id operators) own = up_does _ 1 node _ (write_kept node (ops.Update collection id operators))
 row_does nodes next node (Delete number collection id) own = up_does _ 1 node _ (write_kept node (ops.Delete collection id))
+row_does nodes next node (Retry number session op) own = up_does _ 1 node _ (retry_kept node session op)
+row_does nodes next node (Note number) own = up_does _ 1 node _ (note_kept node)
 row_does nodes next node (Begin number writer op) own = up_does _ 1 node _ (begin_kept node writer op)
 row_does nodes next node (Commit number writer) own = up_does _ 1 node _ (commit_kept node writer)
 row_does nodes next node (Abort number writer) own = up_does _ 1 node _ (abort_kept node writer)

@@ -31,6 +31,7 @@ bounds_of (records.Vote vote) can = somebody vote.candidate can
 bounds_of (records.Config config) can = few_members config can
 bounds_of (records.Entries list point) can = can
 bounds_of (records.Cut at) can = tt
+bounds_of (records.Form form) can = tt
 
 -- ---- what each disk takes
 

@@ -3,7 +3,7 @@
 use Rattle.std.proofs.Common.{◌≡◌, ◌∙◌, subst, refl, ℕ, Bool, true, false, []}
 use Rattle.rs_disk.specs.State.{State}
 use Rattle.set_model.specs.declared.command.Command.{Command}
-use Rattle.set_model.specs.declared.command.Command.TheVariants.{Insert, Replace, Update, Delete, Begin, Commit, Abort, Read, Dump, Log, State as Show, Rolled, Clock, Deliver, DeliverLatest, Crash, Restart, DiskFail}
+use Rattle.set_model.specs.declared.command.Command.TheVariants.{Insert, Replace, Update, Delete, Retry, Note, Begin, Commit, Abort, Read, Dump, Log, State as Show, Rolled, Clock, Deliver, DeliverLatest, Crash, Restart, DiskFail}
 use Rattle.set_model.specs.declared.reply.Reply.{Reply}
 use Rattle.set_model.specs.Node.{Node}
 use Rattle.set_model.specs.Outcome.{replied}
@@ -37,6 +37,8 @@ its_plain_row nodes next node (Insert n collection document) plain = refl
 its_plain_row nodes next node (Replace n collection id document) plain = refl
 its_plain_row nodes next node (Update n collection id operators) plain = refl
 its_plain_row nodes next node (Delete n collection id) plain = refl
+its_plain_row nodes next node (Retry n session op) plain = refl
+its_plain_row nodes next node (Note n) plain = refl
 its_plain_row nodes next node (Begin n writer op) plain = refl
 its_plain_row nodes next node (Commit n writer) plain = refl
 its_plain_row nodes next node (Abort n writer) plain = refl

@@ -3,6 +3,7 @@ use Rattle.std.proofs.Common.{◌≡◌, ◌∙◌, ⊎_elim, inl, inr, ap, sym,
 use Rattle.std.specs.Prelude.{◌⊎◌, ◌≤◌, Result, Ok, Err, OnOk}
 use Rattle.std.specs.FinMap.{get}
 use Rattle.bson_doc.specs.Place.{Place}
+use Rattle.bson_codec.proofs.SpellingLemmas.{length-number_bytes}
 use Rattle.rs_disk.specs.Moments.{EachMoment}
 use Rattle.rs_disk.specs.State.{State, Keeps, SameButRoom}
 use Rattle.rs_optime.specs.declared.optime.OpTime.{OpTime}
@@ -271,6 +272,7 @@ short_size (records.Vote vote) short can = omega (arith, vote_size vote)
 short_size (records.Config config) short can = omega (arith, config_size config, can)
 short_size (records.Entries list point) short can = absurd short
 short_size (records.Cut at) short can = omega (arith, optime_size at)
+short_size (records.Form form) short can = omega (arith, length-number_bytes 4 form)
 
 module _ (node : Node) (item : Record) (count : ℕ) (j j' c : State) (rests : UpOnDisks node count j c)
     (moments : (records : List Record) → JournalAtRest j records → EachMoment (IsBeforeOrAfter records item) j j') where

@@ -3,7 +3,7 @@ use Rattle.std.proofs.Common.{◌≡◌, ◌∙◌, ⊎_elim, inl, inr, ap, sym,
 use Rattle.std.specs.Prelude.{◌⊎◌}
 use Rattle.rs_disk.specs.File.{LeavesOnly, contents}
 use Rattle.rs_disk.specs.Images.{read_is_image}
-use Rattle.rs_disk.specs.Moments.{EachMoment, starts}
+use Rattle.rs_disk.specs.Moments.{EachMoment, starts, weakens}
 use Rattle.rs_disk.specs.State.{State, Keeps, SameButRoom}
 use Rattle.record_file.specs.Files.{OpensBy}
 use Rattle.record_file.specs.declared.error.FileError.TheVariants.{Memory}
@@ -29,7 +29,7 @@ use Rattle.set_model.specs.Stores.{stored}
 use Rattle.node_core.specs.Acting.{AreReopened, RunsWithoutOrders}
 use Rattle.node_core.specs.Coming.{IsFound, IsRead, is_there, settled}
 use Rattle.node_core.specs.Down.{DownState, down_node}
-use Rattle.node_core.specs.Opening.{OpensInTurn}
+use Rattle.node_core.specs.Opening.{ReopensInTurn}
 use Rattle.node_core.specs.OnDisks.{IsOnDisks, IsWellKeptWith, DownOnDisks, UpOnDisks}
 use Rattle.node_core.specs.Stands.{HasDocumentsOf, HasRecordsOf, Stands, documents_at}
 use Rattle.node_core.specs.declared.coming_up.Found.{Found}
@@ -52,12 +52,14 @@ records_opened node old new before moments image left =
     λ items has. subst (λ (l : List Record). HasJournal image l) (one_journal one.2.0 one.0 items one.2.2 has) one.1 in
     ⊎_elim (λ here. inl (same node.records here)) (λ more. inr (more.0, more.1, same (node.records ++ more.0 ∷ []) more.2)) (before one.2.0 one.2.1)
 
-documents_opened : (node : Node) (old new : State) → LeavesOnly (HasDocumentsOf node) old.file → EachMoment (IsOneCheckpoint old) old new → LeavesOnly (HasDocumentsOf node) new.file
-documents_opened node old new before moments image left =
-    let one = moments.now image left in
-    let same : (stable : Stable) → HasCheckpoint one.2.0 stable → HasCheckpoint image stable =
-    λ stable has. subst (λ (s : Stable). HasCheckpoint image s) (checkpoint_once one.2.0 one.0 stable one.2.2 has) one.1 in
-    ⊎_elim (λ here. inl (same (documents_at node node.stable) here)) (λ other. inr (other.0, other.1, same (documents_at node other.0) other.2)) (before one.2.0 one.2.1)
+pub documents_since : (node : Node) (old new : State) → LeavesOnly (HasDocumentsOf node) old.file → EachMoment (IsOneCheckpoint old) old new → EachMoment (HasDocumentsOf node) old new
+documents_since node old new before moments = weakens (IsOneCheckpoint old) (HasDocumentsOf node) still old new moments
+  where
+    still : (image : List ℕ) → IsOneCheckpoint old image → HasDocumentsOf node image
+    still image one =
+        let same : (stable : Stable) → HasCheckpoint one.2.0 stable → HasCheckpoint image stable =
+        λ stable has. subst (λ (s : Stable). HasCheckpoint image s) (checkpoint_once one.2.0 one.0 stable one.2.2 has) one.1 in
+        ⊎_elim (λ here. inl (same (documents_at node node.stable) here)) (λ other. inr (other.0, other.1, same (documents_at node other.0) other.2)) (before one.2.0 one.2.1)
 
 module _ (node : Node) (j j' c : State) (stands : Stands node j c) where
   pub stands_opened : EachMoment (IsOneJournal j) j j' → Stands node j' c
@@ -69,7 +71,7 @@ module _ (node : Node) (j j' c : State) (stands : Stands node j c) where
 
 pub stands_both : (node : Node) (j j' c c' : State) → EachMoment (IsOneJournal j) j j' → EachMoment (IsOneCheckpoint c) c c' → Stands node j c → Stands node j' c'
 stands_both node j j' c c' moments others stands =
-    record { records = records_opened node j j' stands.records moments; documents = documents_opened node c c' stands.documents others }
+    record { records = records_opened node j j' stands.records moments; documents = (documents_since node c c' stands.documents others).now }
 
 -- so at each moment they were a disk's that might have been the one before
 pub unopened : (c : State) → IsCheckpointDisk c → EachMoment (IsOneCheckpoint c) c c
@@ -85,10 +87,10 @@ calls_reserved old mid new calls same =
     subst (λ (s : State). OpensBy {T = Unit {0}} (Ok tt) old s) (sym same) (calls.0, calls.1, record { file = calls.2.file; past = calls.2.past })
 
 -- both disks were opened, and then memory ran out
-pub opened_both : (j j' c c' : State) → OpensInTurn {T = Unit {0}} (Ok tt) j j' c c' → OpensInTurn {T = Unit {0}} (Err Memory) j j' c c'
+pub opened_both : (j j' c c' : State) → ReopensInTurn {T = Unit {0}} (Ok tt) j j' c c' → ReopensInTurn {T = Unit {0}} (Err Memory) j j' c c'
 opened_both j j' c c' calls = inr (calls.0, opened_calls {X = Unit {0}} (Err Memory) c c' refl calls.1)
 
-pub reopened : {Fault : Type 0} (j j' c c' : State) → OpensInTurn {T = Unit {0}} (Err Memory) j j' c c' → RunsWithoutOrders Fault j j' c c' → EachMoment (IsOneJournal j) j j' → EachMoment (IsOneCheckpoint c) c c' → AreReopened j j' c c'
+pub reopened : {Fault : Type 0} (j j' c c' : State) → ReopensInTurn {T = Unit {0}} (Err Memory) j j' c c' → RunsWithoutOrders Fault j j' c c' → EachMoment (IsOneJournal j) j j' → EachMoment (IsOneCheckpoint c) c c' → AreReopened j j' c c'
 reopened j j' c c' calls runs journal checkpoints = record { calls = calls; runs = runs_as j j' c c' (λ none. absurd none) runs; journal = journal; checkpoints = checkpoints }
 
 -- both were read, and memory for a record was taken
@@ -112,7 +114,7 @@ same_record one two same = cc
 same_checkpoint : (one two : OpTime) → Some (stores.Checkpoint one) ≡ Some (stores.Checkpoint two) → one ≡ two
 same_checkpoint one two same = cc
 
-not_none : (item : Store) → None ≡ Some item → ⊥
+pub not_none : (item : Store) → None ≡ Some item → ⊥
 not_none item same = cc
 
 not_so : false ≡ true → ⊥

@@ -23,7 +23,7 @@ use Rattle.set_model.specs.Stores.{Plan, finished, storing, done as comes_to, re
 use Rattle.node_core.specs.Acting.{Acted, AreReopened, Follows, IsFinished, RunsWithoutOrders, Unchanged}
 use Rattle.node_core.specs.Coming.{IsPrepared, cut_node, cut_point}
 use Rattle.node_core.specs.Down.{DownState, down_node, seen_node}
-use Rattle.node_core.specs.Opening.{OpensInTurn}
+use Rattle.node_core.specs.Opening.{ReopensInTurn}
 use Rattle.node_core.specs.Putting.{IsKeepable, Puts}
 use Rattle.node_core.specs.OnDisks.{IsOnDisks, IsWellKeptWith, UpOnDisks}
 use Rattle.node_core.specs.Stands.{Stands}
@@ -130,7 +130,7 @@ module _ (up : Bool) (memory : Node) (left doubting : DownState) (at : OpTime) (
 
 pub acted_restart : (nodes next number : ℕ) (old new : Node) (j j' c c' : State) (done : Done) → old.up ≡ false → Follows (restart old done.kept) new done
     → (done.kept ≡ true → IsSome old.doubt × (passes_first done.failed ≡ true)) → Stands new j' c' → RunsWithoutOrders (IsSome done.failed) j j' c c'
-    → (done.failed ≡ Some 0 → OpensInTurn {T = Unit {0}} (Err Disk) j j' c c')
+    → (done.failed ≡ Some 0 → ReopensInTurn {T = Unit {0}} (Err Disk) j j' c c')
     → Acted (row nodes next done.kept old (Restart number)) (Restart number) old new j j' c c' done
 acted_restart nodes next number old new j j' c c' done down follows settles stands runs opening = record {
   follows = follows;
@@ -182,7 +182,7 @@ module _ (up up' : Bool) (memory memory' : Node) (left left' : DownState) (count
       → IfOk result (λ done. done.kept ≡ true → (IsSome left.doubt × (passes_first done.failed ≡ true)))
       → IfOk result (λ done. IsOnDisks up' memory' left' count' j' c')
       → IfOk result (λ done. RunsWithoutOrders (IsSome done.failed) j j' c c')
-      → IfOk result (λ done. done.failed ≡ Some 0 → OpensInTurn {T = Unit {0}} (Err Disk) j j' c c')
+      → IfOk result (λ done. done.failed ≡ Some 0 → ReopensInTurn {T = Unit {0}} (Err Disk) j j' c c')
       → (nodes next number : ℕ)
       → IfOk result (λ done. Acted (row nodes next done.kept (seen_node up memory left) (Restart number)) (Restart number) (seen_node up memory left) (seen_node up' memory' left') j j' c c' done)
   acted_come (Err error) follows settles rests runs opening nodes next number = tt

@@ -15,7 +15,8 @@ use Rattle.oplog_entry.specs.Step.{id_key, place_of, document_after, is_at}
 use Rattle.oplog_entry.specs.Visible.{is_before, log_up_to}
 use Rattle.oplog_entry.specs.declared.entry.Entry.{Entry}
 use Rattle.oplog_entry.specs.declared.entry.Op.{Op}
-use Rattle.oplog_entry.specs.declared.entry.Op.TheVariants.{Insert, Replace, Fields as SetFields, Delete, Noop}
+use Rattle.oplog_entry.specs.declared.entry.Op.TheVariants.{Insert, Replace, Fields as SetFields, Delete, Noop, Note}
+use Rattle.oplog_entry.specs.declared.entry.Session.{Session}
 use Rattle.oplog_entry.proofs.PlaceLemmas.{is_at-only}
 use Rattle.entry_bytes.specs.Layout.{collection_of, document_of, members}
 use Rattle.entry_bytes.specs.Sizes.{IsWithinEntry}
@@ -32,8 +33,9 @@ use Rattle.node_state.proofs.AdmitLemmas.{small_docs}
 
 -- ---- the name of its collection
 
-name_within : (at : OpTime) (letter name : List ℕ) (body : Fields) (target : Option Fields) → length name ≤ document_length (members at letter name body target)
-name_within at letter name body target = omega arith
+name_within : (at : OpTime) (letter name : List ℕ) (body : Fields) (target : Option Fields) (session : Option Session)
+    → length name ≤ document_length (members at letter name body target session)
+name_within at letter name body target session = omega arith
 
 op_named : (op : Op) (place : Place) → place_of op ≡ Some place → collection_of op ≡ place.0
 op_named (Insert ns o) place at = (place-key ns (id_key o) place at).0
@@ -41,11 +43,12 @@ op_named (Replace ns id o) place at = (place-key ns (key_of (tree_of id)) place 
 op_named (SetFields ns id sets unsets) place at = (place-key ns (key_of (tree_of id)) place at).0
 op_named (Delete ns id) place at = (place-key ns (key_of (tree_of id)) place at).0
 op_named Noop place at = cc at
+op_named Note place at = cc at
 
 short_name : (entry : Entry) (place : Place) → IsWithinEntry entry → place_of entry.op ≡ Some place → length place.0 ≤ NAME
 short_name entry place within at =
     let same : length (collection_of entry.op) ≡ length place.0 = ap length (op_named entry.op place at) in
-    let inside : length (collection_of entry.op) ≤ document_length (document_of entry) = name_within entry.optime _ (collection_of entry.op) _ _ in
+    let inside : length (collection_of entry.op) ≤ document_length (document_of entry) = name_within entry.optime _ (collection_of entry.op) _ _ entry.session in
     let bytes : document_length (document_of entry) ≤ 1048576 = within.bytes in
     omega (arith, same, inside, bytes)
 

@@ -16,7 +16,7 @@ use Rattle.set_model.specs.declared.reply.Reply.TheVariants as reply
 use Rattle.set_model.specs.Limits.{is_restart, passes_first, is_in_doubt}
 use Rattle.set_model.specs.Node.{Node}
 use Rattle.set_model.specs.Stores.{Plan, finished, storing, done, reaches}
-use Rattle.node_core.specs.Opening.{OpensInTurn}
+use Rattle.node_core.specs.Opening.{ReopensInTurn}
 use Rattle.node_core.specs.Stands.{Stands}
 use Rattle.node_core.specs.declared.done.Done.{Done}
 
@@ -123,7 +123,7 @@ pub record Acted (plan : Plan) (command : Command) (old new : Node) (j j' c c' :
   pub unstored : gives_orders command ≡ false → IsFinished plan → AreSame j j' c c'
   -- a restart opens both disks first: where that failed, nothing else was done
   pub opening : is_restart command ≡ true → done.failed ≡ Some 0
-      → OpensInTurn {T = Unit {0}} (Err Disk) j j' c c'
+      → ReopensInTurn {T = Unit {0}} (Err Disk) j j' c c'
 
 -- A message was taken.
 pub record Took (plan : Plan) (new : Node) (j j' c c' : State) (done : Done) : Type 0 where
@@ -137,7 +137,7 @@ pub record Took (plan : Plan) (new : Node) (j j' c c' : State) (done : Done) : T
 -- Two disks that were opened anew, as far as memory went, and no more was done. No orders were given to them,
 -- and at each moment a crash left a list that one before might have left.
 pub record AreReopened (j j' c c' : State) : Type 0 where
-  pub calls : OpensInTurn {T = Unit {0}} (Err Memory) j j' c c'
+  pub calls : ReopensInTurn {T = Unit {0}} (Err Memory) j j' c c'
   pub runs : RunsWithoutOrders ⊥ j j' c c'
   pub journal : EachMoment (IsOneJournal j) j j'
   pub checkpoints : EachMoment (IsOneCheckpoint c) c c'

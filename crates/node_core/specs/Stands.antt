@@ -1,6 +1,7 @@
 -- What stands on a node's two disks, now and after a crash.
 use Rattle.std.specs.Prelude.{◌≡◌, ◌⊎◌, ℕ, List, [], ◌∷◌, ◌++◌, Some}
 use Rattle.rs_disk.specs.File.{LeavesOnly}
+use Rattle.rs_disk.specs.Moments.{EachMoment}
 use Rattle.rs_disk.specs.State.{State}
 use Rattle.rs_optime.specs.declared.optime.OpTime.{OpTime}
 use Rattle.oplog_entry.specs.Docs.{docs}
@@ -36,3 +37,8 @@ HasDocumentsOf node image =
 pub record Stands (node : Node) (journal checkpoints : State) : Type 0 where
   pub records : LeavesOnly (HasRecordsOf node) journal.file
   pub documents : LeavesOnly (HasDocumentsOf node) checkpoints.file
+
+-- At each moment since then a crash left this node's records and documents.
+pub record StandsSince (node : Node) (j j' c c' : State) : Type 0 where
+  pub records : EachMoment (HasRecordsOf node) j j'
+  pub documents : EachMoment (HasDocumentsOf node) c c'

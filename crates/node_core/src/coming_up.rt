@@ -12,7 +12,7 @@ ghost use Rattle.set_model.specs.Stores.{storing};
 ghost use Rattle.node_state.specs.WellKept.{IsWellKept};
 ghost use Rattle.node_core.specs.Acting.{AreReopened, Follows, RunsWithoutOrders};
 ghost use Rattle.node_core.specs.Coming.{IsFound, IsPrepared, IsRead, cut_point, cut_records, is_there as is_kept, settled as settled_node};
-ghost use Rattle.node_core.specs.Opening.{OpensInTurn};
+ghost use Rattle.node_core.specs.Opening.{ReopensInTurn};
 ghost use Rattle.node_core.specs.Down.{down_node, down_state, seen_node};
 ghost use Rattle.node_core.specs.Putting.{SHORT};
 ghost use Rattle.node_core.specs.OnDisks.{IsOnDisks, DownOnDisks, UpOnDisks};
@@ -81,7 +81,7 @@ pub(crate) fn come_up<D: Disk, R: Threads + Sync>(
     ensures runs { IfOk result (λ done. RunsWithoutOrders (IsSome done.failed) (D.state disks.old.journal.0)
         (D.state disks.new.journal.0) (D.state disks.old.checkpoints) (D.state disks.new.checkpoints)) }
     ensures opening { IfOk result (λ done. done.failed ≡ Some 0
-        → OpensInTurn {T = Unit {0}} (Err FileError.Disk) (D.state disks.old.journal.0)
+        → ReopensInTurn {T = Unit {0}} (Err FileError.Disk) (D.state disks.old.journal.0)
         (D.state disks.new.journal.0) (D.state disks.old.checkpoints) (D.state disks.new.checkpoints)) }
     ensures same { OnErr result (seen_node up.new state.new.node (down_state left.new)
         ≡ down_node state.old.node (down_state left.old)) }
@@ -110,7 +110,7 @@ fn open_both<D: Disk>(disks: &mut Disks<D>) -> Result<Found, FileError>
         → Stands node (D.state disks.new.journal.0) (D.state disks.new.checkpoints) }
     ensures room { OnOk result (SHORT ≤ spare (D.state disks.new.journal.0) disks.new.journal.1) }
     ensures count { disks.new.count ≡ disks.old.count }
-    ensures calls { OpensInTurn result (D.state disks.old.journal.0) (D.state disks.new.journal.0)
+    ensures calls { ReopensInTurn result (D.state disks.old.journal.0) (D.state disks.new.journal.0)
         (D.state disks.old.checkpoints) (D.state disks.new.checkpoints) }
     ensures journal { EachMoment (IsOneJournal (D.state disks.old.journal.0))
         (D.state disks.old.journal.0) (D.state disks.new.journal.0) }

@@ -1,4 +1,4 @@
-ghost use Rattle.std.specs.Prelude.{◌≡◌, ◌<◌, ℕ, [], None, true, false, length, if◌then◌else◌, IfOk, OnErr, MatchOption};
+ghost use Rattle.std.specs.Prelude.{◌≡◌, ◌<◌, ℕ, [], None, true, false, length, if◌then◌else◌, IfOk, OnErr, OnOk, MatchOption};
 ghost use Rattle.std.specs.FinMap as maps;
 ghost use Rattle.bson_doc.specs.Place.{Place};
 ghost use Rattle.oplog_entry.specs.Docs.{docs};
@@ -19,8 +19,8 @@ ghost use Rattle.node_ledger.specs.Ledger.{IsReadable};
 ghost use Rattle.node_core.specs.Acting.{Acted, AreReopened, AreSame, DisksLeft, RunsWithoutOrders, Took, Unchanged, is_here};
 ghost use Rattle.node_state.specs.Bounds.{IsBounded, IsNumbered, is_own};
 ghost use Rattle.node_core.specs.Nodes.{HasFailed, answer_of, checkpoints_after, journal_after};
-ghost use Rattle.node_core.specs.Opening.{OpensInTurn};
-ghost use Rattle.node_core.specs.Stands.{Stands};
+ghost use Rattle.node_core.specs.Opening.{OpensInTurn, unopened_node};
+ghost use Rattle.node_core.specs.Stands.{Stands, StandsSince};
 ghost use Rattle.set_model.specs.Taking.{CanTake};
 
 use crate::Done;
@@ -100,7 +100,7 @@ impl<D: Disk> Node<D> {
     ///
     /// # Errors
     /// `Memory`, or `Disk` where one of them failed. The disks are handed back in the same order, and on them
-    /// still stands the node as the set begins.
+    /// stands the node as the set begins, but that its journal may lack the record of its form.
     pub fn open(
         alloc: Global,
         number: u32,
@@ -113,8 +113,12 @@ impl<D: Disk> Node<D> {
         requires journal { IsEmpty (D.state journal).file }
         requires checkpoint { IsEmpty (D.state checkpoint).file }
         ensures node { IfOk result (λ node. node.0 ≡ opening_node config.now number) }
-        ensures stands { Stands (opening_node config.now number) (D.state (journal_after result))
-            (D.state (checkpoints_after result)) }
+        ensures stands { OnOk result (Stands (opening_node config.now number)
+            (D.state (journal_after result)) (D.state (checkpoints_after result))) }
+
+        // A crash at any moment leaves no documents, and no record but that of the journal's form.
+        ensures any_moment { StandsSince (unopened_node config.now number) (D.state journal)
+            (D.state (journal_after result)) (D.state checkpoint) (D.state (checkpoints_after result)) }
         ensures calls { OpensInTurn (answer_of result) (D.state journal) (D.state (journal_after result))
             (D.state checkpoint) (D.state (checkpoints_after result)) }
         ensures runs { RunsWithoutOrders (HasFailed (answer_of result)) (D.state journal)
@@ -123,8 +127,8 @@ impl<D: Disk> Node<D> {
         let Ok(state) = State::open(alloc, number, config) else {
             return Err((journal, checkpoint, FileError::Memory));
         };
-        let journal = match Journal::open(alloc, journal) {
-            Ok((journal, _)) => journal,
+        let (journal, count) = match Journal::open(alloc, journal) {
+            Ok((journal, kept)) => (journal, kept.count),
             Err((journal, error)) => return Err((journal, checkpoint, error)),
         };
         let checkpoints = match Checkpoints::open(alloc, checkpoint) {
@@ -138,7 +142,7 @@ impl<D: Disk> Node<D> {
             disks: Disks {
                 journal,
                 checkpoints,
-                count: 0,
+                count,
             },
             up: true,
             left,

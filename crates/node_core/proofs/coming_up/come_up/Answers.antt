@@ -10,7 +10,7 @@ use Rattle.node_core.specs.Acting.{Follows}
 use Rattle.node_core.specs.declared.coming_up.Found.{Found}
 use Rattle.node_core.specs.Coming.{IsFound, is_there, settled}
 use Rattle.node_core.specs.Down.{down_node, down_state, seen_node}
-use Rattle.node_core.specs.Opening.{OpensInTurn}
+use Rattle.node_core.specs.Opening.{ReopensInTurn}
 use Rattle.node_core.proofs.ActingLemmas.{past_first}
 use Rattle.node_core.proofs.PuttingLemmas.{runs_as, runs_then}
 use Rattle.node_core.proofs.ReopeningLemmas.{found_settles, goes_up, lies_on, opened_both, reopened, stands_checkpoints}
@@ -103,7 +103,7 @@ pub returns-in-Err-Memory-clause-reopened : goal.returns-in-Err-Memory-clause-re
 returns-in-Err-Memory-clause-reopened g c =
     reopened (g.D.Disk.state c.args.disks.now.journal.0) (g.D.Disk.state c.open_both.new.disks.journal.0)
     (g.D.Disk.state c.args.disks.now.checkpoints) (g.D.Disk.state c.open_both.new.disks.checkpoints)
-    (subst (λ (e : FileError). OpensInTurn {T = Unit {0}} (Err e) (g.D.Disk.state c.args.disks.now.journal.0) (g.D.Disk.state c.open_both.new.disks.journal.0)
+    (subst (λ (e : FileError). ReopensInTurn {T = Unit {0}} (Err e) (g.D.Disk.state c.args.disks.now.journal.0) (g.D.Disk.state c.open_both.new.disks.journal.0)
     (g.D.Disk.state c.args.disks.now.checkpoints) (g.D.Disk.state c.open_both.new.disks.checkpoints)) c.in-Err-Memory.field-0-is c.in-Err-Memory.ensures.calls)
     c.in-Err-Memory.ensures.runs c.open_both.ensures.journal c.open_both.ensures.checkpoints
 
@@ -120,7 +120,7 @@ returns-in_ok-prepared-in-Ok-clause-opening g c = λ is. absurd (past_first c.go
 
 pub returns-in-Err-Disk-clause-opening : goal.returns-in-Err-Disk-clause-opening
 returns-in-Err-Disk-clause-opening g c = λ is.
-    subst (λ (e : FileError). OpensInTurn {T = Unit {0}} (Err e) (g.D.Disk.state c.args.disks.now.journal.0) (g.D.Disk.state c.open_both.new.disks.journal.0)
+    subst (λ (e : FileError). ReopensInTurn {T = Unit {0}} (Err e) (g.D.Disk.state c.args.disks.now.journal.0) (g.D.Disk.state c.open_both.new.disks.journal.0)
     (g.D.Disk.state c.args.disks.now.checkpoints) (g.D.Disk.state c.open_both.new.disks.checkpoints)) c.in-Err-Disk.field-0-is c.in-Err-Disk.ensures.calls
 
 pub returns-in_ok-prepared-in-Ok-clause-settles : goal.returns-in_ok-prepared-in-Ok-clause-settles

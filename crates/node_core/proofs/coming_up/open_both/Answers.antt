@@ -4,7 +4,7 @@ use Rattle.std.specs.Prelude.{Result}
 use Rattle.record_file.specs.declared.error.FileError.{FileError}
 use Rattle.record_file.specs.declared.error.FileError.TheVariants.{Disk, Memory}
 use Rattle.node_journal.specs.Files.{IsOneOf as IsOneJournal}
-use Rattle.node_core.specs.Opening.{OpensInTurn}
+use Rattle.node_core.specs.Opening.{ReopensInTurn}
 use Rattle.node_core.specs.declared.coming_up.Found.{Found}
 use Rattle.node_core.proofs.PuttingLemmas.{runs_checkpoints, runs_journal, runs_then}
 use Rattle.node_core.proofs.ReopeningLemmas.{calls_reserved, opened_both, read_both, runs_opened, stands_both, stands_opened, stands_reserved, then_reserved, unopened}
@@ -99,13 +99,13 @@ pub returns-in_err-kept-clause-calls : goal.returns-in_err-kept-clause-calls
 returns-in_err-kept-clause-calls g c =
     let p = err_from_is_err_and c.from_residual.result c.from_residual.ensures.1 in
     let k = g.D.Disk.state c.args.disks.now.checkpoints in
-    subst (λ (r : Result Found FileError). OpensInTurn r (g.D.Disk.state c.args.disks.now.journal.0) (g.D.Disk.state c.reopen.new.self.0) k k)
+    subst (λ (r : Result Found FileError). ReopensInTurn r (g.D.Disk.state c.args.disks.now.journal.0) (g.D.Disk.state c.reopen.new.self.0) k k)
     (sym (p.1 ∙ ap (λ (e : FileError). Err e) p.2)) (inl (c.in_err-kept.ensures.calls, refl))
 
 pub returns-in_err-stable-clause-calls : goal.returns-in_err-stable-clause-calls
 returns-in_err-stable-clause-calls g c =
     let p = err_from_is_err_and c.from_residual-in_err-stable.result c.from_residual-in_err-stable.ensures.1 in
-    subst (λ (r : Result Found FileError). OpensInTurn r (g.D.Disk.state c.args.disks.now.journal.0) (g.D.Disk.state c.reopen.new.self.0)
+    subst (λ (r : Result Found FileError). ReopensInTurn r (g.D.Disk.state c.args.disks.now.journal.0) (g.D.Disk.state c.reopen.new.self.0)
     (g.D.Disk.state c.args.disks.now.checkpoints) (g.D.Disk.state c.reopen-2.new.self))
     (sym (p.1 ∙ ap (λ (e : FileError). Err e) p.2)) (inr (c.in_ok-kept.ensures.calls, c.in_err-stable.ensures.calls))
 
@@ -116,7 +116,7 @@ returns-in_err-reserve-clause-calls g c =
     let j' = g.D.Disk.state c.reserve.new.self.0 in
     let k = g.D.Disk.state c.args.disks.now.checkpoints in
     let k' = g.D.Disk.state c.reopen-2.new.self in
-    subst (λ (r : Result Found FileError). OpensInTurn r j j' k k') (sym is)
+    subst (λ (r : Result Found FileError). ReopensInTurn r j j' k k') (sym is)
     (opened_both j j' k k' (calls_reserved j (g.D.Disk.state c.reopen.new.self.0) j' c.in_ok-kept.ensures.calls c.reserve.ensures.same, c.in_ok-stable.ensures.calls))
 
 pub returns-clause-calls : goal.returns-clause-calls
