@@ -8,14 +8,14 @@ use Rattle.rs_disk.specs.File.{IsEmpty}
 use Rattle.rs_disk.specs.State.{State}
 use Rattle.record_file.specs.declared.error.FileError.{FileError}
 use Rattle.member_config.specs.declared.config.Config.{Config}
-use Rattle.member_config.specs.Config.{first_config}
 use Rattle.set_model.specs.Node.{Node, opening_node}
-use Rattle.set_model.specs.Run.{Sizes}
 use Rattle.set_model.specs.World.{nodes_from}
-use Rattle.node_core.proofs.OpeningLemmas.{empty_stands}
+use Rattle.node_core.specs.Opening.{unopened_node}
+use Rattle.node_core.specs.Stands.{Stands}
+use Rattle.node_core.proofs.OpeningLemmas.{empty_stands, still_unopened}
 use Rattle.set_world.specs.Acting.{EachNodeStands}
-use Rattle.set_world.specs.Disks.{AllBegin, AllStand, StandsAtNumber, TwoDisksReturned}
-use Rattle.set_world.specs.World.{disks_in, nodes_in, opening_set}
+use Rattle.set_world.specs.Disks.{AllBegin, StandsAtNumber, TwoDisksReturned}
+use Rattle.set_world.specs.World.{disks_in, nodes_in}
 use Rattle.set_world.proofs.DiskLemmas.{checkpoints_of, journal_of}
 use Rattle.set_world.proofs.DisksOpenLemmas.{disks_long, get_seam}
 use Rattle.set_world.proofs.NodesLemmas.{get_in}
@@ -31,14 +31,6 @@ at_begin config first (suc count) (suc n) node there =
     let rest = at_begin config (first + 1) count n node there in
     let less : n < count = rest.0 in
     (omega (arith, less), rest.1 ∙ ap (λ k. opening_node config k) (let same : first + 1 + n ≡ first + suc n = omega arith in same))
-
-pub opening_stands : {D : Type 0} (state : D → State) (sizes : Sizes) (config : Config) (disks : List D) → config ≡ first_config sizes.members → AllBegin state config sizes.nodes disks
-    → AllStand state (opening_set sizes disks)
-opening_stands state sizes config disks is each number node there =
-    let at = at_begin (first_config sizes.members) 0 sizes.nodes number node there in
-    let same : opening_node config number ≡ node =
-    ap (λ c. opening_node c number) is ∙ ap (λ k. opening_node (first_config sizes.members) k) (let plain : number ≡ 0 + number = omega arith in plain) ∙ sym at.1 in
-    subst (λ (n : Node). StandsAtNumber state number n disks) same (each number at.0)
 
 -- ---- disks on which nothing stands
 
@@ -56,7 +48,7 @@ empty_at {D} state disks empty place within = elim (slice_get_cases disks place)
   | inr past ↦ absurd (omega (arith, within, past.0))
 ]
 
-begins_on : {D : Type 0} (state : D → State) (config : Config) (number k : ℕ) (disks : List D) → AreEmpty state disks → 2 * k + 1 < length disks → StandsAtNumber state k (opening_node config number) disks
+begins_on : {D : Type 0} (state : D → State) (config : Config) (number k : ℕ) (disks : List D) → AreEmpty state disks → 2 * k + 1 < length disks → StandsAtNumber state k (unopened_node config number) disks
 begins_on state config number k disks empty within =
     let journal = empty_at state disks empty (2 * k) (omega (arith, within)) in
     let checkpoints = empty_at state disks empty (2 * k + 1) within in
@@ -87,33 +79,34 @@ stands_behind state front tail m k node long stands = record {
 
 module _ {D : Type 0} (state : D → State) (config : Config) (number : ℕ) (ended : Result (Unit {0}) FileError) (so_many : List (Node × D × D)) (disks back : List D)
     (nodes_are : nodes_in so_many ≡ nodes_from config 0 number) (many : length so_many ≡ number) (stand : EachNodeStands state so_many)
-    (two : TwoDisksReturned state (opening_node config number) ended disks back) (empty : AreEmpty state disks) where
+    (two : TwoDisksReturned state (unopened_node config number) ended disks back) (empty : AreEmpty state disks) where
   abbrev whole : List D
   whole = disks_in so_many ++ back
 
   long : length (disks_in so_many) ≡ 2 * number
   long = disks_long so_many ∙ ap (λ n. 2 * n) many
 
-  opened : (n : ℕ) → n < number → StandsAtNumber state n (opening_node config n) whole
+  opened : (n : ℕ) → n < number → StandsAtNumber state n (unopened_node config n) whole
   opened n less = elim (slice_get_cases so_many n).1 [
     | inl found ↦
         let at = at_begin config 0 number n found.0.0 (ap (λ l. slice_get l n) (sym nodes_are) ∙ get_in so_many n found.0 found.2) in
-        subst (λ (x : Node). StandsAtNumber state n x whole) (at.1 ∙ ap (λ k. opening_node config k) (let plain : 0 + n ≡ n = omega arith in plain)) (record {
+        record {
           journal = found.0.1;
           checkpoints = found.0.2;
           journal_at = journal_of so_many back n found.0 found.2;
           checkpoints_at = checkpoints_of so_many back n found.0 found.2;
-          stands = stand n found.0 found.2;
-        })
+          stands = still_unopened config n (state found.0.1) (state found.0.2)
+              (subst (λ (x : Node). Stands x (state found.0.1) (state found.0.2)) (at.1 ∙ ap (λ k. opening_node config k) (let plain : 0 + n ≡ n = omega arith in plain)) (stand n found.0 found.2));
+        }
     | inr past ↦ absurd (omega (arith, less, many, past.0))
   ]
 
   -- the one that couldn't be opened
-  failed : StandsAtNumber state number (opening_node config number) whole
+  failed : StandsAtNumber state number (unopened_node config number) whole
   failed =
-      subst (λ n. StandsAtNumber state n (opening_node config number) whole) (let plain : number + 0 ≡ number = omega arith in plain)
-      (stands_behind state (disks_in so_many) back number 0 (opening_node config number) long
-      (subst (λ l. StandsAtNumber state 0 (opening_node config number) l) (sym two.back) (record {
+      subst (λ n. StandsAtNumber state n (unopened_node config number) whole) (let plain : number + 0 ≡ number = omega arith in plain)
+      (stands_behind state (disks_in so_many) back number 0 (unopened_node config number) long
+      (subst (λ l. StandsAtNumber state 0 (unopened_node config number) l) (sym two.back) (record {
         journal = two.journal';
         checkpoints = two.checkpoints';
         journal_at = refl;
@@ -122,9 +115,9 @@ module _ {D : Type 0} (state : D → State) (config : Config) (number : ℕ) (en
       })))
 
   -- those behind it
-  unopened : (k : ℕ) → 2 * k + 1 < length two.rest → StandsAtNumber state (number + (1 + k)) (opening_node config (number + (1 + k))) whole
+  unopened : (k : ℕ) → 2 * k + 1 < length two.rest → StandsAtNumber state (number + (1 + k)) (unopened_node config (number + (1 + k))) whole
   unopened k within =
-      let node = opening_node config (number + (1 + k)) in
+      let node = unopened_node config (number + (1 + k)) in
       stands_behind state (disks_in so_many) back number (1 + k) node long
       (subst (λ l. StandsAtNumber state (1 + k) node l) (sym two.back)
       (stands_behind state (two.journal' ∷ two.checkpoints' ∷ []) two.rest 1 k node refl
@@ -132,11 +125,11 @@ module _ {D : Type 0} (state : D → State) (config : Config) (number : ℕ) (en
       (all_behind (λ (disk : D). IsEmpty (state disk).file) disks two.rest two.two.journal two.two.checkpoints two.two.first empty) within)))
 
   pub all_back : (count : ℕ) (given : List D) → given ≡ whole → 2 * count ≤ length disks + 2 * number → AllBegin state config count given
-  all_back count given is enough n less = subst (λ l. StandsAtNumber state n (opening_node config n) l) (sym is) (elim (cases_order n number) [
-    | inl same ↦ subst (λ m. StandsAtNumber state m (opening_node config m) whole) (sym same) failed
+  all_back count given is enough n less = subst (λ l. StandsAtNumber state n (unopened_node config n) l) (sym is) (elim (cases_order n number) [
+    | inl same ↦ subst (λ m. StandsAtNumber state m (unopened_node config m) whole) (sym same) failed
     | inr other ↦ elim other [
       | inl before ↦ opened n before
-      | inr behind ↦ subst (λ m. StandsAtNumber state m (opening_node config m) whole) (sym (place behind)) (unopened (n - (number + 1)) (room behind))
+      | inr behind ↦ subst (λ m. StandsAtNumber state m (unopened_node config m) whole) (sym (place behind)) (unopened (n - (number + 1)) (room behind))
     ]
   ])
     where

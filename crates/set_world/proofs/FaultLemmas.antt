@@ -18,6 +18,7 @@ use Rattle.rs_optime.specs.Order.{is_before}
 use Rattle.rs_optime.specs.declared.optime.OpTime.{OpTime}
 use Rattle.oplog_entry.specs.declared.entry.Entry.{Entry}
 use Rattle.oplog_entry.specs.declared.entry.Op.{Op}
+use Rattle.oplog_entry.specs.declared.entry.Session.{Session}
 use Rattle.member_config.specs.declared.config.Config.{Config}
 use Rattle.member_config.specs.Config.{is_newer}
 use Rattle.member_config.specs.Numbers.{lowest}
@@ -65,7 +66,9 @@ use Rattle.set_model.specs.Rows.{row}
 use Rattle.set_model.specs.Stores.{Plan, finished, storing, done, stored, unless_refused, if_up, vote_record}
 use Rattle.set_model.specs.Votes.{vote_refusal, vote_for, with_vote, vote_counted, is_elected, dry_told, dry_counted}
 use Rattle.set_model.specs.World.{World, Task, acts, takes, nothing, task, plan_of, event_plan, by_plan, step, touched_node}
-use Rattle.set_model.specs.Write.{write, written}
+use Rattle.set_model.specs.declared.session.LastWrite.{LastWrite}
+use Rattle.set_model.specs.Sessions.{last_write}
+use Rattle.set_model.specs.Write.{note, retried, retry, write, write_in, written}
 use Rattle.set_model.specs.Writers.{begin, begun, unless_open, with_open}
 
 -- ---- the refusal of a store that failed
@@ -162,14 +165,28 @@ admitted_quiet node op = go (checked op) refl
     go (Err reason) is = rw is (refused_quiet reason)
     go (Ok place) is = rw is (held_quiet (holder node place) _ (effect_quiet _))
 
-written_quiet : (node : Node) (found : Result Prepared Refusal) → may_fail found ≡ false → IsCalm (written node found)
-written_quiet node (Err why) quiet = calm_of _ quiet
-written_quiet node (Ok prepared.NoMatch) quiet = calm_of _ refl
-written_quiet node (Ok prepared.Unchanged) quiet = calm_of _ refl
-written_quiet node (Ok (prepared.Entry entry after)) quiet = calm_of _ refl
+written_quiet : (node : Node) (session : Option Session) (found : Result Prepared Refusal) → may_fail found ≡ false → IsCalm (written node session found)
+written_quiet node session (Err why) quiet = calm_of _ quiet
+written_quiet node session (Ok prepared.NoMatch) quiet = calm_of _ refl
+written_quiet node session (Ok prepared.Unchanged) quiet = calm_of _ refl
+written_quiet node session (Ok (prepared.Entry entry after)) quiet = calm_of _ refl
+
+write_in_quiet : (node : Node) (session : Option Session) (op : WriteOp) → IsCalm (write_in node session op)
+write_in_quiet node session op = written_quiet node session (admitted node op) (admitted_quiet node op)
 
 write_quiet : (node : Node) (op : WriteOp) → IsCalm (write node op)
-write_quiet node op = primary_quiet node.role _ _ (written_quiet node (admitted node op) (admitted_quiet node op)) (calm_of _ refl)
+write_quiet node op = primary_quiet node.role _ _ (write_in_quiet node None op) (calm_of _ refl)
+
+retried_quiet : (node : Node) (session : Session) (op : WriteOp) (found : Option LastWrite) → IsCalm (retried node session op found)
+retried_quiet node session op None = write_in_quiet node (Some session) op
+retried_quiet node session op (Some last) =
+    outcome_if (nat_lt session.number last.number) _ _ (calm_of _ refl) (outcome_if (last.number == session.number) _ _ (calm_of _ refl) (write_in_quiet node (Some session) op))
+
+retry_quiet : (node : Node) (session : Session) (op : WriteOp) → IsCalm (retry node session op)
+retry_quiet node session op = primary_quiet node.role _ _ (retried_quiet node session op (last_write session.id node.log)) (calm_of _ refl)
+
+note_quiet : (node : Node) → IsCalm (note node)
+note_quiet node = primary_quiet node.role _ _ (calm_of _ refl) (calm_of _ refl)
 
 begun_quiet : (node : Node) (writer : ℕ) (found : Result Prepared Refusal) → may_fail found ≡ false → IsCalm (begun node writer found)
 begun_quiet node writer (Err why) quiet = calm_of _ quiet
@@ -285,6 +302,8 @@ row_quiet nodes next there node (Command.Insert number collection document) = up
 row_quiet nodes next there node (Command.Replace number collection id document) = up_quiet node _ (write_quiet node (ops.Replace collection id document))
 row_quiet nodes next there node (Command.Update number collection id operators) = up_quiet node _ (write_quiet node (ops.Update collection id operators))
 row_quiet nodes next there node (Command.Delete number collection id) = up_quiet node _ (write_quiet node (ops.Delete collection id))
+row_quiet nodes next there node (Command.Retry number session op) = up_quiet node _ (retry_quiet node session op)
+row_quiet nodes next there node (Command.Note number) = up_quiet node _ (note_quiet node)
 row_quiet nodes next there node (Command.Begin number writer op) = up_quiet node _ (begin_quiet node writer op)
 row_quiet nodes next there node (Command.Commit number writer) = up_quiet node _ (open_quiet node (maps.get node.writers writer) _ (λ at op. calm_of _ refl))
 row_quiet nodes next there node (Command.Abort number writer) = up_quiet node _ (open_quiet node (maps.get node.writers writer) _ (λ at op. calm_of _ refl))

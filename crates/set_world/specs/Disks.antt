@@ -8,12 +8,12 @@ use Rattle.member_config.specs.declared.config.Config.{Config}
 use Rattle.set_model.specs.declared.command.Command.{Command}
 use Rattle.set_model.specs.declared.command.Event.{Event}
 use Rattle.set_model.specs.declared.reply.Reply.{Reply}
-use Rattle.set_model.specs.Node.{Node, opening_node}
+use Rattle.set_model.specs.Node.{Node}
 use Rattle.set_model.specs.Run.{run}
 use Rattle.set_model.specs.World.{Task, World, acts, takes, nothing, step, task}
 use Rattle.node_core.specs.Acting.{DisksActed, DisksLeft, RunsWithoutOrders}
 use Rattle.node_core.specs.Nodes.{HasFailed}
-use Rattle.node_core.specs.Opening.{OpensInTurn}
+use Rattle.node_core.specs.Opening.{OpensInTurn, unopened_node}
 use Rattle.node_core.specs.Stands.{Stands}
 use Rattle.set_world.specs.World.{Set}
 
@@ -111,10 +111,11 @@ pub record WasUsed (old new : State) : Type 0 where
   pub armed : IsTrue new.is_armed → IsTrue old.is_armed
   pub orders : new.orders ≡ old.orders
 
--- on the disks of each of so many nodes stands what it is as a set with this configuration begins
+-- on the disks of each of so many nodes stands what it is as a set with this configuration begins, but that
+-- its journal may lack the record of its form
 abbrev pub AllBegin : {D : Type 0} → (D → State) → Config → ℕ → List D → Type 0
 AllBegin state config count disks =
-    (number : ℕ) → number < count → StandsAtNumber state number (opening_node config number) disks
+    (number : ℕ) → number < count → StandsAtNumber state number (unopened_node config number) disks
 
 -- the count of one of the first disks rose
 abbrev pub OneFaultCounted : {D : Type 0} → (D → State) → ℕ → List D → List D → Type 0

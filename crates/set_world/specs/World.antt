@@ -21,10 +21,6 @@ pub record Set (D : Type 0) : Type 0 where
   -- no step has run out of memory while it used its node's disks
   pub whole : Bool
 
--- a set as it begins, on these disks
-abbrev pub opening_set : {D : Type 0} → Sizes → List D → Set D
-opening_set sizes disks = record { sizes = sizes; history = []; disks = disks; opened = disks; whole = true }
-
 abbrev pub nodes_in : {D : Type 0} → List (Node × D × D) → List Node
 nodes_in nodes = map (λ node. node.0) nodes
 

@@ -22,6 +22,8 @@ pub(crate) fn actor(command: &Command) -> Option<u32>
         | Command::Replace { node, .. }
         | Command::Update { node, .. }
         | Command::Delete { node, .. }
+        | Command::Retry { node, .. }
+        | Command::Note { node }
         | Command::Begin { node, .. }
         | Command::Commit { node, .. }
         | Command::Abort { node, .. }
@@ -79,7 +81,7 @@ pub(crate) fn recall_sound_write(command: &Command)
             operators.recall_sound();
         }
         Command::Delete { id, .. } => id.recall_sound(),
-        Command::Begin { op, .. } => op.recall_sound(),
+        Command::Retry { op, .. } | Command::Begin { op, .. } => op.recall_sound(),
         _ => {}
     }
 }

@@ -5,6 +5,7 @@ ghost use Rattle.member_config.specs.Config.{first_config as begins_with};
 ghost use Rattle.member_config.specs.Rule.{rule};
 ghost use Rattle.set_model.specs.Node.{opening_node};
 ghost use Rattle.set_model.specs.World.{nodes_from};
+ghost use Rattle.node_core.specs.Opening.{unopened_node};
 ghost use Rattle.set_world.specs.Acting.{EachNodeStands, NodeStands};
 ghost use Rattle.set_world.specs.Disks.{AllBegin, Opens, TwoDisksReturned, TwoDisksRan};
 ghost use Rattle.set_world.specs.World.{CanTakeBack, disks_in, nodes_in};
@@ -44,7 +45,7 @@ fn put_first<D: Disk>(disks: &mut Vec<D>, disk: D)
 }
 
 /// Opens nodes on the first disks, two for each. Where one can't be opened, all disks stand in their places
-/// again, and on them still stand the nodes as the set begins.
+/// again, and on them stand the nodes as the set begins, but that a journal may lack the record of its form.
 pub(crate) fn open_nodes<D: Disk>(
     alloc: Global,
     count: u32,
@@ -92,7 +93,7 @@ fn open_next<D: Disk>(
     ensures stands { IfOk result (NodeStands D.state) }
     ensures two { IfOk result (λ node.
         TwoDisksRan D.state (Ok tt) disks.old.items node.1 node.2 disks.new.items) }
-    ensures back { IfErr result (λ error. TwoDisksReturned D.state (opening_node config.now number)
+    ensures back { IfErr result (λ error. TwoDisksReturned D.state (unopened_node config.now number)
         (Err error) disks.old.items disks.new.items) }
     ensures fewer { OnOk result (vec_len disks.new + 2 ≡ vec_len disks.old) }
     ensures all { OnErr result (vec_len disks.new ≡ vec_len disks.old) }

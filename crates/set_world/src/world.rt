@@ -1,13 +1,15 @@
-ghost use Rattle.std.specs.Prelude.{◌≡◌, ◌<◌, ◌≤◌, ◌↔◌, [], true, All, length, vec_len, Err, IfErr, IfOk, IsErrOf, Ok, OnErr, OnOk, Some, slice_get};
+ghost use Rattle.std.specs.Prelude.{◌≡◌, ◌<◌, ◌≤◌, ◌↔◌, [], ◌∷◌, ◌++◌, true, All, length, vec_capacity, vec_len, Err, IfErr, IfOk, IsErrOf, Ok, OnErr, OnOk, Some, slice_get};
 ghost use Rattle.rs_disk.specs.File.{IsEmpty};
+ghost use Rattle.member_config.specs.Config.{first_config as begins_with};
 ghost use Rattle.set_model.specs.Limits.{IsRun, is_for};
 ghost use Rattle.set_model.specs.Pointed.{pointed};
 ghost use Rattle.set_model.specs.Run.{AreSizes, run};
 ghost use Rattle.set_model.specs.World.{touched_node};
 ghost use Rattle.set_world.specs.declared.error.StepError.{StepError as AStepError};
-ghost use Rattle.set_world.specs.Disks.{AllStand, IsStep, NothingDone, Opens};
+ghost use Rattle.set_world.specs.Disks.{AllBegin, AllStand, IsStep, NothingDone, Opens};
+ghost use Rattle.set_world.specs.Pool.{IsBetweenNodes};
 ghost use Rattle.set_world.specs.Went.{DisksWent};
-ghost use Rattle.set_world.specs.World.{nodes_in, opening_set};
+ghost use Rattle.set_world.specs.World.{event_of, nodes_in};
 
 use crate::StepError;
 use crate::command::recall_sound_write;
@@ -95,7 +97,8 @@ impl<D: Disk> World<D> {
     ///
     /// # Errors
     /// `Disk` where a disk of one of the nodes failed, and `Memory` where memory ran out. Either hands back
-    /// the disks, each in its place, and on them still stand the nodes as the set begins.
+    /// the disks, each in its place, and on them stand the nodes as the set begins, but that a journal may
+    /// lack the record of its form.
     #[tactic(auto, using(crate::proofs::OpenLemmas::begins, crate::proofs::PointedLemmas::pointed_first))]
     pub fn open(
         alloc: Global,
@@ -113,8 +116,8 @@ impl<D: Disk> World<D> {
         ensures whole { IfOk result (λ world. world.whole ≡ true) }
         ensures refused { IfErr result (λ refused.
             Opens D.state nodes (Err refused.1) disks.items refused.0.items) }
-        ensures handed_back { IfErr result (λ refused. AllStand D.state
-            (opening_set (record { nodes = nodes; members = members }) refused.0.items)) }
+        ensures handed_back { IfErr result (λ refused.
+            AllBegin D.state (begins_with members) nodes refused.0.items) }
     {
         configs_are_lawful();
         let pool = match Pool::new(alloc, nodes) {
@@ -205,20 +208,14 @@ impl<D: Disk> World<D> {
         ensures unused { OnErr result (self.new.whole ≡ true →
             (self.old.whole ≡ true) × (self.new.disks ≡ self.old.disks)) }
     {
-        if self.history.len() >= MOST_EVENTS {
-            return Err(StepError::HistoryFull);
-        }
         numbers_stay_small();
         messages_can_be_taken();
         recall_sound_write(&command);
-        self.history.reserve(1)?;
-        self.pool.reserve(MOST_SENT)?;
-        let Done {
-            reply,
-            sent,
-            failed,
-            kept,
-        } = match act(
+        match make_room(&mut self.history, &mut self.pool) {
+            Ok(()) => {}
+            Err(why) => return Err(why),
+        }
+        let done = match act(
             &mut self.nodes,
             &mut self.points,
             self.alloc,
@@ -233,18 +230,7 @@ impl<D: Disk> World<D> {
                 return Err(StepError::Memory);
             }
         };
-        self.pool.add(sent);
-        let event = Event {
-            line,
-            command,
-            failed,
-            kept,
-        };
-        match self.history.push(event) {
-            Ok(()) => {}
-            Err(_) => unreachable!(),
-        }
-        Ok(reply)
+        Ok(put(&mut self.history, &mut self.pool, line, command, done))
     }
 
     /// Hands back the history, and the disks in their places.
@@ -354,4 +340,53 @@ impl<D: Disk> World<D> {
         numbers_stay_small();
         let _ = &self.nodes;
     }
+}
+
+// Takes the memory for one event more, and for the messages that it may send.
+fn make_room(history: &mut Vec<Event>, pool: &mut Pool) -> Result<(), StepError>
+    requires { length history.old.items ≤ 4294967295 }
+    ensures items { history.new.items ≡ history.old.items }
+    ensures nodes { pool.new.nodes ≡ pool.old.nodes }
+    ensures messages { pool.new.messages ≡ pool.old.messages }
+    ensures room { OnOk result (vec_len history.new < vec_capacity history.new) }
+    ensures spare { OnOk result (7 ≤ pool.new.spare) }
+    ensures short { OnOk result (length history.old.items < 4294967295) }
+    ensures full { IsErrOf result AStepError.HistoryFull ↔ length history.old.items ≡ 4294967295 }
+{
+    if history.len() >= MOST_EVENTS {
+        return Err(StepError::HistoryFull);
+    }
+    history.reserve(1)?;
+    pool.reserve(MOST_SENT)?;
+    Ok(())
+}
+
+// Puts what was done behind the messages and the history, in the room that there is.
+fn put(history: &mut Vec<Event>, pool: &mut Pool, line: u32, command: Command, done: Done) -> Reply
+    requires room { vec_len history.old < vec_capacity history.old }
+    requires spare { length done.sent.items ≤ pool.old.spare }
+    requires between { All (IsBetweenNodes pool.old.nodes) done.sent.items }
+    ensures items { history.new.items ≡ history.old.items ++ event_of line command done ∷ [] }
+    ensures nodes { pool.new.nodes ≡ pool.old.nodes }
+    ensures messages { pool.new.messages ≡ pool.old.messages ++ done.sent.items }
+    ensures reply { result ≡ done.reply }
+{
+    let Done {
+        reply,
+        sent,
+        failed,
+        kept,
+    } = done;
+    pool.add(sent);
+    let event = Event {
+        line,
+        command,
+        failed,
+        kept,
+    };
+    match history.push(event) {
+        Ok(()) => {}
+        Err(_) => unreachable!(),
+    }
+    reply
 }

@@ -4,7 +4,8 @@ use Rattle.record_file.specs.declared.error.FileError.TheVariants.{Memory}
 use Rattle.rs_disk.specs.File.{IsEmpty}
 use Rattle.set_model.specs.World.{nodes_from}
 use Rattle.set_world.specs.World.{disks_in, nodes_in}
-use Rattle.set_model.specs.Node.{Node, opening_node}
+use Rattle.set_model.specs.Node.{Node}
+use Rattle.node_core.specs.Opening.{unopened_node}
 use Rattle.set_world.specs.Acting.{EachNodeStands}
 use Rattle.set_world.specs.Disks.{Opens}
 use Rattle.set_world.proofs.BeginLemmas.{all_back, all_empty}
@@ -54,7 +55,7 @@ pub returns-in-Err-clause-refused : goal.returns-in-Err-clause-refused
 returns-in-Err-clause-refused g c =
     let many : length c.loop-number.nodes.items ≡ vec_len c.loop-number.nodes = search rules in
     opens_refused g.D.Disk.state c.loop-number.number c.args.count c.in-Err.error c.args.disks.now.items c.loop-number.nodes.items c.loop-number.disks.items c.open_next.new.disks.items c.give_back.new.disks.items
-    c.loop-number.invariant.7 (many ∙ c.loop-number.invariant.1) c.loop-number-test.true (opening_node c.args.config.now c.loop-number.number) c.in-Err.ensures.back c.give_back.ensures.items
+    c.loop-number.invariant.7 (many ∙ c.loop-number.invariant.1) c.loop-number-test.true (unopened_node c.args.config.now c.loop-number.number) c.in-Err.ensures.back c.give_back.ensures.items
 
 pub returns-in_err-nodes-clause-refused : goal.returns-in_err-nodes-clause-refused
 returns-in_err-nodes-clause-refused g c =

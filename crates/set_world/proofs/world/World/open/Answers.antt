@@ -1,10 +1,12 @@
-use Rattle.std.proofs.Common.{◌≡◌, ◌≤◌, ◌∙◌, ◌++◌, ap, arith, length, refl, rules, subst, sym, true}
+use Rattle.std.proofs.Common.{◌≡◌, ◌≤◌, ◌∙◌, ◌++◌, ap, arith, length, rules, subst, sym, true}
 use Rattle.member_config.specs.Config.{first_config}
 use Rattle.member_config.specs.Rule.{rule}
+use Rattle.member_config.specs.declared.config.Config.{Config}
 use Rattle.set_model.specs.World.{nodes_from}
+use Rattle.set_world.specs.Disks.{AllBegin}
 use Rattle.set_world.specs.Points.{ArePointed}
 use Rattle.set_world.specs.World.{IsStanding, disks_in, nodes_in}
-use Rattle.set_world.proofs.BeginLemmas.{all_empty, opening_stands}
+use Rattle.set_world.proofs.BeginLemmas.{all_empty}
 use Rattle.set_world.proofs.DisksOpenLemmas.{opens_nothing}
 use Rattle.set_world.proofs.OpenLemmas.{begins, first_rule}
 use Rattle.set_world.proofs.PointedLemmas.{pointed_first}
@@ -25,27 +27,23 @@ pub returns-in-Err-clause-handed_back : goal.returns-in-Err-clause-handed_back
 returns-in-Err-clause-handed_back g c =
     let many : length c.args.disks.items ≡ 100 = search rules in
     let most : c.args.nodes ≤ 7 = c.requires.sizes.most in
-    opening_stands g.D.Disk.state (record { nodes = c.args.nodes; members = c.args.members }) (first_config c.args.members) c.args.disks.items refl
-    (all_empty g.D.Disk.state (first_config c.args.members) c.args.nodes c.args.disks.items c.requires.empty (omega (arith, many, most)))
+    all_empty g.D.Disk.state (first_config c.args.members) c.args.nodes c.args.disks.items c.requires.empty (omega (arith, many, most))
 
 pub returns-in-Err-first_config-clause-handed_back : goal.returns-in-Err-first_config-clause-handed_back
 returns-in-Err-first_config-clause-handed_back g c =
     let many : length c.args.disks.items ≡ 100 = search rules in
     let most : c.args.nodes ≤ 7 = c.requires.sizes.most in
-    opening_stands g.D.Disk.state (record { nodes = c.args.nodes; members = c.args.members }) (first_config c.args.members) c.args.disks.items refl
-    (all_empty g.D.Disk.state (first_config c.args.members) c.args.nodes c.args.disks.items c.requires.empty (omega (arith, many, most)))
+    all_empty g.D.Disk.state (first_config c.args.members) c.args.nodes c.args.disks.items c.requires.empty (omega (arith, many, most))
 
 pub returns-in-Err-new-clause-handed_back : goal.returns-in-Err-new-clause-handed_back
 returns-in-Err-new-clause-handed_back g c =
     let many : length c.args.disks.items ≡ 100 = search rules in
     let most : c.args.nodes ≤ 7 = c.requires.sizes.most in
-    opening_stands g.D.Disk.state (record { nodes = c.args.nodes; members = c.args.members }) (first_config c.args.members) c.args.disks.items refl
-    (all_empty g.D.Disk.state (first_config c.args.members) c.args.nodes c.args.disks.items c.requires.empty (omega (arith, many, most)))
+    all_empty g.D.Disk.state (first_config c.args.members) c.args.nodes c.args.disks.items c.requires.empty (omega (arith, many, most))
 
 pub returns-in-Err-open_nodes-clause-handed_back : goal.returns-in-Err-open_nodes-clause-handed_back
 returns-in-Err-open_nodes-clause-handed_back g c =
-    opening_stands g.D.Disk.state (record { nodes = c.args.nodes; members = c.args.members }) c.in-Ok-first_config.config c.open_nodes.new.disks.items c.in-Ok-first_config.ensures
-    c.in-Err-open_nodes.ensures.handed_back
+    subst (λ (config : Config). AllBegin g.D.Disk.state config c.args.nodes c.open_nodes.new.disks.items) c.in-Ok-first_config.ensures c.in-Err-open_nodes.ensures.handed_back
 
 pub invariant_of-result : goal.invariant_of-result
 invariant_of-result g c =
