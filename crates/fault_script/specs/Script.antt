@@ -11,7 +11,8 @@
 --
 --     set NODES [MEMBERS]            the first line that says something, and no other
 --     insert N COLL DOC              replace N COLL ID DOC       update N COLL ID DOC      delete N COLL ID
---     begin N W insert COLL DOC      (or `replace`, `update`, `delete` with their words)
+--     retry N SID NUMBER insert COLL DOC          (or `replace`, `update`, `delete` with their words)
+--     begin N W insert COLL DOC                   (or these, too)
 --     commit N W                     abort N W                   ack N TARGET CONCERN
 --     read N LEVEL COLL ID           dump N LEVEL                log N                     state N
 --     campaign N                     dryrun N                    drain N                   stepdown N
@@ -19,16 +20,16 @@
 --     deliver M                      deliver N N                 rolled N                  apply N [WORKERS]
 --     flush N                        checkpoint N                reconfig N JSON           crash N [PICK]
 --     restart N                      diskfail N DISK CALL [PICK] clock N SECONDS
---     par                            thread                      end
+--     note N                         par                         thread                    end
 --
 -- A number is one or more decimal digits. N is `n` and the number of a node of the set, and two nodes on a
 -- line differ; W is `w` and a number up to 999; M is `m` and a number of 64 bits. NODES is from 1 to 7, and
 -- MEMBERS from 1 to NODES, or NODES where it isn't there. COLL is an ASCII letter and up to 63 letters,
--- digits, `_` and `.`. TARGET is W or TERM/SECONDS/INCREMENT, of 64, 32 and 32 bits. CONCERN is `majority`
--- or 1 to 50; LEVEL is `local` or `majority`; DISK is `journal` or `checkpoint`; WORKERS is 1 to 16, by
--- default 4; PICK is of 64 bits, at `crash` by default 0; CALL is 1 to 1000; SECONDS is below 2^31. ID is a
--- value and DOC a document in the notation of documents; an ID that a DOC follows has one space behind it.
--- JSON is a configuration.
+-- digits, `_` and `.`. TARGET is W or TERM/SECONDS/INCREMENT, of 64, 32 and 32 bits. CONCERN is `majority` or
+-- 1 to 50; LEVEL is `local` or `majority`; DISK is `journal` or `checkpoint`; WORKERS is 1 to 16, by default
+-- 4; PICK is of 64 bits, at `crash` by default 0; CALL is 1 to 1000; SECONDS is below 2^31. ID is a value and
+-- DOC a document in the notation of documents; an ID that a DOC follows has one space behind it. JSON is a
+-- configuration. SID is a session, below 2^32, and NUMBER that of a write in it, from 1 on and below 2^31.
 --
 -- `par` begins a block and `end` ends it. In between each `thread` begins one of at most 16 threads, and the
 -- commands behind it are that thread's.

@@ -13,7 +13,7 @@ use Rattle.member_config.specs.JsonText.{json_text}
 use Rattle.set_model.specs.declared.command.AckConcern.{AckConcern}
 use Rattle.set_model.specs.declared.command.AckConcern.TheVariants as concerns
 use Rattle.set_model.specs.declared.command.Command.{Command}
-use Rattle.set_model.specs.declared.command.Command.TheVariants.{Campaign, Drain, Insert, Replace, Update, Delete, Begin, Commit, Abort, Ack, Read, Dump, Log, State, Rolled, DryRun, StepDown, Heartbeat, Report, Common, Fetch, Deliver, DeliverLatest, Apply, Flush, Checkpoint, Reconfig, Crash, Restart, DiskFail, Clock}
+use Rattle.set_model.specs.declared.command.Command.TheVariants.{Campaign, Drain, Insert, Replace, Update, Delete, Retry, Note, Begin, Commit, Abort, Ack, Read, Dump, Log, State, Rolled, DryRun, StepDown, Heartbeat, Report, Common, Fetch, Deliver, DeliverLatest, Apply, Flush, Checkpoint, Reconfig, Crash, Restart, DiskFail, Clock}
 use Rattle.set_model.specs.declared.command.DiskName.{DiskName}
 use Rattle.set_model.specs.declared.command.DiskName.TheVariants as disks
 use Rattle.set_model.specs.declared.command.ReadLevel.{ReadLevel}
@@ -73,6 +73,10 @@ command_text (Replace node collection id doc) =
 command_text (Update node collection id operators) =
     codes "update n" ++ decimal node ++ change_words collection id operators
 command_text (Delete node collection id) = codes "delete n" ++ decimal node ++ id_words collection id
+command_text (Retry node session op) =
+    codes "retry n" ++ decimal node ++ codes " " ++ decimal session.id ++ codes " " ++ decimal session.number
+    ++ write_words op
+command_text (Note node) = codes "note n" ++ decimal node
 command_text (Begin node writer op) =
     codes "begin n" ++ decimal node ++ codes " w" ++ decimal writer ++ write_words op
 command_text (Commit node writer) = codes "commit n" ++ decimal node ++ codes " w" ++ decimal writer
@@ -116,6 +120,7 @@ is_of_write _ = false
 
 -- a writer does it, or it waits for a write, or reads
 abbrev pub is_of_documents : Command → Bool
+is_of_documents (Retry node session op) = true
 is_of_documents (Begin node writer op) = true
 is_of_documents (Commit node writer) = true
 is_of_documents (Abort node writer) = true

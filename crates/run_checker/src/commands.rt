@@ -27,11 +27,13 @@ pub fn write_command(command: &Command, out: &mut String) -> Mem<()>
         Command::Flush { node } => write_named("flush n", *node, out),
         Command::Checkpoint { node } => write_named("checkpoint n", *node, out),
         Command::Restart { node } => write_named("restart n", *node, out),
+        Command::Note { node } => write_named("note n", *node, out),
         Command::Insert { .. }
         | Command::Replace { .. }
         | Command::Update { .. }
         | Command::Delete { .. } => write_of_write(command, out),
-        Command::Begin { .. }
+        Command::Retry { .. }
+        | Command::Begin { .. }
         | Command::Commit { .. }
         | Command::Abort { .. }
         | Command::Ack { .. }
@@ -91,6 +93,12 @@ fn write_of_documents(command: &Command, out: &mut String) -> Mem<()>
     ensures { OnOk result (string_bytes out.new ≡ string_bytes out.old ++ command_text command.now) }
 {
     match command {
+        Command::Retry { node, session, op } => {
+            write_two("retry n", *node, " ", session.id, out)?;
+            out.push_str(" ")?;
+            write_number(session.number.into(), out)?;
+            write_op(op, out)
+        }
         Command::Begin { node, writer, op } => {
             write_two("begin n", *node, " w", *writer, out)?;
             write_op(op, out)

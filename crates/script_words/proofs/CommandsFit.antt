@@ -7,9 +7,10 @@ use Rattle.std.specs.Str.{bytes_eq}
 use Rattle.std.specs.Str.Parse.{digits_value}
 use Rattle.doc_update.specs.declared.write.WriteOp.{WriteOp}
 use Rattle.doc_update.specs.declared.write.WriteOp.TheVariants as ops
+use Rattle.oplog_entry.specs.declared.entry.Session.{Session}
 use Rattle.set_model.specs.declared.command.Command.{Command}
 use Rattle.set_model.specs.declared.command.Target.{Target}
-use Rattle.set_model.specs.Limits.{is_collection, collection_of, is_within_target, is_within_concern, is_within_config, is_for}
+use Rattle.set_model.specs.Limits.{is_collection, collection_of, is_within_target, is_within_concern, is_within_config, is_within_session, is_for}
 use Rattle.script_words.specs.declared.rule.ScriptRule.{ScriptRule}
 use Rattle.script_words.specs.declared.rule.ScriptRule.TheVariants.{BadWord, BadNode, BadNumber}
 use Rattle.script_words.specs.declared.verb.Verb.{Verb}
@@ -21,7 +22,7 @@ use Rattle.script_words.specs.declared.verb.WriteKind.TheVariants.{Insert, Repla
 use Rattle.script_words.specs.Words.{Left, behind_word, word_at, number_of, numbered, number_at, optional_at, pick_at, node_at, other_node_at, writer_at, message_at, collection_at, target_of, optime_of, optime_target, writer_target, concern_of, target_at, concern_at, level_at, disk_at}
 use Rattle.script_words.specs.Configs.{config_of}
 use Rattle.script_words.specs.Values.{text_at, value_at, behind_space, last_value, last_document}
-use Rattle.script_words.specs.Commands.{write_kind, insert_at, delete_at, replace_at, update_at, write_at, write_command, begin_kind, begin_at, commit_at, abort_at, ack_at, read_at, dump_at, heartbeat_at, report_at, common_at, apply_at, reconfig_at, crash_at, disk_fail_at, clock_at, of_node, deliver_one, deliver_latest, deliver_at, words_at}
+use Rattle.script_words.specs.Commands.{write_kind, insert_at, delete_at, replace_at, update_at, write_at, write_command, retry_kind, retry_at, begin_kind, begin_at, commit_at, abort_at, ack_at, read_at, dump_at, heartbeat_at, report_at, common_at, apply_at, reconfig_at, crash_at, disk_fail_at, clock_at, of_node, deliver_one, deliver_latest, deliver_at, words_at}
 use Rattle.bson_doc.proofs.BindLemmas.{Gets, bind_gets, cond_gets}
 use Rattle.script_words.proofs.Gets.{bind_any, tested, ended_gets, both}
 use Rattle.script_words.proofs.CommandsConfig.{config_text_within}
@@ -151,6 +152,26 @@ kind_within nodes node writer (Some kind) left ours low =
     bind_gets (write_at kind left) _ IsNamed (Fit nodes) (write_within kind left) (λ op named.
     one_and (nat_lt node nodes) (nat_lt writer 1000 && is_collection (collection_of op)) ours (both (nat_lt writer 1000) (is_collection (collection_of op)) low named))
 
+abbrev IsSession : Session → Type 0
+IsSession session = is_within_session session ≡ true
+
+within_session : (id number : ℕ) → IsIn 0 4294967295 id → IsIn 1 2147483647 number → IsSession (record { id = id; number = number })
+within_session id number one two = grind arith
+
+retried_within : (nodes node : ℕ) (session : Session) (kind : Option WriteKind) (left : Left) → IsOurs nodes node → IsSession session → Gets (retry_kind node session kind left) (Fit nodes)
+retried_within nodes node session None left ours fine = tt
+retried_within nodes node session (Some kind) left ours fine =
+    bind_gets (write_at kind left) _ IsNamed (Fit nodes) (write_within kind left) (λ op named.
+    one_and (nat_lt node nodes) (is_within_session session && is_collection (collection_of op)) ours (both (is_within_session session) (is_collection (collection_of op)) fine named))
+
+retry_within : (nodes node : ℕ) (left : Left) → IsOurs nodes node → Gets (retry_at node left) (Fit nodes)
+unfolding retry_at
+retry_within nodes node left ours =
+    bind_gets (number_at 0 4294967295 left) _ (λ x. IsIn 0 4294967295 x.0) (Fit nodes) (number_within 0 4294967295 left) (λ id one.
+    bind_gets (number_at 1 2147483647 id.1) _ (λ x. IsIn 1 2147483647 x.0) (Fit nodes) (number_within 1 2147483647 id.1) (λ number two.
+    bind_any (word_at number.1) _ (Fit nodes) (λ kind.
+    retried_within nodes node (record { id = id.0; number = number.0 }) (write_kind kind.0) kind.1 ours (within_session id.0 number.0 one two))))
+
 begin_within : (nodes node : ℕ) (left : Left) → IsOurs nodes node → Gets (begin_at node left) (Fit nodes)
 unfolding begin_at
 begin_within nodes node left ours =
@@ -232,6 +253,8 @@ clock_within nodes node left ours =
 
 node_words : (nodes : ℕ) (verb : NodeVerb) (node : ℕ) (left : Left) → IsOurs nodes node → Gets (of_node nodes verb node left) (Fit nodes)
 node_words nodes (asks.Write kind) node left ours = bind_gets (write_at kind left) _ IsNamed (Fit nodes) (write_within kind left) (λ op named. our_write nodes node op ours named)
+node_words nodes asks.Retry node left ours = retry_within nodes node left ours
+node_words nodes asks.Note node left ours = ended_gets left _ (Fit nodes) (alone nodes node ours)
 node_words nodes asks.Begin node left ours = begin_within nodes node left ours
 node_words nodes asks.Commit node left ours = commit_within nodes node left ours
 node_words nodes asks.Abort node left ours = abort_within nodes node left ours

@@ -4,6 +4,7 @@ use Rattle.std.specs.Str.{bytes_eq}
 use Rattle.bson_doc.specs.Bind.{◌>>=◌}
 use Rattle.doc_update.specs.declared.write.WriteOp.{WriteOp}
 use Rattle.doc_update.specs.declared.write.WriteOp.TheVariants as ops
+use Rattle.oplog_entry.specs.declared.entry.Session.{Session}
 use Rattle.set_model.specs.declared.command.Command.{Command}
 use Rattle.set_model.specs.declared.command.Command.TheVariants as commands
 use Rattle.script_words.specs.declared.rule.ScriptRule.{ScriptRule}
@@ -36,7 +37,9 @@ write_kind word =
 -- what a node is asked for by a word
 abbrev pub other_verb : List ℕ → Option NodeVerb
 other_verb word =
-    if bytes_eq word (codes "begin") then Some asks.Begin
+    if bytes_eq word (codes "retry") then Some asks.Retry
+    else if bytes_eq word (codes "note") then Some asks.Note
+    else if bytes_eq word (codes "begin") then Some asks.Begin
     else if bytes_eq word (codes "commit") then Some asks.Commit
     else if bytes_eq word (codes "abort") then Some asks.Abort
     else if bytes_eq word (codes "ack") then Some asks.Ack
@@ -81,6 +84,8 @@ verb_of word = if bytes_eq word (codes "deliver") then Some verbs.Deliver else a
 -- how many words a line with this first word has behind it
 abbrev pub node_shape : NodeVerb → Shape
 node_shape (asks.Write kind) = Value 2
+node_shape asks.Retry = Value 5
+node_shape asks.Note = Words 1 1
 node_shape asks.Begin = Value 4
 node_shape asks.Commit = Words 2 2
 node_shape asks.Abort = Words 2 2
@@ -196,6 +201,21 @@ write_command node (ops.Replace ns id document) = commands.Replace node ns id do
 write_command node (ops.Update ns id operators) = commands.Update node ns id operators
 write_command node (ops.Delete ns id) = commands.Delete node ns id
 
+-- the words of a session's write, by its kind
+abbrev pub retry_kind : ℕ → Session → Option WriteKind → Left → Result Command ScriptRule
+retry_kind node session None left = Err BadWord
+retry_kind node session (Some kind) left = do
+  op ← write_at kind left
+  Ok (commands.Retry node session op)
+
+-- SESSION NUMBER KIND and the write's words
+unfoldable pub retry_at : ℕ → Left → Result Command ScriptRule
+retry_at node left = do
+  id ← number_at 0 4294967295 left
+  number ← number_at 1 2147483647 id.1
+  kind ← word_at number.1
+  retry_kind node (record { id = id.0; number = number.0 }) (write_kind kind.0) kind.1
+
 -- the words of a writer's write, by its kind
 abbrev pub begin_kind : ℕ → ℕ → Option WriteKind → Left → Result Command ScriptRule
 begin_kind node writer None left = Err BadWord
@@ -296,6 +316,8 @@ clock_at node left = do
 -- the words behind the node
 abbrev pub of_node : ℕ → NodeVerb → ℕ → Left → Result Command ScriptRule
 of_node nodes (asks.Write kind) node left = write_at kind left >>= λ op. Ok (write_command node op)
+of_node nodes asks.Retry node left = retry_at node left
+of_node nodes asks.Note node left = ended left (commands.Note node)
 of_node nodes asks.Begin node left = begin_at node left
 of_node nodes asks.Commit node left = commit_at node left
 of_node nodes asks.Abort node left = abort_at node left

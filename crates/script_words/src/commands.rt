@@ -2,7 +2,7 @@
 ghost use Rattle.std.specs.Prelude.{◌≡◌, false};
 ghost use Rattle.std.specs.Option.{option_copied};
 ghost use Rattle.script_words.specs.Gives.{Reads, Gives};
-ghost use Rattle.script_words.specs.Commands.{commit_at, abort_at, ack_at, dump_at, heartbeat_at, report_at, common_at, apply_at, reconfig_at, or_zero, crash_at, disk_fail_at, clock_at, read_at, begin_at, of_node, deliver_one, deliver_latest, deliver_at, keyword_at, verb_at, words_at, write_command, node_shape, ends_in_value};
+ghost use Rattle.script_words.specs.Commands.{commit_at, abort_at, ack_at, dump_at, heartbeat_at, report_at, common_at, apply_at, reconfig_at, or_zero, crash_at, disk_fail_at, clock_at, read_at, begin_at, retry_at, of_node, deliver_one, deliver_latest, deliver_at, keyword_at, verb_at, words_at, write_command, node_shape, ends_in_value};
 ghost use Rattle.script_words.specs.Words.{ended, behind_word};
 
 use crate::choices::{concern, disk, level, target};
@@ -17,6 +17,7 @@ use crate::words::{
 use crate::writes::write;
 use bson_doc::Text;
 use doc_update::WriteOp;
+use oplog_entry::Session;
 use set_model::Command;
 use std::alloc::Global;
 
@@ -106,6 +107,7 @@ fn of_node(
 {
     match verb {
         NodeVerb::Write(kind) => Ok(write_command(node, write(alloc, kind, left)?)),
+        NodeVerb::Retry => retry(alloc, node, left),
         NodeVerb::Begin => begin(alloc, node, left),
         NodeVerb::Read => read(alloc, node, left),
         NodeVerb::Reconfig => reconfig(alloc, node, left),
@@ -141,6 +143,7 @@ fn of_words(nodes: u32, verb: NodeVerb, node: u32, left: Left<'_>) -> Result<Com
         NodeVerb::Restart => ended(left, Command::Restart { node }),
         NodeVerb::DiskFail => disk_fail(node, left),
         NodeVerb::Clock => clock(node, left),
+        NodeVerb::Note => ended(left, Command::Note { node }),
         _ => unreachable!(),
     }
 }
@@ -305,6 +308,22 @@ fn clock(node: u32, left: Left<'_>) -> Result<Command, ScriptRule>
 {
     let (seconds, left) = number(left, 0, 2_147_483_647)?;
     ended(left, Command::Clock { node, seconds })
+}
+
+/// `SESSION NUMBER`, and the words of a write
+#[tactic(auto, unfolding(crate::specs::Commands::retry_at))]
+fn retry(alloc: Global, node: u32, left: Left<'_>) -> Result<Command, LineError>
+    ensures { Gives (λ command. command) result (retry_at node (option_copied left.entry)) }
+{
+    let (id, left) = number(left, 0, 4_294_967_295)?;
+    let (number, left) = number(left, 1, 2_147_483_647)?;
+    let (kind, left) = word(left)?;
+    let Some(kind) = WriteKind::named(kind) else {
+        return Err(LineError::Rule(ScriptRule::BadWord));
+    };
+    let op = write(alloc, kind, left)?;
+    let session = Session { id, number };
+    Ok(Command::Retry { node, session, op })
 }
 
 /// `WRITER`, and the words of a write

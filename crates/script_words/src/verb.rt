@@ -17,6 +17,8 @@ pub enum WriteKind {
 #[derive(Clone, Copy, Debug, PartialEq, Eq)]
 pub enum NodeVerb {
     Write(WriteKind),
+    Retry,
+    Note,
     Begin,
     Commit,
     Abort,
@@ -95,6 +97,7 @@ impl NodeVerb {
     {
         match self {
             NodeVerb::Write(_) => Shape::Value { before: 2 },
+            NodeVerb::Retry => Shape::Value { before: 5 },
             NodeVerb::Begin => Shape::Value { before: 4 },
             NodeVerb::Read => Shape::Value { before: 3 },
             NodeVerb::Reconfig => Shape::Value { before: 1 },
@@ -108,7 +111,8 @@ impl NodeVerb {
             | NodeVerb::Fetch
             | NodeVerb::Flush
             | NodeVerb::Checkpoint
-            | NodeVerb::Restart => Shape::Words { least: 1, most: 1 },
+            | NodeVerb::Restart
+            | NodeVerb::Note => Shape::Words { least: 1, most: 1 },
             NodeVerb::Commit
             | NodeVerb::Abort
             | NodeVerb::Dump
@@ -128,6 +132,8 @@ fn other_verb(word: &str) -> Option<NodeVerb>
     ensures { result ≡ other_verb word.now }
 {
     match word {
+        "retry" => Some(NodeVerb::Retry),
+        "note" => Some(NodeVerb::Note),
         "begin" => Some(NodeVerb::Begin),
         "commit" => Some(NodeVerb::Commit),
         "abort" => Some(NodeVerb::Abort),
