@@ -45,6 +45,8 @@ use Rattle.oplog_store.specs.contracts.unjournaled.Unjournaled as unjournaled
 use Rattle.election_core.specs.contracts.tally.Tally as tally
 use Rattle.node_ledger.specs.contracts.writer_map.WriterMap as writer_map
 use Rattle.node_ledger.specs.contracts.ledger.Ledger as ledger
+use Rattle.node_ledger.specs.contracts.session_log.SessionLog as session_log
+use Rattle.node_ledger.specs.contracts.session_log.SessionTable as session_table
 use Rattle.node_state.specs.contracts.state.State as state
 use Rattle.node_core.specs.contracts.disks.Disks as disks
 use Rattle.node_core.specs.contracts.node.Node as node
@@ -178,10 +180,10 @@ config_field_sync : IsSync (config.the_field).row
 config_field_sync = search (sendable, heap.crosses) depth 60 fits 20000
 
 command_field_send : IsSend (command.the_field).row
-command_field_send = enum_send (enum_shape command.the_type) (search sendable depth 60 fits 20000, (search sendable depth 60 fits 20000, (search (text_send, doc_send, sendable), (search (text_send, value_field_send, doc_send, sendable) depth 60 fits 20000, (search (text_send, value_field_send, doc_send, sendable) depth 60 fits 20000, (search (text_send, value_field_send, doc_send, sendable) depth 60 fits 20000, ((search sendable, (search sendable, (write_op_field_send, tt))), (search sendable depth 60 fits 20000, (search sendable depth 60 fits 20000, (search sendable depth 60 fits 20000, (search (text_send, value_field_send, sendable) depth 60 fits 20000, (search sendable depth 60 fits 20000, (search sendable depth 60 fits 20000, (search sendable depth 60 fits 20000, (search sendable depth 60 fits 20000, (search sendable depth 60 fits 20000, (search sendable depth 60 fits 20000, (search sendable depth 60 fits 20000, (search sendable depth 60 fits 20000, (search sendable depth 60 fits 20000, (search sendable depth 60 fits 20000, (search sendable depth 60 fits 20000, (search sendable depth 60 fits 20000, (search sendable depth 60 fits 20000, (search sendable depth 60 fits 20000, (search sendable depth 60 fits 20000, ((search sendable, (config_field_send, tt)), (search sendable depth 60 fits 20000, (search sendable depth 60 fits 20000, (search sendable depth 60 fits 20000, (search sendable depth 60 fits 20000, tt)))))))))))))))))))))))))))))))
+command_field_send = enum_send (enum_shape command.the_type) (search sendable depth 60 fits 20000, (search sendable depth 60 fits 20000, (search (text_send, doc_send, sendable), (search (text_send, value_field_send, doc_send, sendable) depth 60 fits 20000, (search (text_send, value_field_send, doc_send, sendable) depth 60 fits 20000, (search (text_send, value_field_send, doc_send, sendable) depth 60 fits 20000, ((search sendable, (search sendable depth 60 fits 20000, (write_op_field_send, tt))), (search sendable depth 60 fits 20000, ((search sendable, (search sendable, (write_op_field_send, tt))), (search sendable depth 60 fits 20000, (search sendable depth 60 fits 20000, (search sendable depth 60 fits 20000, (search (text_send, value_field_send, sendable) depth 60 fits 20000, (search sendable depth 60 fits 20000, (search sendable depth 60 fits 20000, (search sendable depth 60 fits 20000, (search sendable depth 60 fits 20000, (search sendable depth 60 fits 20000, (search sendable depth 60 fits 20000, (search sendable depth 60 fits 20000, (search sendable depth 60 fits 20000, (search sendable depth 60 fits 20000, (search sendable depth 60 fits 20000, (search sendable depth 60 fits 20000, (search sendable depth 60 fits 20000, (search sendable depth 60 fits 20000, (search sendable depth 60 fits 20000, (search sendable depth 60 fits 20000, ((search sendable, (config_field_send, tt)), (search sendable depth 60 fits 20000, (search sendable depth 60 fits 20000, (search sendable depth 60 fits 20000, (search sendable depth 60 fits 20000, tt)))))))))))))))))))))))))))))))))
 
 command_field_sync : IsSync (command.the_field).row
-command_field_sync = enum_sync (enum_shape command.the_type) (search sendable depth 60 fits 20000, (search sendable depth 60 fits 20000, (search (text_sync, doc_sync, sendable), (search (text_sync, value_field_sync, doc_sync, sendable) depth 60 fits 20000, (search (text_sync, value_field_sync, doc_sync, sendable) depth 60 fits 20000, (search (text_sync, value_field_sync, doc_sync, sendable) depth 60 fits 20000, ((search sendable, (search sendable, (write_op_field_sync, tt))), (search sendable depth 60 fits 20000, (search sendable depth 60 fits 20000, (search sendable depth 60 fits 20000, (search (text_sync, value_field_sync, sendable) depth 60 fits 20000, (search sendable depth 60 fits 20000, (search sendable depth 60 fits 20000, (search sendable depth 60 fits 20000, (search sendable depth 60 fits 20000, (search sendable depth 60 fits 20000, (search sendable depth 60 fits 20000, (search sendable depth 60 fits 20000, (search sendable depth 60 fits 20000, (search sendable depth 60 fits 20000, (search sendable depth 60 fits 20000, (search sendable depth 60 fits 20000, (search sendable depth 60 fits 20000, (search sendable depth 60 fits 20000, (search sendable depth 60 fits 20000, (search sendable depth 60 fits 20000, ((search sendable, (config_field_sync, tt)), (search sendable depth 60 fits 20000, (search sendable depth 60 fits 20000, (search sendable depth 60 fits 20000, (search sendable depth 60 fits 20000, tt)))))))))))))))))))))))))))))))
+command_field_sync = enum_sync (enum_shape command.the_type) (search sendable depth 60 fits 20000, (search sendable depth 60 fits 20000, (search (text_sync, doc_sync, sendable), (search (text_sync, value_field_sync, doc_sync, sendable) depth 60 fits 20000, (search (text_sync, value_field_sync, doc_sync, sendable) depth 60 fits 20000, (search (text_sync, value_field_sync, doc_sync, sendable) depth 60 fits 20000, ((search sendable, (search sendable depth 60 fits 20000, (write_op_field_sync, tt))), (search sendable depth 60 fits 20000, ((search sendable, (search sendable, (write_op_field_sync, tt))), (search sendable depth 60 fits 20000, (search sendable depth 60 fits 20000, (search sendable depth 60 fits 20000, (search (text_sync, value_field_sync, sendable) depth 60 fits 20000, (search sendable depth 60 fits 20000, (search sendable depth 60 fits 20000, (search sendable depth 60 fits 20000, (search sendable depth 60 fits 20000, (search sendable depth 60 fits 20000, (search sendable depth 60 fits 20000, (search sendable depth 60 fits 20000, (search sendable depth 60 fits 20000, (search sendable depth 60 fits 20000, (search sendable depth 60 fits 20000, (search sendable depth 60 fits 20000, (search sendable depth 60 fits 20000, (search sendable depth 60 fits 20000, (search sendable depth 60 fits 20000, (search sendable depth 60 fits 20000, ((search sendable, (config_field_sync, tt)), (search sendable depth 60 fits 20000, (search sendable depth 60 fits 20000, (search sendable depth 60 fits 20000, (search sendable depth 60 fits 20000, tt)))))))))))))))))))))))))))))))))
 
 event_send : IsSend event.the_row
 event_send = recorded_send (Struct (struct_shape event.the_type)) (event.the_type).D (event.the_type).to (event.the_type).to_one
@@ -208,8 +210,14 @@ held_send = search (sendable, heap.crosses, text_send, bytes_send, key_send, doc
 writer_map_send : IsSend writer_map.the_row
 writer_map_send = search (sendable, heap.crosses, maps.crosses, held_send, writer_send) depth 60 fits 20000
 
+session_table_send : IsSend session_table.the_row
+session_table_send = search (sendable, heap.crosses, maps.crosses) depth 40 fits 20000
+
+session_log_send : IsSend session_log.the_row
+session_log_send = search (sendable, heap.crosses, open_log_send, session_table_send) depth 40 fits 20000
+
 ledger_send : IsSend ledger.the_row
-ledger_send = search (sendable, heap.crosses, open_log_send, slots_send, writer_map_send, store_send) depth 40 fits 20000
+ledger_send = search (sendable, heap.crosses, session_log_send, slots_send, writer_map_send, store_send) depth 40 fits 20000
 
 state_send : IsSend state.the_row
 state_send = search (sendable, heap.crosses, config_send, ledger_send, progress_send, known_send, tally_send, dry_run_send, lost_list_send, unjournaled_send, records_send) depth 40 fits 20000

@@ -7,13 +7,14 @@ use Rattle.std.proofs.lemmas.Option.{get_or_from_slice_get, slice_get_within}
 use Rattle.rs_disk.specs.State.{State}
 use Rattle.record_file.specs.declared.error.FileError.{FileError}
 use Rattle.record_file.specs.declared.error.FileError.TheVariants.{Disk, Memory as NoBytes}
+use Rattle.member_config.specs.Config.{first_config}
 use Rattle.set_model.specs.declared.command.Event.{Event}
 use Rattle.set_model.specs.Run.{Sizes}
 use Rattle.fault_script.specs.declared.script.Part.{Part}
 use Rattle.fault_script.specs.declared.script.Script.{Script}
 use Rattle.fault_script.specs.Script.{sizes_of}
-use Rattle.set_world.specs.World.{Set, opening_set}
-use Rattle.set_world.specs.Disks.{AllStand, Opens, OneFaultCounted}
+use Rattle.set_world.specs.World.{Set}
+use Rattle.set_world.specs.Disks.{AllBegin, Opens, OneFaultCounted}
 use Rattle.set_program.specs.declared.outcome.Left.{Left}
 use Rattle.set_program.specs.declared.outcome.Left.TheVariants.{World, Parts}
 use Rattle.set_program.specs.declared.stop.Stop.{Stop}
@@ -46,13 +47,13 @@ set_leaves {D} state read handed old new result sizes same opens goes = (
 -- ---- it couldn't be opened
 
 refuses : {D : Type 0} (state : D → State) (read : Script) (handed : List D) (error : FileError) (events : Vec Event Global) (disks : Vec D Global)
-    → Opens state read.nodes (Err error) handed disks.items → AllStand state (opening_set (sizes_of read) disks.items)
+    → Opens state read.nodes (Err error) handed disks.items → AllBegin state (first_config read.members) read.nodes disks.items
     → OpensScript state read handed (status_of_stop (of_file error)) (Parts events disks)
 refuses state read handed Disk events disks opens stand = (refl, opens, stand)
 refuses state read handed NoBytes events disks opens stand = (refl, opens, stand)
 
 pub refused_leaves : {D : Type 0} (state : D → State) (read : Script) (handed : List D) (error : FileError) (stop : Stop) (events : Vec Event Global) (disks : Vec D Global)
-    → stop ≡ of_file error → Opens state read.nodes (Err error) handed disks.items → AllStand state (opening_set (sizes_of read) disks.items)
+    → stop ≡ of_file error → Opens state read.nodes (Err error) handed disks.items → AllBegin state (first_config read.members) read.nodes disks.items
     → OpensScript state read handed (status_of_stop stop) (Parts events disks)
 refused_leaves state read handed error stop events disks is opens stand =
     subst (λ (s : Stop). OpensScript state read handed (status_of_stop s) (Parts events disks)) (sym is) (refuses state read handed error events disks opens stand)

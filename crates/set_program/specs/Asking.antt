@@ -3,12 +3,12 @@ use Rattle.std.specs.Prelude.{ℕ, ◌≡◌, ◌<◌, ◌⊎◌, Option, Result
 use Rattle.std.specs.Io.KnownBytes.{Appends, Keeps}
 use Rattle.std.specs.declared.alloc.Global.{Global}
 use Rattle.rs_disk.specs.State.{State}
+use Rattle.member_config.specs.Config.{first_config}
 use Rattle.fault_script.specs.declared.fault.ScriptFault.{ScriptFault}
 use Rattle.fault_script.specs.declared.script.Script.{Script}
 use Rattle.fault_script.specs.Script.{sizes_of}
 use Rattle.transcript.specs.Faults.{fault_text}
-use Rattle.set_world.specs.Disks.{AllStand, Opens}
-use Rattle.set_world.specs.World.{opening_set}
+use Rattle.set_world.specs.Disks.{AllBegin, Opens}
 use Rattle.set_program.specs.declared.outcome.Left.{Left}
 use Rattle.set_program.specs.declared.outcome.Left.TheVariants.{World, Parts}
 use Rattle.set_program.specs.declared.stop.Stop.{Stop}
@@ -52,4 +52,4 @@ OpensScript {D} state read handed status (World set) =
     × DisksGo state read.parts opened set (status ≡ 1)
 OpensScript {D} state read handed status (Parts events disks) =
     IsOneOf (1 ∷ 7 ∷ []) status × Opens state read.nodes (Err (opening_error status)) handed disks.items
-    × AllStand state (opening_set (sizes_of read) disks.items)
+    × AllBegin state (first_config read.members) read.nodes disks.items
