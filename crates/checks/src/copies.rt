@@ -2,7 +2,7 @@
 // says what was copied, also when what was copied has changed or is gone.
 use bson_doc::{Bytes, Doc, IdKey, Items, Text, Value};
 use member_config::{Config, Member, MemberList};
-use oplog_entry::{Entry, Op, SharedOp};
+use oplog_entry::{Entry, Op, Session, SharedOp};
 use repl_msg::{Beat, Body, EntryList, FetchReply, Kept, Message, OptimeList, Record};
 use rs_optime::OpTime;
 use std::alloc::Global;
@@ -70,9 +70,11 @@ fn an_entry_is_copied_with_its_document(rt: HostRuntime) -> Result<(), Fail> {
         ns: Text::from_str(alloc, "t")?,
         o: nested(alloc)?,
     };
+    let session = Session { id: 7, number: 3 };
     let entry = Entry {
         optime: AT,
         op: SharedOp::new(alloc, op)?,
+        session: Some(session),
     };
     let copy = entry.copy()?;
     drop(entry);
@@ -82,6 +84,7 @@ fn an_entry_is_copied_with_its_document(rt: HostRuntime) -> Result<(), Fail> {
     };
     assert!(rt; found);
     assert!(rt; copy.optime == AT);
+    assert_eq!(rt; copy.session, Some(session));
     Ok(())
 }
 
@@ -291,6 +294,7 @@ fn deletion(alloc: Global) -> Result<EntryList, Fail> {
     entries.push(Entry {
         optime: AT,
         op: SharedOp::new(alloc, op)?,
+        session: None,
     })?;
     Ok(EntryList::new(entries))
 }
@@ -339,6 +343,7 @@ fn what_a_journal_keeps_is_copied(rt: HostRuntime) -> Result<(), Fail> {
         candidate: Some(1),
     };
     let kept = Kept {
+        form: 2,
         vote,
         config: Some(of_one(alloc)?),
         entries: deletion(alloc)?,
@@ -353,6 +358,9 @@ fn what_a_journal_keeps_is_copied(rt: HostRuntime) -> Result<(), Fail> {
         None => false,
     };
     assert!(rt; found);
-    assert_eq!(rt; (copy.vote, copy.point, copy.count), (vote, AT, 4));
+    assert_eq!(rt;
+        (copy.form, copy.vote, copy.point, copy.count),
+        (2, vote, AT, 4)
+    );
     Ok(())
 }

@@ -31,7 +31,12 @@ fn an_inserted_document_is_there(rt: HostRuntime) -> Result<(), Fail> {
     let optime = OpTime { term: 1, ts: 1 };
     let mut docs = BTreeMap::new(alloc);
     let op = SharedOp::new(alloc, op)?;
-    apply_entry(alloc, &mut docs, &Entry { optime, op })?;
+    let entry = Entry {
+        optime,
+        op,
+        session: None,
+    };
+    apply_entry(alloc, &mut docs, &entry)?;
     let five = (Text::from_str(alloc, "t")?, IdKey::Number(5));
     assert!(rt; docs.get(&five).is_some());
     Ok(())

@@ -70,22 +70,22 @@ fn fresh(alloc: Global, call: u32, pick: Option<u64>) -> MemDisk
     disk
 }
 
-// An opening of an empty disk makes 3 calls, and an addition 4.
+// An opening of an empty disk makes 3 calls, the addition of the form 4, and each other addition 4.
 #[test]
 fn each_call_fails_in_turn(rt: HostRuntime) -> Result<(), Fail> {
     let alloc = rt.alloc();
     for pick in [None, Some(0), Some(1), Some(2)] {
-        for call in 1..12 {
+        for call in 1..16 {
             let first = play(alloc, fresh(alloc, call, pick));
             assert!(rt; first.added < 2, "armed for call {call}");
             let again = play(alloc, first.disk);
             assert_eq!(rt; again.added, 2, "armed for call {call}");
-            let lost = again.found == first.added;
+            let lost = again.found == first.added + 1;
             assert!(rt;
-                lost || again.found == first.added + 1,
+                lost || again.found == first.added + 2,
                 "armed for call {call}"
             );
-            assert_eq!(rt; again.term == 3, again.found > 0, "armed for call {call}");
+            assert_eq!(rt; again.term == 3, again.found > 1, "armed for call {call}");
         }
     }
     Ok(())

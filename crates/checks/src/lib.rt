@@ -13,6 +13,8 @@ mod entries;
 #[cfg(test)]
 mod entries_as_bytes;
 #[cfg(test)]
+mod first_form;
+#[cfg(test)]
 mod journals;
 #[cfg(test)]
 mod records;

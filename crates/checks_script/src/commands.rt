@@ -20,6 +20,11 @@ begin n0 w1 insert t {_id: 1}|0 w1 insert t {_id: 1}
 begin n1 w999 replace t 1 {a: 2}|1 w999 replace t 1 {a: 2}
 begin n2 w0 update t 1 {$unset: {a: 1}}|2 w0 update t 1 {$unset: {a: 1}}
 begin n0 w02 delete t null|0 w2 delete t null
+retry n0 7 1 insert t {_id: 1}|0 s7 1 insert t {_id: 1}
+retry n1 0 2147483647 replace t 1 {a: 2}|1 s0 2147483647 replace t 1 {a: 2}
+retry n2 4294967295 002 update t 1 {$inc: {a: 1}}|2 s4294967295 2 update t 1 {$inc: {a: 1}}
+retry n0 00 01 delete t "x y"|0 s0 1 delete t "x y"
+note n2|note 2
 commit n0 w007|commit 0 7
 abort n1 w0|abort 1 0
 ack n0 w5 majority|ack 0 Writer(5) Majority
@@ -72,6 +77,7 @@ fn write_command(command: &Command, out: &mut String) -> Result<(), Fail> {
         Command::Flush { node } => write!(out, "flush {node}")?,
         Command::Checkpoint { node } => write!(out, "checkpoint {node}")?,
         Command::Restart { node } => write!(out, "restart {node}")?,
+        Command::Note { node } => write!(out, "note {node}")?,
         _ => write_longer(command, out)?,
     }
     Ok(())
@@ -99,6 +105,10 @@ fn write_longer(command: &Command, out: &mut String) -> Result<(), Fail> {
 /// The same of a command with more than numbers.
 fn write_longest(command: &Command, out: &mut String) -> Result<(), Fail> {
     match command {
+        Command::Retry { node, session, op } => {
+            write!(out, "{node} s{} {} ", session.id, session.number)?;
+            write_op(op, out)?;
+        }
         Command::Begin { node, writer, op } => {
             write!(out, "{node} w{writer} ")?;
             write_op(op, out)?;

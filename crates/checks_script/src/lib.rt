@@ -6,6 +6,8 @@ mod commands;
 #[cfg(test)]
 mod copies;
 #[cfg(test)]
+mod entries;
+#[cfg(test)]
 mod lines;
 #[cfg(test)]
 mod notation;

@@ -21,6 +21,9 @@ insert n0 t |WordCount
 replace n0 t|WordCount
 update n0 t|WordCount
 delete n0 t|WordCount
+retry n0 7 1 insert t|WordCount
+retry n9 x 0 drop t|WordCount
+retry n0 7 1 insert t |WordCount
 begin n0 w1 insert t|WordCount
 begin n9 x drop t|WordCount
 commit n0|WordCount
@@ -36,6 +39,9 @@ heartbeat n0|WordCount
 report n0 n1 n2|WordCount
 common n0|WordCount
 fetch n0 n1|WordCount
+note|WordCount
+note n0 |WordCount
+note n0 1|WordCount
 deliver|WordCount
 deliver n0 n1 n2|WordCount
 apply n0 1 1|WordCount
@@ -69,6 +75,13 @@ deliver n0 n3|BadNode
 deliver n3 x|BadNode
 deliver m1 n0|BadNode
 reconfig n3 x|BadNode
+retry n3 x 0 drop t 1|BadNode
+retry 7 1 1 insert t {_id: 1}|BadNode
+note n3|BadNode
+retry n0 4294967296 0 drop t 1|BadNumber
+retry n0 18446744073709551616 1 insert t {_id: 1}|BadNumber
+retry n0 7 0 drop t 1|BadNumber
+retry n0 7 2147483648 insert t {_id: 1}|BadNumber
 ack n0 w1 0|BadNumber
 ack n0 w1 51|BadNumber
 ack n0 w1 18446744073709551616|BadNumber
@@ -95,6 +108,16 @@ begin n0 w1 drop t {_id: 1}|BadWord
 begin n0 w1 Insert t {_id: 1}|BadWord
 begin n0 w insert t {_id: 1}|BadWord
 begin n0 w1  t {_id: 1}|BadWord
+retry n0 s7 0 insert t {_id: 1}|BadWord
+retry n0 -1 1 insert t {_id: 1}|BadWord
+retry n0  1 insert t {_id: 1}|BadWord
+retry n0 7 +1 insert t {_id: 1}|BadWord
+retry n0 7 1x insert t {_id: 1}|BadWord
+retry n0 7 1 drop t {_id: 1}|BadWord
+retry n0 7 1 Insert t {_id: 1}|BadWord
+retry n0 7 1 note t {_id: 1}|BadWord
+retry n0 7 1 begin w1 insert t {_id: 1}|BadWord
+retry n0 7 1 insert 1t x|BadWord
 ack n0 5 1|BadWord
 ack n0 n1 1|BadWord
 ack n0 w1000 0|BadWord
@@ -145,6 +168,12 @@ replace n0 t 1 2|BadText 1 Unexpected
 replace n0 t 1 {a: 1, a: 2}|BadText 5 DuplicateName
 update n0 t {a: 1, a: 2} x|BadText 5 DuplicateName
 update n0 t 1 {$set: {a: 2147483648}}|BadText 2 Number
+retry n0 7 1 update t 1|BadText 1 Unexpected
+retry n0 7 1 insert t []|BadText 1 Unexpected
+retry n0 7 1 delete t 1 2|BadText 1 Unexpected
+retry n0 7 1 replace t 1 {a: 1, a: 2}|BadText 5 DuplicateName
+retry n0 4294967295 2147483647 delete t 1|
+retry n0 00 01 insert t {_id: 1}|
 begin n0 w1 update t 1|BadText 1 Unexpected
 begin n0 w1 insert t []|BadText 1 Unexpected
 read n0 local t {_id: 1}|

@@ -197,3 +197,11 @@ fn a_refusal_is_told_with_its_number(rt: HostRuntime) -> Result<(), Fail> {
     assert_eq!(rt; text.as_str(), "7: refused 11 WriteConflict w1\n");
     Ok(())
 }
+
+#[test]
+fn an_old_number_is_told_with_the_last_one(rt: HostRuntime) -> Result<(), Fail> {
+    let reply = Reply::Refused(Refusal::OldNumber(2_147_483_647));
+    let text = text_of(rt.alloc(), &reply)?;
+    assert_eq!(rt; text.as_str(), "7: refused 32 OldNumber 2147483647\n");
+    Ok(())
+}

@@ -18,6 +18,11 @@ event 8 - 0 begin n0 w1 insert t {_id: 1}|
 event 9 - 0 begin n1 w999 replace t 1 {a: 2}|
 event 10 - 0 begin n2 w0 update t 1 {$unset: {a: 1}}|
 event 11 - 0 begin n0 w2 delete t null|
+event 12 - 0 retry n0 7 1 insert t {_id: 1}|
+event 12 - 0 retry n1 4294967295 2147483647 replace t 1 {a: 2}|
+event 12 - 0 retry n2 0 1 update t 1 {$unset: {a: 1}}|
+event 12 - 0 retry n0 7 2 delete t null|
+event 12 - 0 note n1|
 event 12 - 0 commit n0 w7|
 event 13 - 0 abort n1 w0|
 event 14 - 0 ack n0 w5 majority|
@@ -49,6 +54,7 @@ event 0 4294967295 0 clock n1 2147483647|
 event 040 00 01 restart n02|event 40 0 1 restart n2
 event 41 - 0 apply n0|event 41 - 0 apply n0 4
 event 42 - 0 crash n0|event 42 - 0 crash n0 0
+event 42 - 0 retry n0 07 002 delete t 1|event 42 - 0 retry n0 7 2 delete t 1
 event 43 - 0 insert n0 t {_id:1}|event 43 - 0 insert n0 t {_id: 1}
 event 44 - 0 reconfig n0 { "members": [], "version": 3 }|event 44 - 0 reconfig n0 {"version":3,"members":[],"settings":{"chainingAllowed":true}}
 |BadEvent
@@ -63,6 +69,8 @@ event 2 - 0 log n3|BadEvent
 event 2 - 0 set 3|BadEvent
 event 2 - 0 par|BadEvent
 event 2 - 0 # log n0|BadEvent
+event 2 - 0 retry n0 7 0 delete t 1|BadEvent
+event 2 - 0 note n0 |BadEvent
 event 2 - 2 log n0|BadEvent
 event 2 - - log n0|BadEvent
 event 2 -1 0 log n0|BadEvent
@@ -106,6 +114,10 @@ log|WordCount
 log n0 |WordCount
 log n3|BadNode
 heartbeat n0 n00|BadNode
+note n0 |WordCount
+retry n0 7 1 insert t|WordCount
+retry n0 7 0 delete t 1|BadNumber
+retry n0 7 1 note t 1|BadWord
 clock n0 2147483648|BadNumber
 read n0 snapshot t 1|BadWord
 reconfig n0 {}|BadConfigText

@@ -5,6 +5,8 @@
 #[cfg(test)]
 mod blocks;
 #[cfg(test)]
+mod callers;
+#[cfg(test)]
 mod copies;
 #[cfg(test)]
 mod documents;

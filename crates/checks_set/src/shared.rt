@@ -18,10 +18,10 @@ use std::sync::Wait;
 use std::test::Fail;
 use std::thread::Threads;
 
-type Shared = (SharedSet<MemDisk>, Pass<MemDisk>);
+pub type Shared = (SharedSet<MemDisk>, Pass<MemDisk>);
 
 // A set of so many nodes on empty disks, which is shared.
-fn shared(alloc: Global, nodes: u32, members: u32) -> Result<Shared, Fail>
+pub fn shared(alloc: Global, nodes: u32, members: u32) -> Result<Shared, Fail>
     requires sizes { AreSizes (record { nodes = nodes; members = members }) }
     ensures pass { IfOk result (λ shared. IsPass shared.0 shared.1 × IsFree shared.1) }
     ensures parts { IfOk result (λ shared. (view shared.1).parts ≡ 65536) }

@@ -1,5 +1,5 @@
 // Batches applied to a new store: documents at their optimes, and workers side by side.
-ghost use Rattle.std.specs.Prelude.{◌≡◌, ◌+◌, ◌<◌, ◌≤◌, ℕ, IfOk, length, slice_index_or};
+ghost use Rattle.std.specs.Prelude.{◌≡◌, ◌+◌, ◌<◌, ◌≤◌, ℕ, None, IfOk, length, slice_index_or};
 ghost use Rattle.oplog_entry.specs.declared.entry.Entry.{Entry as Seen};
 ghost use Rattle.oplog_entry.specs.Lawful.{IsLawful};
 
@@ -28,7 +28,7 @@ const MOST: usize = 5000;
 // A new document.
 fn insert(alloc: Global, id: i32) -> Result<Op, Fail>
     ensures { IfOk result (λ op.
-        (ts : ℕ) → IsLawful (record { optime = record { term = 1; ts = ts }; op = op })) }
+        (ts : ℕ) → IsLawful (record { optime = record { term = 1; ts = ts }; op = op; session = None })) }
 {
     let mut o = Doc::new(alloc);
     o.push(Text::from_str(alloc, "_id")?, Value::Int32(id))?;
@@ -39,7 +39,7 @@ fn insert(alloc: Global, id: i32) -> Result<Op, Fail>
 // `n` is set in a document that is there.
 fn update(alloc: Global, id: i32, n: i32) -> Result<Op, Fail>
     ensures { IfOk result (λ op.
-        (ts : ℕ) → IsLawful (record { optime = record { term = 1; ts = ts }; op = op })) }
+        (ts : ℕ) → IsLawful (record { optime = record { term = 1; ts = ts }; op = op; session = None })) }
 {
     let mut sets = Doc::new(alloc);
     sets.push(Text::from_str(alloc, "n")?, Value::Int32(n))?;
@@ -56,7 +56,7 @@ fn update(alloc: Global, id: i32, n: i32) -> Result<Op, Fail>
 // A new document with its `n`.
 fn insert_with(alloc: Global, id: i32, n: i32) -> Result<Op, Fail>
     ensures { IfOk result (λ op.
-        (ts : ℕ) → IsLawful (record { optime = record { term = 1; ts = ts }; op = op })) }
+        (ts : ℕ) → IsLawful (record { optime = record { term = 1; ts = ts }; op = op; session = None })) }
 {
     let mut o = Doc::new(alloc);
     o.push(Text::from_str(alloc, "_id")?, Value::Int32(id))?;
@@ -68,7 +68,7 @@ fn insert_with(alloc: Global, id: i32, n: i32) -> Result<Op, Fail>
 // The document is gone.
 fn delete(alloc: Global, id: i32) -> Result<Op, Fail>
     ensures { IfOk result (λ op.
-        (ts : ℕ) → IsLawful (record { optime = record { term = 1; ts = ts }; op = op })) }
+        (ts : ℕ) → IsLawful (record { optime = record { term = 1; ts = ts }; op = op; session = None })) }
 {
     let ns = Text::from_str(alloc, "t")?;
     Ok(Op::Delete {
@@ -87,7 +87,7 @@ enum Change {
 
 fn op_of(alloc: Global, change: Change) -> Result<Op, Fail>
     ensures { IfOk result (λ op.
-        (ts : ℕ) → IsLawful (record { optime = record { term = 1; ts = ts }; op = op })) }
+        (ts : ℕ) → IsLawful (record { optime = record { term = 1; ts = ts }; op = op; session = None })) }
 {
     match change {
         Change::Insert(id) => insert(alloc, id),
@@ -112,7 +112,11 @@ fn batch(alloc: Global, changes: &[Change]) -> Result<Vec<Entry>, Fail>
         };
         let change = op_of(alloc, changes[place])?;
         let op = SharedOp::new(alloc, change)?;
-        entries.push(Entry { optime, op })?;
+        entries.push(Entry {
+            optime,
+            op,
+            session: None,
+        })?;
     }
     Ok(entries)
 }

@@ -1,5 +1,5 @@
 // Slots, and how far a log with them can be read.
-ghost use Rattle.std.specs.Prelude.{◌≡◌};
+ghost use Rattle.std.specs.Prelude.{◌≡◌, None};
 ghost use Rattle.oplog_entry.specs.declared.entry.Op.TheVariants.{Noop};
 
 use oplog_entry::{Entry, SharedOp};
@@ -10,11 +10,12 @@ use std::test::Fail;
 use visibility_point::visible;
 
 fn noop(optime: OpTime) -> Entry
-    ensures { result ≡ record { optime = optime; op = Noop } }
+    ensures { result ≡ record { optime = optime; op = Noop; session = None } }
 {
     Entry {
         optime,
         op: SharedOp::noop(),
+        session: None,
     }
 }
 

@@ -20,7 +20,7 @@ use Rattle.initial_sync.specs.declared.pinned.Pinned.{Pinned}
 use Rattle.checks_sync.specs.Noops.{noop, noops}
 
 lawful : (ts : ℕ) → IsLawful (noop ts)
-lawful ts = record { term = omega arith; op = tt }
+lawful ts = record { term = omega arith; op = tt; session = tt; write = tt }
 
 abbrev IsUpTo : ℕ → Entry → Type 0
 IsUpTo count entry = (entry.optime.ts ≤ count) × (entry.optime.term ≡ 1)

@@ -1,10 +1,10 @@
 -- A log of which no entry touches a document.
-use Rattle.std.specs.Prelude.{◌+◌, ℕ, zero, suc, List, [], ◌∷◌, ◌++◌}
+use Rattle.std.specs.Prelude.{◌+◌, ℕ, zero, suc, List, [], ◌∷◌, ◌++◌, None}
 use Rattle.oplog_entry.specs.declared.entry.Entry.{Entry}
 use Rattle.oplog_entry.specs.declared.entry.Op.TheVariants.{Noop}
 
 abbrev pub noop : ℕ → Entry
-noop ts = record { optime = record { term = 1; ts = ts }; op = Noop }
+noop ts = record { optime = record { term = 1; ts = ts }; op = Noop; session = None }
 
 -- so many, one second after another
 abbrev pub noops : ℕ → List Entry

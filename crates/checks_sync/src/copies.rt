@@ -104,9 +104,9 @@ fn contents_of(alloc: Global, target: Target) -> Result<Contents, Fail>
     })
 }
 
-// A term, three records of entries, and a checkpoint of the last.
+// The form, a term, three records of entries, and a checkpoint of the last.
 const WHOLE: Contents = Contents {
-    records: 4,
+    records: 5,
     term: 3,
     entries: COUNT,
     point: OpTime { term: 1, ts: COUNT },
@@ -146,7 +146,7 @@ fn a_copy_goes_on_where_the_journal_was_cut_off(rt: HostRuntime) -> Result<(), F
     let alloc = rt.alloc();
     let pinned = noops(alloc, 3, COUNT)?;
     for pick in [None, Some(0), Some(1), Some(2)] {
-        for call in 1..20 {
+        for call in 1..24 {
             let (cut, end, contents) = cut_and_gone_on(alloc, &pinned, Name::Journal, call, pick)?;
             assert_eq!(rt; cut, Some(CopyError::Disk), "armed for call {call}");
             assert_eq!(rt; end, None, "armed for call {call}");

@@ -21,6 +21,7 @@ pub(crate) fn noops(alloc: Global, term: u64, count: u64) -> Mem<Pinned>
                 ts: before + 1,
             },
             op: SharedOp::noop(),
+            session: None,
         })?;
     }
     Ok(Pinned {
