@@ -8,8 +8,8 @@ use std::sync::Wait;
 use std::thread::Threads;
 
 /// A script, and how many calls it makes of each disk where none fails: of each node's journal and of its
-/// checkpoints, and maybe of a disk behind the set's. A record that is stored takes four calls, and so does
-/// opening a file that has one.
+/// checkpoints, in turn, and maybe of a disk behind the set's. A record that is stored takes four calls, and
+/// so does opening a file that has one.
 #[derive(Clone, Copy, Drop)]
 pub struct OnDisks {
     pub name: &'static str,
@@ -20,24 +20,28 @@ pub struct OnDisks {
 pub const SCRIPTS: [OnDisks; 4] = [
     OnDisks {
         name: "first",
-        calls: &[11, 3, 0],
+        calls: &[15, 3, 0],
     },
     OnDisks {
         name: "hole_and_crash",
-        calls: &[39, 9],
+        calls: &[43, 9],
     },
     OnDisks {
         name: "two_lost",
-        calls: &[19, 3, 19, 3, 7, 3],
+        calls: &[23, 3, 23, 3, 11, 3],
     },
     OnDisks {
         name: "checkpoint",
-        calls: &[19, 19],
+        calls: &[23, 19],
     },
 ];
 
-/// How many of the calls open an empty file: it is synced, gets its first byte, and is synced again.
-const OPENING: u32 = 3;
+/// How many of a disk's calls open an empty file: it is synced, gets its first byte, and is synced again. A
+/// journal is then given the record of its form.
+fn opening(disk: usize) -> u32 {
+    let is_journal = disk % 2 == 0;
+    if is_journal { 7 } else { 3 }
+}
 
 /// How a call fails: as in a crash, and in power cuts that leave what these picks name.
 const PICKS: [Option<u64>; 4] = [None, Some(0), Some(1), Some(2)];
@@ -102,7 +106,7 @@ impl Trial {
         for before in 0..calls {
             let call = before + 1;
             let ran = run_with_fault(rt, alloc, &self.script, Fault { disk, call, pick })?;
-            if !self.is_lawful(alloc, ran, call)? {
+            if !self.is_lawful(alloc, ran, call <= opening(disk))? {
                 return Ok(false);
             }
         }
@@ -114,8 +118,8 @@ impl Trial {
     /// Whether the set wasn't opened, where the call fell into the opening. Else the run is as without the
     /// fault up to the command whose call failed, which alone is refused for it, and each node comes back
     /// with what it told to be durable.
-    fn is_lawful(&self, alloc: Global, ran: Ran, call: u32) -> Result<bool> {
-        if call <= OPENING {
+    fn is_lawful(&self, alloc: Global, ran: Ran, is_opening: bool) -> Result<bool> {
+        if is_opening {
             return Ok(ran.is(7, ""));
         }
         let put = String::from_utf8(ran.put)?;

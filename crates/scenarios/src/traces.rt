@@ -7,7 +7,7 @@ use std::sync::Wait;
 use std::thread::Threads;
 
 /// The scripts whose traces stand beside them.
-pub const SCRIPTS: [&str; 2] = ["first", "flush_kept"];
+pub const SCRIPTS: [&str; 3] = ["first", "flush_kept", "session"];
 
 /// The words that ask for a trace.
 const TRACE: [&str; 1] = ["trace"];
