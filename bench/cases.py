@@ -26,6 +26,23 @@ def mixed(n):
     return OPENING + lines
 
 
+def asked_twice(n, sessions):
+    """Inserts of so many sessions in turn, each asked for twice."""
+    lines = []
+    for k in range(n // 2):
+        lines += [f"retry n0 {k % sessions} {k // sessions + 1} insert items {{_id: {k}}}"] * 2
+    return OPENING + lines
+
+
+def retried(n):
+    return asked_twice(n, 8)
+
+
+def sessions(n):
+    """Each write is the first of a session."""
+    return asked_twice(n, n)
+
+
 def writers(n):
     """A thousand writers that begin among the inserts and commit behind them all."""
     lines = []
@@ -254,6 +271,8 @@ class Case:
 CASES = {
     # one node
     "inserts": Case(inserts, 95_000, 20_000),
+    "retried": Case(retried, 50_000, 20_000),
+    "sessions": Case(sessions, 50_000, 20_000),
     "pairs": Case(pairs, 60_000, 10_000),
     "updates": Case(updates, 50_000, 5_000),
     "mixed": Case(mixed, 90_000, 3_500),

@@ -8,6 +8,7 @@ import re
 
 from script_members import Members
 from script_player import Fault, Player
+from script_sessions import Sessions
 
 COLLECTIONS = ["t", "t", "t", "u"]
 IDS = ["1", "2", "3", "4", "5", "3L", "-6", '"a"', "true"]
@@ -25,7 +26,7 @@ BAD_WRITES = [
 ]
 
 
-class Author(Members):
+class Author(Members, Sessions):
     def __init__(self, dice, player, nodes, disk_faults):
         self.dice = dice
         self.player = player
@@ -37,6 +38,7 @@ class Author(Members):
         self.version = 1
         self.sent = 0
         self.left_open = []
+        self.asked = []
         self.seen = 0
         self.optimes = ["1/0/1"]
         self.lasts = ["0/0/0"] * nodes
@@ -350,6 +352,8 @@ STEPS = [
     (Author.writers, 6),
     (Author.pull, 8),
     (Author.replicate, 10),
+    (Author.session_writes, 6),
+    (Author.ask_again, 6),
     (Author.diverge, 6),
     (Author.roll_back, 3),
     (Author.crash, 4),

@@ -2,6 +2,8 @@
 import collections
 import re
 
+from session_checks import SessionChecks
+
 O = r"\d+/\d+/\d+"
 WRITE = rf"written {O}|matched 0|unchanged"
 SENT = r"sent m\d+"
@@ -11,7 +13,7 @@ DELIVERED = (
     r"ignored (OldTerm|NotCandidate|NotSecondary|OtherPlace|NotOlder|NotMember|NotPrimary|SameBranch)"
 )
 DOCUMENTS = r"documents \d+(\n\w+ \{.*\})*"
-ENTRY = rf"{O} (n \{{msg: \"new primary\"\}}|[id] \w+ \{{.*\}}|u \w+ \S+ \{{.*\}})"
+ENTRY = rf"{O} (n \{{msg: \"(new primary|note)\"\}}|[id] \w+ \{{.*\}}|u \w+ \S+ \{{.*\}})"
 STATE = (
     rf"state (Secondary|Candidate|Draining|Primary) term \d+ vote (n\d|none) last {O} durable {O} applied {O} "
     rf"commit {O} config \d+/\d+ rollback \d+"
@@ -22,6 +24,8 @@ SHAPES = {
     "replace": WRITE,
     "update": WRITE,
     "delete": rf"written {O}|matched 0",
+    "retry": WRITE,
+    "note": rf"written {O}",
     "begin": rf"begun {O}|matched 0|unchanged",
     "commit": rf"committed {O}",
     "abort": "aborted",
@@ -50,18 +54,18 @@ SHAPES = {
     "clock": r"clock \d+",
 }
 # Each refusal with its values, and the commands that may meet it; where none stands, any may.
-WRITES = "insert replace update delete begin"
+WRITES = "insert replace update delete retry begin"
 REFUSALS = {
     "1 NodeDown": "",
-    "2 NotPrimary": WRITES + " ack drain stepdown reconfig",
-    "3 DuplicateKey": "insert begin",
-    "4 NoId": "insert begin",
+    "2 NotPrimary": WRITES + " note ack drain stepdown reconfig",
+    "3 DuplicateKey": "insert retry begin",
+    "4 NoId": "insert retry begin",
     "5 BadIdKind": WRITES + " read",
-    "6 ImmutableId": "replace update begin",
-    "7 IncType": "update begin",
-    "8 IncOverflow": "update begin",
+    "6 ImmutableId": "replace update retry begin",
+    "7 IncType": "update retry begin",
+    "8 IncOverflow": "update retry begin",
     "9 DocTooLarge": WRITES,
-    r"10 BadUpdate [1-4]": "update begin",
+    r"10 BadUpdate [1-4]": "update retry begin",
     r"11 WriteConflict w\d+": WRITES,
     "12 WriterOpen": "begin ack",
     "13 NoSuchWriter": "commit abort ack",
@@ -83,6 +87,7 @@ REFUSALS = {
     "29 DiskFailed": "campaign drain deliver flush checkpoint reconfig restart",
     "30 NotDown": "restart",
     "31 TooManyOptimes": "deliver",
+    r"32 OldNumber \d+": "retry",
 }
 
 
@@ -172,9 +177,13 @@ class Checker:
         self.durable = [(0, 0, 0)] * nodes
         self.unsure = [False] * nodes  # whether a disk failed since the node came up
         self.view = {}  # what was just shown of a node
+        self.sessions = SessionChecks(self.fault, self.met)
 
     def fault(self, text):
         self.faults.append(f"{self.place}: {text}")
+
+    def met(self, name):
+        self.counts[name] += 1
 
     def line(self, number, line, answer):
         self.place = f"line {number} `{line}` answers `{answer.splitlines()[0]}`"
@@ -189,6 +198,7 @@ class Checker:
         if command not in ("log", "dump", "state"):
             self.view = {}
         self.message(words, told)
+        self.sessions.line(words, node, told)
         if told[0] == "refused":
             self.refusal(command, node, told)
             return
@@ -322,6 +332,7 @@ class Checker:
         elif command == "log":
             entries = [tuple(line.split(" ", 2)) for line in answer.split("\n")[1:]]
             self.log(node, entries)
+            self.sessions.log(node, [entry[0] for entry in entries])
             if self.view.get("node") == node:
                 self.view["log"] = entries
         elif self.view.get("node") == node and "log" in self.view:

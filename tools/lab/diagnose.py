@@ -120,11 +120,17 @@ def _node(line: str, nodes: Optional[int]) -> Cause:
     return Cause(None, "")
 
 
+def _kind_of(words: List[str]) -> str:
+    """The kind of a write, which `begin` and `retry` name behind words of their own; of any other command its first word."""
+    place = {"begin": 3, "retry": 4}.get(words[0], 0)
+    return words[place if place < len(words) else 0]
+
+
 def document_places(line: str) -> List[int]:
     """Where the values of a line begin: an ID, a document, or both."""
     words = line.split(" ")
-    front = {"read": 4, "begin": 5}.get(words[0], 3)
-    kind = words[3] if words[0] == "begin" and len(words) > 3 else words[0]
+    front = {"read": 4, "begin": 5, "retry": 6}.get(words[0], 3)
+    kind = _kind_of(words)
     if kind not in (*WRITES, "read") or len(words) <= front:
         return []
     return [len(" ".join(words[:front])) + 1]
@@ -132,7 +138,7 @@ def document_places(line: str) -> List[int]:
 
 def _document(line: str) -> Cause:
     for begins in document_places(line):
-        kind = line.split(" ")[3] if line.startswith("begin ") else line.split(" ")[0]
+        kind = _kind_of(line.split(" "))
         if kind in ("replace", "update"):
             try:
                 begins = read_value(line, begins) + 1

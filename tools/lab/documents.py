@@ -5,12 +5,13 @@ from typing import Dict, List, Optional, Tuple
 
 from .observe import Run, Step
 from .program import play
+from .script import WRITES
 
 #: More documents than these at one node aren't listed.
 MOST = 60
 
 #: What a node has is dumped behind these; a delivery may roll back or end a primary.
-CHANGING = ("insert", "replace", "update", "delete", "commit", "abort", "apply", "drain", "stepdown", "restart", "deliver")
+CHANGING = (*WRITES, "retry", "commit", "abort", "apply", "drain", "stepdown", "restart", "deliver")
 
 Documents = Tuple[str, ...]
 

@@ -11,7 +11,7 @@ from .errors import FILE, SCRIPT, LabError
 WRITES = ("insert", "replace", "update", "delete")
 #: Commands whose second word is the node that acts, by what they are about.
 KINDS = {
-    **dict.fromkeys(WRITES, "write"), "begin": "write", "commit": "write", "abort": "write",
+    **dict.fromkeys(WRITES, "write"), **dict.fromkeys(("retry", "note", "begin", "commit", "abort"), "write"),
     "ack": "ack", "read": "read", "dump": "read", "log": "read", "state": "read", "rolled": "read",
     "campaign": "vote", "dryrun": "vote", "drain": "vote", "stepdown": "vote",
     "heartbeat": "heartbeat", "fetch": "fetch", "report": "report", "common": "common",

@@ -62,6 +62,7 @@ class Faults(LabTest):
             ("insert n0 t {_id: ObjectId(\"0123456789abcdef01234567\")}", 19, "Id("),
             ("insert n0 t {_id: 1, at: Date(\"2020-01-01\")}", 31, "Date(MILLISECONDS)"),
             ("insert n0 t {_id: 1.5}", 20, "no doubles"),
+            ("retry n0 7 1 replace t 1 {n: 1.5}", 31, "no doubles"),
             ("insert n0 t {_id: 1, n: 3000000000}", 25, "L behind it"),
             ("insert n0 t {_id: 1, _id: 2}", 22, "twice"),
             ("update n0 t 1 {$set: {a: \"x}}", 30, "ends too soon"),

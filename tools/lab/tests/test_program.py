@@ -47,10 +47,12 @@ class Shell(LabTest):
 
     def test_completions(self) -> None:
         player = Player(["set 2", "campaign n0", "deliver n0 n1", "deliver n1 n0", "drain n0", "insert n0 orders {_id: 1}"])
+        player.lines.append("retry n0 7 1 insert people {_id: 1}")
         self.assertEqual(completions(player, "", "ins"), ["insert"])
         self.assertEqual(completions(player, "", "ele"), ["elect"])
         self.assertEqual(completions(player, "insert ", "n"), ["n0", "n1"])
         self.assertEqual(completions(player, "read n0 local ", "or"), ["orders"])
+        self.assertEqual(completions(player, "read n0 local ", "pe"), ["people"])
 
 
 class BadInput(LabTest):

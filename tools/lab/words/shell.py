@@ -39,6 +39,11 @@ Tab completes commands, macros, nodes and collections; the arrow up brings back 
 OWN = ("status", "undo", "script", "save", "picture", "explain", "help", "quit")
 HISTORY = Path.home() / ".replset_lab_history"
 
+#: The collection that a write names.
+_COLLECTION = re.compile(
+    r"^(?:begin n\d+ w\d+ |retry n\d+ \d+ \d+ )?(?:insert|replace|update|delete)(?: n\d+)? ([A-Za-z][\w.]*)", re.M
+)
+
 
 def add_arguments(parser: argparse.ArgumentParser) -> None:
     """The word's arguments."""
@@ -152,7 +157,7 @@ def completions(player: Player, line: str, word: str) -> List[str]:
         names = [*COMMANDS[1:], *FORMS, *OWN]
     else:
         nodes = [f"n{node}" for node in range(player.size().nodes)]
-        collections = re.findall(r"^(?:begin n\d+ w\d+ )?(?:insert|replace|update|delete)(?: n\d+)? ([A-Za-z][\w.]*)", "\n".join(player.lines), re.M)
+        collections = _COLLECTION.findall("\n".join(player.lines))
         names = [*nodes, *dict.fromkeys(collections), "local", "majority", "last"]
     return [name for name in names if name.startswith(word)]
 
