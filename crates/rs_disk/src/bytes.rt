@@ -1,40 +1,52 @@
 // Plain work on bytes and marks.
-ghost use Rattle.std.specs.Prelude.{◌≡◌, ℕ, ◌++◌, ◌+◌, ◌-◌, ◌%◌, ◌≤◌, ◌&&◌, ◌||◌, nat_le, nat_lt, false, if◌then◌else◌, slice_index, slice_index_or, IsOk, OnOk, OnErr, max, length, take, vec_len, vec_capacity, replicate};
+ghost use Rattle.std.specs.Prelude.{◌≡◌, ℕ, ◌++◌, ◌+◌, ◌-◌, ◌%◌, ◌≤◌, ◌&&◌, ◌||◌, nat_le, nat_lt, false, if◌then◌else◌, slice_index, slice_index_or, OnOk, length, vec_len, vec_capacity, replicate};
 ghost use Rattle.rs_disk.specs.File.{overwritten};
 
 use std::alloc::AllocError;
 
-// Makes the list at least so long, with fillers at its end.
-pub(crate) fn lengthen<T: Copy + Drop>(
-    list: &mut Vec<T>,
-    len: usize,
-    filler: T,
-) -> Result<(), AllocError>
-    ensures ok { OnOk result (length list.new.items ≡ max (length list.old.items) len) }
-    ensures front { take (length list.old.items) list.new.items ≡ list.old.items }
-    ensures err { OnErr result (list.new.items ≡ list.old.items) }
-    ensures enough { len ≤ length list.old.items → IsOk result }
+// Puts bytes over others from a place on, and the rest of them behind the others. There is room for them.
+pub(crate) fn overwrite(list: &mut Vec<u8>, at: usize, bytes: &[u8])
+    requires place { at ≤ vec_len list.old }
+    requires room { at + length bytes.now ≤ vec_capacity list.old }
+    ensures items { list.new.items ≡ overwritten at bytes.now list.old.items }
+    ensures capacity { vec_capacity list.old ≤ vec_capacity list.new }
 {
-    if list.len() >= len {
-        return Ok(());
-    }
-    list.resize(len, filler)
+    let inside = bytes.len().min(list.len() - at);
+    let (over, behind) = bytes.split_at(inside);
+    list[at..at + inside].copy_from_slice(over);
+    append(list, behind);
 }
 
-pub(crate) fn overwrite(list: &mut Vec<u8>, at: usize, bytes: &[u8])
-    requires { at + length bytes.now ≤ vec_len list.old }
-    ensures items { list.new.items ≡ overwritten at bytes.now list.old.items }
+// Puts bytes behind the others. There is room for them.
+pub(crate) fn append(list: &mut Vec<u8>, bytes: &[u8])
+    requires { vec_len list.old + length bytes.now ≤ vec_capacity list.old }
+    ensures items { list.new.items ≡ list.old.items ++ bytes.now }
+    ensures capacity { vec_capacity list.old ≤ vec_capacity list.new }
 {
-    let end = at + bytes.len();
-    list[at..end].copy_from_slice(bytes);
+    let Ok(()) = list.extend_from_slice(bytes) else {
+        unreachable!();
+    };
+}
+
+// Puts marks that aren't set behind the others. There is room for them.
+pub(crate) fn append_unset(marks: &mut Vec<bool>, count: usize)
+    requires { vec_len marks.old + count ≤ vec_capacity marks.old }
+    ensures items { marks.new.items ≡ marks.old.items ++ replicate count false }
+    ensures capacity { vec_capacity marks.old ≤ vec_capacity marks.new }
+{
+    let len = marks.len() + count;
+    let Ok(()) = marks.resize(len, false) else {
+        unreachable!();
+    };
 }
 
 // Makes room for so many, without making the list longer.
 pub(crate) fn extend_room(list: &mut Vec<u8>, room: usize) -> Result<(), AllocError>
+    ensures ok { OnOk result (room ≤ vec_capacity list.new) }
     ensures items { list.new.items ≡ list.old.items }
-    ensures enough { room ≤ length list.old.items → IsOk result }
+    ensures capacity { vec_capacity list.old ≤ vec_capacity list.new }
 {
-    if room <= list.len() {
+    if room <= list.capacity() {
         return Ok(());
     }
     list.reserve(room - list.len())
@@ -46,7 +58,6 @@ pub(crate) fn widen<T: Copy + Drop>(list: &mut Vec<T>, room: usize) -> Result<()
     ensures ok { OnOk result (room ≤ vec_capacity list.new) }
     ensures items { list.new.items ≡ list.old.items }
     ensures capacity { vec_capacity list.old ≤ vec_capacity list.new }
-    ensures enough { room ≤ vec_capacity list.old → IsOk result }
 {
     if room <= list.capacity() {
         return Ok(());
@@ -64,9 +75,7 @@ pub(crate) fn prepend(list: &mut Vec<u8>, bytes: &[u8])
     ensures items { list.new.items ≡ bytes.now ++ list.old.items }
     ensures capacity { vec_capacity list.old ≤ vec_capacity list.new }
 {
-    let Ok(()) = list.extend_from_slice(bytes) else {
-        unreachable!();
-    };
+    append(list, bytes);
     list.rotate_right(bytes.len());
 }
 
@@ -76,10 +85,7 @@ pub(crate) fn prepend_unset(marks: &mut Vec<bool>, count: usize)
     ensures items { marks.new.items ≡ replicate count false ++ marks.old.items }
     ensures capacity { vec_capacity marks.old ≤ vec_capacity marks.new }
 {
-    let len = marks.len() + count;
-    let Ok(()) = marks.resize(len, false) else {
-        unreachable!();
-    };
+    append_unset(marks, count);
     marks.rotate_right(count);
 }
 
@@ -105,16 +111,26 @@ pub(crate) fn fill_open(
 )
     requires order { start ≤ end }
     requires within { end ≤ vec_len bytes.old }
-    requires there { least ≤ start + length marks.now }
     ensures len { vec_len bytes.new ≡ vec_len bytes.old }
+    ensures capacity { vec_capacity bytes.old ≤ vec_capacity bytes.new }
     ensures bytes { (k : ℕ) → slice_index bytes.new.items k
         ≡ (if nat_le start k && nat_lt k end && (nat_le least k || slice_index_or marks.now (k - start) false)
         then (pick + k) % 256
         else slice_index bytes.old.items k) }
 {
     for place in start..end {
-        if place >= least || marks[place - start] {
+        if place >= least || is_set(marks, place - start) {
             bytes[place] = ((pick % 256 + place as u64 % 256) % 256) as u8;
         }
+    }
+}
+
+// Whether the mark at a place is set. Behind the marks there is none.
+fn is_set(marks: &[bool], place: usize) -> bool
+    ensures { result ≡ slice_index_or marks.now place false }
+{
+    match marks.get(place) {
+        Some(mark) => *mark,
+        None => false,
     }
 }

@@ -3,22 +3,29 @@ ghost use Rattle.std.specs.Prelude.{◌≡◌, ◌+◌, ◌≤◌, IsOk, OnOk, [
 ghost use Rattle.rs_disk.specs.File.{File, changed, write, cut, settled};
 
 use crate::bytes::{
-    extend_room, fill_open, lengthen, mark_part, overwrite, prepend, prepend_unset, widen,
+    append, append_unset, extend_room, fill_open, mark_part, overwrite, prepend, prepend_unset,
+    widen,
 };
 use crate::past::Call;
 use std::alloc::{AllocError, Global};
 
-// What was synced is there up to the first place that was written or cut since, and kept from that place
-// on. So a sync copies nothing. For what is kept there is always room, since neither a cut nor a power cut
-// may take memory.
+// What was synced is there but for one part, from the first place that was written since to the last, and
+// that part is kept. So a sync copies nothing, and a write no more than what it covers. For all of these
+// bytes there is always room, since neither a write, a cut nor a power cut may take memory.
 #[derive(Drop)]
 pub(crate) struct Pages {
-    // What a read gives. It is as long as there is room; what lies behind the end means nothing.
+    // What a read gives up to the end. What lies behind the end is what was synced there, where it isn't
+    // kept, and else means nothing.
     pub(crate) now: Vec<u8>,
+    // How long a file may get before memory is needed.
+    pub(crate) room: usize,
     pub(crate) end: usize,
+    // How many bytes the last sync left.
+    pub(crate) synced: usize,
     // No place before this one was written or cut since the last sync.
     pub(crate) first: usize,
-    // What the last sync left from there on, and which of these places were written since.
+    // What the last sync left from there on, as far as that was written since, and which of these places
+    // were.
     pub(crate) kept: Vec<u8>,
     pub(crate) marks: Vec<bool>,
     // The least end since.
@@ -37,7 +44,9 @@ impl Pages {
     {
         Pages {
             now: Vec::new(alloc),
+            room: 0,
             end: 0,
+            synced: 0,
             first: 0,
             kept: Vec::new(alloc),
             marks: Vec::new(alloc),
@@ -54,15 +63,17 @@ impl Pages {
         ensures bound { room_of self.new ≤ max (room_of self.old) room }
         ensures enough { room ≤ room_of self.old → IsOk result }
     {
-        // First that of the bytes: they can then take the place of others, and the rest stays untouched.
+        if room <= self.room {
+            return Ok(());
+        }
         extend_room(&mut self.now, room)?;
         widen(&mut self.kept, room)?;
         widen(&mut self.marks, room)?;
-        lengthen(&mut self.now, room, 0)?;
+        self.room = room;
         Ok(())
     }
 
-    // Keeps what was synced from a place on.
+    // Keeps what was synced from a place on, up to where it is kept already.
     fn keep_from(&mut self, at: usize)
         requires within { IsWithin self.old }
         ensures room { room_of self.new ≡ room_of self.old }
@@ -74,9 +85,32 @@ impl Pages {
         if at >= self.first {
             return;
         }
+        if self.kept.is_empty() {
+            self.first = at;
+            return;
+        }
         prepend(&mut self.kept, &self.now[at..self.first]);
         prepend_unset(&mut self.marks, self.first - at);
         self.first = at;
+    }
+
+    // Keeps what was synced up to a place, from where it is kept already.
+    fn keep_to(&mut self, to: usize)
+        requires within { IsWithin self.old }
+        ensures room { room_of self.new ≡ room_of self.old }
+        ensures end { self.new.end ≡ self.old.end }
+        ensures first { self.new.first ≡ self.old.first }
+        ensures to { min to self.new.synced ≤ self.new.first + length self.new.kept.items }
+        ensures within { IsWithin self.new }
+        ensures file { (file : File) → Holds self.old file → Holds self.new file }
+    {
+        let last = self.first + self.kept.len();
+        let to = to.min(self.synced);
+        if to <= last {
+            return;
+        }
+        append(&mut self.kept, &self.now[last..to]);
+        append_unset(&mut self.marks, to - last);
     }
 
     pub(crate) fn write(&mut self, at: usize, bytes: &[u8])
@@ -88,6 +122,7 @@ impl Pages {
             → Holds self.new (changed (write at bytes.now) file) }
     {
         self.keep_from(at);
+        self.keep_to(at + bytes.len());
         self.put(at, bytes);
     }
 
@@ -95,6 +130,8 @@ impl Pages {
     fn put(&mut self, at: usize, bytes: &[u8])
         requires within { IsWithin self.old }
         requires behind { self.old.first ≤ at }
+        requires kept { min (at + length bytes.now) self.old.synced
+            ≤ self.old.first + length self.old.kept.items }
         requires start { at ≤ self.old.end }
         requires room { at + length bytes.now ≤ room_of self.old }
         ensures room { room_of self.new ≡ room_of self.old }
@@ -147,6 +184,7 @@ impl Pages {
         self.marks.clear();
         self.least = self.end;
         self.first = self.end;
+        self.synced = self.end;
     }
 
     // The power goes. The pick chooses what is left.
@@ -158,7 +196,7 @@ impl Pages {
         match pick {
             0 => {
                 overwrite(&mut self.now, self.first, &self.kept);
-                self.end = self.first + self.kept.len();
+                self.end = self.synced;
             }
             1 => {}
             _ => fill_open(

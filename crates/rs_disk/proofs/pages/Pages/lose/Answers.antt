@@ -1,26 +1,29 @@
-use Rattle.std.proofs.Common.{◌≡◌, List, ℕ, ◌+◌, ◌-◌, ◌%◌, Bool, false, length, take, sym, ◌∙◌, ap, subst, arith}
+use Rattle.std.proofs.Common.{◌≡◌, List, ℕ, ◌+◌, ◌-◌, ◌%◌, Bool, false, take, inl, inr, refl, sym, ◌∙◌, ap, subst, arith}
 use Rattle.std.specs.Prelude.{◌&&◌, ◌||◌, nat_le, nat_lt, if◌then◌else◌, slice_index, slice_index_or}
 use Rattle.rs_disk.specs.File.{File, settled, overwritten}
-use Rattle.rs_disk.specs.Pages.{Holds}
+use Rattle.rs_disk.specs.Pages.{Holds, IsWithin}
 use Rattle.rs_disk.specs.Picks.{picked}
 use Rattle.rs_disk.specs.declared.pages.Pages.{Pages}
-use Rattle.rs_disk.proofs.PageLemmas.{least_synced, left_synced, left_filled, other_pick}
+use Rattle.rs_disk.proofs.PageLemmas.{left_synced, left_within, restored_length, left_filled, other_pick}
 use Rattle.rs_disk.proofs.pages.Pages.lose.Goals as goal
 use Rattle.rs_disk.proofs.pages.Pages.lose.Goals.{in-0, in-1, in_default}
 
-pub fill_open-requires-clause-there : goal.fill_open-requires-clause-there
-fill_open-requires-clause-there c =
-    omega (arith, least_synced c.args.self.now c.requires.0 c.requires.1, c.requires.1.within.marked, ap length c.deref-in_default.ensures.value)
+pub settle-requires : goal.settle-requires
+settle-requires c = elim c.match-pick.branch [
+  | in-0 w ↦ subst IsWithin (sym w.self-is)
+      (left_within c.args.self.now _ c.requires.1.within
+      (restored_length c.args.self.now c.requires.1.within w.overwrite.new.list.items (w.overwrite.ensures.items ∙ ap (λ (l : List ℕ). overwritten c.args.self.now.first l c.args.self.now.now.items) w.deref.ensures.value))
+      w.overwrite.ensures.capacity refl refl refl refl refl (inr refl))
+  | in-1 w ↦ subst IsWithin (sym w.self-is) c.requires.1.within
+  | in_default w ↦ subst IsWithin (sym w.self-is)
+      (left_within c.args.self.now _ c.requires.1.within (omega (arith, w.fill_open.ensures.len)) w.fill_open.ensures.capacity refl refl refl refl refl (inl refl))
+]
 
 left : (c : goal.After-settle) (file : File) → Holds c.args.self.now file → take c.match-pick.self.end c.match-pick.self.now.items ≡ picked c.args.pick file
 left c file holds = elim c.match-pick.branch [
-  | in-0 w ↦ (
-      let long : w.len.result ≡ length c.args.self.now.kept.items = omega arith in
-      ap (λ (p : Pages). take p.end p.now.items) w.self-is
-      ∙ ap (λ (n : ℕ). take (c.args.self.now.first + n) w.overwrite.new.list.items) long
+  | in-0 w ↦ ap (λ (p : Pages). take p.end p.now.items) w.self-is
       ∙ left_synced c.args.self.now file holds w.overwrite.new.list.items (w.overwrite.ensures.items ∙ ap (λ (l : List ℕ). overwritten c.args.self.now.first l c.args.self.now.now.items) w.deref.ensures.value)
       ∙ ap (λ (n : ℕ). picked n file) (sym w.in-0.is)
-      )
   | in-1 w ↦ ap (λ (p : Pages). take p.end p.now.items) w.self-is ∙ holds.contents ∙ ap (λ (n : ℕ). picked n file) (sym w.in-1.is)
   | in_default w ↦ ap (λ (p : Pages). take p.end p.now.items) w.self-is
       ∙ left_filled c.args.self.now file c.args.pick holds w.fill_open.new.bytes.items (omega (arith, w.fill_open.ensures.len))
