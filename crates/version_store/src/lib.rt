@@ -10,6 +10,7 @@ mod place;
 mod runs;
 mod shard;
 mod shown;
+mod slots;
 mod store;
 
 pub use laws::{a_prune_is_not_seen, going_back_shows_the_earlier};
