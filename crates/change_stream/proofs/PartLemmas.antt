@@ -1,37 +1,22 @@
 -- Parts of a log between two optimes.
 use Rattle.std.proofs.Common.{◌≡◌, ◌∙◌, inl, inr, ap, ap₂, sym, subst, refl, arith, List, [], ◌∷◌, ◌++◌, ℕ, take, append_assoc}
 use Rattle.std.proofs.lemmas.Bool.{cases_order}
-use Rattle.std.proofs.lemmas.List.Elements.{All-tail, filter-append}
-use Rattle.std.specs.List.{All, AllPairs}
+use Rattle.std.proofs.lemmas.List.Elements.{filter-append}
 use Rattle.rs_optime.specs.declared.optime.OpTime.{OpTime}
 use Rattle.rs_optime.proofs.Optimes.{at_most_from, at_most_before_trans, at_most_trans}
 use Rattle.oplog_entry.specs.declared.entry.Entry.{Entry}
-use Rattle.oplog_entry.specs.Log.{StandsBefore}
 use Rattle.oplog_entry.specs.Visible.{ZERO, is_before, last_of, log_behind, log_up_to}
-use Rattle.oplog_store.proofs.Keeps.{pairs_head, pairs_tail}
-use Rattle.commit_machine.specs.Words.{AtMost, Before, Begins, Follows, Has, Rises}
+use Rattle.commit_machine.specs.Words.{AtMost, Before, Begins, Has, Rises}
 use Rattle.commit_machine.proofs.Lists.{behind_has, has_last, has_left, has_right, has_up_to, last_append, rises_up_to, split_at, take_begins, up_to_has, up_to_last, up_to_same, up_to_twice}
 use Rattle.change_stream.specs.Calls.{part, token_behind}
 
--- ---- the order of optimes and of logs
+-- ---- the order of optimes
 
 pub zero_least : (o : OpTime) → AtMost ZERO o
 zero_least o = elim (cases_order 0 o.term) [
   | inl same ↦ at_most_from ZERO o (inr (same, omega arith))
   | inr other ↦ elim other [ inl less ↦ at_most_from ZERO o (inl less) | inr more ↦ absurd (omega (arith, more)) ]
 ]
-
-followed_by_all : (entry : Entry) (log : List Entry) → All (StandsBefore entry) log → (o : OpTime) → Has o log → Follows entry.optime o
-followed_by_all entry [] all o has = absurd has
-followed_by_all entry (next ∷ log) all o (inl same) =
-    let before : StandsBefore entry next = all 0 next (omega arith) in
-    subst (λ p. Follows entry.optime p) same (before.earlier, before.term)
-followed_by_all entry (next ∷ log) all o (inr there) = followed_by_all entry log (All-tail (StandsBefore entry) next log all) o there
-
-pub rises_of : (log : List Entry) → AllPairs StandsBefore log → Rises log
-rises_of [] pairs = tt
-rises_of (entry ∷ log) pairs =
-    (followed_by_all entry log (pairs_head StandsBefore entry log pairs), rises_of log (pairs_tail StandsBefore entry log pairs))
 
 -- ---- behind an optime
 

@@ -25,13 +25,14 @@ use Rattle.commit_machine.proofs.Lists.{has_up_to, up_to_has, up_to_twice}
 use Rattle.safety_laws.specs.Logs.{LogsRise}
 use Rattle.safety_laws.proofs.Fetches.{entry_is}
 use Rattle.safety_laws.proofs.Merges.{has_entry_of}
+use Rattle.safety_laws.proofs.Orders.{rises_of}
 use Rattle.change_stream.specs.declared.error.WatchError.TheVariants.{UnknownToken}
 use Rattle.change_stream.specs.Calls.{Call, answer, is_unknown, joined, part, token_after}
 use Rattle.change_stream.specs.Law.{IsCommittedPoint, StreamLaw, Streams}
 use Rattle.change_stream.specs.Shown.{Shows}
 use Rattle.change_stream.proofs.CallLemmas.{Agrees, AllRise, IsFrom, found, joined_is}
 use Rattle.change_stream.proofs.EventLemmas as call_at
-use Rattle.change_stream.proofs.PartLemmas.{begun_same, rises_of, zero_least}
+use Rattle.change_stream.proofs.PartLemmas.{begun_same, zero_least}
 
 module _ (sizes : Sizes) (events : List Event) (safe : Safe sizes events) (complete : WinnersAreComplete sizes events) (points : PointsAreCommitted sizes events) (logs : LogsRise sizes events) where
   rises : (place number : ℕ) (node : Node) → IsAt sizes events place number node → Rises node.log

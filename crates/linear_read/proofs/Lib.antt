@@ -1,0 +1,6 @@
+mod Delivers
+mod Events
+mod Held
+mod LinearReads
+mod Rows
+mod Runs

@@ -1,0 +1,4 @@
+pub mod Linear
+pub mod Points
+pub mod Talk
+pub mod Written
