@@ -1,8 +1,9 @@
-ghost use Rattle.std.specs.Prelude.{◌≡◌, ◌<◌, ◌≤◌, length, Ok, IfErr, IfOk, IfSome, IsErrOf, All, OnErr, option_map};
+ghost use Rattle.std.specs.Prelude.{◌≡◌, ◌≢◌, ◌<◌, ◌≤◌, length, Err, Ok, IfErr, IfOk, IfSome, IsErrOf, All, OnErr, option_map};
 ghost use Rattle.oplog_entry.specs.Lawful.{IsLawful};
 ghost use Rattle.oplog_entry.specs.Log.{IsOplog};
 ghost use Rattle.set_world.specs.declared.error.StepError.{StepError as AStepError};
 ghost use Rattle.set_world.specs.Stepper.{IsDefined, Learns};
+ghost use Rattle.change_stream.specs.declared.error.WatchError.{WatchError as AWatchError};
 ghost use Rattle.change_stream.specs.Asking.{Breaks, Does, Fails, Reads, Tells};
 ghost use Rattle.change_stream.specs.Calls.{token_behind};
 ghost use Rattle.change_stream.specs.Shown.{shown_log, shown_state};
@@ -66,6 +67,7 @@ pub fn next<R: Threads + Wait + Sync, S: Stepper>(
     ensures left { OnErr result (stream.new ≡ stream.old) }
     ensures sizes { S.sizes set.new ≡ S.sizes set.old }
     ensures stays { S.stays set.old set.new }
+    ensures whole { S.is_whole set.old → result ≢ Err AWatchError.Memory → S.is_whole set.new }
     ensures defined { IsDefined (S.sizes set.new) (S.known set.new) }
 {
     let (commit, log) = read(rt, set, node)?;
@@ -91,6 +93,7 @@ fn read<R: Threads + Wait + Sync, S: Stepper>(
         (S.known set.new) node error) }
     ensures sizes { S.sizes set.new ≡ S.sizes set.old }
     ensures stays { S.stays set.old set.new }
+    ensures whole { S.is_whole set.old → result ≢ Err AWatchError.Memory → S.is_whole set.new }
     ensures defined { IsDefined (S.sizes set.new) (S.known set.new) }
 {
     numbers_stay_small();
@@ -119,6 +122,7 @@ fn ask_state<R: Threads + Wait + Sync, S: Stepper>(
     ensures full { IsErrOf result AStepError.HistoryFull → length (S.known set.new) ≡ 4294967295 }
     ensures sizes { S.sizes set.new ≡ S.sizes set.old }
     ensures stays { S.stays set.old set.new }
+    ensures whole { S.is_whole set.old → result ≢ Err AStepError.Memory → S.is_whole set.new }
     ensures defined { IsDefined (S.sizes set.new) (S.known set.new) }
 {
     let command = Command::State { node };
@@ -138,6 +142,7 @@ fn ask_log<R: Threads + Wait + Sync, S: Stepper>(
     ensures full { IsErrOf result AStepError.HistoryFull → length (S.known set.new) ≡ 4294967295 }
     ensures sizes { S.sizes set.new ≡ S.sizes set.old }
     ensures stays { S.stays set.old set.new }
+    ensures whole { S.is_whole set.old → result ≢ Err AStepError.Memory → S.is_whole set.new }
     ensures defined { IsDefined (S.sizes set.new) (S.known set.new) }
 {
     let command = Command::Log { node };

@@ -1,11 +1,13 @@
 -- What a step of a set tells whoever takes it: no events of others come between.
-use Rattle.std.proofs.Common.{◌≡◌, ◌∙◌, refl, sym, true, List, [], ℕ}
+use Rattle.std.proofs.Common.{◌≡◌, ◌≢◌, ◌∙◌, ap, refl, sym, true, List, [], ℕ}
 use Rattle.std.proofs.lemmas.List.{append-nil}
-use Rattle.std.specs.Prelude.{IfOk, Result, Ok, Err}
+use Rattle.std.specs.Prelude.{IfOk, IsErrOf, OnOk, Result, Ok, Err}
 use Rattle.rs_disk.specs.State.{State}
 use Rattle.set_model.specs.declared.command.Command.{Command}
 use Rattle.set_model.specs.declared.command.Event.{Event}
 use Rattle.set_model.specs.declared.reply.Reply.{Reply}
+use Rattle.set_world.specs.declared.error.StepError.{StepError}
+use Rattle.set_world.specs.declared.error.StepError.TheVariants.{HistoryFull, Memory}
 use Rattle.set_world.specs.Disks.{IsStep}
 use Rattle.set_world.specs.Stepper.{Learns, StepsOnce}
 use Rattle.set_world.specs.World.{Set}
@@ -28,3 +30,10 @@ module _ {D : Type 0} (state : D → State) (old new : Set D) where
   pub each_steps_alone : {E : Type 0} (line : ℕ) (command : Command) (answer : Result Reply E) → IfOk answer (λ reply. IsStep state old new line command reply) → IfOk answer (λ reply. StepsOnce true old.sizes old.history new.history line command reply)
   each_steps_alone line command (Ok reply) steps = steps_alone line command reply steps
   each_steps_alone line command (Err error) steps = tt
+
+-- a set stays whole where memory doesn't run out
+pub stays_whole : {D : Type 0} (old new : Set D) (answer : Result Reply StepError) → OnOk answer (new.whole ≡ old.whole) → (IsErrOf answer HistoryFull → new ≡ old)
+    → old.whole ≡ true → answer ≢ Err Memory → new.whole ≡ true
+stays_whole old new (Ok reply) same untouched was other = same ∙ was
+stays_whole {D} old new (Err HistoryFull) same untouched was other = ap (λ (s : Set D). s.whole) (untouched refl) ∙ was
+stays_whole old new (Err Memory) same untouched was other = absurd (other refl)

@@ -1,6 +1,6 @@
 -- How the disks of a set go on, event by event.
 use Rattle.std.proofs.Common.{◌≡◌, ◌∙◌, ap, sym, subst, refl, append_assoc, ℕ, Bool, true, false, List, [], ◌∷◌, ◌++◌, fold, length}
-use Rattle.std.specs.Prelude.{IsSome}
+use Rattle.std.specs.Prelude.{IfOk, IsSome, OnErr, OnOk, Result, Ok, Err}
 use Rattle.std.proofs.lemmas.List.{append-nil}
 use Rattle.std.proofs.lemmas.List.Sums.{fold-append}
 use Rattle.rs_disk.specs.State.{State}
@@ -11,6 +11,7 @@ use Rattle.set_model.specs.Limits.{is_for}
 use Rattle.set_model.specs.Run.{Run, Sizes, after, opening, run}
 use Rattle.set_model.specs.World.{World, step, task}
 use Rattle.node_core.specs.Acting.{DisksActed}
+use Rattle.set_world.specs.declared.error.StepError.{StepError}
 use Rattle.set_world.specs.World.{Set}
 use Rattle.set_world.specs.Disks.{AtTouchedNode, DisksUndone, IsStep, NothingDone, OneChanged}
 use Rattle.set_world.specs.Went.{DisksPlay, DisksRun, DisksStep, AllUndone, DisksWent, WentOn}
@@ -137,3 +138,12 @@ module _ {D : Type 0} (state : D → State) (begun old new : Set D) (so_far : We
         (subst (λ (w : World). DisksUndone state w command old.disks new.disks) (sym here) is.disks);
     played = λ still. subst (λ (ds : List D). DisksPlay state then.world so_far.added begun.disks ds) (sym (unused still).1) (so_far.played (unused still).0);
   }
+
+-- by a step that was answered or not
+pub went_answer : {D : Type 0} (state : D → State) (begun old new : Set D) (line : ℕ) (command : Command) (answer : Result Reply StepError) → WentOn state begun old
+    → IfOk answer (λ reply. IsStep state old new line command reply) → OnErr answer (NothingDone state old new command) → new.sizes ≡ old.sizes → new.opened ≡ old.opened
+    → OnOk answer (new.whole ≡ old.whole) → OnErr answer (new.whole ≡ true → (old.whole ≡ true) × (new.disks ≡ old.disks))
+    → is_for old.sizes.nodes command ≡ true → length (run old.sizes old.history).world.nodes ≡ old.sizes.nodes → WentOn state begun new
+went_answer state begun old new line command (Ok reply) so_far step err sizes opened whole unused fits count = went_on_step state begun old new so_far sizes opened line command reply step whole
+went_answer state begun old new line command (Err error) so_far step err sizes opened whole unused fits count =
+    went_on_undone state begun old new so_far sizes opened command err (subst (λ (n : ℕ). is_for n command ≡ true) (sym count) fits) unused

@@ -55,3 +55,7 @@ pub record WentOn {D : Type 0} (state : D → State) (old new : Set D) : Type 0 
   pub history : new.history ≡ old.history ++ added
   pub ran : DisksRun state (run old.sizes old.history).world added old.disks new.disks
   pub played : new.whole ≡ true → DisksPlay state (run old.sizes old.history).world added old.disks new.disks
+
+-- from whatever moment on a set went on, it goes on still
+abbrev pub GoesOn : {D : Type 0} → (D → State) → Set D → Set D → Type 0
+GoesOn {D} state old new = (begun : Set D) → WentOn state begun old → WentOn state begun new

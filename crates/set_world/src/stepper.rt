@@ -12,7 +12,7 @@ use std::thread::Threads;
 
 /// Whoever steps a set: the set itself, or one of several that take turns.
 pub trait Stepper {
-    ghost use Rattle.std.specs.Prelude.{Bool, List};
+    ghost use Rattle.std.specs.Prelude.{◌≢◌, Bool, Err, List};
     ghost use Rattle.set_model.specs.declared.command.Event.{Event};
     ghost use Rattle.set_model.specs.Run.{Sizes};
 
@@ -25,8 +25,11 @@ pub trait Stepper {
     // Whether no one else steps the set.
     ghost is_alone: { Bool };
 
-    // What no step changes, beside the sizes.
+    // How a step leaves what isn't known, beside the sizes.
     ghost stays: { Self → Self → Type 0 };
+
+    // No step has run out of memory while it used disks, as far as this can be told.
+    ghost is_whole: { Self → Type 0 };
 
     /// Does one command, whose event gets this line, and gives the event's reply.
     ///
@@ -47,15 +50,16 @@ pub trait Stepper {
         ensures full { IsErrOf result AStepError.HistoryFull → length (known self.new) ≡ 4294967295 }
         ensures sizes { sizes self.new ≡ sizes self.old }
         ensures stays { stays self.old self.new }
+        ensures whole { is_whole self.old → result ≢ Err AStepError.Memory → is_whole self.new }
         ensures defined { IsDefined (sizes self.new) (known self.new) };
 
-    // What two steps don't change.
+    // Two steps leave it so.
     ghost stays_on: { (one two three : Self) → stays one two → stays two three → stays one three };
 }
 
 impl<D: Disk> Stepper for World<D> {
     ghost use Rattle.std.specs.Prelude.{◌≡◌, true};
-    ghost use Rattle.std.proofs.Common.{◌∙◌};
+    ghost use Rattle.set_world.specs.Went.{GoesOn};
 
     ghost sizes = { λ set. set.sizes };
 
@@ -63,9 +67,11 @@ impl<D: Disk> Stepper for World<D> {
 
     ghost is_alone = { true };
 
-    ghost stays = { λ old new. new.opened ≡ old.opened };
+    ghost stays = { λ old new. GoesOn D.state old new };
 
-    ghost stays_on = { λ one two three first second. second ∙ first };
+    ghost is_whole = { λ set. set.whole ≡ true };
+
+    ghost stays_on = { λ one two three first second begun went. second begun (first begun went) };
 
     fn step<R: Threads + Wait + Sync>(
         &mut self,
@@ -73,6 +79,7 @@ impl<D: Disk> Stepper for World<D> {
         line: u32,
         command: &Command,
     ) -> Result<Reply, StepError> {
+        self.recall_run();
         let answer = World::step(self, rt, line, command);
         self.recall_run();
         answer

@@ -1,21 +1,18 @@
 -- What a turn on the board means for the set on it.
 use Rattle.std.proofs.Common.{◌≡◌, inl, inr, ◌∙◌, ◌≤◌, ◌+◌, ap, sym, subst, arith, length-append, ℕ, length, drop, List, [], ◌∷◌, ◌++◌}
-use Rattle.std.specs.Prelude.{Result, Ok, Err, IfOk, IsErrOf, OnErr, OnOk, slice_index_or, true}
+use Rattle.std.specs.Prelude.{Result, Ok, Err, IfOk, IsErrOf, OnErr, slice_index_or}
 use Rattle.rs_disk.specs.State.{State}
 use Rattle.set_model.specs.declared.command.Command.{Command}
 use Rattle.set_model.specs.declared.command.Event.{Event}
 use Rattle.set_model.specs.declared.reply.Reply.{Reply}
-use Rattle.set_model.specs.Limits.{is_for}
 use Rattle.set_model.specs.Run.{Sizes, run}
 use Rattle.set_model.specs.World.{step, touched_node}
 use Rattle.set_world.specs.declared.error.StepError.{StepError}
 use Rattle.set_world.specs.declared.error.StepError.TheVariants.{HistoryFull, Memory}
-use Rattle.set_world.specs.Disks.{IsStep, NothingDone}
-use Rattle.set_world.specs.Went.{WentOn}
+use Rattle.set_world.specs.Disks.{IsStep}
 use Rattle.set_model.specs.Pointed.{pointed}
 use Rattle.set_world.specs.World.{Set}
 use Rattle.set_world.proofs.PointedLemmas.{pointed_other, pointed_rises}
-use Rattle.set_world.proofs.WentLemmas.{went_on_step, went_on_undone}
 use Rattle.turn_board.specs.declared.view.View.{View}
 use Rattle.turn_board.specs.declared.view.Stage.TheVariants.{Free}
 use Rattle.turn_board.specs.History.{AtMost, events}
@@ -130,16 +127,6 @@ module _ {D : Type 0} (state : D → State) (sizes : Sizes) (v mid : View Event 
     answers all (Ok (place, reply)) is = (steps place reply is.0 is.1, tt, λ full. absurd (cc full))
     answers all (Err Memory) is = (tt, waits is, λ full. absurd (cc full))
     answers all (Err HistoryFull) is = (tt, waits is.0, λ full. ap (λ es. length es) all ∙ ap (λ es. length es) is.0 ∙ is.1)
-
--- ---- how a set goes on
-
-pub went_answer : {D : Type 0} (state : D → State) (begun old new : Set D) (line : ℕ) (command : Command) (answer : Result Reply StepError) → WentOn state begun old
-    → IfOk answer (λ reply. IsStep state old new line command reply) → OnErr answer (NothingDone state old new command) → new.sizes ≡ old.sizes → new.opened ≡ old.opened
-    → OnOk answer (new.whole ≡ old.whole) → OnErr answer (new.whole ≡ true → (old.whole ≡ true) × (new.disks ≡ old.disks))
-    → is_for old.sizes.nodes command ≡ true → length (run old.sizes old.history).world.nodes ≡ old.sizes.nodes → WentOn state begun new
-went_answer state begun old new line command (Ok reply) so_far step err sizes opened whole unused fits count = went_on_step state begun old new so_far sizes opened line command reply step whole
-went_answer state begun old new line command (Err error) so_far step err sizes opened whole unused fits count =
-    went_on_undone state begun old new so_far sizes opened command err (subst (λ (n : ℕ). is_for n command ≡ true) (sym count) fits) unused
 
 -- ---- looks, and the end
 

@@ -32,6 +32,8 @@ impl<'a, D: Disk> Stepper for Caller<'a, D> {
 
     ghost stays = { λ old new. (new.set ≡ old.set) × (new.pass.ghost_name ≡ old.pass.ghost_name) };
 
+    ghost is_whole = { λ _. Unit {0} };
+
     ghost stays_on = { λ one two three first second. (second.0 ∙ first.0, second.1 ∙ first.1) };
 
     fn step<R: Threads + Wait + Sync>(

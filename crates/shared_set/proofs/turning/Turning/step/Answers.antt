@@ -2,7 +2,7 @@ use Rattle.std.proofs.Common.{◌≡◌, rules, subst, sym, true}
 use Rattle.set_model.specs.Limits.{is_for}
 use Rattle.set_world.specs.Went.{WentOn}
 use Rattle.set_world.specs.World.{Set}
-use Rattle.shared_set.proofs.CallLemmas.{went_answer}
+use Rattle.set_world.proofs.WentLemmas.{went_answer}
 use Rattle.shared_set.proofs.turning.Turning.step.Goals as goal
 
 pub invariant_of-self : goal.invariant_of-self
