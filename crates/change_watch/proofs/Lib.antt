@@ -1,0 +1,5 @@
+mod AskLemmas
+mod FollowLemmas
+pub mod KeepLemmas
+mod LineLemmas
+mod StillLemmas

@@ -1,0 +1,149 @@
+-- Lines are put, one after another.
+use Rattle.std.proofs.Common.{ℕ, zero, suc, ◌≡◌, ◌+◌, ◌≤◌, ◌<◌, Bool, true, false, List, [], ◌∷◌, ◌++◌, length, take, drop, get_or, Result, Ok, Err, refl, ap, sym, subst, arith, ◌∙◌, append_assoc, if◌then◌else◌}
+use Rattle.std.specs.Prelude.{Option}
+use Rattle.std.specs.Io.KnownBytes.{Appends}
+use Rattle.std.proofs.Math.Seq.{take-append-add}
+use Rattle.std.proofs.lemmas.List.{append-nil}
+use Rattle.std.proofs.lemmas.List.Concat.{flat_map-append}
+use Rattle.rs_io.proofs.PutSoFar.{Appends-append}
+use Rattle.rs_io.specs.Put.{Puts}
+use Rattle.rs_io.specs.declared.sink.SinkError.{SinkError}
+use Rattle.rs_io.specs.declared.sink.SinkError.TheVariants.{Failed, Memory as NoRoom}
+use Rattle.oplog_entry.specs.declared.entry.Entry.{Entry}
+use Rattle.change_words.specs.Texts.{change_lines, change_text, entry_lines, is_of}
+use Rattle.change_watch.specs.Causes.{of_sink}
+use Rattle.change_watch.specs.declared.stop.WatchStop.{WatchStop}
+use Rattle.change_watch.specs.declared.stop.WatchStop.TheVariants.{Refused, WriteFault, Memory}
+use Rattle.change_watch.specs.Following.{PutsLines, PutsUpTo, together}
+use Rattle.change_watch.proofs.KeepLemmas.{Appends-nothing, Keeps-same}
+
+-- no line is put
+pub none_put : (held : Option (List ℕ)) → Appends held held []
+none_put held = Appends-nothing held held (Keeps-same held)
+
+pub nothing_put : (held : Option (List ℕ)) (lines : List (List ℕ)) → PutsLines held held lines (Err Memory)
+nothing_put held lines = (0, none_put held)
+
+-- a front of one list is one of the list with more behind it
+pub front_of : {A : Type 0} (count : ℕ) (xs ys : List A) → (long : ℕ) × (take long (xs ++ ys) ≡ take count xs)
+front_of zero xs ys = (0, refl)
+front_of (suc count) [] ys = (0, refl)
+front_of (suc count) (x ∷ xs) ys = let front = front_of count xs ys in (suc front.0, ap (λ (zs : List _). x ∷ zs) front.1)
+
+-- ---- one line
+
+pub line_put : (held now : Option (List ℕ)) (line : List ℕ) → Appends held now line → PutsLines held now (line ∷ []) (Ok tt)
+line_put held now line put = subst (λ (text : List ℕ). Appends held now text) (sym (append-nil line)) put
+
+pub line_stops : (held now : Option (List ℕ)) (line : List ℕ) (error : SinkError) → Puts held now (Err error) line → PutsLines held now (line ∷ []) (Err (of_sink error))
+line_stops held now line Failed (count, put) = (count, subst (λ (text : List ℕ). Appends held now (take count text)) (sym (append-nil line)) put)
+line_stops held now line NoRoom kept = (0, Appends-nothing held now kept)
+
+-- ---- lines behind lines
+
+pub together_append : (lines more : List (List ℕ)) → together (lines ++ more) ≡ together lines ++ together more
+together_append lines more = flat_map-append (λ (line : List ℕ). line) lines more
+
+pub both_put : (held mid now : Option (List ℕ)) (lines more : List (List ℕ)) → Appends held mid (together lines) → Appends mid now (together more) → Appends held now (together (lines ++ more))
+both_put held mid now lines more put next =
+    subst (λ (text : List ℕ). Appends held now text) (sym (together_append lines more)) (Appends-append held mid now (together lines) (together more) put next)
+
+-- Behind lines that were put more of them are put, up to a stop.
+pub puts_on : (held mid now : Option (List ℕ)) (lines more : List (List ℕ)) (stop : WatchStop) → Appends held mid (together lines) → PutsUpTo mid now more stop → PutsUpTo held now (lines ++ more) stop
+puts_on held mid now lines more (Refused why) put next = both_put held mid now lines more put next
+puts_on held mid now lines more WriteFault put (count, next) =
+    let is : take (length (together lines) + count) (together (lines ++ more)) ≡ together lines ++ take count (together more) =
+    ap (λ (text : List ℕ). take (length (together lines) + count) text) (together_append lines more) ∙ take-append-add (together lines) (together more) count in
+    (length (together lines) + count, subst (λ (text : List ℕ). Appends held now text) (sym is) (Appends-append held mid now (together lines) (take count (together more)) put next))
+puts_on held mid now lines more Memory put (count, next) =
+    let is : together (take (length lines + count) (lines ++ more)) ≡ together lines ++ together (take count more) =
+    ap (λ (ls : List (List ℕ)). together ls) (take-append-add lines more count) ∙ together_append lines (take count more) in
+    (length lines + count, subst (λ (text : List ℕ). Appends held now text) (sym is) (Appends-append held mid now (together lines) (together (take count more)) put next))
+
+-- the same, where what puts them refuses nothing
+pub lines_on : (held mid now : Option (List ℕ)) (lines more : List (List ℕ)) (result : Result (Unit {0}) WatchStop) → Appends held mid (together lines) → PutsLines mid now more result → PutsLines held now (lines ++ more) result
+lines_on held mid now lines more (Ok done) put next = both_put held mid now lines more put next
+lines_on held mid now lines more (Err (Refused why)) put never = absurd never
+lines_on held mid now lines more (Err WriteFault) put next = puts_on held mid now lines more WriteFault put next
+lines_on held mid now lines more (Err Memory) put next = puts_on held mid now lines more Memory put next
+
+pub puts_to : (held now : Option (List ℕ)) (lines : List (List ℕ)) (stop : WatchStop) → PutsLines held now lines (Err stop) → PutsUpTo held now lines stop
+puts_to held now lines (Refused why) never = absurd never
+puts_to held now lines WriteFault put = put
+puts_to held now lines Memory put = put
+
+-- where some lines stop, later ones aren't put
+pub puts_front : (held now : Option (List ℕ)) (lines more : List (List ℕ)) (stop : WatchStop) → PutsLines held now lines (Err stop) → PutsUpTo held now (lines ++ more) stop
+puts_front held now lines more (Refused why) never = absurd never
+puts_front held now lines more WriteFault (count, put) =
+    let front = front_of count (together lines) (together more) in
+    (front.0, subst (λ (text : List ℕ). Appends held now text) (sym front.1 ∙ ap (λ (text : List ℕ). take front.0 text) (sym (together_append lines more))) put)
+puts_front held now lines more Memory (count, put) =
+    let front = front_of count lines more in
+    (front.0, subst (λ (ls : List (List ℕ)). Appends held now (together ls)) (sym front.1) put)
+
+-- ---- the changes of a collection
+
+pub entry_told : (collection : List ℕ) (entry : Entry) (held now : Option (List ℕ)) (result : Result (Unit {0}) WatchStop) → is_of collection entry.op ≡ true
+    → PutsLines held now (change_text entry ∷ []) result → PutsLines held now (entry_lines collection entry) result
+entry_told collection entry held now result is put =
+    subst (λ (b : Bool). PutsLines held now (if b then change_text entry ∷ [] else []) result) (sym is) put
+
+pub entry_untold : (collection : List ℕ) (entry : Entry) (held : Option (List ℕ)) → is_of collection entry.op ≡ false → PutsLines held held (entry_lines collection entry) (Ok tt)
+entry_untold collection entry held is =
+    subst (λ (b : Bool). PutsLines held held (if b then change_text entry ∷ [] else []) (Ok tt)) (sym is) (none_put held)
+
+changes_split : (collection : List ℕ) (entries : List Entry) (i : ℕ) (entry : Entry) → i < length entries → entry ≡ get_or entries i entry
+    → change_lines collection entries ≡ change_lines collection (take i entries) ++ (entry_lines collection entry ++ change_lines collection (drop (suc i) entries))
+changes_split collection [] i entry within is = absurd (omega arith)
+changes_split collection (first ∷ entries) zero entry within is = ap (λ (e : Entry). entry_lines collection e ++ change_lines collection entries) (sym is)
+changes_split collection (first ∷ entries) (suc i) entry within is =
+    ap (λ (ls : List (List ℕ)). entry_lines collection first ++ ls) (changes_split collection entries i entry (omega arith) is)
+    ∙ sym (append_assoc (entry_lines collection first) (change_lines collection (take i entries)) (entry_lines collection entry ++ change_lines collection (drop (suc i) entries)))
+
+changes_more : (collection : List ℕ) (entries : List Entry) (i : ℕ) (entry : Entry) → i < length entries → entry ≡ get_or entries i entry
+    → change_lines collection (take (suc i) entries) ≡ change_lines collection (take i entries) ++ entry_lines collection entry
+changes_more collection [] i entry within is = absurd (omega arith)
+changes_more collection (first ∷ entries) zero entry within is = append-nil (entry_lines collection first) ∙ ap (λ (e : Entry). entry_lines collection e) (sym is)
+changes_more collection (first ∷ entries) (suc i) entry within is =
+    ap (λ (ls : List (List ℕ)). entry_lines collection first ++ ls) (changes_more collection entries i entry (omega arith) is)
+    ∙ sym (append_assoc (entry_lines collection first) (change_lines collection (take i entries)) (entry_lines collection entry))
+
+take_past : {A : Type 0} (xs : List A) (i : ℕ) → length xs ≤ i → take i xs ≡ xs
+take_past [] zero past = refl
+take_past [] (suc i) past = refl
+take_past (x ∷ xs) zero past = absurd (omega arith)
+take_past (x ∷ xs) (suc i) past = ap (λ (ys : List _). x ∷ ys) (take_past xs i (omega arith))
+
+-- these changes were put
+pub record PutChanges {K : Type 0} (held : K → Option (List ℕ)) (faults : K → ℕ) (steady : K → Type 0) (old new : K) (collection : List ℕ) (entries : List Entry) : Type 0 where
+  pub put : Appends (held old) (held new) (together (change_lines collection entries))
+  pub later : faults old ≤ faults new
+  pub steady_still : steady old → steady new
+
+module _ (collection : List ℕ) (entries : List Entry) (i : ℕ) (entry : Entry) (first old new : Option (List ℕ)) (within : i < length entries) (is : entry ≡ get_or entries i entry)
+    (put : Appends first old (together (change_lines collection (take i entries)))) where
+  -- one entry more
+  pub entry_put : (more : ℕ) → more ≡ i + 1 → PutsLines old new (entry_lines collection entry) (Ok tt) → Appends first new (together (change_lines collection (take more entries)))
+  entry_put more is_more next =
+      let one_more : suc i ≡ more = omega (arith, is_more) in
+      subst (λ (n : ℕ). Appends first new (together (change_lines collection (take n entries)))) one_more
+      (subst (λ (ls : List (List ℕ)). Appends first new (together ls)) (sym (changes_more collection entries i entry within is))
+      (both_put first old new (change_lines collection (take i entries)) (entry_lines collection entry) put next))
+
+  -- where the next entry stops
+  pub entry_stops : (stop : WatchStop) → PutsLines old new (entry_lines collection entry) (Err stop) → PutsLines first new (change_lines collection entries) (Err stop)
+  entry_stops (Refused why) never = absurd never
+  entry_stops WriteFault cut =
+      subst (λ (ls : List (List ℕ)). PutsUpTo first new ls WriteFault) (sym (changes_split collection entries i entry within is))
+      (puts_on first old new (change_lines collection (take i entries)) (entry_lines collection entry ++ change_lines collection (drop (suc i) entries)) WriteFault put
+      (puts_front old new (entry_lines collection entry) (change_lines collection (drop (suc i) entries)) WriteFault cut))
+  entry_stops Memory cut =
+      subst (λ (ls : List (List ℕ)). PutsUpTo first new ls Memory) (sym (changes_split collection entries i entry within is))
+      (puts_on first old new (change_lines collection (take i entries)) (entry_lines collection entry ++ change_lines collection (drop (suc i) entries)) Memory put
+      (puts_front old new (entry_lines collection entry) (change_lines collection (drop (suc i) entries)) Memory cut))
+
+-- behind the last entry
+pub all_put : (collection : List ℕ) (entries : List Entry) (i : ℕ) (first now : Option (List ℕ)) → length entries ≤ i → Appends first now (together (change_lines collection (take i entries)))
+    → Appends first now (together (change_lines collection entries))
+all_put collection entries i first now past put = subst (λ (es : List Entry). Appends first now (together (change_lines collection es))) (take_past entries i past) put

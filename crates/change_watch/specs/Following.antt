@@ -1,0 +1,180 @@
+-- What a watch asks, and what it tells: nodes are asked one after another, each until it has nothing more.
+use Rattle.std.specs.Prelude.{◌≡◌, ◌⊎◌, ◌≤◌, ℕ, Bool, true, false, List, [], ◌∷◌, ◌++◌, take, Option, Result, Ok, Err}
+use Rattle.std.specs.List.{flat_map}
+use Rattle.std.specs.Io.KnownBytes.{Appends}
+use Rattle.oplog_entry.specs.declared.entry.Entry.{Entry}
+use Rattle.rs_optime.specs.declared.optime.OpTime.{OpTime}
+use Rattle.set_model.specs.declared.command.Event.{Event}
+use Rattle.set_model.specs.Run.{Sizes}
+use Rattle.change_stream.specs.Asking.{Asks, Fails, IsRefused, Tells}
+use Rattle.change_stream.specs.Calls.{Call, answer, joined, token_behind}
+use Rattle.change_stream.specs.declared.error.WatchError.TheVariants as errors
+use Rattle.change_words.specs.declared.asked.Watch.{Watch}
+use Rattle.change_words.specs.declared.refusal.WatchRefusal.{WatchRefusal}
+use Rattle.change_words.specs.declared.refusal.WatchRefusal.TheVariants.{UnknownToken, NodeDown, NoSuchNode}
+use Rattle.change_watch.specs.declared.stop.WatchStop.{WatchStop}
+use Rattle.change_watch.specs.declared.stop.WatchStop.TheVariants.{Refused, WriteFault, Memory}
+use Rattle.change_words.specs.Texts.{change_lines, refusal_text, resume_text}
+
+-- lines, one behind the other
+abbrev pub together : List (List ℕ) → List ℕ
+together lines = flat_map (λ (line : List ℕ). line) lines
+
+-- Lines are put one after another, up to a stop. Out of memory, some first lines are put whole; where the
+-- sink fails, a front of them. A refusal comes behind them.
+abbrev pub PutsUpTo : Option (List ℕ) → Option (List ℕ) → List (List ℕ) → WatchStop → Type 0
+PutsUpTo held now lines (Refused why) = Appends held now (together lines)
+PutsUpTo held now lines WriteFault = (count : ℕ) × Appends held now (take count (together lines))
+PutsUpTo held now lines Memory = (count : ℕ) × Appends held now (together (take count lines))
+
+-- all these lines are put, or not all; what puts them refuses nothing
+abbrev pub PutsLines : Option (List ℕ) → Option (List ℕ) → List (List ℕ) → Result (Unit {0}) WatchStop
+    → Type 0
+PutsLines held now lines (Ok done) = Appends held now (together lines)
+PutsLines held now lines (Err (Refused why)) = ⊥
+PutsLines held now lines (Err WriteFault) = PutsUpTo held now lines WriteFault
+PutsLines held now lines (Err Memory) = PutsUpTo held now lines Memory
+
+-- the line of a refusal
+abbrev pub stop_lines : WatchStop → List (List ℕ)
+stop_lines (Refused why) = refusal_text why ∷ []
+stop_lines WriteFault = []
+stop_lines Memory = []
+
+-- the last line
+abbrev pub last_lines : OpTime → Result (Unit {0}) WatchStop → List (List ℕ)
+last_lines token (Ok done) = resume_text token ∷ []
+last_lines token (Err stop) = stop_lines stop
+
+-- a call gives at most so many entries
+abbrev pub most : ℕ
+most = 1000
+
+-- the nodes that are still to be asked, where the first of them gave these entries
+abbrev pub still_to_ask : ℕ → List ℕ → List Entry → List ℕ
+still_to_ask node others [] = others
+still_to_ask node others (entry ∷ entries) = node ∷ others
+
+-- nothing was given
+abbrev pub gave_nothing : List Entry → Bool
+gave_nothing [] = true
+gave_nothing (entry ∷ entries) = false
+
+-- a node that gave nothing isn't asked again
+abbrev pub left_of : ℕ → Bool → List ℕ
+left_of node true = []
+left_of node false = node ∷ []
+
+-- Nothing changed, or what a step doesn't change stayed.
+abbrev pub StaysSo : {S : Type 0} → (S → S → Type 0) → S → S → Type 0
+StaysSo stays old new = (new ≡ old) ⊎ stays old new
+
+-- These calls go by the nodes, and each was answered: the last of them leaves this token, and these nodes.
+abbrev pub GoesBy : OpTime → List ℕ → List Call → OpTime → List ℕ → Type 0
+GoesBy token nodes [] end left = (end ≡ token) × (left ≡ nodes)
+GoesBy token [] (call ∷ calls) end left = ⊥
+GoesBy token (node ∷ nodes) (call ∷ calls) end left =
+    (call.node ≡ node) × (call.most ≡ most)
+    × ((entries : List Entry) × (answer token call ≡ Ok entries)
+    × GoesBy (token_behind token entries) (still_to_ask node nodes entries) calls end left)
+
+module _ (alone : Bool) (sizes : Sizes) where
+  -- these calls were made one after another, by the events from the old ones to the new ones
+  abbrev pub AreMade : List Event → List Call → List Event → Type 0
+  AreMade old [] new = new ≡ old
+  AreMade old (call ∷ calls) new =
+      (between : List Event) × Asks alone sizes old between call.node call.term call.commit call.log
+      × AreMade between calls new
+
+  module _ (token : OpTime) where
+    -- the next node refuses, or the set hasn't got it
+    abbrev pub RefusesAt : List ℕ → List Event → List Event → WatchRefusal → Type 0
+    RefusesAt [] old new why = ⊥
+    RefusesAt (node ∷ others) old new UnknownToken =
+        Tells alone sizes old new token node most (Err errors.UnknownToken)
+    RefusesAt (node ∷ others) old new NodeDown = IsRefused alone sizes old new node
+    RefusesAt (node ∷ others) old new NoSuchNode = (sizes.nodes ≤ node) × (new ≡ old)
+
+    -- memory ran out in the next call, or before it
+    abbrev pub BreaksAt : List ℕ → List Event → List Event → Type 0
+    BreaksAt [] old new = new ≡ old
+    BreaksAt (node ∷ others) old new = (new ≡ old) ⊎ Fails alone sizes old new token node most errors.Memory
+
+    -- what comes behind the calls, by the nodes that are left then: nothing, or what stopped the next one
+    abbrev pub EndsSo : List ℕ → List Event → List Event → Result (Unit {0}) WatchStop → Type 0
+    EndsSo left old new (Ok done) = (left ≡ []) × (new ≡ old)
+    EndsSo left old new (Err (Refused why)) = RefusesAt left old new why
+    EndsSo left old new (Err WriteFault) = new ≡ old
+    EndsSo left old new (Err Memory) = BreaksAt left old new
+
+  -- From the old events to the new ones, some calls were answered, and then came this end. These are the
+  -- lines to be told: the changes that the calls gave, and behind them where to resume, or the refusal.
+  pub record Watched (watch : Watch) (old new : List Event) (ended : Result (Unit {0}) WatchStop)
+      (lines : List (List ℕ)) : Type 0 where
+    pub calls : List Call
+    pub token : OpTime
+    pub left : List ℕ
+    pub goes : GoesBy watch.token watch.nodes calls token left
+    pub between : List Event
+    pub made : AreMade old calls between
+    pub ends : EndsSo token left between new ended
+    pub lines_are : lines ≡ change_lines watch.collection (joined watch.token calls) ++ last_lines token ended
+
+  -- What is put of these lines: all, or out of memory, or where the sink fails, some. Then the end may be
+  -- any.
+  abbrev pub Follows : Watch → List Event → List Event → Option (List ℕ) → Option (List ℕ)
+      → Result (Unit {0}) WatchStop → Type 0
+  Follows watch old new held now (Ok done) =
+      (lines : List (List ℕ)) × Watched watch old new (Ok done) lines × Appends held now (together lines)
+  Follows watch old new held now (Err (Refused why)) =
+      (lines : List (List ℕ)) × Watched watch old new (Err (Refused why)) lines
+      × Appends held now (together lines)
+  Follows watch old new held now (Err Memory) =
+      (ended : Result (Unit {0}) WatchStop) × (lines : List (List ℕ)) × Watched watch old new ended lines
+      × PutsUpTo held now lines Memory
+  Follows watch old new held now (Err WriteFault) =
+      (ended : Result (Unit {0}) WatchStop) × (lines : List (List ℕ)) × Watched watch old new ended lines
+      × PutsUpTo held now lines WriteFault
+
+  -- ---- a part of a watch
+
+  -- Some of these nodes are asked. The calls leave this token and these nodes, and the lines tell their
+  -- changes.
+  pub record AskedSo (collection : List ℕ) (token : OpTime) (nodes : List ℕ) (token' : OpTime) (left : List ℕ)
+      (old new : List Event) (lines : List (List ℕ)) : Type 0 where
+    pub calls : List Call
+    pub goes : GoesBy token nodes calls token' left
+    pub made : AreMade old calls new
+    pub lines_are : lines ≡ change_lines collection (joined token calls)
+
+  -- the same, and then it stops
+  pub record StopsSo (collection : List ℕ) (token : OpTime) (nodes : List ℕ) (token' : OpTime)
+      (old new : List Event) (stop : WatchStop) (lines : List (List ℕ)) : Type 0 where
+    pub left : List ℕ
+    pub between : List Event
+    pub asked : AskedSo collection token nodes token' left old between lines
+    pub ends : EndsSo token' left between new (Err stop)
+
+  -- Some nodes are asked, and the changes that they gave are put. What is answered tells which nodes are
+  -- left. The lines of a refusal and of the end come later.
+  abbrev pub AsksSome : {A : Type 0} → (A → List ℕ) → List ℕ → OpTime → List ℕ → OpTime → List Event
+      → List Event → Option (List ℕ) → Option (List ℕ) → Result A WatchStop → Type 0
+  AsksSome left_by collection token nodes token' old new held now (Ok answered) =
+      (lines : List (List ℕ))
+      × AskedSo collection token nodes token' (left_by answered) old new lines
+      × Appends held now (together lines)
+  AsksSome left_by collection token nodes token' old new held now (Err stop) =
+      (lines : List (List ℕ)) × StopsSo collection token nodes token' old new stop lines
+      × PutsUpTo held now lines stop
+
+  -- all of them are asked, or it stops before
+  abbrev pub AsksAll : List ℕ → OpTime → List ℕ → OpTime → List Event → List Event → Option (List ℕ)
+      → Option (List ℕ) → Result (Unit {0}) WatchStop → Type 0
+  AsksAll collection token nodes token' old new held now ended =
+      AsksSome (λ (done : Unit {0}). []) collection token nodes token' old new held now ended
+
+  -- One is asked once. It is left where it gave something.
+  abbrev pub AsksOnce : List ℕ → ℕ → OpTime → OpTime → List Event → List Event → Option (List ℕ)
+      → Option (List ℕ) → Result Bool WatchStop → Type 0
+  AsksOnce collection node token token' old new held now ended =
+      AsksSome (left_of node) collection token (node ∷ []) token' old new held now ended

@@ -1,0 +1,11 @@
+//! The words that ask for the changes of a collection, and the lines that tell them.
+#![tactic(auto)]
+
+mod asked;
+mod refusal;
+mod texts;
+mod tokens;
+
+pub use asked::{NodeNumbers, Watch, read_watch};
+pub use refusal::WatchRefusal;
+pub use texts::{is_of, refusal_line, set_change, set_resume};

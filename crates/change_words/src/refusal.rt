@@ -1,0 +1,10 @@
+/// Why a node gave no changes.
+#[derive(Clone, Copy, Debug, PartialEq, Eq)]
+pub enum WatchRefusal {
+    /// The node's log is committed as far as the token, and hasn't got its entry.
+    UnknownToken,
+    /// The node is down.
+    NodeDown,
+    /// The set hasn't got this node.
+    NoSuchNode,
+}
