@@ -2,6 +2,7 @@
 
 usage: replset run < SCRIPT
        replset chaos SEED EVENTS NODES
+       replset watch COLL TOKEN NODE... < SCRIPT
        replset trace < SCRIPT
 
        replset --prove [WORD ..]    proves and builds the program first, then runs it on the words, where there are any
@@ -21,6 +22,7 @@ status: 0 the script was run
         5 the output could not be written
         6 the script has more than 8,388,608 bytes
         7 a disk failed while the set was opened
+        9 a node gave no changes; the last line tells why
         69 there is no toolchain to build the program
         70 the program could not be built, proved or installed
 """
@@ -53,8 +55,12 @@ MEANING = {
     7: "a disk failed while the set was opened",
 }
 
-# The least and the greatest value of a number in the usage line.
+# The least and the greatest value of a number in the usage line, and the form of other words.
 BOUNDS = {"SEED": (0, 2**64 - 1), "EVENTS": (0, 5_000), "NODES": (1, 7)}
+FORMS = {"COLL": "[A-Za-z][A-Za-z0-9_.]{0,63}", "TOKEN": "start|[0-9a-f]{32}", "NODE...": "n[0-9]{1,2}"}
+
+# How many words a name with dots may stand for.
+MOST_WORDS = 50
 
 NOTHING_PROVED = (
     "nothing was proved on this machine: this program is built from its sources without proofs; "
@@ -65,19 +71,24 @@ NOTHING_PROVED = (
 def usage():
     """The program's own usage line, as its source has it."""
     with open(os.path.join(TOP, "crates", "set_program", "src", "asking.rt")) as source:
-        return re.search(r'USAGE: &str = "(usage: .*)\\n";', source.read())[1]
+        text = re.search(r'USAGE: &str = "(usage: .*?)\\n";', source.read(), re.DOTALL)[1]
+    return re.sub(r"\\\n *", "", text)
 
 
 def is_fit(name, word):
+    if name in FORMS:
+        return re.fullmatch(FORMS[name], word) is not None
     least, most = BOUNDS.get(name, (0, 0))
     return name not in BOUNDS or (re.fullmatch("[0-9]{1,20}", word) is not None and least <= int(word) <= most)
 
 
 def is_asked_by(row, words):
-    """Whether these words fit a row of the usage line: the same first word, and one word for each name."""
+    """Whether these words fit a row of the usage line: the same first word, and one word for each name. A name with
+    dots stands for several."""
     _, first, *names = row.split()
-    has_room = len(words) > len(names) if row.endswith("...") else len(words) == len(names) + 1
-    return words[:1] == [first] and has_room and all(map(is_fit, names, words[1:]))
+    if row.endswith("..."):
+        names += names[-1:] * min(len(words) - 1 - len(names), MOST_WORDS - 1)
+    return words[:1] == [first] and len(words) == len(names) + 1 and all(map(is_fit, names, words[1:]))
 
 
 def are_words(words):

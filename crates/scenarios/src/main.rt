@@ -12,6 +12,7 @@ mod repeated;
 mod replies;
 mod runs;
 mod traces;
+mod watches;
 
 use anyhow::{Context, Result};
 use blocks::Block;
@@ -25,9 +26,10 @@ use std::thread::Threads;
 fn main(rt: HostRuntime) -> Result<ExitCode> {
     let examples = examples(&rt, &rt)?;
     let traces = traced(&rt, &rt)?;
+    let watches = watched(&rt, &rt)?;
     let limits = limits(&rt, &rt)?;
     let faults = faults(&rt, &rt)?;
-    Ok(if examples && traces && limits && faults {
+    Ok(if examples && traces && watches && limits && faults {
         ExitCode::SUCCESS
     } else {
         ExitCode::FAILURE
@@ -74,6 +76,19 @@ fn traced<R: Threads + Wait + Sync>(rt: &HostRuntime, threads: &R) -> Result<boo
         let (script, trace) = (text(rt, name, "replset")?, text(rt, name, "trace")?);
         let holds = traces::are_as_written(threads, rt.alloc(), &script, &trace)?;
         let what = format!(in rt.alloc(); "the trace of {name}")?;
+        as_written = tell(rt, &what, holds)? && as_written;
+    }
+    Ok(as_written)
+}
+
+/// Changes that are asked for behind scripts.
+fn watched<R: Threads + Wait + Sync>(rt: &HostRuntime, threads: &R) -> Result<bool> {
+    let mut as_written = true;
+    for name in watches::SCRIPTS {
+        let (script, written) = (text(rt, name, "replset")?, text(rt, name, "out")?);
+        let table = text(rt, name, "watch")?;
+        let holds = watches::are_as_written(threads, rt.alloc(), &script, &written, &table)?;
+        let what = format!(in rt.alloc(); "changes behind {name}")?;
         as_written = tell(rt, &what, holds)? && as_written;
     }
     Ok(as_written)

@@ -17,7 +17,7 @@ use Rattle.set_world.specs.World.{Set}
 use Rattle.set_program.specs.declared.outcome.Left.{Left}
 use Rattle.set_program.specs.declared.outcome.Left.TheVariants.{World, Parts}
 use Rattle.set_program.specs.declared.stop.Stop.{Stop}
-use Rattle.set_program.specs.declared.stop.Stop.TheVariants.{Memory, Usage, Script as NoScript, ReadFault, WriteFault, TooLong, DiskFault}
+use Rattle.set_program.specs.declared.stop.Stop.TheVariants.{Memory, Usage, Script as NoScript, ReadFault, WriteFault, TooLong, DiskFault, Refused}
 use Rattle.set_program.specs.Asking.{ReadsSource, RunsScript}
 use Rattle.rs_io.specs.Put.{Puts}
 use Rattle.rs_io.specs.declared.sink.SinkError.{SinkError}
@@ -25,10 +25,11 @@ use Rattle.rs_io.specs.declared.sink.SinkError.TheVariants.{Failed, Memory as No
 use Rattle.set_program.specs.Causes.{of_read, of_sink}
 use Rattle.set_program.specs.Headline.{Asks, AsksNothing, AsksSource, Ends, EndsTask, EndsWithoutRun, HasNoFault, IsFaulty, IsOneOf, IsReadable, IsScriptOf, limit, status_of, usage}
 use Rattle.set_program.specs.declared.words.Task.{Task}
-use Rattle.set_program.specs.declared.words.Task.TheVariants.{Run, Trace, Chaos}
+use Rattle.set_program.specs.declared.words.Task.TheVariants.{Run, Trace, Chaos, Watch as Watches}
 use Rattle.set_program.specs.Left.{IfSet}
-use Rattle.set_program.specs.Tasks.{is_of_source}
-use Rattle.set_program.proofs.PlayLemmas.{Keeps-same}
+use Rattle.change_words.specs.declared.asked.Watch.{Watch}
+use Rattle.set_program.specs.Tasks.{is_of_source, may_end_in}
+use Rattle.change_watch.proofs.KeepLemmas.{Keeps-same}
 
 -- ---- the script is read
 
@@ -50,6 +51,7 @@ source_stops words left rest old new NoScript asks reads = (asks, reads)
 source_stops words left rest old new ReadFault asks reads = (asks, reads)
 source_stops words left rest old new TooLong asks (kept, over) = (asks, kept, over)
 source_stops words left rest old new DiskFault asks reads = absurd reads
+source_stops words left rest old new Refused asks reads = absurd reads
 source_stops words left rest old new Memory asks reads = reads
 source_stops words left rest old new WriteFault asks reads = inr (asks, reads)
 
@@ -111,6 +113,7 @@ asks_one P words one other apart first second = absurd (apart (sym first ∙ sec
 not_of_source : (task : Task) (seed events nodes : ℕ) → is_of_source task ≡ true → Some task ≡ Some (Chaos seed events nodes) → ⊥
 not_of_source Run seed events nodes of_source same = cc same
 not_of_source Trace seed events nodes of_source same = cc same
+not_of_source (Watches watch) seed events nodes of_source same = cc same
 not_of_source (Chaos s e n) seed events nodes of_source same = cc of_source
 
 reads_nothing : (P : Type 0) (words : List (String Global)) (seed events nodes : ℕ) → AsksSource words → Asks words (Chaos seed events nodes) → P
@@ -129,6 +132,7 @@ ends_before NoScript = true
 ends_before ReadFault = true
 ends_before TooLong = true
 ends_before DiskFault = true
+ends_before Refused = false
 
 never : {D : Type 0} (P : Type 0) (task : Task) (parts : List Part) (old new : Option (List ℕ)) (stop : Stop) (set : Set D) → ends_before stop ≡ true → EndsTask task parts old new (Err stop) set → P
 unfolding ends_before
@@ -139,6 +143,7 @@ never P Run parts old new NoScript set before ends = absurd ends
 never P Run parts old new ReadFault set before ends = absurd ends
 never P Run parts old new TooLong set before ends = absurd ends
 never P Run parts old new DiskFault set before ends = absurd ends
+never P Run parts old new Refused set before ends = absurd (cc before)
 never P Trace parts old new Memory set before ends = absurd (cc before)
 never P Trace parts old new WriteFault set before ends = absurd (cc before)
 never P Trace parts old new Usage set before ends = absurd ends
@@ -146,6 +151,15 @@ never P Trace parts old new NoScript set before ends = absurd ends
 never P Trace parts old new ReadFault set before ends = absurd ends
 never P Trace parts old new TooLong set before ends = absurd ends
 never P Trace parts old new DiskFault set before ends = absurd ends
+never P Trace parts old new Refused set before ends = absurd (cc before)
+never P (Watches watch) parts old new Memory set before ends = absurd (cc before)
+never P (Watches watch) parts old new WriteFault set before ends = absurd (cc before)
+never P (Watches watch) parts old new Usage set before ends = absurd ends
+never P (Watches watch) parts old new NoScript set before ends = absurd ends
+never P (Watches watch) parts old new ReadFault set before ends = absurd ends
+never P (Watches watch) parts old new TooLong set before ends = absurd ends
+never P (Watches watch) parts old new DiskFault set before ends = absurd ends
+never P (Watches watch) parts old new Refused set before ends = absurd (cc before)
 never P (Chaos seed events nodes) parts old new Memory set before ends = absurd (cc before)
 never P (Chaos seed events nodes) parts old new WriteFault set before ends = absurd (cc before)
 never P (Chaos seed events nodes) parts old new Usage set before ends = absurd ends
@@ -153,6 +167,7 @@ never P (Chaos seed events nodes) parts old new NoScript set before ends = absur
 never P (Chaos seed events nodes) parts old new ReadFault set before ends = absurd ends
 never P (Chaos seed events nodes) parts old new TooLong set before ends = absurd ends
 never P (Chaos seed events nodes) parts old new DiskFault set before ends = absurd ends
+never P (Chaos seed events nodes) parts old new Refused set before ends = absurd (cc before)
 
 -- so nothing was run where a call ends otherwise
 only_unrun : {D : Type 0} (P : Type 0) (words : List (String Global)) (left rest old new : Option (List ℕ)) (stop : Stop) (outcome : Left D)
@@ -160,26 +175,61 @@ only_unrun : {D : Type 0} (P : Type 0) (words : List (String Global)) (left rest
 only_unrun P words left rest old new stop (World set) before unrun (task, asks, (read, is, sizes, ends)) = never P task read.parts old new stop set before ends
 only_unrun P words left rest old new stop (Parts events disks) before unrun (none, ends) = unrun ends
 
+-- only a watch is refused
+refused_watch : {D : Type 0} (words : List (String Global)) (left rest old new : Option (List ℕ)) (outcome : Left D) → Ends words left rest old new (Err Refused) outcome → (watch : Watch) × Asks words (Watches watch)
+refused_watch words left rest old new (World set) (Run, asks, (read, is, sizes, ends)) = absurd ends
+refused_watch words left rest old new (World set) (Trace, asks, (read, is, sizes, ends)) = absurd ends
+refused_watch words left rest old new (World set) (Chaos seed events nodes, asks, (read, is, sizes, ends)) = absurd ends
+refused_watch words left rest old new (World set) (Watches watch, asks, (read, is, sizes, ends)) = (watch, asks)
+refused_watch words left rest old new (Parts events disks) (none, ends) = absurd ends
+
+-- each task may end in these
+with_end : (task : Task) → IsOneOf (may_end_in task) 0
+with_end Run = refl
+with_end Trace = refl
+with_end (Watches watch) = refl
+with_end (Chaos seed events nodes) = refl
+
+with_memory : (task : Task) → IsOneOf (may_end_in task) 1
+with_memory Run = refl
+with_memory Trace = refl
+with_memory (Watches watch) = refl
+with_memory (Chaos seed events nodes) = refl
+
+with_disk : (task : Task) → IsOneOf (may_end_in task) 7
+with_disk Run = refl
+with_disk Trace = refl
+with_disk (Watches watch) = refl
+with_disk (Chaos seed events nodes) = refl
+
+with_refusal : (words : List (String Global)) (task : Task) (watch : Watch) → Asks words task → Asks words (Watches watch) → IsOneOf (may_end_in task) 9
+with_refusal words Run watch asks watches = asks_one _ words Run (Watches watch) (λ same. cc same) asks watches
+with_refusal words Trace watch asks watches = asks_one _ words Trace (Watches watch) (λ same. cc same) asks watches
+with_refusal words (Watches other) watch asks watches = refl
+with_refusal words (Chaos seed events nodes) watch asks watches = asks_one _ words (Chaos seed events nodes) (Watches watch) (λ same. cc same) asks watches
+
 pub completes : {D : Type 0} (words : List (String Global)) (left rest old new : Option (List ℕ)) (ended : Result (Unit {0}) Stop) (outcome : Left D)
     (SteadySource SteadySink : Type 0) (reads reads' writes writes' : ℕ)
     → Ends words left rest old new ended outcome → (status_of ended ≡ 4 → CountRose reads reads') → (status_of ended ≡ 5 → CountRose writes writes')
     → (SteadySource → status_of ended ≢ 4) → (SteadySink → status_of ended ≢ 5)
-    → AsksSource words → HasNoFault SteadySource reads reads' → HasNoFault SteadySink writes writes'
-    → IfSome left (λ bytes. IsReadable bytes → IsOneOf (0 ∷ 1 ∷ 7 ∷ []) (status_of ended))
+    → (task : Task) → Asks words task → is_of_source task ≡ true → HasNoFault SteadySource reads reads' → HasNoFault SteadySink writes writes'
+    → IfSome left (λ bytes. IsReadable bytes → IsOneOf (may_end_in task) (status_of ended))
 unfolding ends_before
-completes words left rest old new (Ok done) outcome SteadySource SteadySink reads reads' writes writes' ends read_fault write_fault steady_source steady_sink asks source sink = whatever left _ refl
-completes words left rest old new (Err Memory) outcome SteadySource SteadySink reads reads' writes writes' ends read_fault write_fault steady_source steady_sink asks source sink = whatever left _ refl
-completes words left rest old new (Err DiskFault) outcome SteadySource SteadySink reads reads' writes writes' ends read_fault write_fault steady_source steady_sink asks source sink = whatever left _ refl
-completes words left rest old new (Err ReadFault) outcome SteadySource SteadySink reads reads' writes writes' ends read_fault write_fault steady_source steady_sink asks source sink =
+completes words left rest old new (Ok done) outcome SteadySource SteadySink reads reads' writes writes' ends read_fault write_fault steady_source steady_sink task asks of_source source sink = whatever left _ (with_end task)
+completes words left rest old new (Err Memory) outcome SteadySource SteadySink reads reads' writes writes' ends read_fault write_fault steady_source steady_sink task asks of_source source sink = whatever left _ (with_memory task)
+completes words left rest old new (Err DiskFault) outcome SteadySource SteadySink reads reads' writes writes' ends read_fault write_fault steady_source steady_sink task asks of_source source sink = whatever left _ (with_disk task)
+completes words left rest old new (Err ReadFault) outcome SteadySource SteadySink reads reads' writes writes' ends read_fault write_fault steady_source steady_sink task asks of_source source sink =
     absurd (no_fault SteadySource reads reads' source (λ steady. steady_source steady refl) (read_fault refl))
-completes words left rest old new (Err WriteFault) outcome SteadySource SteadySink reads reads' writes writes' ends read_fault write_fault steady_source steady_sink asks source sink =
+completes words left rest old new (Err WriteFault) outcome SteadySource SteadySink reads reads' writes writes' ends read_fault write_fault steady_source steady_sink task asks of_source source sink =
     absurd (no_fault SteadySink writes writes' sink (λ steady. steady_sink steady refl) (write_fault refl))
-completes words left rest old new (Err Usage) outcome SteadySource SteadySink reads reads' writes writes' ends read_fault write_fault steady_source steady_sink asks source sink =
-    only_unrun _ words left rest old new Usage outcome refl (λ unrun. asks_something _ words asks.0 asks.1 unrun.0) ends
-completes words left rest old new (Err NoScript) outcome SteadySource SteadySink reads reads' writes writes' ends read_fault write_fault steady_source steady_sink asks source sink =
+completes words left rest old new (Err Usage) outcome SteadySource SteadySink reads reads' writes writes' ends read_fault write_fault steady_source steady_sink task asks of_source source sink =
+    only_unrun _ words left rest old new Usage outcome refl (λ unrun. asks_something _ words task asks unrun.0) ends
+completes words left rest old new (Err NoScript) outcome SteadySource SteadySink reads reads' writes writes' ends read_fault write_fault steady_source steady_sink task asks of_source source sink =
     only_unrun _ words left rest old new NoScript outcome refl (λ unrun. faulty left rest unrun.1.0 _ unrun.1.1) ends
-completes words left rest old new (Err TooLong) outcome SteadySource SteadySink reads reads' writes writes' ends read_fault write_fault steady_source steady_sink asks source sink =
+completes words left rest old new (Err TooLong) outcome SteadySource SteadySink reads reads' writes writes' ends read_fault write_fault steady_source steady_sink task asks of_source source sink =
     only_unrun _ words left rest old new TooLong outcome refl (λ unrun. over_limit left _ unrun.2) ends
+completes words left rest old new (Err Refused) outcome SteadySource SteadySink reads reads' writes writes' ends read_fault write_fault steady_source steady_sink task asks of_source source sink =
+    let watch = refused_watch words left rest old new outcome ends in whatever left _ (with_refusal words task watch.0 asks watch.1)
 
 -- ---- a generated script is run
 
@@ -200,3 +250,5 @@ completes_chaos words left rest old new (Err NoScript) outcome SteadySink writes
     only_unrun _ words left rest old new NoScript outcome refl (λ unrun. reads_nothing _ words seed events nodes unrun.0 asks) ends
 completes_chaos words left rest old new (Err TooLong) outcome SteadySink writes writes' ends write_fault steady_sink seed events nodes asks sink =
     only_unrun _ words left rest old new TooLong outcome refl (λ unrun. reads_nothing _ words seed events nodes unrun.0 asks) ends
+completes_chaos words left rest old new (Err Refused) outcome SteadySink writes writes' ends write_fault steady_sink seed events nodes asks sink =
+    let watch = refused_watch words left rest old new outcome ends in asks_one _ words (Chaos seed events nodes) (Watches watch.0) (λ same. cc same) asks watch.1

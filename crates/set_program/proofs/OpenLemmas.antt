@@ -18,15 +18,15 @@ use Rattle.set_world.specs.Disks.{AllBegin, Opens, OneFaultCounted}
 use Rattle.set_program.specs.declared.outcome.Left.{Left}
 use Rattle.set_program.specs.declared.outcome.Left.TheVariants.{World, Parts}
 use Rattle.set_program.specs.declared.stop.Stop.{Stop}
-use Rattle.set_program.specs.declared.stop.Stop.TheVariants.{Memory, Usage, Script as NoScript, ReadFault, WriteFault, TooLong, DiskFault}
+use Rattle.set_program.specs.declared.stop.Stop.TheVariants.{Memory, Usage, Script as NoScript, ReadFault, WriteFault, TooLong, DiskFault, Refused}
 use Rattle.set_program.specs.declared.words.Task.{Task}
-use Rattle.set_program.specs.declared.words.Task.TheVariants.{Run, Trace, Chaos}
+use Rattle.set_program.specs.declared.words.Task.TheVariants.{Run, Trace, Chaos, Watch as Watches}
 use Rattle.set_program.specs.Asking.{OpensScript, RunsScript}
 use Rattle.set_program.specs.Causes.{of_file}
 use Rattle.set_program.specs.Headline.{Asks, Ends, EndsTask, IsAsked, IsScriptOf, IsUnarmed, LeavesDisks, opening_error, status_of, status_of_stop}
 use Rattle.set_program.specs.Left.{disks_of}
-use Rattle.set_program.specs.Parts.{DisksGo}
-use Rattle.set_program.proofs.PlayLemmas.{Keeps-same}
+use Rattle.set_program.specs.Parts.{DisksEnd, DisksGo}
+use Rattle.change_watch.proofs.KeepLemmas.{Keeps-same}
 
 -- ---- a set was opened, and went on
 
@@ -35,28 +35,33 @@ pub go_out : {D : Type 0} (state : D → State) (parts : List Part) (first : Lis
 go_out state parts first set One Two memory (inl played) = inl played
 go_out state parts first set One Two memory (inr (out, more)) = inr (memory out, more)
 
-pub set_leaves : {D : Type 0} (state : D → State) (read : Script) (handed : List D) (old new : Set D) (result : Result (Unit {0}) Stop)
-    → old.sizes ≡ sizes_of read → new.sizes ≡ old.sizes → Opens state read.nodes (Ok tt) handed old.disks → DisksGo state read.parts old.disks new (result ≡ Err Memory)
-    → OpensScript state read handed (status_of result) (World new)
-set_leaves {D} state read handed old new result sizes same opens goes = (
+-- the same of a task
+end_out : {D : Type 0} (state : D → State) (task : Task) (parts : List Part) (first : List D) (set : Set D) (One Two : Type 0) → (One → Two) → DisksEnd state task parts first set One → DisksEnd state task parts first set Two
+end_out state task parts first set One Two memory (inl played) = inl played
+end_out state task parts first set One Two memory (inr (out, more)) = inr (memory out, more)
+
+pub set_leaves : {D : Type 0} (state : D → State) (task : Task) (read : Script) (handed : List D) (old new : Set D) (result : Result (Unit {0}) Stop)
+    → old.sizes ≡ sizes_of read → new.sizes ≡ old.sizes → Opens state read.nodes (Ok tt) handed old.disks → DisksEnd state task read.parts old.disks new (result ≡ Err Memory)
+    → OpensScript state task read handed (status_of result) (World new)
+set_leaves {D} state task read handed old new result sizes same opens goes = (
   old.disks,
   subst (λ (n : ℕ). Opens state n (Ok tt) handed old.disks) (sym (ap (λ (s : Sizes). s.nodes) (same ∙ sizes))) opens,
-  go_out state read.parts old.disks new (result ≡ Err Memory) (status_of result ≡ 1) (λ out. ap (λ (r : Result (Unit {0}) Stop). status_of r) out) goes,
+  end_out state task read.parts old.disks new (result ≡ Err Memory) (status_of result ≡ 1) (λ out. ap (λ (r : Result (Unit {0}) Stop). status_of r) out) goes,
 )
 
 -- ---- it couldn't be opened
 
-refuses : {D : Type 0} (state : D → State) (read : Script) (handed : List D) (error : FileError) (events : Vec Event Global) (disks : Vec D Global)
+refuses : {D : Type 0} (state : D → State) (task : Task) (read : Script) (handed : List D) (error : FileError) (events : Vec Event Global) (disks : Vec D Global)
     → Opens state read.nodes (Err error) handed disks.items → AllBegin state (first_config read.members) read.nodes disks.items
-    → OpensScript state read handed (status_of_stop (of_file error)) (Parts events disks)
-refuses state read handed Disk events disks opens stand = (refl, opens, stand)
-refuses state read handed NoBytes events disks opens stand = (refl, opens, stand)
+    → OpensScript state task read handed (status_of_stop (of_file error)) (Parts events disks)
+refuses state task read handed Disk events disks opens stand = (refl, opens, stand)
+refuses state task read handed NoBytes events disks opens stand = (refl, opens, stand)
 
-pub refused_leaves : {D : Type 0} (state : D → State) (read : Script) (handed : List D) (error : FileError) (stop : Stop) (events : Vec Event Global) (disks : Vec D Global)
+pub refused_leaves : {D : Type 0} (state : D → State) (task : Task) (read : Script) (handed : List D) (error : FileError) (stop : Stop) (events : Vec Event Global) (disks : Vec D Global)
     → stop ≡ of_file error → Opens state read.nodes (Err error) handed disks.items → AllBegin state (first_config read.members) read.nodes disks.items
-    → OpensScript state read handed (status_of_stop stop) (Parts events disks)
-refused_leaves state read handed error stop events disks is opens stand =
-    subst (λ (s : Stop). OpensScript state read handed (status_of_stop s) (Parts events disks)) (sym is) (refuses state read handed error events disks opens stand)
+    → OpensScript state task read handed (status_of_stop stop) (Parts events disks)
+refused_leaves state task read handed error stop events disks is opens stand =
+    subst (λ (s : Stop). OpensScript state task read handed (status_of_stop s) (Parts events disks)) (sym is) (refuses state task read handed error events disks opens stand)
 
 stops : (error : FileError) (ended : Result (Unit {0}) Stop) → ended ≡ Err (of_file error) → (ended ≡ Err Memory) ⊎ (ended ≡ Err DiskFault)
 stops Disk ended is = inr is
@@ -69,8 +74,8 @@ refused_runs task read held error stop events disks is none = (none, Keeps-same 
 -- ---- what the whole call leaves
 
 pub asked_leaves : {D : Type 0} (state : D → State) (words : List (String Global)) (left rest : Option (List ℕ)) (task : Task) (read : Script) (handed : List D) (status : ℕ) (outcome : Left D)
-    → Asks words task → IsScriptOf task left rest read → OpensScript state read handed status outcome → LeavesDisks state words left rest handed status outcome
-asked_leaves state words left rest task read handed status (World set) asks is opens = (read, (task, asks, is), opens)
+    → Asks words task → IsScriptOf task left rest read → OpensScript state task read handed status outcome → LeavesDisks state words left rest handed status outcome
+asked_leaves state words left rest task read handed status (World set) asks is opens = (task, read, asks, is, opens)
 asked_leaves state words left rest task read handed status (Parts events disks) asks is (one, opens, stand) = inr (one, (read, (task, asks, is), opens, stand))
 
 -- a set that was opened doesn't end with a fault of a disk
@@ -82,7 +87,9 @@ not_opening task parts old new (Err Usage) set ends seven = cc seven
 not_opening task parts old new (Err NoScript) set ends seven = cc seven
 not_opening task parts old new (Err ReadFault) set ends seven = cc seven
 not_opening task parts old new (Err TooLong) set ends seven = cc seven
+not_opening task parts old new (Err Refused) set ends seven = cc seven
 not_opening Run parts old new (Err DiskFault) set ends seven = ends
+not_opening (Watches watch) parts old new (Err DiskFault) set ends seven = ends
 not_opening Trace parts old new (Err DiskFault) set ends seven = ends
 not_opening (Chaos seed events nodes) parts old new (Err DiskFault) set ends seven = ends
 

@@ -12,7 +12,7 @@ use Rattle.fault_script.specs.declared.script.Part.TheVariants as parts
 use Rattle.fault_script.specs.Merge.{Interleaves, IsMerge}
 use Rattle.fault_script.specs.Script.{lines_of, lines_in}
 use Rattle.fault_script.proofs.MergeLemmas.{one_after_another}
-use Rattle.set_program.specs.Headline.{AreOrdersOf, ComesNext, Follows, FollowsInPart, IsOrderOf}
+use Rattle.set_program.specs.Orders.{AreOrdersOf, ComesNext, Follows, FollowsInPart, IsOrderOf}
 use Rattle.set_program.specs.Steps.{line_of}
 
 -- ---- how many lines there are

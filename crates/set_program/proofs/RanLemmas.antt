@@ -27,7 +27,8 @@ use Rattle.set_world.proofs.DisksOpenLemmas.{there_too}
 use Rattle.set_world.proofs.NodesLemmas.{named}
 use Rattle.set_program.specs.Counts.{FailedAtLeast, FailuresCount, FaultsAreArmed, FaultsHaveCauses, OfNode, EitherFaultCounted, OrdersAre, OrdersCount, failures_at}
 use Rattle.set_program.specs.Disks.{DisksRan}
-use Rattle.set_program.specs.Headline.{ComesNext, IsInBlock, IsUnarmed, LeavesDisks}
+use Rattle.set_program.specs.Headline.{BreaksIn, IsUnarmed, LeavesDisks}
+use Rattle.set_program.specs.Orders.{ComesNext}
 use Rattle.set_program.specs.Left.{IfSet}
 use Rattle.set_program.specs.declared.outcome.Left.{Left}
 use Rattle.set_program.specs.declared.outcome.Left.TheVariants.{World as Ran, Parts}
@@ -242,26 +243,26 @@ module _ {D : Type 0} (state : D → State) (handed : List D) (many : length han
   module _ (words : List (String Global)) (left rest : Option (List ℕ)) (status : ℕ) where
     pub failures_left : (outcome : Left D) → IfSet outcome (λ set. AreSizes set.sizes) → LeavesDisks state words left rest handed status outcome → IfSet outcome (FailuresCount state handed)
     failures_left (Parts events disks) sizes leaves = tt
-    failures_left (Ran set) sizes (read, asked, (opened, opens, ran)) = λ number less.
+    failures_left (Ran set) sizes (task, read, asked, is, (opened, opens, ran)) = λ number less.
         of_node state handed set.disks number (NodeRan number (opening set.sizes).world set.history) (FailedAtLeast (failures_at number (opening set.sizes).world set.history))
-        (λ j j' c c' node. failures_ran number set.sizes set.history j j' c c' node) (ran_of opened set sizes opens (ran_to state (status ≡ 1) (ComesNext read.parts set.history) (IsInBlock read.parts) opened set ran) number less)
+        (λ j j' c c' node. failures_ran number set.sizes set.history j j' c c' node) (ran_of opened set sizes opens (ran_to state (status ≡ 1) (ComesNext read.parts set.history) (BreaksIn task read.parts) opened set ran) number less)
 
     pub orders_left : (outcome : Left D) → IfSet outcome (λ set. AreSizes set.sizes) → LeavesDisks state words left rest handed status outcome → IfSet outcome (OrdersCount state handed)
     orders_left (Parts events disks) sizes leaves = tt
-    orders_left (Ran set) sizes (read, asked, (opened, opens, ran)) = λ number less.
+    orders_left (Ran set) sizes (task, read, asked, is, (opened, opens, ran)) = λ number less.
         of_node state handed set.disks number (NodeRan number (opening set.sizes).world set.history) (OrdersAre number (opening set.sizes).world set.history)
-        (λ j j' c c' node. orders_ran number set.sizes set.history j j' c c' node) (ran_of opened set sizes opens (ran_to state (status ≡ 1) (ComesNext read.parts set.history) (IsInBlock read.parts) opened set ran) number less)
+        (λ j j' c c' node. orders_ran number set.sizes set.history j j' c c' node) (ran_of opened set sizes opens (ran_to state (status ≡ 1) (ComesNext read.parts set.history) (BreaksIn task read.parts) opened set ran) number less)
 
     pub causes_left : (outcome : Left D) → IfSet outcome (λ set. AreSizes set.sizes) → LeavesDisks state words left rest handed status outcome → IfSet outcome (FaultsHaveCauses state handed)
     causes_left (Parts events disks) sizes leaves = tt
-    causes_left (Ran set) sizes (read, asked, (opened, opens, ran)) = λ place number event less is.
+    causes_left (Ran set) sizes (task, read, asked, from, (opened, opens, ran)) = λ place number event less is.
         of_node state handed set.disks number (NodeRan number (opening set.sizes).world set.history) EitherFaultCounted
-        (λ j j' c c' node. fault_ran number set.sizes set.history j j' c c' node place event is) (ran_of opened set sizes opens (ran_to state (status ≡ 1) (ComesNext read.parts set.history) (IsInBlock read.parts) opened set ran) number less)
+        (λ j j' c c' node. fault_ran number set.sizes set.history j j' c c' node place event is) (ran_of opened set sizes opens (ran_to state (status ≡ 1) (ComesNext read.parts set.history) (BreaksIn task read.parts) opened set ran) number less)
 
     pub armed_left : (outcome : Left D) → IfSet outcome (λ set. AreSizes set.sizes) → IfSet outcome (λ set. IsRun set.sizes set.history) → LeavesDisks state words left rest handed status outcome
         → All (λ (disk : D). IsUnarmed (state disk)) handed → IfSet outcome (λ set. FaultsAreArmed set.sizes set.history)
     armed_left (Parts events disks) sizes is_run leaves unarmed = tt
-    armed_left (Ran set) sizes is_run (read, asked, (opened, opens, ran)) unarmed = λ place number event less is.
-        let node = ran_of opened set sizes opens (ran_to state (status ≡ 1) (ComesNext read.parts set.history) (IsInBlock read.parts) opened set ran) number less in
+    armed_left (Ran set) sizes is_run (task, read, asked, from, (opened, opens, ran)) unarmed = λ place number event less is.
+        let node = ran_of opened set sizes opens (ran_to state (status ≡ 1) (ComesNext read.parts set.history) (BreaksIn task read.parts) opened set ran) number less in
         armed_ran number set.sizes set.history (state node.journal) (state node.journal') (state node.checkpoints) (state node.checkpoints') node.so is_run
         (unarmed_at state handed unarmed (2 * number) node.journal node.journal_was) (unarmed_at state handed unarmed (2 * number + 1) node.checkpoints node.checkpoints_was) place event is

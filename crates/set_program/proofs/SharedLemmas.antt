@@ -82,6 +82,7 @@ module _ {D F : Type 0} (state : D → State) (lists : List (List (ℕ × Comman
         told = block_told old.sizes lists fixed old.history v w new.history fresh same closes told tells;
         kept = kept;
         disks = went.played whole;
+        whole = λ was. whole;
       }
 
   stopped : (next : List (ℕ × Command)) → IsMerge lists next → map line_of went.added ≡ take (length went.added) next → SteppedSome state (Par lists) old new

@@ -16,7 +16,7 @@ use Rattle.set_world.specs.World.{Set}
 use Rattle.set_world.specs.Disks.{DisksUndone, IsStep, NothingDone}
 use Rattle.set_world.specs.Went.{DisksPlay, DisksRun}
 use Rattle.set_program.specs.Disks.{DisksPlayed}
-use Rattle.set_program.specs.Headline.{Follows, IsOrderOf}
+use Rattle.set_program.specs.Orders.{Follows, IsOrderOf}
 use Rattle.set_program.specs.Parts.{AllStepped, DisksCut, DisksGo, SomeStepped, Stepped, SteppedSome, can_be_run}
 use Rattle.set_program.specs.Steps.{line_of, reply_to}
 use Rattle.set_program.proofs.DisksLemmas.{one_played, played_on}
@@ -59,8 +59,8 @@ one_line state line command reply old new is =
 
 -- it is played
 pub line_stepped : {D : Type 0} (state : D → State) (line : ℕ) (command : Command) (reply : Reply) (old new : Set D) (before after : List (ℕ × Reply))
-    → IsStep state old new line command reply → new.sizes ≡ old.sizes → after ≡ before ++ (line, reply) ∷ [] → Stepped state (Line line command) old new before after
-line_stepped state line command reply old new before after is sizes kept = record {
+    → IsStep state old new line command reply → new.sizes ≡ old.sizes → new.whole ≡ old.whole → after ≡ before ++ (line, reply) ∷ [] → Stepped state (Line line command) old new before after
+line_stepped state line command reply old new before after is sizes whole kept = record {
   sizes = sizes;
   added = is.event ∷ [];
   events = is.history;
@@ -73,6 +73,7 @@ line_stepped state line command reply old new before after is sizes kept = recor
   };
   kept = kept;
   disks = one_played state old new line command reply is;
+  whole = λ was. whole ∙ was;
 }
 
 -- it is played, and there is no memory for its reply

@@ -16,12 +16,12 @@ use Rattle.run_checker.specs.Trace.{entries_text, entry_text, header_text}
 use Rattle.run_checker.proofs.TraceLemmas.{entries_all, entries_front, entries_more, take_front}
 use Rattle.set_world.specs.World.{Set}
 use Rattle.set_program.specs.declared.stop.Stop.{Stop}
-use Rattle.set_program.specs.declared.stop.Stop.TheVariants.{Memory, Usage, Script as NoScript, ReadFault, WriteFault, TooLong, DiskFault}
+use Rattle.set_program.specs.declared.stop.Stop.TheVariants.{Memory, Usage, Script as NoScript, ReadFault, WriteFault, TooLong, DiskFault, Refused}
 use Rattle.set_program.specs.Headline.{EndsWithTrace, answers, trace_sizes}
 use Rattle.set_program.specs.Parts.{AllStepped}
 use Rattle.set_program.specs.Plays.{PutsEntries, PutsText, PutsTrace}
 use Rattle.set_program.proofs.PartOrders.{all_in_part}
-use Rattle.set_program.proofs.PlayLemmas.{Appends-nothing}
+use Rattle.change_watch.proofs.KeepLemmas.{Appends-nothing}
 use Rattle.set_program.proofs.StepLemmas.{replies-count}
 
 -- ---- event after event
@@ -68,6 +68,7 @@ module _ (events : List Event) (replies : List (ℕ × Reply)) (place : ℕ) (ev
   entry_stops ReadFault never = absurd never
   entry_stops TooLong never = absurd never
   entry_stops DiskFault never = absurd never
+  entry_stops Refused never = absurd never
 
 -- behind the last event all are put
 pub all_put : (events : List Event) (replies : List (ℕ × Reply)) (count : ℕ) (first now : Option (List ℕ)) → length events ≡ length replies → count ≡ min (length events) (length replies)
@@ -106,6 +107,7 @@ module _ {D : Type 0} (held now : Option (List ℕ)) (set : Set D) (sizes : ℕ 
       stops ReadFault never = absurd never
       stops TooLong never = absurd never
       stops DiskFault never = absurd never
+      stops Refused never = absurd never
 
   -- behind the header come the events
   pub trace_goes_on : (mid : Option (List ℕ)) (events : List Event) (replies : List (ℕ × Reply)) (result : Result (Unit {0}) Stop) → events ≡ set.history → replies ≡ (run set.sizes set.history).replies
@@ -131,6 +133,7 @@ module _ {D : Type 0} (held now : Option (List ℕ)) (set : Set D) (sizes : ℕ 
       goes_on (Err ReadFault) never = absurd never
       goes_on (Err TooLong) never = absurd never
       goes_on (Err DiskFault) never = absurd never
+      goes_on (Err Refused) never = absurd never
 
 -- how a run ends whose trace is put
 pub traced_ends : {D : Type 0} (state : D → State) (parts : List Part) (old new : Set D) (after : List (ℕ × Reply)) → AllStepped state parts old new after
@@ -144,3 +147,4 @@ traced_ends state parts old new after stepped held now (Err NoScript) never = ab
 traced_ends state parts old new after stepped held now (Err ReadFault) never = absurd never
 traced_ends state parts old new after stepped held now (Err TooLong) never = absurd never
 traced_ends state parts old new after stepped held now (Err DiskFault) never = absurd never
+traced_ends state parts old new after stepped held now (Err Refused) never = absurd never

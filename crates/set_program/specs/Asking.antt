@@ -12,10 +12,11 @@ use Rattle.set_world.specs.Disks.{AllBegin, Opens}
 use Rattle.set_program.specs.declared.outcome.Left.{Left}
 use Rattle.set_program.specs.declared.outcome.Left.TheVariants.{World, Parts}
 use Rattle.set_program.specs.declared.stop.Stop.{Stop}
-use Rattle.set_program.specs.declared.stop.Stop.TheVariants.{Memory, Usage, Script as NoScript, ReadFault, WriteFault, TooLong, DiskFault}
+use Rattle.set_program.specs.declared.stop.Stop.TheVariants.{Memory, Usage, Script as NoScript, ReadFault, WriteFault, TooLong, DiskFault, Refused}
 use Rattle.set_program.specs.declared.words.Task.{Task}
-use Rattle.set_program.specs.Headline.{AnyPrefix, Asks, EndsTask, EndsWithoutRun, IsFaulty, IsOneOf, IsRead, IsScriptOf, PutsPrefix, limit, opening_error}
-use Rattle.set_program.specs.Parts.{DisksGo}
+use Rattle.set_program.specs.Headline.{Asks, EndsTask, EndsWithoutRun, IsFaulty, IsOneOf, IsRead, IsScriptOf, limit, opening_error}
+use Rattle.set_program.specs.Orders.{AnyPrefix, PutsPrefix}
+use Rattle.set_program.specs.Parts.{DisksEnd}
 
 -- the words ask for this task and its script, or nothing is run
 abbrev pub Reads : List (String Global) → Option (List ℕ) → Option (List ℕ) → Option (List ℕ)
@@ -33,6 +34,7 @@ ReadsSource left rest old new (Err NoScript) =
 ReadsSource left rest old new (Err ReadFault) = Keeps old new
 ReadsSource left rest old new (Err TooLong) = Keeps old new × IfSome left (λ bytes. limit < length bytes)
 ReadsSource left rest old new (Err DiskFault) = ⊥
+ReadsSource left rest old new (Err Refused) = ⊥
 ReadsSource left rest old new (Err Memory) = Keeps old new
 ReadsSource left rest old new (Err WriteFault) =
     (fault : ScriptFault) × IsFaulty left rest fault × PutsPrefix AnyPrefix old new [] (fault_text fault)
@@ -46,10 +48,10 @@ RunsScript task read old new ended (Parts events disks) =
     (events.items ≡ []) × Keeps old new × ((ended ≡ Err Memory) ⊎ (ended ≡ Err DiskFault))
 
 -- and these disks are left
-abbrev pub OpensScript : {D : Type 0} → (D → State) → Script → List D → ℕ → Left D → Type 0
-OpensScript {D} state read handed status (World set) =
+abbrev pub OpensScript : {D : Type 0} → (D → State) → Task → Script → List D → ℕ → Left D → Type 0
+OpensScript {D} state task read handed status (World set) =
     (opened : List D) × Opens state set.sizes.nodes (Ok tt) handed opened
-    × DisksGo state read.parts opened set (status ≡ 1)
-OpensScript {D} state read handed status (Parts events disks) =
+    × DisksEnd state task read.parts opened set (status ≡ 1)
+OpensScript {D} state task read handed status (Parts events disks) =
     IsOneOf (1 ∷ 7 ∷ []) status × Opens state read.nodes (Err (opening_error status)) handed disks.items
     × AllBegin state (first_config read.members) read.nodes disks.items

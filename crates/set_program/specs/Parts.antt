@@ -14,8 +14,10 @@ use Rattle.set_world.specs.Disks.{DisksUndone}
 use Rattle.set_world.specs.Went.{DisksPlay, DisksRun}
 use Rattle.set_world.specs.World.{Set}
 use Rattle.set_program.specs.Disks.{DisksRan}
-use Rattle.set_program.specs.Headline.{ComesNext, Follows, FollowsInPart, IsInBlock, IsOrderOf}
+use Rattle.set_program.specs.Headline.{BreaksIn}
+use Rattle.set_program.specs.Orders.{ComesNext, Follows, FollowsInPart, IsInBlock, IsOrderOf}
 use Rattle.set_program.specs.Steps.{GoesOn, line_of}
+use Rattle.set_program.specs.declared.words.Task.{Task}
 
 -- a block has at most so many threads
 abbrev pub has_few_threads : Part → Bool
@@ -43,6 +45,7 @@ pub record Stepped {D : Type 0} (state : D → State) (part : Part) (old new : S
   pub told : GoesOn old.sizes old.history new.history replies
   pub kept : after ≡ before ++ replies
   pub disks : DisksPlay state (run old.sizes old.history).world added old.disks new.disks
+  pub whole : old.whole ≡ true → new.whole ≡ true
 
 -- Where memory runs out, the command of a line may have been begun. In a block commands that weren't done may
 -- have used disks before, between and behind the events.
@@ -73,6 +76,11 @@ Steps state part old new before after (Err error) = SteppedSome state part old n
 abbrev pub DisksGo : {D : Type 0} → (D → State) → List Part → List D → Set D → Type 0 → Type 0
 DisksGo state parts first set OutOfMemory =
     DisksRan state OutOfMemory (ComesNext parts set.history) (IsInBlock parts) first set
+
+-- the same of a task: memory may run out in the work behind the parts, too
+abbrev pub DisksEnd : {D : Type 0} → (D → State) → Task → List Part → List D → Set D → Type 0 → Type 0
+DisksEnd state task parts first set OutOfMemory =
+    DisksRan state OutOfMemory (ComesNext parts set.history) (BreaksIn task parts) first set
 
 -- all parts are played, and the replies of the run kept
 pub record AllStepped {D : Type 0} (state : D → State) (parts : List Part) (old new : Set D)

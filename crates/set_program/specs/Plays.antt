@@ -1,5 +1,5 @@
 -- How far a part is played, and what is put of its replies.
-use Rattle.std.specs.Prelude.{ℕ, ◌≡◌, ◌++◌, ◌⊎◌, Option, Result, Ok, Err, List, [], map, length, take}
+use Rattle.std.specs.Prelude.{ℕ, true, ◌≡◌, ◌++◌, ◌⊎◌, Option, Result, Ok, Err, List, [], map, length, take}
 use Rattle.std.specs.List.{flat_map}
 use Rattle.std.specs.Io.KnownBytes.{Appends, Keeps}
 use Rattle.rs_disk.specs.State.{State}
@@ -13,8 +13,9 @@ use Rattle.run_checker.specs.Trace.{entries_text}
 use Rattle.set_world.specs.Went.{DisksPlay}
 use Rattle.set_world.specs.World.{Set}
 use Rattle.set_program.specs.declared.stop.Stop.{Stop}
-use Rattle.set_program.specs.declared.stop.Stop.TheVariants.{Memory, Usage, Script as NoScript, ReadFault, WriteFault, TooLong, DiskFault}
-use Rattle.set_program.specs.Headline.{AnyPrefix, IsOrderOf, NoPrefix, PutsFirst, PutsPrefix, PutsReplies, trace_put}
+use Rattle.set_program.specs.declared.stop.Stop.TheVariants.{Memory, Usage, Script as NoScript, ReadFault, WriteFault, TooLong, DiskFault, Refused}
+use Rattle.set_program.specs.Headline.{PutsFirst, trace_put}
+use Rattle.set_program.specs.Orders.{AnyPrefix, IsOrderOf, NoPrefix, PutsPrefix, PutsReplies}
 use Rattle.set_program.specs.Parts.{SteppedSome}
 use Rattle.set_program.specs.Steps.{GoesOn, line_of}
 
@@ -30,6 +31,7 @@ PutsText held now piece (Err NoScript) = ⊥
 PutsText held now piece (Err ReadFault) = ⊥
 PutsText held now piece (Err TooLong) = ⊥
 PutsText held now piece (Err DiskFault) = ⊥
+PutsText held now piece (Err Refused) = ⊥
 
 -- replies are put one after another
 abbrev pub PutsEach : Option (List ℕ) → Option (List ℕ) → List (ℕ × Reply) → Result (Unit {0}) Stop → Type 0
@@ -41,6 +43,7 @@ PutsEach held now replies (Err NoScript) = ⊥
 PutsEach held now replies (Err ReadFault) = ⊥
 PutsEach held now replies (Err TooLong) = ⊥
 PutsEach held now replies (Err DiskFault) = ⊥
+PutsEach held now replies (Err Refused) = ⊥
 
 -- ---- a trace
 
@@ -58,6 +61,7 @@ PutsEntries held now events replies (Err NoScript) = ⊥
 PutsEntries held now events replies (Err ReadFault) = ⊥
 PutsEntries held now events replies (Err TooLong) = ⊥
 PutsEntries held now events replies (Err DiskFault) = ⊥
+PutsEntries held now events replies (Err Refused) = ⊥
 
 -- the trace of a set's run is put
 abbrev pub PutsTrace : {D : Type 0} → Option (List ℕ) → Option (List ℕ) → Set D → Result (Unit {0}) Stop
@@ -70,6 +74,7 @@ PutsTrace held now set (Err NoScript) = ⊥
 PutsTrace held now set (Err ReadFault) = ⊥
 PutsTrace held now set (Err TooLong) = ⊥
 PutsTrace held now set (Err DiskFault) = ⊥
+PutsTrace held now set (Err Refused) = ⊥
 
 -- ---- a part
 
@@ -81,6 +86,7 @@ pub record PlayedPart {D : Type 0} (part : Part) (held now : Option (List ℕ)) 
   pub replies : List (ℕ × Reply)
   pub told : GoesOn old.sizes old.history new.history replies
   pub put : Appends held now (flat_map line_text replies)
+  pub whole : old.whole ≡ true → new.whole ≡ true
 
 -- some first lines are played, and some first replies put: none before all lines are played
 pub record CutPart {D : Type 0} (MayBe : ℕ → Type 0) (part : Part) (held now : Option (List ℕ))
@@ -105,6 +111,7 @@ PlaysPart part held now old new (Err NoScript) = ⊥
 PlaysPart part held now old new (Err ReadFault) = ⊥
 PlaysPart part held now old new (Err TooLong) = ⊥
 PlaysPart part held now old new (Err DiskFault) = ⊥
+PlaysPart part held now old new (Err Refused) = ⊥
 
 -- the disks are those that its events leave; out of memory, more may have used them
 abbrev pub DisksGoBy : {D : Type 0} → (D → State) → Part → Set D → Set D → Type 0 → Type 0

@@ -2,17 +2,20 @@
 --
 --     run                        the script of the source is run
 --     trace                      the same, and in place of the replies the trace of its run is put
+--     watch COLL TOKEN NODE..    the same as `run`, and then changes are put that nodes have behind a token
 --     chaos SEED EVENTS NODES    a generated script is run, and its summary put
 --
 -- SEED, EVENTS and NODES are one to twenty decimal digits: a number of 64 bits, one up to 5,000, and one from
 -- 1 to 7.
-use Rattle.std.specs.Prelude.{ℕ, Bool, true, false, ⊤, ◌≤◌, ◌&&◌, nat_le, nat_lt, List, [], ◌∷◌, length, Option, None, Some, codes, if◌then◌else◌}
+use Rattle.std.specs.Prelude.{ℕ, Bool, true, false, ⊤, ◌≤◌, ◌&&◌, nat_le, nat_lt, List, [], ◌∷◌, length, Option, None, Some, option_map, codes, if◌then◌else◌}
 use Rattle.std.specs.Char.{is_ascii_digit}
 use Rattle.std.specs.List.{list_all}
 use Rattle.std.specs.Str.{bytes_eq}
 use Rattle.std.specs.Str.Parse.{digits_value}
+use Rattle.change_words.specs.Asked.{watch_of}
+use Rattle.change_words.specs.declared.asked.Watch.{Watch}
 use Rattle.set_program.specs.declared.words.Task.{Task}
-use Rattle.set_program.specs.declared.words.Task.TheVariants.{Run, Trace, Chaos}
+use Rattle.set_program.specs.declared.words.Task.TheVariants.{Run, Trace, Chaos, Watch as Watches}
 
 abbrev pub if_within : (least most : ℕ) → ℕ → Option ℕ
 if_within least most number = if nat_le least number && nat_le number most then Some number else None
@@ -33,30 +36,57 @@ abbrev pub chaos_of : (seed events nodes : List ℕ) → Option Task
 chaos_of seed events nodes =
     with_numbers (number_word 0 18446744073709551615 seed) (number_word 0 5000 events) (number_word 1 7 nodes)
 
--- what one word asks for
-abbrev pub word_task : List ℕ → Option Task
-word_task name =
-    if bytes_eq name (codes "run") then Some Run
-    else if bytes_eq name (codes "trace") then Some Trace
+-- ---- each word, by those behind it
+
+-- a word that stands alone
+abbrev pub alone : Task → List (List ℕ) → Option Task
+alone task [] = Some task
+alone task (word ∷ words) = None
+
+abbrev pub chaos_task : List (List ℕ) → Option Task
+chaos_task [] = None
+chaos_task (seed ∷ []) = None
+chaos_task (seed ∷ events ∷ []) = None
+chaos_task (seed ∷ events ∷ nodes ∷ []) = chaos_of seed events nodes
+chaos_task (seed ∷ events ∷ nodes ∷ more ∷ others) = None
+
+abbrev pub watch_task : List (List ℕ) → Option Task
+watch_task [] = None
+watch_task (collection ∷ []) = None
+watch_task (collection ∷ token ∷ nodes) =
+    option_map (λ (watch : Watch). Watches watch) (watch_of collection token nodes)
+
+abbrev pub word_task : List ℕ → List (List ℕ) → Option Task
+word_task name words =
+    if bytes_eq name (codes "run") then alone Run words
+    else if bytes_eq name (codes "trace") then alone Trace words
+    else if bytes_eq name (codes "watch") then watch_task words
+    else if bytes_eq name (codes "chaos") then chaos_task words
     else None
 
 abbrev pub task_of : List (List ℕ) → Option Task
 task_of [] = None
-task_of (name ∷ []) = word_task name
-task_of (name ∷ seed ∷ []) = None
-task_of (name ∷ seed ∷ events ∷ []) = None
-task_of (name ∷ seed ∷ events ∷ nodes ∷ []) =
-    if bytes_eq name (codes "chaos") then chaos_of seed events nodes else None
-task_of (name ∷ seed ∷ events ∷ nodes ∷ more ∷ others) = None
+task_of (name ∷ words) = word_task name words
+
+-- ---- tasks
 
 -- what is generated has at most 5,000 events, in a set of 1 to 7 nodes
 abbrev pub IsBounded : Task → Type 0
 IsBounded Run = ⊤
 IsBounded Trace = ⊤
+IsBounded (Watches watch) = ⊤
 IsBounded (Chaos seed events nodes) = (events ≤ 5000) × (1 ≤ nodes) × (nodes ≤ 7)
 
 -- the script of a task is the source's
 abbrev pub is_of_source : Task → Bool
 is_of_source Run = true
 is_of_source Trace = true
+is_of_source (Watches watch) = true
 is_of_source (Chaos seed events nodes) = false
+
+-- the statuses in which a task may end where the source and the sink have no fault and a script is read
+abbrev pub may_end_in : Task → List ℕ
+may_end_in Run = 0 ∷ 1 ∷ 7 ∷ []
+may_end_in Trace = 0 ∷ 1 ∷ 7 ∷ []
+may_end_in (Watches watch) = 0 ∷ 1 ∷ 7 ∷ 9 ∷ []
+may_end_in (Chaos seed events nodes) = 0 ∷ 1 ∷ 7 ∷ []

@@ -23,7 +23,8 @@ use transcript::write_fault;
 /// How many bytes a script may have.
 const MAX_SCRIPT: usize = 8_388_608;
 
-const USAGE: &str = "usage: replset run | replset chaos SEED EVENTS NODES | replset trace\n";
+const USAGE: &str = "usage: replset run | replset chaos SEED EVENTS NODES \
+    | replset watch COLL TOKEN NODE... | replset trace\n";
 
 /// The task that the words ask for, and the script that is to be run. Where there is none, it is said why.
 pub fn read_script<S: Source, K: Sink>(
@@ -45,9 +46,11 @@ pub fn read_script<S: Source, K: Sink>(
     ensures steady_sink { K.steady sink.old → status_of result ≢ 5 }
     ensures no_disk { status_of result ≢ 7 }
 {
-    match read_task(words) {
+    let asked = read_task(alloc, words)?;
+    match asked {
         Some(Task::Run) => Ok((Task::Run, source_script(alloc, source, sink)?)),
         Some(Task::Trace) => Ok((Task::Trace, source_script(alloc, source, sink)?)),
+        Some(Task::Watch(watch)) => Ok((Task::Watch(watch), source_script(alloc, source, sink)?)),
         Some(
             Task::Chaos {
                 seed,

@@ -1,5 +1,5 @@
 // A script, played part after part.
-ghost use Rattle.std.specs.Prelude.{◌≡◌, ◌≢◌, ◌+◌, ◌≤◌, ◌<◌, true, [], length, Err, IsErrOf};
+ghost use Rattle.std.specs.Prelude.{◌≡◌, ◌≢◌, ◌+◌, ◌≤◌, ◌<◌, true, [], length, Err, IsErrOf, OnOk};
 ghost use Rattle.std.specs.List.{AllPass};
 ghost use Rattle.rs_io.specs.Fault.{HasCause};
 ghost use Rattle.fault_script.specs.Script.{lines_of, lines_in};
@@ -37,6 +37,7 @@ pub fn play<K: Sink, D: Disk + Send, G: Gate + Sync, R: Threads + Wait + Sync>(
     ensures ends { EndsRun parts (K.held sink.old) (K.held sink.new) result.0 result.1 }
     ensures sizes { result.1.sizes ≡ world.sizes }
     ensures disks { DisksGo D.state parts world.disks result.1 (result.0 ≡ Err Stop.Memory) }
+    ensures whole { OnOk result.0 (world.whole ≡ true → result.1.whole ≡ true) }
     ensures cause { HasCause (K.faults sink.old) (K.faults sink.new) (IsErrOf result.0 Stop.WriteFault) }
     ensures steady { K.steady sink.old → K.steady sink.new × (result.0 ≢ Err Stop.WriteFault) }
 {

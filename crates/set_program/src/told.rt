@@ -1,12 +1,12 @@
-// A script, played for its replies, for its trace or for its summary.
-ghost use Rattle.std.specs.Prelude.{◌≡◌, ◌≢◌, ◌≤◌, [], length, Err, IsErrOf};
+// A script, played for its replies, for changes behind it, for its trace or for its summary.
+ghost use Rattle.std.specs.Prelude.{◌≡◌, ◌≢◌, ◌≤◌, [], length, true, Err, IsErrOf};
 ghost use Rattle.std.specs.List.{AllPass};
 ghost use Rattle.rs_io.specs.Fault.{HasCause};
 ghost use Rattle.fault_script.specs.Script.{lines_in, sizes_of};
 ghost use Rattle.set_model.specs.Run.{run};
 ghost use Rattle.transcript.specs.Summaries.{summary_text};
 ghost use Rattle.set_program.specs.Headline.{EndsTask, EndsWithSummary, summary_put};
-ghost use Rattle.set_program.specs.Parts.{can_be_run, DisksGo};
+ghost use Rattle.set_program.specs.Parts.{can_be_run, DisksEnd, DisksGo};
 ghost use Rattle.set_program.specs.Plays.{PutsText};
 
 use crate::play::play;
@@ -14,6 +14,7 @@ use crate::steps::step_parts;
 use crate::stop::Stop;
 use crate::summary::summary;
 use crate::traced::play_traced;
+use crate::watched::play_watched;
 use crate::words::Task;
 use batch_applier::Gate;
 use fault_script::{Parts, Script};
@@ -38,18 +39,20 @@ pub fn play_task<K: Sink, D: Disk + Send, G: Gate + Sync, R: Threads + Wait + Sy
     world: World<D>,
 ) -> (Result<(), Stop>, World<D>)
     requires start { world.history ≡ [] }
+    requires whole { world.whole ≡ true }
     requires script { world.sizes ≡ sizes_of script }
     requires few { length (lines_in script.parts) ≤ 200000 }
     requires fits { AllPass (can_be_run world.sizes.nodes) script.parts }
     ensures ends { EndsTask task script.parts (K.held sink.old) (K.held sink.new) result.0 result.1 }
     ensures sizes { result.1.sizes ≡ world.sizes }
-    ensures disks { DisksGo D.state script.parts world.disks result.1 (result.0 ≡ Err Stop.Memory) }
+    ensures disks { DisksEnd D.state task script.parts world.disks result.1 (result.0 ≡ Err Stop.Memory) }
     ensures cause { HasCause (K.faults sink.old) (K.faults sink.new) (IsErrOf result.0 Stop.WriteFault) }
     ensures steady { K.steady sink.old → K.steady sink.new × (result.0 ≢ Err Stop.WriteFault) }
 {
     match task {
         Task::Run => play(rt, alloc, gate, script.parts, sink, world),
         Task::Trace => play_traced(rt, alloc, gate, script, sink, world),
+        Task::Watch(watch) => play_watched(rt, alloc, gate, watch, script, sink, world),
         Task::Chaos { .. } => play_told(rt, alloc, gate, script.parts, sink, world),
     }
 }

@@ -1,11 +1,15 @@
 // What the words behind the program's name ask for.
-ghost use Rattle.std.specs.Prelude.{◌≡◌, IfSome, map, string_bytes};
+ghost use Rattle.std.specs.Prelude.{◌≡◌, IfOk, IfSome, map, string_bytes};
 ghost use Rattle.std.specs.Char.{is_ascii_digit};
 ghost use Rattle.std.specs.List.{list_all};
-ghost use Rattle.set_program.specs.Tasks.{IsBounded, chaos_of, number_word, task_of, word_task};
+ghost use Rattle.set_program.specs.Tasks.{IsBounded, alone, chaos_of, chaos_task, number_word, task_of, watch_task, word_task};
+
+use bson_doc::Mem;
+use change_words::{Watch, read_watch};
+use std::alloc::Global;
 
 /// What is to be done.
-#[derive(Clone, Copy)]
+#[derive(Drop)]
 pub enum Task {
     /// The script of the source is run.
     Run,
@@ -13,29 +17,63 @@ pub enum Task {
     Trace,
     /// A generated script is run, and its summary put.
     Chaos { seed: u64, events: u32, nodes: u32 },
+    /// The script of the source is run, and then it is told which changes nodes have behind a token.
+    Watch(Watch),
 }
 
 /// The task that some words ask for; none where they ask for nothing.
-pub fn read_task(words: &[String]) -> Option<Task>
-    ensures asked { result ≡ task_of (map string_bytes words.now) }
-    ensures bounds { IfSome result IsBounded }
+pub fn read_task(alloc: Global, words: &[String]) -> Mem<Option<Task>>
+    ensures asked { IfOk result (λ task. task ≡ task_of (map string_bytes words.now)) }
+    ensures bounds { IfOk result (λ task. IfSome task IsBounded) }
 {
     match words {
-        [name] => alone(name.as_str()),
-        [name, seed, events, nodes] if name.as_str() == "chaos" => {
-            chaos(seed.as_str(), events.as_str(), nodes.as_str())
-        }
-        _ => None,
+        [name, others @ ..] => word_task(alloc, name.as_str(), others),
+        [] => Ok(None),
     }
 }
 
-/// The task that one word asks for.
-fn alone(name: &str) -> Option<Task>
-    ensures { result ≡ word_task name.now }
+/// The task that one word asks for, by those behind it.
+fn word_task(alloc: Global, name: &str, words: &[String]) -> Mem<Option<Task>>
+    ensures asked { IfOk result (λ task. task ≡ word_task name.now (map string_bytes words.now)) }
+    ensures bounds { IfOk result (λ task. IfSome task IsBounded) }
 {
     match name {
-        "run" => Some(Task::Run),
-        "trace" => Some(Task::Trace),
+        "run" => Ok(alone(Task::Run, words)),
+        "trace" => Ok(alone(Task::Trace, words)),
+        "watch" => watch_task(alloc, words),
+        "chaos" => Ok(chaos_task(words)),
+        _ => Ok(None),
+    }
+}
+
+/// The task of a word that stands alone.
+fn alone(task: Task, words: &[String]) -> Option<Task>
+    requires bounds { IsBounded task }
+    ensures asked { result ≡ alone task (map string_bytes words.now) }
+    ensures bounds { IfSome result IsBounded }
+{
+    if words.is_empty() { Some(task) } else { None }
+}
+
+fn watch_task(alloc: Global, words: &[String]) -> Mem<Option<Task>>
+    ensures asked { IfOk result (λ task. task ≡ watch_task (map string_bytes words.now)) }
+    ensures bounds { IfOk result (λ task. IfSome task IsBounded) }
+{
+    match words {
+        [collection, token, nodes @ ..] => {
+            let watch = read_watch(alloc, collection.as_str(), token.as_str(), nodes)?;
+            Ok(watch.map(Task::Watch))
+        }
+        _ => Ok(None),
+    }
+}
+
+fn chaos_task(words: &[String]) -> Option<Task>
+    ensures asked { result ≡ chaos_task (map string_bytes words.now) }
+    ensures bounds { IfSome result IsBounded }
+{
+    match words {
+        [seed, events, nodes] => chaos(seed.as_str(), events.as_str(), nodes.as_str()),
         _ => None,
     }
 }

@@ -18,7 +18,7 @@ returns-in-Ok-clause-runs g c = (c.play_task-ended.ensures.sizes ∙ c.in-Ok.ens
 pub returns-in-Ok-clause-disks : goal.returns-in-Ok-clause-disks
 returns-in-Ok-clause-disks g c =
     let opened : Opens g.D.Disk.state c.args.script.nodes (Ok tt) c.args.disks.items c.in-Ok.world.disks = search rules in
-    set_leaves g.D.Disk.state c.args.script c.args.disks.items c.in-Ok.world c.play_task-ended.result.1 c.play_task-ended.result.0
+    set_leaves g.D.Disk.state c.args.task c.args.script c.args.disks.items c.in-Ok.world c.play_task-ended.result.1 c.play_task-ended.result.0
     c.in-Ok.ensures.sizes c.play_task-ended.ensures.sizes opened c.play_task-ended.ensures.disks
 
 pub returns-in-Err-clause-runs : goal.returns-in-Err-clause-runs
@@ -27,4 +27,4 @@ returns-in-Err-clause-runs g c =
 
 pub returns-in-Err-clause-disks : goal.returns-in-Err-clause-disks
 returns-in-Err-clause-disks g c =
-    refused_leaves g.D.Disk.state c.args.script c.args.disks.items c.in-Err.error c.from.result c.new.result c.in-Err.disks c.from.ensures c.in-Err.ensures.refused c.in-Err.ensures.handed_back
+    refused_leaves g.D.Disk.state c.args.task c.args.script c.args.disks.items c.in-Err.error c.from.result c.new.result c.in-Err.disks c.from.ensures c.in-Err.ensures.refused c.in-Err.ensures.handed_back

@@ -10,7 +10,7 @@ returns-in_err-push-in-Ok g c =
 pub returns-in_ok-push-in-Ok : goal.returns-in_ok-push-in-Ok
 returns-in_ok-push-in-Ok g c =
     line_stepped g.D.Disk.state c.args.line c.args.command c.in-Ok.reply c.args.world.now c.take.new.self c.args.replies.now.items c.push.new.self.items
-    c.in-Ok.ensures.step c.in-Ok.ensures.sizes c.in_ok-push-in-Ok.ensures.items
+    c.in-Ok.ensures.step c.in-Ok.ensures.sizes c.in-Ok.ensures.whole c.in_ok-push-in-Ok.ensures.items
 
 pub returns-in-Err-Memory : goal.returns-in-Err-Memory
 returns-in-Err-Memory g c =

@@ -1,6 +1,6 @@
 use Rattle.std.proofs.Common.{refl}
 use Rattle.set_program.proofs.OpenLemmas.{go_out}
-use Rattle.set_program.proofs.PlayLemmas.{Keeps-same}
+use Rattle.change_watch.proofs.KeepLemmas.{Keeps-same}
 use Rattle.set_program.proofs.ToldLemmas.{replies_few, told_ends}
 use Rattle.set_program.proofs.told.play_told.Goals as goal
 

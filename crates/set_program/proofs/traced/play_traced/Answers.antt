@@ -1,6 +1,6 @@
 use Rattle.std.proofs.Common.{refl, inl, ◌∙◌}
 use Rattle.set_program.proofs.OpenLemmas.{go_out}
-use Rattle.set_program.proofs.PlayLemmas.{Keeps-same}
+use Rattle.change_watch.proofs.KeepLemmas.{Keeps-same}
 use Rattle.set_program.proofs.TracedLemmas.{sizes_told, traced_ends}
 use Rattle.set_program.proofs.traced.play_traced.Goals as goal
 

@@ -1,0 +1,55 @@
+//! Changes that are asked for behind example scripts.
+
+use crate::runs::run;
+use anyhow::Result;
+use std::alloc::Global;
+use std::sync::Wait;
+use std::thread::Threads;
+
+/// The scripts beside which words stand that ask for changes, and what these print.
+pub const SCRIPTS: [&str; 4] = [
+    "acknowledged",
+    "stream_behind",
+    "stream_failover",
+    "stream_not_committed",
+];
+
+/// What a refusal begins with.
+const REFUSED: &str = "watch refused";
+
+/// Whether each row of a table puts its lines behind the transcript. A row has words, and below them lines;
+/// an empty line ends it.
+pub fn are_as_written<R: Threads + Wait + Sync>(
+    rt: &R,
+    alloc: Global,
+    script: &str,
+    transcript: &str,
+    table: &str,
+) -> Result<bool> {
+    for row in table.split("\n\n") {
+        let Some((words, lines)) = row.split_once('\n') else {
+            return Ok(false);
+        };
+        if !is_told(rt, alloc, script, words, transcript, lines.trim_end())? {
+            return Ok(false);
+        }
+    }
+    Ok(true)
+}
+
+fn is_told<R: Threads + Wait + Sync>(
+    rt: &R,
+    alloc: Global,
+    script: &str,
+    words: &str,
+    transcript: &str,
+    lines: &str,
+) -> Result<bool> {
+    let mut asked = Vec::new(alloc);
+    for word in words.split(' ') {
+        asked.push(word)?;
+    }
+    let status = if lines.contains(REFUSED) { 9 } else { 0 };
+    let told = format!(in alloc; "{transcript}{lines}\n")?;
+    Ok(run(rt, alloc, &asked, script.as_bytes().to_vec(alloc)?)?.is(status, &told))
+}
