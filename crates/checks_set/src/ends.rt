@@ -41,10 +41,11 @@ fn scripts_are_answered(rt: HostRuntime) -> Result<(), Fail> {
 }
 
 /// Words that ask for nothing: too few, too many, other ones, and numbers that are too long or out of range.
-const WRONG_WORDS: [&[&str]; 10] = [
+const WRONG_WORDS: [&[&str]; 11] = [
     &[],
     &["run", "x"],
     &["trace", "x"],
+    &["watch", "t", "start"],
     &["chaos", "1", "0"],
     &["chaos", "1", "0", "1", "1"],
     &["chaos", "18446744073709551616", "0", "1"],
@@ -54,15 +55,16 @@ const WRONG_WORDS: [&[&str]; 10] = [
     &["chaos", "1", "0", "0"],
 ];
 
+/// What is put where the words ask for nothing.
+const USAGE: &str = "usage: replset run | replset chaos SEED EVENTS NODES \
+    | replset watch COLL TOKEN NODE... | replset trace\n";
+
 #[test]
 fn wrong_words_are_refused(rt: HostRuntime) -> Result<(), Fail> {
     for words in WRONG_WORDS {
         let (outcome, sink) = ran(&rt, rt.alloc(), words, ROW.as_bytes(), &[], &[])?;
         assert_eq!(rt; outcome.status, 2);
-        assert_eq!(rt;
-            sink.bytes(),
-            b"usage: replset run | replset chaos SEED EVENTS NODES | replset trace\n".as_slice()
-        );
+        assert_eq!(rt; sink.bytes(), USAGE.as_bytes());
     }
     Ok(())
 }
