@@ -22,7 +22,7 @@ status: 0 the script was run
         5 the output could not be written
         6 the script has more than 8,388,608 bytes
         7 a disk failed while the set was opened
-        9 a node gave no changes; the last line tells why
+        9 a node refused to tell changes; the last line tells why
         69 there is no toolchain to build the program
         70 the program could not be built, proved or installed
 """
