@@ -7,7 +7,7 @@ use Rattle.rs_optime.specs.declared.optime.OpTime.{OpTime}
 use Rattle.set_model.specs.declared.command.Event.{Event}
 use Rattle.set_model.specs.Run.{Sizes}
 use Rattle.change_stream.specs.Asking.{Fails, Tells}
-use Rattle.change_stream.specs.Calls.{Call, answer, entries_of, joined, token_behind}
+use Rattle.change_stream.specs.Calls.{Call, answer, entries_of, given, joined, token_behind}
 use Rattle.change_stream.specs.declared.error.WatchError.{WatchError}
 use Rattle.change_stream.specs.declared.error.WatchError.TheVariants as errors
 use Rattle.change_words.specs.Texts.{change_lines, entry_lines}
@@ -17,7 +17,7 @@ use Rattle.change_watch.specs.Causes.{of_stream}
 use Rattle.change_watch.specs.declared.stop.WatchStop.{WatchStop}
 use Rattle.change_watch.specs.declared.stop.WatchStop.TheVariants.{Refused, WriteFault, Memory}
 use Rattle.change_watch.specs.Following.{AreMade, AskedSo, AsksAll, AsksOnce, AsksSome, BreaksAt, EndsSo, GoesBy, PutsLines, PutsUpTo, RefusesAt, StaysSo, gave_nothing, left_of, most, still_to_ask}
-use Rattle.change_watch.proofs.LineLemmas.{both_put, none_put, puts_on}
+use Rattle.change_watch.proofs.LineLemmas.{behind_on, both_put, none_put}
 
 -- ---- calls behind calls
 
@@ -94,7 +94,7 @@ module _ (alone : Bool) (sizes : Sizes) where
 
   ends_before : (others : List ℕ) (token : OpTime) (left : List ℕ) (old new : List Event) (stop : WatchStop) → EndsSo alone sizes token left old new (Err stop) → EndsSo alone sizes token (left ++ others) old new (Err stop)
   ends_before others token left old new (Refused why) ends = refuses_before others token left old new why ends
-  ends_before others token left old new WriteFault ends = ends
+  ends_before others token left old new WriteFault never = absurd never
   ends_before others token left old new Memory ends = breaks_before others token left old new ends
 
   -- ---- some are asked, and then more
@@ -105,7 +105,7 @@ module _ (alone : Bool) (sizes : Sizes) where
       → AsksSome alone sizes left_by collection token nodes end old new held now result
   asks_on left_by collection token mid end nodes left old between new held told now (Ok answered) (lines, asked, put) (more, next, puts) =
       (lines ++ more, asked_on collection token mid end nodes left (left_by answered) old between new lines more asked next, both_put held told now lines more put puts)
-  asks_on left_by collection token mid end nodes left old between new held told now (Err stop) (lines, asked, put) (more, stops, puts) = (
+  asks_on left_by collection token mid end nodes left old between new held told now (Err stop) (lines, asked, put) (inl (more, stops, puts)) = inl (
     lines ++ more,
     record {
       left = stops.left;
@@ -113,14 +113,26 @@ module _ (alone : Bool) (sizes : Sizes) where
       asked = asked_on collection token mid end nodes left stops.left old between stops.between lines more asked stops.asked;
       ends = stops.ends;
     },
-    puts_on held told now lines more stop put puts,
+    both_put held told now lines more put puts,
   )
+  asks_on left_by collection token mid end nodes left old between new held told now (Err stop) (lines, asked, put) (inr loses) = inr (record {
+    before = loses.before;
+    left = loses.left;
+    between = loses.between;
+    lines = lines ++ loses.lines;
+    asked = asked_on collection token mid loses.before nodes left loses.left old between loses.between lines loses.lines asked loses.asked;
+    last = loses.last;
+    still = loses.still;
+    goes = loses.goes;
+    made = loses.made;
+    put = behind_on held told now lines loses.lines (change_lines collection (given loses.before loses.last)) stop put loses.put;
+  })
 
   -- the first of more nodes are asked
   pub asks_before : (others : List ℕ) (collection : List ℕ) (token end : OpTime) (nodes : List ℕ) (old new : List Event) (held now : Option (List ℕ)) (result : Result (Unit {0}) WatchStop)
       → AsksAll alone sizes collection token nodes end old new held now result → AsksSome alone sizes {A = Unit {0}} (λ (done : Unit {0}). others) collection token (nodes ++ others) end old new held now result
   asks_before others collection token end nodes old new held now (Ok done) (lines, asked, put) = (lines, asked_before others collection token end nodes [] old new lines asked, put)
-  asks_before others collection token end nodes old new held now (Err stop) (lines, stops, put) = (
+  asks_before others collection token end nodes old new held now (Err stop) (inl (lines, stops, put)) = inl (
     lines,
     record {
       left = stops.left ++ others;
@@ -130,6 +142,18 @@ module _ (alone : Bool) (sizes : Sizes) where
     },
     put,
   )
+  asks_before others collection token end nodes old new held now (Err stop) (inr loses) = inr (record {
+    before = loses.before;
+    left = loses.left ++ others;
+    between = loses.between;
+    lines = loses.lines;
+    asked = asked_before others collection token loses.before nodes loses.left old loses.between loses.lines loses.asked;
+    last = loses.last;
+    still = loses.still ++ others;
+    goes = goes_before others loses.before loses.left (loses.last ∷ []) end loses.still loses.goes;
+    made = loses.made;
+    put = loses.put;
+  })
 
   nothing_asked : (collection : List ℕ) (token : OpTime) (nodes : List ℕ) (old : List Event) → AskedSo alone sizes collection token nodes token nodes old old []
   nothing_asked collection token nodes old = record { calls = []; goes = (refl, refl); made = refl; lines_are = refl }
@@ -140,23 +164,23 @@ module _ (alone : Bool) (sizes : Sizes) where
   asks_none collection token nodes old held = ([], nothing_asked collection token nodes old, none_put held)
 
   stops_first : {A : Type 0} (left_by : A → List ℕ) (collection : List ℕ) (token : OpTime) (nodes : List ℕ) (old new : List Event) (held : Option (List ℕ)) (stop : WatchStop)
-      → EndsSo alone sizes token nodes old new (Err stop) → PutsUpTo held held [] stop → AsksSome alone sizes left_by collection token nodes token old new held held (Err stop)
-  stops_first left_by collection token nodes old new held stop ends put =
-      ([], record { left = nodes; between = old; asked = nothing_asked collection token nodes old; ends = ends }, put)
+      → EndsSo alone sizes token nodes old new (Err stop) → AsksSome alone sizes left_by collection token nodes token old new held held (Err stop)
+  stops_first left_by collection token nodes old new held stop ends =
+      inl ([], record { left = nodes; between = old; asked = nothing_asked collection token nodes old; ends = ends }, none_put held)
 
   -- the set hasn't got the node
   pub no_such_node : (collection : List ℕ) (token : OpTime) (node : ℕ) (old : List Event) (held : Option (List ℕ)) → sizes.nodes ≤ node
       → AsksAll alone sizes collection token (node ∷ []) token old old held held (Err (Refused NoSuchNode))
-  no_such_node collection token node old held past = stops_first (λ (done : Unit {0}). []) collection token (node ∷ []) old old held (Refused NoSuchNode) (past, refl) (none_put held)
+  no_such_node collection token node old held past = stops_first (λ (done : Unit {0}). []) collection token (node ∷ []) old old held (Refused NoSuchNode) (past, refl)
 
   -- ---- one call
 
   once_fails_here : (collection : List ℕ) (token : OpTime) (node : ℕ) (old new : List Event) (held : Option (List ℕ)) (error : WatchError) → Fails alone sizes old new token node most error
       → AsksOnce alone sizes collection node token token old new held held (Err (of_stream error))
-  once_fails_here collection token node old new held errors.NodeDown fails = stops_first (left_of node) collection token (node ∷ []) old new held (Refused NodeDown) fails (none_put held)
-  once_fails_here collection token node old new held errors.UnknownToken fails = stops_first (left_of node) collection token (node ∷ []) old new held (Refused UnknownToken) fails (none_put held)
-  once_fails_here collection token node old new held errors.HistoryFull fails = stops_first (left_of node) collection token (node ∷ []) old new held Memory (inr (inl fails.0)) (0, none_put held)
-  once_fails_here collection token node old new held errors.Memory fails = stops_first (left_of node) collection token (node ∷ []) old new held Memory (inr fails) (0, none_put held)
+  once_fails_here collection token node old new held errors.NodeDown fails = stops_first (left_of node) collection token (node ∷ []) old new held (Refused NodeDown) fails
+  once_fails_here collection token node old new held errors.UnknownToken fails = stops_first (left_of node) collection token (node ∷ []) old new held (Refused UnknownToken) fails
+  once_fails_here collection token node old new held errors.HistoryFull fails = stops_first (left_of node) collection token (node ∷ []) old new held Memory (inr (inl fails.0))
+  once_fails_here collection token node old new held errors.Memory fails = stops_first (left_of node) collection token (node ∷ []) old new held Memory (inr fails)
 
   pub once_fails : (collection : List ℕ) (token end : OpTime) (node : ℕ) (old new : List Event) (held : Option (List ℕ)) (error : WatchError) → end ≡ token → Fails alone sizes old new token node most error
       → AsksOnce alone sizes collection node token end old new held held (Err (of_stream error))
@@ -183,18 +207,24 @@ module _ (alone : Bool) (sizes : Sizes) where
       put,
     )
 
-    ends_there : (left : List ℕ) → BreaksAt alone sizes end left new new
-    ends_there [] = refl
-    ends_there (node ∷ nodes) = inl refl
-
-    once_stops_so : (held now : Option (List ℕ)) (stop : WatchStop) → EndsSo alone sizes end (still_to_ask node [] entries) new new (Err stop) → PutsUpTo held now (change_lines collection entries) stop → AsksOnce alone sizes collection node token end old new held now (Err stop)
-    once_stops_so held now stop ends put =
-        (change_lines collection entries, record { left = still_to_ask node [] entries; between = new; asked = call_asked; ends = ends }, put)
-
+    -- of its changes not all are put
     pub once_stops : (held now : Option (List ℕ)) (stop : WatchStop) → PutsLines held now (change_lines collection entries) (Err stop) → AsksOnce alone sizes collection node token end old new held now (Err stop)
-    once_stops held now (Refused why) never = absurd never
-    once_stops held now WriteFault put = once_stops_so held now WriteFault refl put
-    once_stops held now Memory put = once_stops_so held now Memory (ends_there (still_to_ask node [] entries)) put
+    once_stops held now stop lost = inr (record {
+      before = token;
+      left = node ∷ [];
+      between = old;
+      lines = [];
+      asked = nothing_asked collection token (node ∷ []) old;
+      last = tells.call;
+      still = still_to_ask node [] entries;
+      goes = (tells.node_is, tells.most_is, (entries, tells.told_is, (end_is, refl)));
+      made = (new, tells.asks, refl);
+      put = (
+        held,
+        none_put held,
+        subst (λ (es : List Entry). PutsUpTo held now (change_lines collection es) stop) (sym (ap (λ (r : Result (List Entry) WatchError). entries_of r) tells.told_is)) lost,
+      );
+    })
 
   -- ---- calls at a node, until it has nothing more
 
@@ -221,7 +251,7 @@ module _ (alone : Bool) (sizes : Sizes) where
       → AsksSome alone sizes {A = Unit {0}} (λ (done : Unit {0}). node ∷ []) collection token (node ∷ []) end old new held now (Ok tt) → AsksAll alone sizes collection token (node ∷ []) end old new held now (Err Memory)
   breaks_between collection token end node old new held now so_far =
       asks_on (λ (done : Unit {0}). []) collection token end end (node ∷ []) (node ∷ []) old new new held now now (Err Memory) so_far
-      (stops_first (λ (done : Unit {0}). []) collection end (node ∷ []) new new now Memory (inl refl) (0, none_put now))
+      (stops_first (λ (done : Unit {0}). []) collection end (node ∷ []) new new now Memory (inl refl))
 
 -- ---- node after node
 

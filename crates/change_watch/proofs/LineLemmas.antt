@@ -11,10 +11,11 @@ use Rattle.rs_io.specs.declared.sink.SinkError.{SinkError}
 use Rattle.rs_io.specs.declared.sink.SinkError.TheVariants.{Failed, Memory as NoRoom}
 use Rattle.oplog_entry.specs.declared.entry.Entry.{Entry}
 use Rattle.change_words.specs.Texts.{change_lines, change_text, entry_lines, is_of}
+use Rattle.change_words.specs.declared.refusal.WatchRefusal.{WatchRefusal}
 use Rattle.change_watch.specs.Causes.{of_sink}
 use Rattle.change_watch.specs.declared.stop.WatchStop.{WatchStop}
 use Rattle.change_watch.specs.declared.stop.WatchStop.TheVariants.{Refused, WriteFault, Memory}
-use Rattle.change_watch.specs.Following.{PutsLines, PutsUpTo, together}
+use Rattle.change_watch.specs.Following.{PutsBehind, PutsLines, PutsUpTo, together}
 use Rattle.change_watch.proofs.KeepLemmas.{Appends-nothing, Keeps-same}
 
 -- no line is put
@@ -50,7 +51,7 @@ both_put held mid now lines more put next =
 
 -- Behind lines that were put more of them are put, up to a stop.
 pub puts_on : (held mid now : Option (List ℕ)) (lines more : List (List ℕ)) (stop : WatchStop) → Appends held mid (together lines) → PutsUpTo mid now more stop → PutsUpTo held now (lines ++ more) stop
-puts_on held mid now lines more (Refused why) put next = both_put held mid now lines more put next
+puts_on held mid now lines more (Refused why) put never = absurd never
 puts_on held mid now lines more WriteFault put (count, next) =
     let is : take (length (together lines) + count) (together (lines ++ more)) ≡ together lines ++ take count (together more) =
     ap (λ (text : List ℕ). take (length (together lines) + count) text) (together_append lines more) ∙ take-append-add (together lines) (together more) count in
@@ -60,17 +61,23 @@ puts_on held mid now lines more Memory put (count, next) =
     ap (λ (ls : List (List ℕ)). together ls) (take-append-add lines more count) ∙ together_append lines (take count more) in
     (length lines + count, subst (λ (text : List ℕ). Appends held now text) (sym is) (Appends-append held mid now (together lines) (together (take count more)) put next))
 
--- the same, where what puts them refuses nothing
-pub lines_on : (held mid now : Option (List ℕ)) (lines more : List (List ℕ)) (result : Result (Unit {0}) WatchStop) → Appends held mid (together lines) → PutsLines mid now more result → PutsLines held now (lines ++ more) result
-lines_on held mid now lines more (Ok done) put next = both_put held mid now lines more put next
-lines_on held mid now lines more (Err (Refused why)) put never = absurd never
-lines_on held mid now lines more (Err WriteFault) put next = puts_on held mid now lines more WriteFault put next
-lines_on held mid now lines more (Err Memory) put next = puts_on held mid now lines more Memory put next
+-- Lines are put in front of lines that are put, and of those behind them not all.
+pub behind_on : (held mid now : Option (List ℕ)) (lines first behind : List (List ℕ)) (stop : WatchStop) → Appends held mid (together lines) → PutsBehind mid now first behind stop → PutsBehind held now (lines ++ first) behind stop
+behind_on held mid now lines first behind stop put (told, next, lost) = (told, both_put held mid told lines first put next, lost)
 
-pub puts_to : (held now : Option (List ℕ)) (lines : List (List ℕ)) (stop : WatchStop) → PutsLines held now lines (Err stop) → PutsUpTo held now lines stop
-puts_to held now lines (Refused why) never = absurd never
-puts_to held now lines WriteFault put = put
-puts_to held now lines Memory put = put
+pub none_refused : (held now : Option (List ℕ)) (first behind : List (List ℕ)) (why : WatchRefusal) → PutsBehind held now first behind (Refused why) → ⊥
+none_refused held now first behind why (told, put, never) = never
+
+kept_up_to : (held mid now : Option (List ℕ)) (lines : List (List ℕ)) (stop : WatchStop) → PutsUpTo held mid lines stop → Appends mid now [] → PutsUpTo held now lines stop
+kept_up_to held mid now lines (Refused why) never kept = absurd never
+kept_up_to held mid now lines WriteFault (count, put) kept =
+    (count, subst (λ (text : List ℕ). Appends held now text) (append-nil (take count (together lines))) (Appends-append held mid now (take count (together lines)) [] put kept))
+kept_up_to held mid now lines Memory (count, put) kept =
+    (count, subst (λ (text : List ℕ). Appends held now text) (append-nil (together (take count lines))) (Appends-append held mid now (together (take count lines)) [] put kept))
+
+-- nothing more is put
+pub behind_kept : (held mid now : Option (List ℕ)) (first behind : List (List ℕ)) (stop : WatchStop) → PutsBehind held mid first behind stop → Appends mid now [] → PutsBehind held now first behind stop
+behind_kept held mid now first behind stop (told, put, lost) kept = (told, put, kept_up_to told mid now behind stop lost kept)
 
 -- where some lines stop, later ones aren't put
 pub puts_front : (held now : Option (List ℕ)) (lines more : List (List ℕ)) (stop : WatchStop) → PutsLines held now lines (Err stop) → PutsUpTo held now (lines ++ more) stop

@@ -7,7 +7,7 @@ use Rattle.rs_optime.specs.declared.optime.OpTime.{OpTime}
 use Rattle.set_model.specs.declared.command.Event.{Event}
 use Rattle.set_model.specs.Run.{Sizes}
 use Rattle.change_stream.specs.Asking.{Asks, Fails, IsRefused, Tells}
-use Rattle.change_stream.specs.Calls.{Call, answer, joined, token_behind}
+use Rattle.change_stream.specs.Calls.{Call, answer, given, joined, token_behind}
 use Rattle.change_stream.specs.declared.error.WatchError.TheVariants as errors
 use Rattle.change_words.specs.declared.asked.Watch.{Watch}
 use Rattle.change_words.specs.declared.refusal.WatchRefusal.{WatchRefusal}
@@ -20,20 +20,24 @@ use Rattle.change_words.specs.Texts.{change_lines, refusal_text, resume_text}
 abbrev pub together : List (List ℕ) → List ℕ
 together lines = flat_map (λ (line : List ℕ). line) lines
 
--- Lines are put one after another, up to a stop. Out of memory, some first lines are put whole; where the
--- sink fails, a front of them. A refusal comes behind them.
+-- Of some lines not all are put: out of memory, some first ones; where the sink fails, a front of their
+-- bytes. What puts lines refuses nothing.
 abbrev pub PutsUpTo : Option (List ℕ) → Option (List ℕ) → List (List ℕ) → WatchStop → Type 0
-PutsUpTo held now lines (Refused why) = Appends held now (together lines)
+PutsUpTo held now lines (Refused why) = ⊥
 PutsUpTo held now lines WriteFault = (count : ℕ) × Appends held now (take count (together lines))
 PutsUpTo held now lines Memory = (count : ℕ) × Appends held now (together (take count lines))
 
--- all these lines are put, or not all; what puts them refuses nothing
+-- all these lines are put, or not all
 abbrev pub PutsLines : Option (List ℕ) → Option (List ℕ) → List (List ℕ) → Result (Unit {0}) WatchStop
     → Type 0
 PutsLines held now lines (Ok done) = Appends held now (together lines)
-PutsLines held now lines (Err (Refused why)) = ⊥
-PutsLines held now lines (Err WriteFault) = PutsUpTo held now lines WriteFault
-PutsLines held now lines (Err Memory) = PutsUpTo held now lines Memory
+PutsLines held now lines (Err stop) = PutsUpTo held now lines stop
+
+-- all of the first lines are put, and of those behind them not all
+abbrev pub PutsBehind : Option (List ℕ) → Option (List ℕ) → List (List ℕ) → List (List ℕ) → WatchStop
+    → Type 0
+PutsBehind held now first behind stop =
+    (told : Option (List ℕ)) × Appends held told (together first) × PutsUpTo told now behind stop
 
 -- the line of a refusal
 abbrev pub stop_lines : WatchStop → List (List ℕ)
@@ -100,43 +104,13 @@ module _ (alone : Bool) (sizes : Sizes) where
     BreaksAt [] old new = new ≡ old
     BreaksAt (node ∷ others) old new = (new ≡ old) ⊎ Fails alone sizes old new token node most errors.Memory
 
-    -- what comes behind the calls, by the nodes that are left then: nothing, or what stopped the next one
+    -- What comes behind the calls, by the nodes that are left then: nothing, or what stopped the next one.
+    -- The sink stops no call.
     abbrev pub EndsSo : List ℕ → List Event → List Event → Result (Unit {0}) WatchStop → Type 0
     EndsSo left old new (Ok done) = (left ≡ []) × (new ≡ old)
     EndsSo left old new (Err (Refused why)) = RefusesAt left old new why
-    EndsSo left old new (Err WriteFault) = new ≡ old
+    EndsSo left old new (Err WriteFault) = ⊥
     EndsSo left old new (Err Memory) = BreaksAt left old new
-
-  -- From the old events to the new ones, some calls were answered, and then came this end. These are the
-  -- lines to be told: the changes that the calls gave, and behind them where to resume, or the refusal.
-  pub record Watched (watch : Watch) (old new : List Event) (ended : Result (Unit {0}) WatchStop)
-      (lines : List (List ℕ)) : Type 0 where
-    pub calls : List Call
-    pub token : OpTime
-    pub left : List ℕ
-    pub goes : GoesBy watch.token watch.nodes calls token left
-    pub between : List Event
-    pub made : AreMade old calls between
-    pub ends : EndsSo token left between new ended
-    pub lines_are : lines ≡ change_lines watch.collection (joined watch.token calls) ++ last_lines token ended
-
-  -- What is put of these lines: all, or out of memory, or where the sink fails, some. Then the end may be
-  -- any.
-  abbrev pub Follows : Watch → List Event → List Event → Option (List ℕ) → Option (List ℕ)
-      → Result (Unit {0}) WatchStop → Type 0
-  Follows watch old new held now (Ok done) =
-      (lines : List (List ℕ)) × Watched watch old new (Ok done) lines × Appends held now (together lines)
-  Follows watch old new held now (Err (Refused why)) =
-      (lines : List (List ℕ)) × Watched watch old new (Err (Refused why)) lines
-      × Appends held now (together lines)
-  Follows watch old new held now (Err Memory) =
-      (ended : Result (Unit {0}) WatchStop) × (lines : List (List ℕ)) × Watched watch old new ended lines
-      × PutsUpTo held now lines Memory
-  Follows watch old new held now (Err WriteFault) =
-      (ended : Result (Unit {0}) WatchStop) × (lines : List (List ℕ)) × Watched watch old new ended lines
-      × PutsUpTo held now lines WriteFault
-
-  -- ---- a part of a watch
 
   -- Some of these nodes are asked. The calls leave this token and these nodes, and the lines tell their
   -- changes.
@@ -147,7 +121,67 @@ module _ (alone : Bool) (sizes : Sizes) where
     pub made : AreMade old calls new
     pub lines_are : lines ≡ change_lines collection (joined token calls)
 
-  -- the same, and then it stops
+  -- The changes of all calls but the last one are put. Of that one's not all are, and nothing is asked behind
+  -- it.
+  pub record LosesChange (collection : List ℕ) (token : OpTime) (nodes : List ℕ) (token' : OpTime)
+      (old new : List Event) (held now : Option (List ℕ)) (stop : WatchStop) : Type 0 where
+    pub before : OpTime
+    pub left : List ℕ
+    pub between : List Event
+    pub lines : List (List ℕ)
+    pub asked : AskedSo collection token nodes before left old between lines
+    pub last : Call
+    pub still : List ℕ
+    pub goes : GoesBy before left (last ∷ []) token' still
+    pub made : AreMade between (last ∷ []) new
+    pub put : PutsBehind held now lines (change_lines collection (given before last)) stop
+
+  -- ---- a watch
+
+  -- From the old events to the new ones, some calls were answered, and then came this end. The lines tell
+  -- their changes; the last ones tell where to resume, or the refusal.
+  pub record Watched (watch : Watch) (old new : List Event) (ended : Result (Unit {0}) WatchStop)
+      (lines last : List (List ℕ)) : Type 0 where
+    pub token : OpTime
+    pub left : List ℕ
+    pub between : List Event
+    pub asked : AskedSo watch.collection watch.token watch.nodes token left old between lines
+    pub ends : EndsSo token left between new ended
+    pub last_are : last ≡ last_lines token ended
+
+  -- all of it is put
+  abbrev pub TellsAll : Watch → List Event → List Event → Option (List ℕ) → Option (List ℕ)
+      → Result (Unit {0}) WatchStop → Type 0
+  TellsAll watch old new held now ended =
+      (lines last : List (List ℕ)) × Watched watch old new ended lines last
+      × Appends held now (together (lines ++ last))
+
+  -- all changes are put, and the last line isn't
+  abbrev pub LosesLast : Watch → List Event → List Event → Option (List ℕ) → Option (List ℕ) → WatchStop
+      → Type 0
+  LosesLast watch old new held now stop =
+      (ended : Result (Unit {0}) WatchStop) × (lines : List (List ℕ)) × (line : List ℕ)
+      × Watched watch old new ended lines (line ∷ []) × PutsBehind held now lines (line ∷ []) stop
+
+  -- A line isn't put, and that ends the watch: one of the last call's, or the last.
+  abbrev pub LosesLine : Watch → List Event → List Event → Option (List ℕ) → Option (List ℕ) → WatchStop
+      → Type 0
+  LosesLine watch old new held now stop =
+      ((token : OpTime) × LosesChange watch.collection watch.token watch.nodes token old new held now stop)
+      ⊎ LosesLast watch old new held now stop
+
+  -- All is put, and out of memory a call may be broken off then; or a line is lost.
+  abbrev pub Follows : Watch → List Event → List Event → Option (List ℕ) → Option (List ℕ)
+      → Result (Unit {0}) WatchStop → Type 0
+  Follows watch old new held now (Ok done) = TellsAll watch old new held now (Ok done)
+  Follows watch old new held now (Err (Refused why)) = TellsAll watch old new held now (Err (Refused why))
+  Follows watch old new held now (Err Memory) =
+      TellsAll watch old new held now (Err Memory) ⊎ LosesLine watch old new held now Memory
+  Follows watch old new held now (Err WriteFault) = LosesLine watch old new held now WriteFault
+
+  -- ---- a part of a watch
+
+  -- some of these nodes are asked, and then it stops
   pub record StopsSo (collection : List ℕ) (token : OpTime) (nodes : List ℕ) (token' : OpTime)
       (old new : List Event) (stop : WatchStop) (lines : List (List ℕ)) : Type 0 where
     pub left : List ℕ
@@ -156,7 +190,8 @@ module _ (alone : Bool) (sizes : Sizes) where
     pub ends : EndsSo token' left between new (Err stop)
 
   -- Some nodes are asked, and the changes that they gave are put. What is answered tells which nodes are
-  -- left. The lines of a refusal and of the end come later.
+  -- left. Where it stops, all changes before are put, or a line is lost. The lines of a refusal and of the
+  -- end come later.
   abbrev pub AsksSome : {A : Type 0} → (A → List ℕ) → List ℕ → OpTime → List ℕ → OpTime → List Event
       → List Event → Option (List ℕ) → Option (List ℕ) → Result A WatchStop → Type 0
   AsksSome left_by collection token nodes token' old new held now (Ok answered) =
@@ -164,8 +199,9 @@ module _ (alone : Bool) (sizes : Sizes) where
       × AskedSo collection token nodes token' (left_by answered) old new lines
       × Appends held now (together lines)
   AsksSome left_by collection token nodes token' old new held now (Err stop) =
-      (lines : List (List ℕ)) × StopsSo collection token nodes token' old new stop lines
-      × PutsUpTo held now lines stop
+      ((lines : List (List ℕ)) × StopsSo collection token nodes token' old new stop lines
+      × Appends held now (together lines))
+      ⊎ LosesChange collection token nodes token' old new held now stop
 
   -- all of them are asked, or it stops before
   abbrev pub AsksAll : List ℕ → OpTime → List ℕ → OpTime → List Event → List Event → Option (List ℕ)

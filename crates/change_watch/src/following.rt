@@ -21,7 +21,8 @@ const MOST: u32 = 1000;
 const MOST_CALLS: u32 = 2_147_483_648;
 
 /// Asks the nodes one after another, each until it has nothing more, and puts a line for each change of the
-/// collection. The last line tells where to resume, or why a node gave nothing. Each line is put by one call.
+/// collection. The last line tells where to resume, or why a node refused. Each line is put by one call, and
+/// those of a call of the stream before the next one is made; a line that isn't put ends the watch.
 /// `size` is how many nodes the set has.
 ///
 /// # Errors

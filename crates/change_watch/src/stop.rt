@@ -11,7 +11,7 @@ use std::alloc::AllocError;
 /// Why a watch stopped before its end.
 #[derive(Clone, Copy, Debug, PartialEq, Eq)]
 pub enum WatchStop {
-    /// A node gave no changes, and its refusal was told.
+    /// A node refused to tell its changes, and that was told.
     Refused(WatchRefusal),
     /// The sink failed.
     WriteFault,
