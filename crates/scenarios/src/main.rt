@@ -112,7 +112,7 @@ fn limits<R: Threads + Wait + Sync>(rt: &HostRuntime, threads: &R) -> Result<boo
     Ok(documents && batches && generated && large && limits)
 }
 
-/// Scripts that are none, sinks and disks that fail, and messages that come again.
+/// Scripts that are none, messages that come again, and disks and sinks that fail.
 fn faults<R: Threads + Wait + Sync>(rt: &HostRuntime, threads: &R) -> Result<bool> {
     let alloc = rt.alloc();
     let refused = refused::as_said(threads, alloc, &text(rt, "refused", "table")?)?;
@@ -130,14 +130,26 @@ fn faults<R: Threads + Wait + Sync>(rt: &HostRuntime, threads: &R) -> Result<boo
         let what = format!(in alloc; "{name} on failing disks")?;
         borne = tell(rt, &what, holds)? && borne;
     }
+    Ok(refused && repeated && borne && sinks(rt, threads)?)
+}
+
+/// Sinks that fail in one of their calls.
+fn sinks<R: Threads + Wait + Sync>(rt: &HostRuntime, threads: &R) -> Result<bool> {
+    let alloc = rt.alloc();
     let mut ended = true;
     for name in lost_replies::SCRIPTS {
         let (script, transcript) = (text(rt, name, "replset")?, text(rt, name, "out")?);
-        let holds = lost_replies::end_the_run(threads, alloc, &script, &transcript)?;
+        let holds =
+            lost_replies::end_the_run(threads, alloc, &runs::RUN, &script, &transcript)?;
         let what = format!(in alloc; "{name} into failing sinks")?;
         ended = tell(rt, &what, holds)? && ended;
     }
-    Ok(refused && repeated && borne && ended)
+    let name = watches::LOST;
+    let (script, transcript) = (text(rt, name, "replset")?, text(rt, name, "out")?);
+    let table = text(rt, name, "watch")?;
+    let holds = watches::end_with_a_lost_line(threads, alloc, &script, &transcript, &table)?;
+    let what = format!(in alloc; "changes behind {name} into failing sinks")?;
+    Ok(tell(rt, &what, holds)? && ended)
 }
 
 /// The names of the scripts, in order.

@@ -79,16 +79,17 @@ pub fn run<R: Threads + Wait + Sync>(
     run_on(rt, alloc, words, input, Vec::new(alloc), disks)
 }
 
-/// The script is run, and the sink fails in that call of it.
+/// What the words come to over the script, where the sink fails in that call of it.
 pub fn run_with_lost_reply<R: Threads + Wait + Sync>(
     rt: &R,
     alloc: Global,
+    words: &[&str],
     script: &str,
     call: u32,
 ) -> Result<Ran> {
     let disks = set_program::empty_disks(alloc)?;
     let input = script.as_bytes().to_vec(alloc)?;
-    run_on(rt, alloc, &RUN, input, vec![in alloc; call]?, disks)
+    run_on(rt, alloc, words, input, vec![in alloc; call]?, disks)
 }
 
 /// The script is run, and a disk fails.

@@ -1,5 +1,6 @@
 //! Changes that are asked for behind example scripts.
 
+use crate::lost_replies::end_the_run;
 use crate::runs::run;
 use anyhow::Result;
 use std::alloc::Global;
@@ -7,12 +8,16 @@ use std::sync::Wait;
 use std::thread::Threads;
 
 /// The scripts beside which words stand that ask for changes, and what these print.
-pub const SCRIPTS: [&str; 4] = [
+pub const SCRIPTS: [&str; 5] = [
     "acknowledged",
     "stream_behind",
     "stream_failover",
     "stream_not_committed",
+    "updates",
 ];
+
+/// The one of them that is run into a sink that fails, with the words of its first row.
+pub const LOST: &str = "updates";
 
 /// What a refusal begins with.
 const REFUSED: &str = "watch refused";
@@ -45,11 +50,31 @@ fn is_told<R: Threads + Wait + Sync>(
     transcript: &str,
     lines: &str,
 ) -> Result<bool> {
+    let asked = asked(alloc, words)?;
+    let status = if lines.contains(REFUSED) { 9 } else { 0 };
+    let told = format!(in alloc; "{transcript}{lines}\n")?;
+    Ok(run(rt, alloc, &asked, script.as_bytes().to_vec(alloc)?)?.is(status, &told))
+}
+
+/// Whether the first of these lines that isn't put ends the run too, with the words of the table's first row.
+pub fn end_with_a_lost_line<R: Threads + Wait + Sync>(
+    rt: &R,
+    alloc: Global,
+    script: &str,
+    transcript: &str,
+    table: &str,
+) -> Result<bool> {
+    let Some((words, lines)) = table.split_once('\n') else {
+        return Ok(false);
+    };
+    let told = format!(in alloc; "{transcript}{lines}")?;
+    end_the_run(rt, alloc, &asked(alloc, words)?, script, &told)
+}
+
+fn asked<'a>(alloc: Global, words: &'a str) -> Result<Vec<&'a str>> {
     let mut asked = Vec::new(alloc);
     for word in words.split(' ') {
         asked.push(word)?;
     }
-    let status = if lines.contains(REFUSED) { 9 } else { 0 };
-    let told = format!(in alloc; "{transcript}{lines}\n")?;
-    Ok(run(rt, alloc, &asked, script.as_bytes().to_vec(alloc)?)?.is(status, &told))
+    Ok(asked)
 }
