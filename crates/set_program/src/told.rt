@@ -27,8 +27,8 @@ use std::sync::Wait;
 use std::thread::Threads;
 use transcript::{Summary, write_summary};
 
-/// Plays a script as a task asks: it puts each reply, or the trace of the run, or only its summary. An error
-/// says why it stopped before the end.
+/// Plays a script as a task asks: it puts each reply, or each and then the changes that nodes tell, or the
+/// trace of the run, or only its summary. An error says why it stopped before the end.
 pub fn play_task<K: Sink, D: Disk + Send, G: Gate + Sync, R: Threads + Wait + Sync>(
     rt: &R,
     alloc: Global,
