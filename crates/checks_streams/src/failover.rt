@@ -4,7 +4,7 @@ ghost use Rattle.std.specs.Prelude.{◌≡◌};
 use crate::rows::set_of;
 use change_stream::{ChangeStream, next, open};
 use fault_script::{Part, parse};
-use oplog_entry::Entry;
+use oplog_entry::{Entry, Op};
 use rs_disk::MemDisk;
 use rs_optime::OpTime;
 use set_model::{Command, Reply};
@@ -70,11 +70,30 @@ fn are_expected(entries: &[Entry]) -> bool {
         .eq(EXPECTED.iter().copied())
 }
 
+// Whether two entries are one. This script logs only inserts and no-ops.
+fn is_same(one: &Entry, other: &Entry) -> bool {
+    let (one_op, other_op) = (one.op.or(&Op::Noop), other.op.or(&Op::Noop));
+    let does_the_same = match (one_op, other_op) {
+        (Op::Insert { ns, o }, Op::Insert { ns: collection, o: document }) => {
+            ns == collection && o == document
+        }
+        (Op::Noop, Op::Noop) => true,
+        _ => false,
+    };
+    does_the_same && one.optime == other.optime && one.session == other.session
+}
+
+fn are_same(some: &[Entry], others: &[Entry]) -> bool {
+    some.len() == others.len()
+        && some.iter().zip(others.iter()).all(|(one, other)| is_same(one, other))
+}
+
 // Whether the log of a node has these entries and no others.
-fn has_expected<R: Threads + Sync>(
+fn has_all<R: Threads + Sync>(
     rt: &R,
     world: &mut World<MemDisk>,
     node: u32,
+    entries: &[Entry],
 ) -> Result<bool, Fail>
     ensures sizes { world.new.sizes ≡ world.old.sizes }
 {
@@ -83,7 +102,7 @@ fn has_expected<R: Threads + Sync>(
     }
     let log = Command::Log { node };
     match world.step(rt, 0, &log)? {
-        Reply::Entries(entries) => Ok(are_expected(entries.as_slice())),
+        Reply::Entries(log) => Ok(are_same(log.as_slice(), entries)),
         _ => Ok(false),
     }
 }
@@ -92,7 +111,7 @@ fn has_expected<R: Threads + Sync>(
 fn each_committed_entry_is_told_once(rt: HostRuntime) -> Result<(), Fail> {
     let (mut world, joined) = followed(&rt, rt.alloc())?;
     assert!(rt; are_expected(&joined));
-    assert!(rt; has_expected(&rt, &mut world, 1)?);
-    assert!(rt; has_expected(&rt, &mut world, 2)?);
+    assert!(rt; has_all(&rt, &mut world, 1, &joined)?);
+    assert!(rt; has_all(&rt, &mut world, 2, &joined)?);
     Ok(())
 }
