@@ -1,4 +1,4 @@
-/// Why a node gave no changes.
+/// Why a node refused to tell its changes.
 #[derive(Clone, Copy, Debug, PartialEq, Eq)]
 pub enum WatchRefusal {
     /// The node's log is committed as far as the token, and hasn't got its entry.
