@@ -2,6 +2,7 @@
 ghost use Rattle.std.specs.Prelude.{◌≡◌};
 
 use crate::rows::set_of;
+use bson_doc::{Doc, Text};
 use change_stream::{ChangeStream, next, open};
 use fault_script::{Part, parse};
 use oplog_entry::{Entry, Op};
@@ -70,22 +71,34 @@ fn are_expected(entries: &[Entry]) -> bool {
         .eq(EXPECTED.iter().copied())
 }
 
-// Whether two entries are one. This script logs only inserts and no-ops.
-fn is_same(one: &Entry, other: &Entry) -> bool {
-    let (one_op, other_op) = (one.op.or(&Op::Noop), other.op.or(&Op::Noop));
-    let does_the_same = match (one_op, other_op) {
-        (Op::Insert { ns, o }, Op::Insert { ns: collection, o: document }) => {
-            ns == collection && o == document
-        }
-        (Op::Noop, Op::Noop) => true,
+fn is_insert(op: &Op, collection: &Text, document: &Doc) -> bool {
+    match op {
+        Op::Insert { ns, o } => ns == collection && o == document,
         _ => false,
-    };
-    does_the_same && one.optime == other.optime && one.session == other.session
+    }
+}
+
+// Whether two ops are one. This script logs only inserts and no-ops.
+fn does_the_same(one: &Op, other: &Op) -> bool {
+    match one {
+        Op::Insert { ns, o } => is_insert(other, ns, o),
+        Op::Noop => matches!(other, Op::Noop),
+        _ => false,
+    }
+}
+
+fn is_same(one: &Entry, other: &Entry) -> bool {
+    one.optime == other.optime
+        && one.session == other.session
+        && does_the_same(one.op.or(&Op::Noop), other.op.or(&Op::Noop))
 }
 
 fn are_same(some: &[Entry], others: &[Entry]) -> bool {
     some.len() == others.len()
-        && some.iter().zip(others.iter()).all(|(one, other)| is_same(one, other))
+        && some
+            .iter()
+            .zip(others.iter())
+            .all(|(one, other)| is_same(one, other))
 }
 
 // Whether the log of a node has these entries and no others.

@@ -139,8 +139,7 @@ fn sinks<R: Threads + Wait + Sync>(rt: &HostRuntime, threads: &R) -> Result<bool
     let mut ended = true;
     for name in lost_replies::SCRIPTS {
         let (script, transcript) = (text(rt, name, "replset")?, text(rt, name, "out")?);
-        let holds =
-            lost_replies::end_the_run(threads, alloc, &runs::RUN, &script, &transcript)?;
+        let holds = lost_replies::end_the_run(threads, alloc, &runs::RUN, &script, &transcript)?;
         let what = format!(in alloc; "{name} into failing sinks")?;
         ended = tell(rt, &what, holds)? && ended;
     }
