@@ -3,7 +3,7 @@ use Rattle.std.proofs.Common.{ℕ, zero, suc, ◌≡◌, ◌+◌, ◌≤◌, ◌
 use Rattle.std.specs.Prelude.{Option}
 use Rattle.std.specs.Io.KnownBytes.{Appends}
 use Rattle.std.proofs.Math.Seq.{take-append-add}
-use Rattle.std.proofs.lemmas.List.{append-nil}
+use Rattle.std.proofs.lemmas.List.{append-nil, length-append}
 use Rattle.std.proofs.lemmas.List.Concat.{flat_map-append}
 use Rattle.rs_io.proofs.PutSoFar.{Appends-append}
 use Rattle.rs_io.specs.Put.{Puts}
@@ -22,14 +22,19 @@ use Rattle.change_watch.proofs.KeepLemmas.{Appends-nothing, Keeps-same}
 pub none_put : (held : Option (List ℕ)) → Appends held held []
 none_put held = Appends-nothing held held (Keeps-same held)
 
-pub nothing_put : (held : Option (List ℕ)) (lines : List (List ℕ)) → PutsLines held held lines (Err Memory)
-nothing_put held lines = (0, none_put held)
+pub nothing_put : (held : Option (List ℕ)) (line : List ℕ) → PutsLines held held (line ∷ []) (Err Memory)
+nothing_put held line = (0, omega arith, none_put held)
 
 -- a front of one list is one of the list with more behind it
 pub front_of : {A : Type 0} (count : ℕ) (xs ys : List A) → (long : ℕ) × (take long (xs ++ ys) ≡ take count xs)
 front_of zero xs ys = (0, refl)
 front_of (suc count) [] ys = (0, refl)
 front_of (suc count) (x ∷ xs) ys = let front = front_of count xs ys in (suc front.0, ap (λ (zs : List _). x ∷ zs) front.1)
+
+take_within : {A : Type 0} (count : ℕ) (xs ys : List A) → count < length xs → take count (xs ++ ys) ≡ take count xs
+take_within zero xs ys within = refl
+take_within (suc count) [] ys within = absurd (omega arith)
+take_within (suc count) (x ∷ xs) ys within = ap (λ (zs : List _). x ∷ zs) (take_within count xs ys (omega arith))
 
 -- ---- one line
 
@@ -38,7 +43,7 @@ line_put held now line put = subst (λ (text : List ℕ). Appends held now text)
 
 pub line_stops : (held now : Option (List ℕ)) (line : List ℕ) (error : SinkError) → Puts held now (Err error) line → PutsLines held now (line ∷ []) (Err (of_sink error))
 line_stops held now line Failed (count, put) = (count, subst (λ (text : List ℕ). Appends held now (take count text)) (sym (append-nil line)) put)
-line_stops held now line NoRoom kept = (0, Appends-nothing held now kept)
+line_stops held now line NoRoom kept = (0, omega arith, Appends-nothing held now kept)
 
 -- ---- lines behind lines
 
@@ -56,10 +61,11 @@ puts_on held mid now lines more WriteFault put (count, next) =
     let is : take (length (together lines) + count) (together (lines ++ more)) ≡ together lines ++ take count (together more) =
     ap (λ (text : List ℕ). take (length (together lines) + count) text) (together_append lines more) ∙ take-append-add (together lines) (together more) count in
     (length (together lines) + count, subst (λ (text : List ℕ). Appends held now text) (sym is) (Appends-append held mid now (together lines) (take count (together more)) put next))
-puts_on held mid now lines more Memory put (count, next) =
+puts_on held mid now lines more Memory put (count, within, next) =
+    let long = length-append lines more in
     let is : together (take (length lines + count) (lines ++ more)) ≡ together lines ++ together (take count more) =
     ap (λ (ls : List (List ℕ)). together ls) (take-append-add lines more count) ∙ together_append lines (take count more) in
-    (length lines + count, subst (λ (text : List ℕ). Appends held now text) (sym is) (Appends-append held mid now (together lines) (together (take count more)) put next))
+    (length lines + count, omega (arith, long, within), subst (λ (text : List ℕ). Appends held now text) (sym is) (Appends-append held mid now (together lines) (together (take count more)) put next))
 
 -- Lines are put in front of lines that are put, and of those behind them not all.
 pub behind_on : (held mid now : Option (List ℕ)) (lines first behind : List (List ℕ)) (stop : WatchStop) → Appends held mid (together lines) → PutsBehind mid now first behind stop → PutsBehind held now (lines ++ first) behind stop
@@ -72,8 +78,8 @@ kept_up_to : (held mid now : Option (List ℕ)) (lines : List (List ℕ)) (stop 
 kept_up_to held mid now lines (Refused why) never kept = absurd never
 kept_up_to held mid now lines WriteFault (count, put) kept =
     (count, subst (λ (text : List ℕ). Appends held now text) (append-nil (take count (together lines))) (Appends-append held mid now (take count (together lines)) [] put kept))
-kept_up_to held mid now lines Memory (count, put) kept =
-    (count, subst (λ (text : List ℕ). Appends held now text) (append-nil (together (take count lines))) (Appends-append held mid now (together (take count lines)) [] put kept))
+kept_up_to held mid now lines Memory (count, within, put) kept =
+    (count, within, subst (λ (text : List ℕ). Appends held now text) (append-nil (together (take count lines))) (Appends-append held mid now (together (take count lines)) [] put kept))
 
 -- nothing more is put
 pub behind_kept : (held mid now : Option (List ℕ)) (first behind : List (List ℕ)) (stop : WatchStop) → PutsBehind held mid first behind stop → Appends mid now [] → PutsBehind held now first behind stop
@@ -85,9 +91,9 @@ puts_front held now lines more (Refused why) never = absurd never
 puts_front held now lines more WriteFault (count, put) =
     let front = front_of count (together lines) (together more) in
     (front.0, subst (λ (text : List ℕ). Appends held now text) (sym front.1 ∙ ap (λ (text : List ℕ). take front.0 text) (sym (together_append lines more))) put)
-puts_front held now lines more Memory (count, put) =
-    let front = front_of count lines more in
-    (front.0, subst (λ (ls : List (List ℕ)). Appends held now (together ls)) (sym front.1) put)
+puts_front held now lines more Memory (count, within, put) =
+    let long = length-append lines more in
+    (count, omega (arith, long, within), subst (λ (ls : List (List ℕ)). Appends held now (together ls)) (sym (take_within count lines more within)) put)
 
 -- ---- the changes of a collection
 

@@ -1,5 +1,5 @@
 -- What a watch asks, and what it tells: nodes are asked one after another, each until it has nothing more.
-use Rattle.std.specs.Prelude.{◌≡◌, ◌⊎◌, ◌≤◌, ℕ, Bool, true, false, List, [], ◌∷◌, ◌++◌, take, Option, Result, Ok, Err}
+use Rattle.std.specs.Prelude.{◌≡◌, ◌⊎◌, ◌≤◌, ◌<◌, ℕ, Bool, true, false, List, [], ◌∷◌, ◌++◌, length, take, Option, Result, Ok, Err}
 use Rattle.std.specs.List.{flat_map}
 use Rattle.std.specs.Io.KnownBytes.{Appends}
 use Rattle.oplog_entry.specs.declared.entry.Entry.{Entry}
@@ -20,12 +20,13 @@ use Rattle.change_words.specs.Texts.{change_lines, refusal_text, resume_text}
 abbrev pub together : List (List ℕ) → List ℕ
 together lines = flat_map (λ (line : List ℕ). line) lines
 
--- Of some lines not all are put: out of memory, some first ones; where the sink fails, a front of their
--- bytes. What puts lines refuses nothing.
+-- Lines are put up to a stop: out of memory, some first ones and not all; where the sink fails, a front of
+-- their bytes. What puts lines refuses nothing.
 abbrev pub PutsUpTo : Option (List ℕ) → Option (List ℕ) → List (List ℕ) → WatchStop → Type 0
 PutsUpTo held now lines (Refused why) = ⊥
 PutsUpTo held now lines WriteFault = (count : ℕ) × Appends held now (take count (together lines))
-PutsUpTo held now lines Memory = (count : ℕ) × Appends held now (together (take count lines))
+PutsUpTo held now lines Memory =
+    (count : ℕ) × (count < length lines) × Appends held now (together (take count lines))
 
 -- all these lines are put, or not all
 abbrev pub PutsLines : Option (List ℕ) → Option (List ℕ) → List (List ℕ) → Result (Unit {0}) WatchStop
