@@ -1,12 +1,11 @@
 // Whose changes are asked for.
 ghost use Rattle.std.specs.Prelude.{◌≡◌, ◌≤◌, ◌∷◌, [], ◌++◌, IfOk, IfSome, OnOk, map, string_bytes};
-ghost use Rattle.std.specs.List.{list_all};
-ghost use Rattle.set_model.specs.Limits.{is_collection, is_name_byte};
 ghost use Rattle.change_words.specs.Asked.{digit_of, node_of, nodes_of, start_of, watch_of};
 
 use crate::tokens::token_of;
 use bson_doc::{Mem, Text};
 use rs_optime::OpTime;
+use script_words::is_collection;
 use std::alloc::Global;
 use std::marker::Model;
 
@@ -133,28 +132,4 @@ fn digit_of(byte: u8) -> Option<u32>
     } else {
         None
     }
-}
-
-/// A letter, and then up to 63 letters, digits, `_` and `.`.
-fn is_collection(name: &[u8]) -> bool
-    ensures { result ≡ is_collection name.now }
-{
-    match name {
-        [first, others @ ..] => {
-            first.is_ascii_alphabetic() && others.len() < 64 && are_name_bytes(others)
-        }
-        [] => false,
-    }
-}
-
-fn are_name_bytes(bytes: &[u8]) -> bool
-    ensures { result ≡ list_all is_name_byte bytes.now }
-{
-    bytes.iter().all(|byte| is_name_byte(*byte))
-}
-
-fn is_name_byte(byte: u8) -> bool
-    ensures { result ≡ is_name_byte byte }
-{
-    byte.is_ascii_alphanumeric() || byte == b'_' || byte == b'.'
 }

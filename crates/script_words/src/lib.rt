@@ -19,4 +19,4 @@ pub use set::{MAX_NODES, SetLine, set_line};
 pub use shape::Shape;
 pub use values::text;
 pub use verb::{Keyword, NodeVerb, Verb, WriteKind};
-pub use words::{Left, Read, number, number_of, word};
+pub use words::{Left, Read, is_collection, number, number_of, word};

@@ -269,8 +269,8 @@ pub fn collection(left: Left<'_>) -> Read<'_, &str>
     }
 }
 
-/// A letter, and then up to 63 letters, digits, `_` and `.`.
-fn is_collection(name: &[u8]) -> bool
+/// Whether it is a collection's name: a letter, and then up to 63 letters, digits, `_` and `.`.
+pub fn is_collection(name: &[u8]) -> bool
     ensures { result ≡ is_collection name.now }
 {
     match name {
