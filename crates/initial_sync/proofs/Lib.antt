@@ -5,3 +5,4 @@ mod RunLemmas
 mod WritingLemmas
 mod DocumentLemmas
 mod EntryLemmas
+mod ReadingLemmas

@@ -22,7 +22,7 @@ use Rattle.initial_sync.specs.Copies.{AreCopyDisks, Copy, IsOf, IsPartOrWhole, I
 use Rattle.initial_sync.specs.Missing.{HasFront, missing}
 use Rattle.initial_sync.specs.Moments.{BesideCheckpoints, BesideJournal, EachMomentOfBoth, IsBeforeOrBehind}
 use Rattle.initial_sync.specs.Runs.{Fills, IsFound, OpensBoth}
-use Rattle.initial_sync.proofs.PartLemmas.{IsBase, come_to, come_whole, gives, missing_renewed, moved, part_or_whole}
+use Rattle.initial_sync.proofs.PartLemmas.{IsBase, come_to, come_whole, gives, missing_renewed, moved, part_or_whole, whole_moved}
 
 -- ---- disks that a copy can use
 
@@ -65,6 +65,10 @@ pub of_before : (j c : State) (own copy : Copy) → LeaveBoth (IsPartOrWhole own
 of_before j c own copy leave x y one two =
     moved own one.1.0 x two.2.0 y one.0 two.0 one.1.2 one.2 two.2.2 two.1 (leave one.1.0 one.1.1 two.2.0 two.2.1)
 
+pub whole_before : (j c : State) (copy : Copy) → LeaveBoth (IsWhole copy) j.file c.file → (x y : List ℕ) → IsOneOfRenewed j x → IsOneCheckpoint c y → IsWhole copy x y
+whole_before j c copy leave x y one two =
+    whole_moved copy one.1.0 x two.2.0 y one.0 two.0 one.1.2 one.2 two.2.2 two.1 (leave one.1.0 one.1.1 two.2.0 two.2.1)
+
 pub law : (j j' c c' : State) (copy : Copy) → EachMomentOfBoth (IsBeforeOrBehind j c copy) j j' c c' → LeaveBoth (IsPartOrWhole copy) j.file c.file → EachMomentOfBoth (IsPartOrWhole copy) j j' c c'
 law j j' c c' copy moments leave =
     weaker (IsBeforeOrBehind j c copy) (IsPartOrWhole copy)
@@ -84,23 +88,22 @@ copy_disks j j' c c' copy above are moments = record {
 
 -- ---- the moments of a copy
 
+-- what opening both leaves at each moment
+pub opened_so : (P : List ℕ → List ℕ → Type 0) (j j1 c c1 : State) → IsCheckpointDisk c → ((x y : List ℕ) → IsOneOfRenewed j x → IsOneCheckpoint c y → P x y) → OpensBoth j j1 c c1
+    → EachMomentOfBoth P j j1 c c1
+opened_so P j j1 c c1 disk so opens = record {
+  journal = j1;
+  checkpoints = c1;
+  opens_journal = weakens (IsOneOfRenewed j) (BesideCheckpoints P c.file) (λ x one y left. so x y one (one_checkpoint c disk y left)) j j1 opens.journal;
+  opens_checkpoints = weakens (IsOneCheckpoint c) (BesideJournal P j1.file) (λ y one x left. so x y (opens.journal.now x left) one) c c1 opens.checkpoints;
+  writes_journal = starts (BesideCheckpoints P c1.file) j1 (λ x left y here. so x y (opens.journal.now x left) (opens.checkpoints.now y here));
+  writes_checkpoints = starts (BesideJournal P j1.file) c1 (λ y here x left. so x y (opens.journal.now x left) (opens.checkpoints.now y here));
+}
+
 module _ (j j1 c c1 : State) (copy : Copy) (disk : IsCheckpointDisk c) (opens : OpensBoth j j1 c c1) where
-  opens_first : EachMoment (BesideCheckpoints (IsBeforeOrBehind j c copy) c.file) j j1
-  opens_first = weakens (IsOneOfRenewed j) (BesideCheckpoints (IsBeforeOrBehind j c copy) c.file) (λ x one y left. inl (one, one_checkpoint c disk y left)) j j1 opens.journal
-
-  opens_then : EachMoment (BesideJournal (IsBeforeOrBehind j c copy) j1.file) c c1
-  opens_then = weakens (IsOneCheckpoint c) (BesideJournal (IsBeforeOrBehind j c copy) j1.file) (λ y one x left. inl (opens.journal.now x left, one)) c c1 opens.checkpoints
-
   -- nothing more was done
   pub opened_only : EachMomentOfBoth (IsBeforeOrBehind j c copy) j j1 c c1
-  opened_only = record {
-    journal = j1;
-    checkpoints = c1;
-    opens_journal = opens_first;
-    opens_checkpoints = opens_then;
-    writes_journal = starts (BesideCheckpoints (IsBeforeOrBehind j c copy) c1.file) j1 (λ x left y here. inl (opens.journal.now x left, opens.checkpoints.now y here));
-    writes_checkpoints = starts (BesideJournal (IsBeforeOrBehind j c copy) j1.file) c1 (λ y here x left. inl (opens.journal.now x left, opens.checkpoints.now y here));
-  }
+  opened_only = opened_so (IsBeforeOrBehind j c copy) j j1 c c1 disk (λ x y one two. inl (one, two)) opens
 
   module _ (found : Kept) (stable : Stable) (is : IsFound found stable j j1 c c1) (base : IsBase copy found stable) (order : AllPairs StandsBefore copy.entries) where
     abbrev items : List Record
@@ -155,11 +158,12 @@ module _ (j j1 c c1 : State) (copy : Copy) (disk : IsCheckpointDisk c) (opens : 
           fills.in_turn
 
       pub filled : EachMomentOfBoth (IsBeforeOrBehind j c copy) j j' c c'
+      unfolding opened_only opened_so
       filled = record {
         journal = j1;
         checkpoints = c1;
-        opens_journal = opens_first;
-        opens_checkpoints = opens_then;
+        opens_journal = opened_only.opens_journal;
+        opens_checkpoints = opened_only.opens_checkpoints;
         writes_journal = writes_first;
         writes_checkpoints = writes_then;
       }

@@ -22,7 +22,7 @@ use Rattle.checkpoint_store.specs.Checkpoint.{no_stable}
 use Rattle.checkpoint_store.specs.Files.{HasCheckpoint}
 use Rattle.checkpoint_store.specs.declared.stable.Stable.{Stable}
 use Rattle.checkpoint_store.proofs.OnceLemmas.{checkpoint_once}
-use Rattle.initial_sync.specs.Copies.{Copy, GivesBack, IsOf, IsOfSomeCopy, IsPartOrWhole, documents_of}
+use Rattle.initial_sync.specs.Copies.{Copy, GivesBack, IsOf, IsOfSomeCopy, IsPartOrWhole, IsWhole, documents_of}
 use Rattle.initial_sync.specs.Missing.{IsOfThis, batches, missing}
 use Rattle.initial_sync.proofs.FrontLemmas.{Grows, begins_both, fronts, same_last}
 
@@ -65,7 +65,7 @@ is_of_itself term log found is = record {
     vote_of : ℕ → Vote
     vote_of t = record { term = t; candidate = None }
 
-given_back : (term : ℕ) (log : List Entry) (image : List ℕ) (items : List Record) (found : Kept) → GivesBack term log image → HasJournal image items → found ≡ kept (renewed items) → IsOf term log found
+pub given_back : (term : ℕ) (log : List Entry) (image : List ℕ) (items : List Record) (found : Kept) → GivesBack term log image → HasJournal image items → found ≡ kept (renewed items) → IsOf term log found
 given_back term log image items found gives has is =
     subst (IsOf term log) (sym is)
     (of_renewed term log items (subst (λ (l : List Record). IsOf term log (kept l)) (one_journal image gives.records items gives.has has) gives.is))
@@ -186,7 +186,20 @@ part_or_whole copy found stable items f x y base same come has shows =
     inr (record { log = subst (λ (l : List Entry). GivesBack copy.term l x) whole log; documents = subst (HasCheckpoint y) all.0 shows }))
     base.stable_is
 
--- the same records, also in the newest form, and the same checkpoint elsewhere
+-- the same records, also in the newest form
+log_moved : (term : ℕ) (log : List Entry) (x x' : List ℕ) (items : List Record) → HasJournal x items → IsThemOrRenewed items x' → GivesBack term log x → GivesBack term log x'
+log_moved term log x x' items has has' back =
+    let is : IsOf term log (kept items) = subst (λ (l : List Record). IsOf term log (kept l)) (one_journal x back.records items back.has has) back.is in
+    ⊎_elim (λ them. record { records = items; has = them; is = is }) (λ in_form. record { records = renewed items; has = in_form; is = of_renewed term log items is }) has'
+
+-- and the same checkpoint elsewhere
+pub whole_moved : (copy : Copy) (x x' y y' : List ℕ) (items : List Record) (stable : Stable) → HasJournal x items → IsThemOrRenewed items x' → HasCheckpoint y stable → HasCheckpoint y' stable
+    → IsWhole copy x y → IsWhole copy x' y'
+whole_moved copy x x' y y' items stable has has' shows shows' whole = record {
+  log = log_moved copy.term copy.entries x x' items has has' whole.log;
+  documents = subst (HasCheckpoint y') (checkpoint_once y stable (documents_of copy.entries) shows whole.documents) shows';
+}
+
 pub moved : (copy : Copy) (x x' y y' : List ℕ) (items : List Record) (stable : Stable) → HasJournal x items → IsThemOrRenewed items x' → HasCheckpoint y stable → HasCheckpoint y' stable
     → IsPartOrWhole copy x y → IsPartOrWhole copy x' y'
 moved copy x x' y y' items stable has has' shows shows' of = ⊎_elim (λ part. inl (record {
@@ -194,14 +207,6 @@ moved copy x x' y y' items stable has has' shows shows' of = ⊎_elim (λ part. 
   begins = part.begins;
   term = part.term;
   term_is = part.term_is;
-  log = log_moved part.term part.front part.log;
+  log = log_moved part.term part.front x x' items has has' part.log;
   none = subst (HasCheckpoint y') (checkpoint_once y stable no_stable shows part.none) shows';
-})) (λ whole. inr (record {
-  log = log_moved copy.term copy.entries whole.log;
-  documents = subst (HasCheckpoint y') (checkpoint_once y stable (documents_of copy.entries) shows whole.documents) shows';
-})) of
-  where
-    log_moved : (term : ℕ) (log : List Entry) → GivesBack term log x → GivesBack term log x'
-    log_moved term log back =
-        let is : IsOf term log (kept items) = subst (λ (l : List Record). IsOf term log (kept l)) (one_journal x back.records items back.has has) back.is in
-        ⊎_elim (λ them. record { records = items; has = them; is = is }) (λ in_form. record { records = renewed items; has = in_form; is = of_renewed term log items is }) has'
+})) (λ whole. inr (whole_moved copy x x' y y' items stable has has' shows shows' whole)) of

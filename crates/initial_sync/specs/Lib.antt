@@ -4,3 +4,4 @@ pub mod Missing
 pub mod Moments
 pub mod Answers
 pub mod Runs
+pub mod Reading

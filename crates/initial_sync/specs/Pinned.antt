@@ -1,5 +1,5 @@
 -- What a new member is to begin with.
-use Rattle.std.specs.Prelude.{◌≡◌, ◌≢◌, Some, map}
+use Rattle.std.specs.Prelude.{◌≡◌, ◌≢◌, ℕ, List, Some, map}
 use Rattle.std.specs.List.{All}
 use Rattle.std.specs.FinMap.{entries, get}
 use Rattle.bson_doc.specs.Place.{Place}
@@ -17,6 +17,10 @@ use Rattle.initial_sync.specs.declared.pinned.Kept1.{Kept1}
 -- a document at its place
 abbrev pub placed : Kept1 → Saved
 placed one = ((one.ns, one.id), one.doc)
+
+-- documents, each with its collection
+abbrev pub listed_of : List Kept1 → List (List ℕ × Fields)
+listed_of documents = map (λ one. (one.ns, one.doc)) documents
 
 abbrev pub copy_of : Pinned → Copy
 copy_of pinned = record { term = pinned.term; entries = pinned.entries.items }

@@ -27,14 +27,14 @@ use std::alloc::Global;
 
 // What was read of both disks.
 #[derive(Drop)]
-struct Found {
-    kept: Kept,
-    stable: Stable,
+pub(crate) struct Found {
+    pub(crate) kept: Kept,
+    pub(crate) stable: Stable,
 }
 
 // Both disks, opened.
 #[derive(Drop)]
-struct Disks<D: Disk> {
+pub(crate) struct Disks<D: Disk> {
     journal: Journal<D>,
     checkpoints: Checkpoints<D>,
 }
@@ -110,7 +110,7 @@ impl<D: Disk> Disks<D> {
     }
 
     // Hands both disks back.
-    fn close(self) -> (D, D)
+    pub(crate) fn close(self) -> (D, D)
         ensures journal { result.0 ≡ self.journal.0 }
         ensures checkpoints { result.1 ≡ self.checkpoints }
     {
@@ -123,7 +123,7 @@ impl<D: Disk> Disks<D> {
 }
 
 // Opens the journal, and then the checkpoints.
-fn open_both<D: Disk>(
+pub(crate) fn open_both<D: Disk>(
     alloc: Global,
     journal: D,
     checkpoints: D,

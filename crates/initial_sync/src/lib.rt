@@ -7,8 +7,10 @@ mod copying;
 mod documents;
 mod error;
 mod pinned;
+mod reading;
 mod writing;
 
 pub use copying::copy;
 pub use error::CopyError;
 pub use pinned::{Kept1, Pinned};
+pub use reading::{Standing, read};

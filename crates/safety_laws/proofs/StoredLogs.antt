@@ -94,7 +94,7 @@ below place (first ∷ es) all e (inl same) = subst (λ (x : Place × Fields). p
 below place (first ∷ es) all e (inr there) = below place es (second_of _ _ all) e there
 
 -- each entry of a map is found at its key
-found_entry : (es : List (Place × Fields)) → T (maps.is_sorted place_cmp es) → (e : Place × Fields) → In e es → maps.find place_cmp e.0 es ≡ Some e.1
+pub found_entry : (es : List (Place × Fields)) → T (maps.is_sorted place_cmp es) → (e : Place × Fields) → In e es → maps.find place_cmp e.0 es ≡ Some e.1
 found_entry [] sorted e there = absurd there
 found_entry (first ∷ es) sorted e (inl same) =
     subst (λ (x : Place × Fields). maps.find place_cmp x.0 (first ∷ es) ≡ Some x.1) same
