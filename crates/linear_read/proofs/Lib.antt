@@ -1,6 +1,11 @@
+mod Asked
 mod Delivers
 mod Events
+mod Exits
+mod Going
 mod Held
 mod LinearReads
+mod Loops
 mod Rows
 mod Runs
+mod Shows

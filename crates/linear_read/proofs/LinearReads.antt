@@ -1,5 +1,5 @@
 -- The law of linear reads, of each run that is safe.
-use Rattle.std.proofs.Common.{◌≡◌, ◌∙◌, ◌<◌, ◌≤◌, inl, inr, ap, arith, sym, subst, refl, ℕ, suc, Bool, true, false, nat_lt, ltb-true, cond, None, Some, List, [], ◌∷◌, slice_get}
+use Rattle.std.proofs.Common.{◌≡◌, ◌∙◌, ◌<◌, ◌≤◌, inl, inr, ap, arith, sym, subst, refl, ℕ, suc, Bool, true, false, nat_lt, ltb-true, cond, Some, List, [], ◌∷◌}
 use Rattle.std.proofs.lemmas.Bool.{cases_order}
 use Rattle.std.proofs.lemmas.Option.{same_Some}
 use Rattle.std.specs.FinMap as maps
@@ -9,7 +9,6 @@ use Rattle.rs_optime.specs.Membership.{In}
 use Rattle.rs_optime.specs.declared.optime.OpTime.{OpTime}
 use Rattle.rs_optime.proofs.Optimes.{at_most_refl}
 use Rattle.oplog_entry.specs.declared.entry.Entry.{Entry}
-use Rattle.oplog_entry.specs.declared.entry.Op.TheVariants.{Note}
 use Rattle.oplog_entry.specs.Docs.{docs}
 use Rattle.oplog_entry.specs.Visible.{log_up_to}
 use Rattle.oplog_store.specs.Log.{with_entry}
@@ -22,28 +21,24 @@ use Rattle.set_model.specs.declared.command.Target.{Target}
 use Rattle.set_model.specs.declared.command.Target.TheVariants as targets
 use Rattle.set_model.specs.declared.reply.Reply.{Reply}
 use Rattle.set_model.specs.declared.reply.Reply.TheVariants as reply
-use Rattle.set_model.specs.Changes.{logged}
 use Rattle.set_model.specs.Concerns.{ack}
 use Rattle.set_model.specs.Node.{Node}
-use Rattle.set_model.specs.Outcome.{Outcome}
-use Rattle.set_model.specs.Points.{if_primary, next_optime}
+use Rattle.set_model.specs.Points.{if_primary}
 use Rattle.set_model.specs.Reads.{document_reply, shown_log}
 use Rattle.set_model.specs.Roles.{is_leading}
-use Rattle.set_model.specs.Run.{Sizes, opening, world_at}
+use Rattle.set_model.specs.Run.{Sizes, world_at}
 use Rattle.set_model.specs.Safety.{Answers, IsAt, IsRead, IsSafePoint, Leads, Safe, is_majority_ack, is_refusal}
-use Rattle.set_model.specs.World.{World, step, touched_node}
-use Rattle.set_model.specs.Write.{note}
 use Rattle.commit_machine.specs.Words.{AtMost, Begins, Has, Rises}
 use Rattle.commit_machine.proofs.Lists.{begins_trans, has_in, has_up_to, up_to_begins, up_to_up_to}
 use Rattle.safety_laws.specs.Logs.{LogsRise, LeadersKeep}
 use Rattle.safety_laws.proofs.Fetches.{entry_is}
-use Rattle.safety_laws.proofs.Frame.{world_next}
 use Rattle.safety_laws.proofs.Merges.{entries_in, has_in_of}
 use Rattle.safety_laws.proofs.Orders.{rises_of}
 use Rattle.safety_laws.proofs.Parts.{in_has}
 use Rattle.linear_read.specs.Linear.{Asks, HoldsAcked, IsLinear, LinearLaw, ShowsOf}
 use Rattle.linear_read.specs.Written.{EntriesAreWritten, WasWritten, Wrote}
-use Rattle.linear_read.proofs.Events.{Acked, Did, Noted, acked_majority, did, noted}
+use Rattle.linear_read.proofs.Asked.{DidAt, NotedAt, did_at, noted_at}
+use Rattle.linear_read.proofs.Events.{Acked, acked_majority, did}
 
 -- a log that rises has no optime twice
 twice : (log : List Entry) (entry : Entry) → Has entry.optime log → Rises (with_entry log entry) → ⊥
@@ -66,25 +61,6 @@ module _ (sizes : Sizes) (events : List Event) (safe : Safe sizes events) (logs 
   same_node : (place number : ℕ) (one two : Node) → IsAt sizes events place number one → IsAt sizes events place number two → one ≡ two
   same_node place number one two first second = same_Some one two (sym first.there ∙ second.there)
 
-  -- ---- events of a run
-
-  -- a node that was up, and what it did
-  record DidAt (place number : ℕ) (does : Node → Outcome) (answer : Reply) : Type 0 where
-    node : Node
-    before : IsAt sizes events place number node
-    behind : slice_get (world_at sizes events (suc place)).nodes number ≡ Some (does node).node
-    told : (does node).reply ≡ answer
-
-  did_at : (place number : ℕ) (event : Event) (does : Node → Outcome) (answer : Reply) → Answers sizes events place number event answer
-      → Did (world_at sizes events place) (step (world_at sizes events place) event).world (touched_node (world_at sizes events place) event.command) does answer → DidAt place number does answer
-  did_at place number event does answer answers done = record {
-    node = done.node;
-    before = record { there = ap (λ v. slice_get (world_at sizes events place).nodes v) (sym answers.touches) ∙ done.before; up = done.up };
-    behind = ap (λ (w : World). slice_get w.nodes number) (world_next (opening sizes) events place event answers.event_is)
-        ∙ ap (λ v. slice_get (step (world_at sizes events place) event).world.nodes v) (sym answers.touches) ∙ done.behind;
-    told = done.told;
-  }
-
   -- ---- what an acknowledgement at majority tells
 
   record AckedAt (place number : ℕ) (at : OpTime) (node : Node) : Type 0 where
@@ -95,8 +71,8 @@ module _ (sizes : Sizes) (events : List Event) (safe : Safe sizes events) (logs 
   acked_node : (place number : ℕ) (event : Event) (own : ℕ) (target : Target) (at : OpTime) → Answers sizes events place number event (reply.Acked at) → event.command ≡ commands.Ack own target concerns.Majority
       → (node : Node) → IsAt sizes events (suc place) number node → AckedAt place number at node
   acked_node place number event own target at answers is node node_at =
-      let there : DidAt place number (λ n. ack n target concerns.Majority) (reply.Acked at) =
-      did_at place number event (λ n. ack n target concerns.Majority) (reply.Acked at) answers
+      let there : DidAt sizes events place number (λ n. ack n target concerns.Majority) (reply.Acked at) =
+      did_at sizes events place number event (λ n. ack n target concerns.Majority) (reply.Acked at) answers
       (did (world_at sizes events place) event (commands.Ack own target concerns.Majority) own (λ n. ack n target concerns.Majority) (reply.Acked at) is refl (λ n. refl) refl answers.reply_is) in
       let tells : Acked there.node (ack there.node target concerns.Majority).node at = acked_majority there.node target at there.told in
       let same : there.node ≡ node = sym tells.new_is ∙ same_Some (ack there.node target concerns.Majority).node node (sym there.behind ∙ node_at.there) in
@@ -123,40 +99,13 @@ module _ (sizes : Sizes) (events : List Event) (safe : Safe sizes events) (logs 
   acked_here : (place number : ℕ) (at : OpTime) → Asks sizes events place number (commands.Ack number (targets.At at) concerns.Majority) (reply.Acked at)
       → (node : Node) × IsAt sizes events (suc place) number node × AckedAt place number at node
   acked_here place number at asks =
-      let there : DidAt place number (λ n. ack n (targets.At at) concerns.Majority) (reply.Acked at) =
-      did_at place number asks.event (λ n. ack n (targets.At at) concerns.Majority) (reply.Acked at) asks.answers
+      let there : DidAt sizes events place number (λ n. ack n (targets.At at) concerns.Majority) (reply.Acked at) =
+      did_at sizes events place number asks.event (λ n. ack n (targets.At at) concerns.Majority) (reply.Acked at) asks.answers
       (did (world_at sizes events place) asks.event (commands.Ack number (targets.At at) concerns.Majority) number (λ n. ack n (targets.At at) concerns.Majority) (reply.Acked at)
       asks.command_is refl (λ n. refl) refl asks.answers.reply_is) in
       let tells : Acked there.node (ack there.node (targets.At at) concerns.Majority).node at = acked_majority there.node (targets.At at) at there.told in
       let node_at : IsAt sizes events (suc place) number there.node = record { there = there.behind ∙ ap (λ n. Some n) tells.new_is; up = there.before.up } in
       (there.node, node_at, acked_node place number asks.event number (targets.At at) at asks.answers asks.command_is there.node node_at)
-
-  -- ---- what a note tells
-
-  record NotedAt (place number : ℕ) (at : OpTime) : Type 0 where
-    old : Node
-    new : Node
-    entry : Entry
-    before : Leads sizes events place number at.term old
-    behind : IsAt sizes events (suc place) number new
-    more : new.log ≡ with_entry old.log entry
-    at_is : entry.optime ≡ at
-
-  noted_at : (place number : ℕ) (at : OpTime) → Asks sizes events place number (commands.Note number) (reply.Written at) → NotedAt place number at
-  noted_at place number at asks =
-      let there : DidAt place number note (reply.Written at) =
-      did_at place number asks.event note (reply.Written at) asks.answers
-      (did (world_at sizes events place) asks.event (commands.Note number) number note (reply.Written at) asks.command_is refl (λ n. refl) refl asks.answers.reply_is) in
-      let tells : Noted there.node (note there.node).node at = noted there.node at there.told in
-      record {
-        old = there.node;
-        new = logged there.node Note None;
-        entry = record { optime = next_optime there.node; op = Note; session = None };
-        before = record { at = there.before; term_is = ap (λ (o : OpTime). o.term) tells.at_is; role = ap is_leading tells.primary };
-        behind = record { there = there.behind ∙ ap (λ n. Some n) tells.new_is; up = there.before.up };
-        more = refl;
-        at_is = tells.at_is;
-      }
 
   -- ---- the law
 
@@ -170,8 +119,8 @@ module _ (sizes : Sizes) (events : List Event) (safe : Safe sizes events) (logs 
         (subst (λ o. Has o noted_here.old.log) (found.2 ∙ sym noted_here.at_is) (in_has found.0 noted_here.old.log kept))
         (subst (λ (l : List Entry). Rises l) noted_here.more (rises (suc linear.noted) number noted_here.new noted_here.behind))
       where
-        noted_here : NotedAt linear.noted number linear.at
-        noted_here = noted_at linear.noted number linear.at linear.notes
+        noted_here : NotedAt sizes events linear.noted number linear.at
+        noted_here = noted_at sizes events linear.noted number linear.at linear.notes
 
         found : (entry : Entry) × In entry other.log × (entry.optime ≡ linear.at)
         found = has_in_of linear.at other.log has

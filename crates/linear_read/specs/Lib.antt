@@ -1,3 +1,5 @@
+pub mod Asking
+pub mod Going
 pub mod Linear
 pub mod Points
 pub mod Talk

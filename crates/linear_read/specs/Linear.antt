@@ -1,6 +1,6 @@
 -- Linearizable reads (MongoDB manual, read concern "linearizable"): a read shows each write that was
 -- acknowledged before it.
-use Rattle.std.specs.Prelude.{◌≡◌, ◌<◌, ℕ, suc, true, false, List, Some}
+use Rattle.std.specs.Prelude.{◌≡◌, ◌<◌, ℕ, suc, true, false, List, Some, ⊤}
 use Rattle.std.specs.FinMap as maps
 use Rattle.bson_doc.specs.Key.{key_of}
 use Rattle.bson_doc.specs.Tree.{Tree}
@@ -25,6 +25,8 @@ use Rattle.set_model.specs.Node.{Node}
 use Rattle.set_model.specs.Reads.{document_reply}
 use Rattle.set_model.specs.Run.{Sizes}
 use Rattle.set_model.specs.Safety.{Answers, IsAt, is_majority_ack, is_refusal}
+use Rattle.linear_read.specs.declared.answer.LinearAnswer.{LinearAnswer}
+use Rattle.linear_read.specs.declared.answer.LinearAnswer.TheVariants.{Found, Missing, Refused}
 
 -- a reply shows what a log leaves of a document
 pub record ShowsOf (log : List Entry) (collection : List ℕ) (id : Tree) (shown : Reply) : Type 0 where
@@ -68,3 +70,13 @@ module _ (sizes : Sizes) (events : List Event) where
       (place number : ℕ) (node : Node) (collection : List ℕ) (id : Value) (shown : Reply)
       → IsLinear place number node collection id shown
       → HoldsAcked place node × (is_refusal shown ≡ false → ShowsOf node.log collection (tree_of id) shown)
+
+  -- What a linear read showed comes of one: the document, or that there is none.
+  abbrev pub Comes : ℕ → List ℕ → Value → Reply → Type 0
+  Comes number collection id shown =
+      (place : ℕ) × (node : Node) × IsLinear place number node collection id shown
+
+  abbrev pub IsShown : ℕ → List ℕ → Value → LinearAnswer → Type 0
+  IsShown number collection id (Found document) = Comes number collection id (reply.Found document)
+  IsShown number collection id Missing = Comes number collection id reply.Missing
+  IsShown number collection id (Refused why) = ⊤

@@ -1,9 +1,10 @@
 -- What a linear read asks, point by point, and what it answers.
-use Rattle.std.specs.Prelude.{ℕ, zero, suc, ◌+◌, ◌==◌, Bool, true, false, not, ◌&&◌, List, Option, None, Some, Result, Ok, Err, if◌then◌else◌}
+use Rattle.std.specs.Prelude.{ℕ, zero, suc, ◌+◌, ◌==◌, Bool, true, false, not, ◌&&◌, List, Option, None, Some, Result, Ok, Err, if◌then◌else◌, is_some}
 use Rattle.bson_doc.specs.declared.doc.Value.{Value}
 use Rattle.rs_optime.specs.Order.{is_before}
 use Rattle.rs_optime.specs.declared.optime.OpTime.{OpTime}
 use Rattle.set_model.specs.declared.command.AckConcern.TheVariants as concerns
+use Rattle.set_model.specs.declared.command.Command.{Command}
 use Rattle.set_model.specs.declared.command.Command.TheVariants as commands
 use Rattle.set_model.specs.declared.command.ReadLevel.TheVariants as levels
 use Rattle.set_model.specs.declared.command.Target.TheVariants as targets
@@ -42,10 +43,10 @@ is_flushed (reply.Flushed count point) = true
 is_flushed _ = false
 
 -- so many times at most, while there is something to flush
-abbrev pub flushes : ℕ → ℕ → Talk ℕ
-flushes node zero = tells 0
+abbrev pub flushes : ℕ → ℕ → Talk (Unit {0})
+flushes node zero = tells tt
 flushes node (suc more) =
-    asks (commands.Flush node) (λ told. if is_flushed told then flushes node more else tells 0)
+    asks (commands.Flush node) (λ told. if is_flushed told then flushes node more else tells tt)
 
 -- ---- 4. each other node gets the log, and reports
 
@@ -56,61 +57,76 @@ message_sent (reply.SentTo message source) = Some message
 message_sent (reply.Replied message) = Some message
 message_sent _ = None
 
+-- the message that a delivery was answered by
+abbrev pub message_replied : Option Reply → Option ℕ
+message_replied (Some told) = message_sent told
+message_replied None = None
+
 -- a message is delivered; where none was sent, this is left out
-abbrev pub delivers : {A : Type 0} → Option ℕ → (Option Reply → Talk A) → Talk A
-delivers None next = next None
-delivers (Some message) next = asks (commands.Deliver message) (λ told. next (Some told))
+abbrev pub delivers : Option ℕ → Talk (Option Reply)
+delivers None = tells None
+delivers (Some message) = asks (commands.Deliver message) (λ told. tells (Some told))
+
+-- a command, and the delivery of what it sent
+abbrev pub carries : Command → Talk (Option Reply)
+carries command = asks command (λ told. delivers (message_sent told))
 
 -- entries were taken, and the last of them is before the optime
 abbrev pub took_some : OpTime → Option Reply → Bool
 took_some at (Some (reply.Took count last)) = not (count == 0) && is_before last at
 took_some at _ = false
 
-abbrev pub has_message : Option ℕ → Bool
-has_message (Some message) = true
-has_message None = false
-
--- the message that a delivery was answered by
-abbrev pub message_replied : Option Reply → Option ℕ
-message_replied (Some told) = message_sent told
-message_replied None = None
-
--- One round: the other node hears of this one, fetches from its source, and flushes. It tells whether another
--- one is worth while.
+-- One round: the other node hears of this one, fetches from its source, and flushes. Another one is worth
+-- while where each command before the flushes was answered by what it asks for, and more is to be fetched.
 abbrev pub round : ℕ → ℕ → OpTime → Talk Bool
 round node other at =
-    asks (commands.Heartbeat node other) (λ beat. delivers (message_sent beat) (λ heard.
-    asks (commands.Fetch other) (λ fetch. delivers (message_sent fetch) (λ found.
-    delivers (message_replied found) (λ taken.
+    and_then (carries (commands.Heartbeat node other)) (λ heard.
+    and_then (carries (commands.Fetch other)) (λ found.
+    and_then (delivers (message_replied found)) (λ taken.
     and_then (flushes other 3) (λ done.
-    tells (has_message (message_sent beat) && has_message (message_replied heard)
-    && has_message (message_sent fetch) && has_message (message_replied found) && took_some at taken)))))))
+    tells (is_some (message_replied heard) && took_some at taken)))))
 
-abbrev pub rounds : ℕ → ℕ → OpTime → ℕ → Talk ℕ
-rounds node other at zero = tells 0
+-- so many rounds at most, while another one is worth while
+abbrev pub rounds : ℕ → ℕ → OpTime → ℕ → Talk (Unit {0})
+rounds node other at zero = tells tt
 rounds node other at (suc more) =
-    and_then (round node other at) (λ goes_on. if goes_on then rounds node other at more else tells 0)
+    and_then (round node other at) (λ goes_on. if goes_on then rounds node other at more else tells tt)
 
--- the other node reports how far it is durable
-abbrev pub reports : ℕ → ℕ → Talk ℕ
-reports node other =
-    asks (commands.Report other node) (λ told. delivers (message_sent told) (λ done. tells 0))
+-- another node has its rounds, and reports how far it is durable
+abbrev pub told : ℕ → ℕ → OpTime → Talk (Unit {0})
+told node other at =
+    if other == node then tells tt
+    else and_then (rounds node other at 50) (λ done.
+    and_then (carries (commands.Report other node)) (λ counted. tells tt))
 
--- so many nodes from this one on, but for the node itself
-abbrev pub others_told : ℕ → OpTime → ℕ → ℕ → Talk ℕ
-others_told node at other zero = tells 0
+-- so many nodes from this one on
+abbrev pub others_told : ℕ → OpTime → ℕ → ℕ → Talk (Unit {0})
+others_told node at other zero = tells tt
 others_told node at other (suc more) =
-    if other == node then others_told node at (other + 1) more
-    else and_then (rounds node other at 50) (λ done. and_then (reports node other) (λ told.
-    others_told node at (other + 1) more))
+    and_then (told node other at) (λ done. others_told node at (other + 1) more)
 
--- ---- 5. a majority acknowledges the note
+-- ---- 5. a majority acknowledges the note, or it is refused
 
-abbrev pub acknowledged : LinearAnswer → Reply → LinearAnswer
-acknowledged shown (reply.Refused why) = Refused why
-acknowledged shown _ = shown
+abbrev pub refusal_of : Reply → Option Refusal
+refusal_of (reply.Refused why) = Some why
+refusal_of _ = None
+
+-- points 3 to 5
+abbrev pub acknowledges : ℕ → ℕ → OpTime → Talk (Option Refusal)
+acknowledges node nodes at =
+    and_then (flushes node 200) (λ flushed. and_then (others_told node at 0 nodes) (λ done.
+    asks (commands.Ack node (targets.At at) concerns.Majority) (λ told. tells (refusal_of told))))
 
 -- ---- the five points
+
+-- behind the read: why no note of this term is written and acknowledged
+abbrev pub unless_noted : Result OpTime Refusal → (OpTime → Talk (Option Refusal)) → Talk (Option Refusal)
+unless_noted (Err why) next = tells (Some why)
+unless_noted (Ok at) next = next at
+
+abbrev pub confirms : ℕ → ℕ → ℕ → Talk (Option Refusal)
+confirms node nodes term =
+    asks (commands.Note node) (λ note. unless_noted (note_written term note) (acknowledges node nodes))
 
 -- a refusal is the answer
 abbrev pub unless_refused : {A : Type 0} → Result A Refusal → (A → Talk LinearAnswer)
@@ -118,12 +134,17 @@ abbrev pub unless_refused : {A : Type 0} → Result A Refusal → (A → Talk Li
 unless_refused (Err why) next = tells (Refused why)
 unless_refused (Ok found) next = next found
 
+abbrev pub answer_of : LinearAnswer → Option Refusal → LinearAnswer
+answer_of shown None = shown
+answer_of shown (Some why) = Refused why
+
+-- what a primary of a term is asked, the read first
+abbrev pub in_term : ℕ → ℕ → Command → ℕ → Talk LinearAnswer
+in_term node nodes read term =
+    asks read (λ found. unless_refused (document_shown found) (λ shown.
+    and_then (confirms node nodes term) (λ refused. tells (answer_of shown refused))))
+
 abbrev pub linear : ℕ → ℕ → List ℕ → Value → Talk LinearAnswer
 linear node nodes collection id =
     asks (commands.State node) (λ state. unless_refused (term_shown state) (λ term.
-    asks (commands.Read node levels.Local collection id) (λ read.
-    unless_refused (document_shown read) (λ shown.
-    asks (commands.Note node) (λ note. unless_refused (note_written term note) (λ at.
-    and_then (flushes node 200) (λ flushed.
-    and_then (others_told node at 0 nodes) (λ told.
-    asks (commands.Ack node (targets.At at) concerns.Majority) (λ ack. tells (acknowledged shown ack))))))))))
+    in_term node nodes (commands.Read node levels.Local collection id) term))
