@@ -25,7 +25,7 @@ abbrev pub told_at : (Node → Reply) → Option Node → Reply
 told_at shown None = reply.Refused NoSuchMessage
 told_at shown (Some node) = if node.up then shown node else reply.Refused NodeDown
 
-by_up : (world : World) (event : Event) (node : Node) (answer : Reply) (up : Bool)
+pub by_up : (world : World) (event : Event) (node : Node) (answer : Reply) (up : Bool)
     → (by_plan world event (Some (if up then Plan.finished (replied answer node) else Plan.finished (refused NodeDown node)))).reply ≡ (if up then answer else reply.Refused NodeDown)
 by_up world event node answer true = refl
 by_up world event node answer false = refl

@@ -1,9 +1,9 @@
 mod AnswerLemmas
 mod CallLemmas
-mod EventLemmas
+pub mod EventLemmas
 mod NextLemmas
 mod PartLemmas
 mod ReadLemmas
 mod RunLaw
 pub mod ShownLemmas
-mod StepLemmas
+pub mod StepLemmas

@@ -38,10 +38,10 @@ get_seam : (met rest : List Event) (event : Event) → slice_get (met ++ event �
 get_seam [] rest event = refl
 get_seam (first ∷ met) rest event = get_seam met rest event
 
-world_seam : (sizes : Sizes) (met rest : List Event) → world_at sizes (met ++ rest) (length met) ≡ (run sizes met).world
+pub world_seam : (sizes : Sizes) (met rest : List Event) → world_at sizes (met ++ rest) (length met) ≡ (run sizes met).world
 world_seam sizes met rest = ap (λ l. (run sizes l).world) (take-append_seam met rest)
 
-answered_at : (sizes : Sizes) (met rest : List Event) (event : Event) (command : Command) (answer : Reply) → event.command ≡ command → answer ≡ (step (run sizes met).world event).reply
+pub answered_at : (sizes : Sizes) (met rest : List Event) (event : Event) (command : Command) (answer : Reply) → event.command ≡ command → answer ≡ (step (run sizes met).world event).reply
     → IsAnswered sizes (met ++ event ∷ rest) (length met) command answer
 answered_at sizes met rest event command answer is replied = record {
   event = event;
@@ -76,7 +76,7 @@ shows_of alone sizes old between new call state first state_is second = record {
 
 -- ---- a node that is down
 
-none_past : (nodes : List Node) (number : ℕ) → slice_get nodes number ≡ None → number < length nodes → ⊥
+pub none_past : (nodes : List Node) (number : ℕ) → slice_get nodes number ≡ None → number < length nodes → ⊥
 none_past [] number none within = omega (arith, within)
 none_past (node ∷ nodes) zero none within = absurd (cc none)
 none_past (node ∷ nodes) (suc number) none within = none_past nodes number none (omega (arith, within))

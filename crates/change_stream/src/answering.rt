@@ -50,7 +50,7 @@ fn has_entry(log: &[Entry], at: OpTime) -> bool
 }
 
 /// The entries of a log up to an optime.
-fn up_to(log: &[Entry], at: OpTime) -> &[Entry]
+pub fn up_to(log: &[Entry], at: OpTime) -> &[Entry]
     requires { IsOplog log.now }
     ensures cut { result.now ≡ log_up_to at log.now }
     ensures oplog { IsOplog result.now }

@@ -7,6 +7,7 @@ mod error;
 mod laws;
 mod stream;
 
+pub use answering::up_to;
 pub use error::WatchError;
 pub use laws::stream_law;
-pub use stream::{ChangeStream, next, open};
+pub use stream::{ChangeStream, log_shown, next, open};

@@ -159,8 +159,8 @@ fn commit_shown(reply: &Reply) -> Option<OpTime>
     }
 }
 
-/// The entries of a log that was shown.
-fn log_shown(reply: Reply) -> Option<Vec<Entry>>
+/// The entries of a log that was shown; none, where the reply shows no log.
+pub fn log_shown(reply: Reply) -> Option<Vec<Entry>>
     ensures log { option_map (λ log. log.items) result ≡ shown_log reply }
     ensures lawful { IfSome result (λ log. All IsLawful log.items) }
 {

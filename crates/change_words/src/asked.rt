@@ -112,8 +112,8 @@ fn read_nodes(alloc: Global, words: &[String]) -> Mem<Option<NodeNumbers>>
     Ok(Some(nodes))
 }
 
-/// `n`, and one or two digits.
-fn node_of(word: &[u8]) -> Option<u32>
+/// The number of a node, which is named by `n` and one or two digits; none, where a word names none.
+pub fn node_of(word: &[u8]) -> Option<u32>
     ensures { result ≡ node_of word.now }
 {
     match word {

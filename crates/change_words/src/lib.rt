@@ -6,6 +6,6 @@ mod refusal;
 mod texts;
 mod tokens;
 
-pub use asked::{NodeNumbers, Watch, read_watch};
+pub use asked::{NodeNumbers, Watch, node_of, read_watch};
 pub use refusal::WatchRefusal;
 pub use texts::{is_of, refusal_line, set_change, set_resume};

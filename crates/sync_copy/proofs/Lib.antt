@@ -1,0 +1,2 @@
+mod MakeLemmas
+mod TellLemmas

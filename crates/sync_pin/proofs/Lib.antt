@@ -1,0 +1,4 @@
+mod AskLemmas
+mod EventLemmas
+mod PinLemmas
+mod ShowLemmas
