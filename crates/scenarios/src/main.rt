@@ -22,14 +22,16 @@ use std::fs;
 use std::process::ExitCode;
 use std::sync::Wait;
 use std::thread::Threads;
+use watches::IntoFailingSink;
 
 fn main(rt: HostRuntime) -> Result<ExitCode> {
     let examples = examples(&rt, &rt)?;
     let traces = traced(&rt, &rt)?;
-    let watches = watched(&rt, &rt)?;
+    let watches = behind(&rt, &rt, &watches::SCRIPTS, "watch", "changes")?;
+    let reads = behind(&rt, &rt, &watches::LINEAR, "linear", "linear reads")?;
     let limits = limits(&rt, &rt)?;
     let faults = faults(&rt, &rt)?;
-    Ok(if examples && traces && watches && limits && faults {
+    Ok(if examples && traces && watches && reads && limits && faults {
         ExitCode::SUCCESS
     } else {
         ExitCode::FAILURE
@@ -81,14 +83,20 @@ fn traced<R: Threads + Wait + Sync>(rt: &HostRuntime, threads: &R) -> Result<boo
     Ok(as_written)
 }
 
-/// Changes that are asked for behind scripts.
-fn watched<R: Threads + Wait + Sync>(rt: &HostRuntime, threads: &R) -> Result<bool> {
+/// Changes, or linear reads, that are asked for behind scripts.
+fn behind<R: Threads + Wait + Sync>(
+    rt: &HostRuntime,
+    threads: &R,
+    names: &[&str],
+    ending: &str,
+    what: &str,
+) -> Result<bool> {
     let mut as_written = true;
-    for name in watches::SCRIPTS {
+    for name in names.iter().copied() {
         let (script, written) = (text(rt, name, "replset")?, text(rt, name, "out")?);
-        let table = text(rt, name, "watch")?;
+        let table = text(rt, name, ending)?;
         let holds = watches::are_as_written(threads, rt.alloc(), &script, &written, &table)?;
-        let what = format!(in rt.alloc(); "changes behind {name}")?;
+        let what = format!(in rt.alloc(); "{what} behind {name}")?;
         as_written = tell(rt, &what, holds)? && as_written;
     }
     Ok(as_written)
@@ -143,12 +151,14 @@ fn sinks<R: Threads + Wait + Sync>(rt: &HostRuntime, threads: &R) -> Result<bool
         let what = format!(in alloc; "{name} into failing sinks")?;
         ended = tell(rt, &what, holds)? && ended;
     }
-    let name = watches::LOST;
-    let (script, transcript) = (text(rt, name, "replset")?, text(rt, name, "out")?);
-    let table = text(rt, name, "watch")?;
-    let holds = watches::end_with_a_lost_line(threads, alloc, &script, &transcript, &table)?;
-    let what = format!(in alloc; "changes behind {name} into failing sinks")?;
-    Ok(tell(rt, &what, holds)? && ended)
+    for IntoFailingSink { name, ending, what } in watches::LOST {
+        let (script, transcript) = (text(rt, name, "replset")?, text(rt, name, "out")?);
+        let table = text(rt, name, ending)?;
+        let holds = watches::end_with_a_lost_line(threads, alloc, &script, &transcript, &table)?;
+        let what = format!(in alloc; "{what} behind {name} into failing sinks")?;
+        ended = tell(rt, &what, holds)? && ended;
+    }
+    Ok(ended)
 }
 
 /// The names of the scripts, in order.

@@ -1,4 +1,4 @@
-//! Changes that are asked for behind example scripts.
+//! Changes, and linear reads, that are asked for behind example scripts.
 
 use crate::lost_replies::end_the_run;
 use crate::runs::run;
@@ -16,11 +16,35 @@ pub const SCRIPTS: [&str; 5] = [
     "updates",
 ];
 
-/// The one of them that is run into a sink that fails, with the words of its first row.
-pub const LOST: &str = "updates";
+/// Those beside which words stand that ask for linear reads.
+pub const LINEAR: [&str; 2] = ["linear_failover", "linear_stale"];
 
-/// What a refusal begins with.
-const REFUSED: &str = "watch refused";
+/// A script that is run into a sink that fails, with the words of the first row of a table.
+#[derive(Clone, Copy, Drop)]
+pub struct IntoFailingSink {
+    pub name: &'static str,
+    /// What the table's file name ends in.
+    pub ending: &'static str,
+    /// What is asked for.
+    pub what: &'static str,
+}
+
+/// These scripts.
+pub const LOST: [IntoFailingSink; 2] = [
+    IntoFailingSink {
+        name: "updates",
+        ending: "watch",
+        what: "changes",
+    },
+    IntoFailingSink {
+        name: "linear_failover",
+        ending: "linear",
+        what: "linear reads",
+    },
+];
+
+/// What a refusal has, and no other line of these.
+const REFUSED: &str = " refused ";
 
 /// Whether each row of a table puts its lines behind the transcript. A row has words, and below them lines;
 /// an empty line ends it.

@@ -1,5 +1,5 @@
 -- How a call ends.
-use Rattle.std.proofs.Common.{ℕ, ◌≡◌, ◌<◌, Bool, true, false, List, [], ◌∷◌, length, Option, None, Some, Result, Ok, Err, String, refl, sym, arith, inl, inr, ⊎_elim, ◌∙◌}
+use Rattle.std.proofs.Common.{ℕ, ◌≡◌, ◌<◌, Bool, true, false, List, [], ◌∷◌, length, Option, None, Some, Result, Ok, Err, String, refl, subst, sym, arith, inl, inr, ⊎_elim, ◌∙◌}
 use Rattle.std.specs.Prelude.{◌≢◌, IfSome}
 use Rattle.std.specs.declared.alloc.Global.{Global}
 use Rattle.rs_io.specs.Fault.{CountRose}
@@ -25,9 +25,8 @@ use Rattle.rs_io.specs.declared.sink.SinkError.TheVariants.{Failed, Memory as No
 use Rattle.set_program.specs.Causes.{of_read, of_sink}
 use Rattle.set_program.specs.Headline.{Asks, AsksNothing, AsksSource, Ends, EndsTask, EndsWithoutRun, HasNoFault, IsFaulty, IsOneOf, IsReadable, IsScriptOf, limit, status_of, usage}
 use Rattle.set_program.specs.declared.words.Task.{Task}
-use Rattle.set_program.specs.declared.words.Task.TheVariants.{Run, Trace, Chaos, Watch as Watches}
+use Rattle.set_program.specs.declared.words.Task.TheVariants.{Run, Trace, Chaos, Linear as ReadsLinear, Watch as Watches}
 use Rattle.set_program.specs.Left.{IfSet}
-use Rattle.change_words.specs.declared.asked.Watch.{Watch}
 use Rattle.set_program.specs.Tasks.{is_of_source, may_end_in}
 use Rattle.change_watch.proofs.KeepLemmas.{Keeps-same}
 
@@ -113,6 +112,7 @@ asks_one P words one other apart first second = absurd (apart (sym first ∙ sec
 not_of_source : (task : Task) (seed events nodes : ℕ) → is_of_source task ≡ true → Some task ≡ Some (Chaos seed events nodes) → ⊥
 not_of_source Run seed events nodes of_source same = cc same
 not_of_source Trace seed events nodes of_source same = cc same
+not_of_source (ReadsLinear linear) seed events nodes of_source same = cc same
 not_of_source (Watches watch) seed events nodes of_source same = cc same
 not_of_source (Chaos s e n) seed events nodes of_source same = cc of_source
 
@@ -152,6 +152,14 @@ never P Trace parts old new ReadFault set before ends = absurd ends
 never P Trace parts old new TooLong set before ends = absurd ends
 never P Trace parts old new DiskFault set before ends = absurd ends
 never P Trace parts old new Refused set before ends = absurd (cc before)
+never P (ReadsLinear linear) parts old new Memory set before ends = absurd (cc before)
+never P (ReadsLinear linear) parts old new WriteFault set before ends = absurd (cc before)
+never P (ReadsLinear linear) parts old new Usage set before ends = absurd ends
+never P (ReadsLinear linear) parts old new NoScript set before ends = absurd ends
+never P (ReadsLinear linear) parts old new ReadFault set before ends = absurd ends
+never P (ReadsLinear linear) parts old new TooLong set before ends = absurd ends
+never P (ReadsLinear linear) parts old new DiskFault set before ends = absurd ends
+never P (ReadsLinear linear) parts old new Refused set before ends = absurd (cc before)
 never P (Watches watch) parts old new Memory set before ends = absurd (cc before)
 never P (Watches watch) parts old new WriteFault set before ends = absurd (cc before)
 never P (Watches watch) parts old new Usage set before ends = absurd ends
@@ -175,38 +183,41 @@ only_unrun : {D : Type 0} (P : Type 0) (words : List (String Global)) (left rest
 only_unrun P words left rest old new stop (World set) before unrun (task, asks, (read, is, sizes, ends)) = never P task read.parts old new stop set before ends
 only_unrun P words left rest old new stop (Parts events disks) before unrun (none, ends) = unrun ends
 
--- only a watch is refused
-refused_watch : {D : Type 0} (words : List (String Global)) (left rest old new : Option (List ℕ)) (outcome : Left D) → Ends words left rest old new (Err Refused) outcome → (watch : Watch) × Asks words (Watches watch)
-refused_watch words left rest old new (World set) (Run, asks, (read, is, sizes, ends)) = absurd ends
-refused_watch words left rest old new (World set) (Trace, asks, (read, is, sizes, ends)) = absurd ends
-refused_watch words left rest old new (World set) (Chaos seed events nodes, asks, (read, is, sizes, ends)) = absurd ends
-refused_watch words left rest old new (World set) (Watches watch, asks, (read, is, sizes, ends)) = (watch, asks)
-refused_watch words left rest old new (Parts events disks) (none, ends) = absurd ends
+-- only work behind a script is refused
+refused_task : {D : Type 0} (words : List (String Global)) (left rest old new : Option (List ℕ)) (outcome : Left D) → Ends words left rest old new (Err Refused) outcome
+    → (task : Task) × Asks words task × IsOneOf (may_end_in task) 9
+refused_task words left rest old new (World set) (Run, asks, (read, is, sizes, ends)) = absurd ends
+refused_task words left rest old new (World set) (Trace, asks, (read, is, sizes, ends)) = absurd ends
+refused_task words left rest old new (World set) (Chaos seed events nodes, asks, (read, is, sizes, ends)) = absurd ends
+refused_task words left rest old new (World set) (ReadsLinear linear, asks, (read, is, sizes, ends)) = (ReadsLinear linear, asks, refl)
+refused_task words left rest old new (World set) (Watches watch, asks, (read, is, sizes, ends)) = (Watches watch, asks, refl)
+refused_task words left rest old new (Parts events disks) (none, ends) = absurd ends
 
 -- each task may end in these
 with_end : (task : Task) → IsOneOf (may_end_in task) 0
 with_end Run = refl
 with_end Trace = refl
+with_end (ReadsLinear linear) = refl
 with_end (Watches watch) = refl
 with_end (Chaos seed events nodes) = refl
 
 with_memory : (task : Task) → IsOneOf (may_end_in task) 1
 with_memory Run = refl
 with_memory Trace = refl
+with_memory (ReadsLinear linear) = refl
 with_memory (Watches watch) = refl
 with_memory (Chaos seed events nodes) = refl
 
 with_disk : (task : Task) → IsOneOf (may_end_in task) 7
 with_disk Run = refl
 with_disk Trace = refl
+with_disk (ReadsLinear linear) = refl
 with_disk (Watches watch) = refl
 with_disk (Chaos seed events nodes) = refl
 
-with_refusal : (words : List (String Global)) (task : Task) (watch : Watch) → Asks words task → Asks words (Watches watch) → IsOneOf (may_end_in task) 9
-with_refusal words Run watch asks watches = asks_one _ words Run (Watches watch) (λ same. cc same) asks watches
-with_refusal words Trace watch asks watches = asks_one _ words Trace (Watches watch) (λ same. cc same) asks watches
-with_refusal words (Watches other) watch asks watches = refl
-with_refusal words (Chaos seed events nodes) watch asks watches = asks_one _ words (Chaos seed events nodes) (Watches watch) (λ same. cc same) asks watches
+-- words ask for one task
+with_refusal : (words : List (String Global)) (task other : Task) → Asks words task → Asks words other → IsOneOf (may_end_in other) 9 → IsOneOf (may_end_in task) 9
+with_refusal words task other asks others may = subst (λ (t : Task). IsOneOf (may_end_in t) 9) (cc (sym others ∙ asks)) may
 
 pub completes : {D : Type 0} (words : List (String Global)) (left rest old new : Option (List ℕ)) (ended : Result (Unit {0}) Stop) (outcome : Left D)
     (SteadySource SteadySink : Type 0) (reads reads' writes writes' : ℕ)
@@ -229,7 +240,7 @@ completes words left rest old new (Err NoScript) outcome SteadySource SteadySink
 completes words left rest old new (Err TooLong) outcome SteadySource SteadySink reads reads' writes writes' ends read_fault write_fault steady_source steady_sink task asks of_source source sink =
     only_unrun _ words left rest old new TooLong outcome refl (λ unrun. over_limit left _ unrun.2) ends
 completes words left rest old new (Err Refused) outcome SteadySource SteadySink reads reads' writes writes' ends read_fault write_fault steady_source steady_sink task asks of_source source sink =
-    let watch = refused_watch words left rest old new outcome ends in whatever left _ (with_refusal words task watch.0 asks watch.1)
+    let refused = refused_task words left rest old new outcome ends in whatever left _ (with_refusal words task refused.0 asks refused.1 refused.2)
 
 -- ---- a generated script is run
 
@@ -251,4 +262,4 @@ completes_chaos words left rest old new (Err NoScript) outcome SteadySink writes
 completes_chaos words left rest old new (Err TooLong) outcome SteadySink writes writes' ends write_fault steady_sink seed events nodes asks sink =
     only_unrun _ words left rest old new TooLong outcome refl (λ unrun. reads_nothing _ words seed events nodes unrun.0 asks) ends
 completes_chaos words left rest old new (Err Refused) outcome SteadySink writes writes' ends write_fault steady_sink seed events nodes asks sink =
-    let watch = refused_watch words left rest old new outcome ends in asks_one _ words (Chaos seed events nodes) (Watches watch.0) (λ same. cc same) asks watch.1
+    let refused = refused_task words left rest old new outcome ends in with_refusal words (Chaos seed events nodes) refused.0 asks refused.1 refused.2

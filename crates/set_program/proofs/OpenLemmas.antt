@@ -20,7 +20,7 @@ use Rattle.set_program.specs.declared.outcome.Left.TheVariants.{World, Parts}
 use Rattle.set_program.specs.declared.stop.Stop.{Stop}
 use Rattle.set_program.specs.declared.stop.Stop.TheVariants.{Memory, Usage, Script as NoScript, ReadFault, WriteFault, TooLong, DiskFault, Refused}
 use Rattle.set_program.specs.declared.words.Task.{Task}
-use Rattle.set_program.specs.declared.words.Task.TheVariants.{Run, Trace, Chaos, Watch as Watches}
+use Rattle.set_program.specs.declared.words.Task.TheVariants.{Run, Trace, Chaos, Linear as ReadsLinear, Watch as Watches}
 use Rattle.set_program.specs.Asking.{OpensScript, RunsScript}
 use Rattle.set_program.specs.Causes.{of_file}
 use Rattle.set_program.specs.Headline.{Asks, Ends, EndsTask, IsAsked, IsScriptOf, IsUnarmed, LeavesDisks, opening_error, status_of, status_of_stop}
@@ -89,6 +89,7 @@ not_opening task parts old new (Err ReadFault) set ends seven = cc seven
 not_opening task parts old new (Err TooLong) set ends seven = cc seven
 not_opening task parts old new (Err Refused) set ends seven = cc seven
 not_opening Run parts old new (Err DiskFault) set ends seven = ends
+not_opening (ReadsLinear linear) parts old new (Err DiskFault) set ends seven = ends
 not_opening (Watches watch) parts old new (Err DiskFault) set ends seven = ends
 not_opening Trace parts old new (Err DiskFault) set ends seven = ends
 not_opening (Chaos seed events nodes) parts old new (Err DiskFault) set ends seven = ends

@@ -2,6 +2,7 @@
 --
 --     run                        the script of the source is run
 --     trace                      the same, and in place of the replies the trace of its run is put
+--     linear NODE COLL ID        the same as `run`, and then a linear read is done, and what came of it put
 --     watch COLL TOKEN NODE..    the same as `run`, and then changes are put that nodes have behind a token
 --     chaos SEED EVENTS NODES    a generated script is run, and its summary put
 --
@@ -14,8 +15,10 @@ use Rattle.std.specs.Str.{bytes_eq}
 use Rattle.std.specs.Str.Parse.{digits_value}
 use Rattle.change_words.specs.Asked.{watch_of}
 use Rattle.change_words.specs.declared.asked.Watch.{Watch}
+use Rattle.linear_words.specs.Asked.{linear_of}
+use Rattle.linear_words.specs.declared.asked.Linear.{Linear}
 use Rattle.set_program.specs.declared.words.Task.{Task}
-use Rattle.set_program.specs.declared.words.Task.TheVariants.{Run, Trace, Chaos, Watch as Watches}
+use Rattle.set_program.specs.declared.words.Task.TheVariants.{Run, Trace, Chaos, Linear as ReadsLinear, Watch as Watches}
 
 abbrev pub if_within : (least most : ℕ) → ℕ → Option ℕ
 if_within least most number = if nat_le least number && nat_le number most then Some number else None
@@ -56,10 +59,19 @@ watch_task (collection ∷ []) = None
 watch_task (collection ∷ token ∷ nodes) =
     option_map (λ (watch : Watch). Watches watch) (watch_of collection token nodes)
 
+abbrev pub linear_task : List (List ℕ) → Option Task
+linear_task [] = None
+linear_task (node ∷ []) = None
+linear_task (node ∷ collection ∷ []) = None
+linear_task (node ∷ collection ∷ id ∷ []) =
+    option_map (λ (linear : Linear). ReadsLinear linear) (linear_of node collection id)
+linear_task (node ∷ collection ∷ id ∷ more ∷ others) = None
+
 abbrev pub word_task : List ℕ → List (List ℕ) → Option Task
 word_task name words =
     if bytes_eq name (codes "run") then alone Run words
     else if bytes_eq name (codes "trace") then alone Trace words
+    else if bytes_eq name (codes "linear") then linear_task words
     else if bytes_eq name (codes "watch") then watch_task words
     else if bytes_eq name (codes "chaos") then chaos_task words
     else None
@@ -74,6 +86,7 @@ task_of (name ∷ words) = word_task name words
 abbrev pub IsBounded : Task → Type 0
 IsBounded Run = ⊤
 IsBounded Trace = ⊤
+IsBounded (ReadsLinear linear) = ⊤
 IsBounded (Watches watch) = ⊤
 IsBounded (Chaos seed events nodes) = (events ≤ 5000) × (1 ≤ nodes) × (nodes ≤ 7)
 
@@ -81,6 +94,7 @@ IsBounded (Chaos seed events nodes) = (events ≤ 5000) × (1 ≤ nodes) × (nod
 abbrev pub is_of_source : Task → Bool
 is_of_source Run = true
 is_of_source Trace = true
+is_of_source (ReadsLinear linear) = true
 is_of_source (Watches watch) = true
 is_of_source (Chaos seed events nodes) = false
 
@@ -88,5 +102,6 @@ is_of_source (Chaos seed events nodes) = false
 abbrev pub may_end_in : Task → List ℕ
 may_end_in Run = 0 ∷ 1 ∷ 7 ∷ []
 may_end_in Trace = 0 ∷ 1 ∷ 7 ∷ []
+may_end_in (ReadsLinear linear) = 0 ∷ 1 ∷ 7 ∷ 9 ∷ []
 may_end_in (Watches watch) = 0 ∷ 1 ∷ 7 ∷ 9 ∷ []
 may_end_in (Chaos seed events nodes) = 0 ∷ 1 ∷ 7 ∷ []

@@ -24,7 +24,7 @@ use transcript::write_fault;
 const MAX_SCRIPT: usize = 8_388_608;
 
 const USAGE: &str = "usage: replset run | replset chaos SEED EVENTS NODES \
-    | replset watch COLL TOKEN NODE... | replset trace\n";
+    | replset linear NODE COLL ID | replset watch COLL TOKEN NODE... | replset trace\n";
 
 /// The task that the words ask for, and the script that is to be run. Where there is none, it is said why.
 pub fn read_script<S: Source, K: Sink>(
@@ -50,6 +50,9 @@ pub fn read_script<S: Source, K: Sink>(
     match asked {
         Some(Task::Run) => Ok((Task::Run, source_script(alloc, source, sink)?)),
         Some(Task::Trace) => Ok((Task::Trace, source_script(alloc, source, sink)?)),
+        Some(Task::Linear(linear)) => {
+            Ok((Task::Linear(linear), source_script(alloc, source, sink)?))
+        }
         Some(Task::Watch(watch)) => Ok((Task::Watch(watch), source_script(alloc, source, sink)?)),
         Some(
             Task::Chaos {

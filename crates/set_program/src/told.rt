@@ -1,4 +1,4 @@
-// A script, played for its replies, for changes behind it, for its trace or for its summary.
+// A script, played for its replies, for a read or changes behind it, for its trace or for its summary.
 ghost use Rattle.std.specs.Prelude.{◌≡◌, ◌≢◌, ◌≤◌, [], length, true, Err, IsErrOf};
 ghost use Rattle.std.specs.List.{AllPass};
 ghost use Rattle.rs_io.specs.Fault.{HasCause};
@@ -9,6 +9,7 @@ ghost use Rattle.set_program.specs.Headline.{EndsTask, EndsWithSummary, summary_
 ghost use Rattle.set_program.specs.Parts.{can_be_run, DisksEnd, DisksGo};
 ghost use Rattle.set_program.specs.Plays.{PutsText};
 
+use crate::linearly::play_linear;
 use crate::play::play;
 use crate::steps::step_parts;
 use crate::stop::Stop;
@@ -27,8 +28,9 @@ use std::sync::Wait;
 use std::thread::Threads;
 use transcript::{Summary, write_summary};
 
-/// Plays a script as a task asks: it puts each reply, or each and then the changes that nodes tell, or the
-/// trace of the run, or only its summary. An error says why it stopped before the end.
+/// Plays a script as a task asks: it puts each reply, or each and then what a linear read shows or which
+/// changes nodes tell, or the trace of the run, or only its summary. An error says why it stopped before the
+/// end.
 pub fn play_task<K: Sink, D: Disk + Send, G: Gate + Sync, R: Threads + Wait + Sync>(
     rt: &R,
     alloc: Global,
@@ -52,6 +54,7 @@ pub fn play_task<K: Sink, D: Disk + Send, G: Gate + Sync, R: Threads + Wait + Sy
     match task {
         Task::Run => play(rt, alloc, gate, script.parts, sink, world),
         Task::Trace => play_traced(rt, alloc, gate, script, sink, world),
+        Task::Linear(linear) => play_linear(rt, alloc, gate, linear, script, sink, world),
         Task::Watch(watch) => play_watched(rt, alloc, gate, watch, script, sink, world),
         Task::Chaos { .. } => play_told(rt, alloc, gate, script.parts, sink, world),
     }

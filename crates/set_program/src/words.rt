@@ -2,10 +2,11 @@
 ghost use Rattle.std.specs.Prelude.{◌≡◌, IfOk, IfSome, map, string_bytes};
 ghost use Rattle.std.specs.Char.{is_ascii_digit};
 ghost use Rattle.std.specs.List.{list_all};
-ghost use Rattle.set_program.specs.Tasks.{IsBounded, alone, chaos_of, chaos_task, number_word, task_of, watch_task, word_task};
+ghost use Rattle.set_program.specs.Tasks.{IsBounded, alone, chaos_of, chaos_task, linear_task, number_word, task_of, watch_task, word_task};
 
 use bson_doc::Mem;
 use change_words::{Watch, read_watch};
+use linear_words::{Linear, read_linear};
 use std::alloc::Global;
 
 /// What is to be done.
@@ -17,6 +18,8 @@ pub enum Task {
     Trace,
     /// A generated script is run, and its summary put.
     Chaos { seed: u64, events: u32, nodes: u32 },
+    /// The script of the source is run, and then a document is read linearly.
+    Linear(Linear),
     /// The script of the source is run, and then it is told which changes nodes have behind a token.
     Watch(Watch),
 }
@@ -40,6 +43,7 @@ fn word_task(alloc: Global, name: &str, words: &[String]) -> Mem<Option<Task>>
     match name {
         "run" => Ok(alone(Task::Run, words)),
         "trace" => Ok(alone(Task::Trace, words)),
+        "linear" => linear_task(alloc, words),
         "watch" => watch_task(alloc, words),
         "chaos" => Ok(chaos_task(words)),
         _ => Ok(None),
@@ -53,6 +57,19 @@ fn alone(task: Task, words: &[String]) -> Option<Task>
     ensures bounds { IfSome result IsBounded }
 {
     if words.is_empty() { Some(task) } else { None }
+}
+
+fn linear_task(alloc: Global, words: &[String]) -> Mem<Option<Task>>
+    ensures asked { IfOk result (λ task. task ≡ linear_task (map string_bytes words.now)) }
+    ensures bounds { IfOk result (λ task. IfSome task IsBounded) }
+{
+    match words {
+        [node, collection, id] => {
+            let linear = read_linear(alloc, node.as_str(), collection.as_str(), id.as_str())?;
+            Ok(linear.map(Task::Linear))
+        }
+        _ => Ok(None),
+    }
 }
 
 fn watch_task(alloc: Global, words: &[String]) -> Mem<Option<Task>>

@@ -1,5 +1,6 @@
 use Rattle.std.proofs.lemmas.Result.{err_from_is_err_and}
-use Rattle.set_program.proofs.WatchedLemmas.{watch_stops, went_by}
+use Rattle.set_program.proofs.BehindLemmas.{went_by}
+use Rattle.set_program.proofs.WatchedLemmas.{watch_stops}
 use Rattle.set_program.proofs.watched.watch_on.Goals as goal
 
 pub returns-in_err-follow-clause-watches : goal.returns-in_err-follow-clause-watches

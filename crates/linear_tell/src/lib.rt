@@ -1,0 +1,8 @@
+//! A linear read that words ask for is done, and the line that tells what came of it is put.
+#![tactic(auto)]
+
+mod stop;
+mod telling;
+
+pub use stop::LinearStop;
+pub use telling::tell;

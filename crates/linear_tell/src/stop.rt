@@ -1,0 +1,47 @@
+// Why a linear read tells no document.
+ghost use Rattle.std.specs.Prelude.{◌≡◌};
+ghost use Rattle.linear_tell.specs.Causes.{of_sink};
+ghost use Rattle.linear_tell.specs.declared.stop.LinearStop.TheVariants.{Memory as IsMemory};
+
+use rs_io::SinkError;
+use set_world::StepError;
+use std::alloc::AllocError;
+
+/// Why a linear read that words ask for came to nothing.
+#[derive(Clone, Copy, Debug, PartialEq, Eq)]
+pub enum LinearStop {
+    /// It was refused, and that was told.
+    Refused,
+    /// The sink failed.
+    WriteFault,
+    /// Out of memory.
+    Memory,
+}
+
+impl From<AllocError> for LinearStop {
+    ghost from_gives = { λ _ s. s ≡ IsMemory };
+
+    fn from(_: AllocError) -> Self {
+        LinearStop::Memory
+    }
+}
+
+impl From<SinkError> for LinearStop {
+    ghost from_gives = { λ e s. s ≡ of_sink e };
+
+    fn from(error: SinkError) -> Self {
+        match error {
+            SinkError::Failed => LinearStop::WriteFault,
+            SinkError::Memory => LinearStop::Memory,
+        }
+    }
+}
+
+impl From<StepError> for LinearStop {
+    ghost from_gives = { λ _ s. s ≡ IsMemory };
+
+    // A history that is full has no room for one event more.
+    fn from(_: StepError) -> Self {
+        LinearStop::Memory
+    }
+}
