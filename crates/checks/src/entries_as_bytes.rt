@@ -10,6 +10,10 @@ const FIELDS: &[u8] =
 const DELETE: &[u8] =
     b"H\0\0\0\x11ts\0\x02\0\0\0\0\0\0\0\x12t\0\x01\0\0\0\0\0\0\0\x10v\0\x02\0\0\0\x02op\0\x02\0\0\0d\0\x02ns\0\x02\0\0\0t\0\x03o\0\x0e\0\0\0\x10_id\0\x05\0\0\0\0\0";
 
+// The same with a length that leaves its last byte out.
+const TOO_LONG: &[u8] =
+    b"G\0\0\0\x11ts\0\x02\0\0\0\0\0\0\0\x12t\0\x01\0\0\0\0\0\0\0\x10v\0\x02\0\0\0\x02op\0\x02\0\0\0d\0\x02ns\0\x02\0\0\0t\0\x03o\0\x0e\0\0\0\x10_id\0\x05\0\0\0\0\0";
+
 // An insert of a document that does not begin with an `_id`.
 const NO_ID: &[u8] =
     b"F\0\0\0\x11ts\0\x02\0\0\0\0\0\0\0\x12t\0\x01\0\0\0\0\0\0\0\x10v\0\x02\0\0\0\x02op\0\x02\0\0\0i\0\x02ns\0\x02\0\0\0t\0\x03o\0\x0c\0\0\0\x10a\0\x01\0\0\0\0\0";
@@ -24,6 +28,10 @@ const INSERT: &[u8] =
 // A replacement of the session 4,294,967,295, numbered 3.
 const REPLACEMENT: &[u8] =
     b"\x82\0\0\0\x11ts\0\x02\0\0\0\0\0\0\0\x12t\0\x01\0\0\0\0\0\0\0\x10v\0\x02\0\0\0\x02op\0\x02\0\0\0u\0\x02ns\0\x02\0\0\0t\0\x03o\0\x15\0\0\0\x10_id\0\x05\0\0\0\x10a\0\x01\0\0\0\0\x03o2\0\x0e\0\0\0\x10_id\0\x05\0\0\0\0\x12lsid\0\xff\xff\xff\xff\0\0\0\0\x12txnNumber\0\x03\0\0\0\0\0\0\0\0";
+
+// The same with another `_id` in the document than of the one that is replaced.
+const OF_ANOTHER: &[u8] =
+    b"\x82\0\0\0\x11ts\0\x02\0\0\0\0\0\0\0\x12t\0\x01\0\0\0\0\0\0\0\x10v\0\x02\0\0\0\x02op\0\x02\0\0\0u\0\x02ns\0\x02\0\0\0t\0\x03o\0\x15\0\0\0\x10_id\0\x05\0\0\0\x10a\0\x01\0\0\0\0\x03o2\0\x0e\0\0\0\x10_id\0\x06\0\0\0\0\x12lsid\0\xff\xff\xff\xff\0\0\0\0\x12txnNumber\0\x03\0\0\0\0\0\0\0\0";
 
 // A note with a session.
 const NOTE_OF_SESSION: &[u8] =
@@ -52,6 +60,21 @@ fn changed_fields_are_read_and_written(rt: HostRuntime) -> Result<(), Fail> {
 #[test]
 fn an_insert_without_an_id_is_refused(rt: HostRuntime) -> Result<(), Fail> {
     assert_eq!(rt; of_bytes(rt.alloc(), NO_ID).err(), Some(EntryError::Shape));
+    Ok(())
+}
+
+#[test]
+fn an_entry_with_a_byte_behind_it_is_refused(rt: HostRuntime) -> Result<(), Fail> {
+    assert!(rt; of_bytes(rt.alloc(), TOO_LONG).is_err());
+    Ok(())
+}
+
+#[test]
+fn a_replacement_of_another_document_is_refused(rt: HostRuntime) -> Result<(), Fail> {
+    assert_eq!(rt;
+        of_bytes(rt.alloc(), OF_ANOTHER).err(),
+        Some(EntryError::Shape)
+    );
     Ok(())
 }
 

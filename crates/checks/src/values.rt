@@ -32,6 +32,15 @@ fn documents_are_compared_by_kind(rt: HostRuntime) -> Result<(), Fail> {
 }
 
 #[test]
+fn a_name_stands_once(rt: HostRuntime) -> Result<(), Fail> {
+    let alloc = rt.alloc();
+    let mut document = document(alloc, Value::Int32(5))?;
+    let again = document.push(Text::from_str(alloc, "n")?, Value::Int32(6));
+    assert!(rt; again.is_err());
+    Ok(())
+}
+
+#[test]
 fn a_document_is_walked_and_shown(rt: HostRuntime) -> Result<(), Fail> {
     let alloc = rt.alloc();
     let document = document(alloc, Value::Int32(5))?;

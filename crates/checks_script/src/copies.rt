@@ -1,9 +1,10 @@
 // Copies of writes, commands, scripts, replies and summaries: memory suffices for each, and it says what was
 // copied, also when that is gone.
-use bson_doc::{Doc, IdKey, Text, Value};
+use crate::found::is_text;
+use bson_doc::{Doc, IdKey, Mem, Text, Value};
 use doc_text::write_document;
 use doc_update::{Prepared, WriteOp};
-use fault_script::{Part, parse};
+use fault_script::{Part, Script, parse};
 use member_config::{Config, Member, MemberList};
 use oplog_entry::Op;
 use rs_optime::OpTime;
@@ -25,23 +26,48 @@ fn five(alloc: Global) -> Result<Doc, Fail> {
 fn is_five(alloc: Global, document: &Doc) -> Result<(), Fail> {
     let mut text = String::new(alloc);
     write_document(document, &mut text)?;
-    if text.as_str() == "{a: 5}" {
-        return Ok(());
-    }
-    Err(Fail::new(text))
+    is_text(text, "{a: 5}")
+}
+
+// Each of these drops what it copies.
+
+fn write_again(op: WriteOp) -> Mem<WriteOp> {
+    op.copy()
+}
+
+fn effect_again(effect: Prepared) -> Mem<Prepared> {
+    effect.copy()
+}
+
+fn event_again(event: Event) -> Mem<Event> {
+    event.copy()
+}
+
+fn command_again(command: Command) -> Mem<Command> {
+    command.copy()
+}
+
+fn script_again(script: Script) -> Mem<Script> {
+    script.copy()
+}
+
+fn reply_again(reply: Reply) -> Mem<Reply> {
+    reply.copy()
+}
+
+fn summary_again(summary: Summary) -> Mem<Summary> {
+    summary.copy()
 }
 
 #[test]
 fn a_write_is_copied(rt: HostRuntime) -> Result<(), Fail> {
     let alloc = rt.alloc();
-    let op = WriteOp::Insert {
+    let copy = write_again(WriteOp::Insert {
         ns: Text::from_str(alloc, "t")?,
         doc: five(alloc)?,
-    };
-    let copy = op.copy()?;
-    drop(op);
-    match copy {
-        WriteOp::Insert { doc, .. } => is_five(alloc, &doc),
+    })?;
+    match &copy {
+        WriteOp::Insert { doc, .. } => is_five(alloc, doc),
         _ => Err(Fail::new("another write")),
     }
 }
@@ -49,12 +75,10 @@ fn a_write_is_copied(rt: HostRuntime) -> Result<(), Fail> {
 #[test]
 fn an_effect_is_copied(rt: HostRuntime) -> Result<(), Fail> {
     let alloc = rt.alloc();
-    let effect = Prepared::Entry {
+    let copy = effect_again(Prepared::Entry {
         op: Op::Noop,
         after: Some(five(alloc)?),
-    };
-    let copy = effect.copy()?;
-    drop(effect);
+    })?;
     match &copy {
         Prepared::Entry {
             after: Some(doc),
@@ -64,18 +88,10 @@ fn an_effect_is_copied(rt: HostRuntime) -> Result<(), Fail> {
     }
 }
 
-/// The document of an event that inserts one.
-fn inserted(event: Event) -> Option<Doc> {
-    match event.command {
-        Command::Insert { document, .. } => Some(document),
-        _ => None,
-    }
-}
-
 #[test]
 fn an_event_is_copied_with_its_command(rt: HostRuntime) -> Result<(), Fail> {
     let alloc = rt.alloc();
-    let event = Event {
+    let copy = event_again(Event {
         command: Command::Insert {
             node: 0,
             collection: Text::from_str(alloc, "t")?,
@@ -84,12 +100,10 @@ fn an_event_is_copied_with_its_command(rt: HostRuntime) -> Result<(), Fail> {
         line: 7,
         failed: Some(0),
         kept: false,
-    };
-    let copy = event.copy()?;
-    drop(event);
-    match inserted(copy) {
-        Some(doc) => is_five(alloc, &doc),
-        None => Err(Fail::new("another command")),
+    })?;
+    match &copy.command {
+        Command::Insert { document, .. } => is_five(alloc, document),
+        _ => Err(Fail::new("another command")),
     }
 }
 
@@ -109,14 +123,12 @@ fn reads(command: &Command) -> bool {
 #[test]
 fn a_read_is_copied_with_its_id(rt: HostRuntime) -> Result<(), Fail> {
     let alloc = rt.alloc();
-    let command = Command::Read {
+    let copy = command_again(Command::Read {
         node: 2,
         level: ReadLevel::Majority,
         collection: Text::from_str(alloc, "t")?,
         id: Value::Text(Text::from_str(alloc, "five")?),
-    };
-    let copy = command.copy()?;
-    drop(command);
+    })?;
     assert!(rt; reads(&copy));
     Ok(())
 }
@@ -144,7 +156,7 @@ fn a_reconfig_is_copied_with_its_members(rt: HostRuntime) -> Result<(), Fail> {
         votes: true,
         priority: 1,
     })?;
-    let command = Command::Reconfig {
+    let copy = command_again(Command::Reconfig {
         node: 1,
         config: Config {
             term: 1,
@@ -152,9 +164,7 @@ fn a_reconfig_is_copied_with_its_members(rt: HostRuntime) -> Result<(), Fail> {
             members,
             chaining: true,
         },
-    };
-    let copy = command.copy()?;
-    drop(command);
+    })?;
     assert!(rt; is_change(&copy));
     Ok(())
 }
@@ -178,23 +188,22 @@ fn lines_of_two(part: &Part) -> (usize, usize) {
     }
 }
 
-/// The copies of the two parts of a script whose second one is a block.
-fn two_copied(alloc: Global, bytes: &[u8]) -> Result<(Part, Part), Fail> {
+/// The copy of a part of a script.
+fn part_again(alloc: Global, bytes: &[u8], place: usize) -> Result<Part, Fail> {
     let Ok(script) = parse(alloc, bytes) else {
         return Err(Fail::new("no script"));
     };
-    match script.parts.as_slice() {
-        [first, second] => Ok((first.copy()?, second.copy()?)),
-        _ => Err(Fail::new("another script")),
+    match script.parts.as_slice().get(place) {
+        Some(part) => Ok(part.copy()?),
+        None => Err(Fail::new("another script")),
     }
 }
 
 #[test]
 fn a_part_is_copied(rt: HostRuntime) -> Result<(), Fail> {
     let bytes = b"set 2\ninsert n0 t {_id: 1}\npar\nthread\nlog n0\nlog n1\nthread\nlog n1\nend";
-    let (line, block) = two_copied(rt.alloc(), bytes)?;
-    assert!(rt; is_insert(&line, 2));
-    assert_eq!(rt; lines_of_two(&block), (2, 1));
+    assert!(rt; is_insert(&part_again(rt.alloc(), bytes, 0)?, 2));
+    assert_eq!(rt; lines_of_two(&part_again(rt.alloc(), bytes, 1)?), (2, 1));
     Ok(())
 }
 
@@ -213,22 +222,24 @@ fn a_script_is_copied_with_its_blocks(rt: HostRuntime) -> Result<(), Fail> {
     let Ok(script) = parse(alloc, bytes) else {
         return Err(Fail::new("no script"));
     };
-    let copy = script.copy()?;
-    drop(script);
+    let copy = script_again(script)?;
     assert_eq!(rt; counts(copy.parts.as_slice()), (3, 2));
     Ok(())
 }
 
 /// Fails where the copy of a reply to line 7 has another text, and says which.
 fn tells(alloc: Global, reply: Reply, text: &str) -> Result<(), Fail> {
-    let copy = reply.copy()?;
-    drop(reply);
+    let copy = reply_again(reply)?;
     let mut found = String::new(alloc);
     write_reply(7, &copy, &mut found)?;
-    if found.as_str() == text {
-        return Ok(());
-    }
-    Err(Fail::new(found))
+    is_text(found, text)
+}
+
+/// `{a: 5}` in `t`.
+fn documents(alloc: Global) -> Result<DocumentList, Fail> {
+    let mut documents = DocumentList::new(alloc);
+    documents.push(Text::from_str(alloc, "t")?, five(alloc)?)?;
+    Ok(documents)
 }
 
 #[test]
@@ -237,11 +248,9 @@ fn a_reply_is_copied(rt: HostRuntime) -> Result<(), Fail> {
     tells(alloc, Reply::Written(AT), "7: written 1/0/2\n")?;
     tells(alloc, Reply::Down, "7: down\n")?;
     tells(alloc, Reply::Found(five(alloc)?), "7: found {a: 5}\n")?;
-    let mut documents = DocumentList::new(alloc);
-    documents.push(Text::from_str(alloc, "t")?, five(alloc)?)?;
     tells(
         alloc,
-        Reply::Documents(documents),
+        Reply::Documents(documents(alloc)?),
         "7: documents 1\n  t {a: 5}\n",
     )?;
     let entries = EntryList::new(Vec::new(alloc));
@@ -251,20 +260,23 @@ fn a_reply_is_copied(rt: HostRuntime) -> Result<(), Fail> {
 }
 
 /// The document with the `_id` 1 in `t` was `{a: 5}`, and the one with the `_id` 2 was gone.
-#[test]
-fn lost_documents_are_copied(rt: HostRuntime) -> Result<(), Fail> {
-    let alloc = rt.alloc();
+fn lost(alloc: Global) -> Result<LostList, Fail> {
     let mut lost = LostList::new(alloc);
     let first = (Text::from_str(alloc, "t")?, IdKey::Number(1));
     lost.push(first, Some(five(alloc)?))?;
     let second = (Text::from_str(alloc, "t")?, IdKey::Number(2));
     lost.push(second, None)?;
-    let copy = lost.copy()?;
-    drop(lost);
-    let mut text = String::new(alloc);
-    write_reply(7, &Reply::Rolled(copy), &mut text)?;
-    assert_eq!(rt; text.as_str(), "7: documents 2\n  t {a: 5}\n  t 2 gone\n");
-    Ok(())
+    Ok(lost)
+}
+
+#[test]
+fn lost_documents_are_copied(rt: HostRuntime) -> Result<(), Fail> {
+    let alloc = rt.alloc();
+    tells(
+        alloc,
+        Reply::Rolled(lost(alloc)?),
+        "7: documents 2\n  t {a: 5}\n  t 2 gone\n",
+    )
 }
 
 #[test]
@@ -272,21 +284,18 @@ fn a_summary_is_copied(rt: HostRuntime) -> Result<(), Fail> {
     let alloc = rt.alloc();
     let mut nodes = NodePoints::new(alloc);
     nodes.push(None)?;
-    let summary = Summary {
+    let copy = summary_again(Summary {
         events: 5,
         written: 4,
         won: 3,
         rolled_back: 2,
         refused: 1,
         nodes,
-    };
-    let copy = summary.copy()?;
-    drop(summary);
+    })?;
     let mut text = String::new(alloc);
     write_summary(&copy, &mut text)?;
-    assert_eq!(rt;
-        text.as_str(),
-        "events 5\nwritten 4\nwon 3\nrolled back 2\nrefused 1\nn0 down\n"
-    );
-    Ok(())
+    is_text(
+        text,
+        "events 5\nwritten 4\nwon 3\nrolled back 2\nrefused 1\nn0 down\n",
+    )
 }

@@ -3,6 +3,7 @@ ghost use Rattle.std.specs.Prelude.{All, IfOk, IsSome};
 ghost use Rattle.oplog_entry.specs.Lawful.{IsLawful, IsLawfulOp};
 ghost use Rattle.oplog_entry.specs.Step.{place_of};
 
+use crate::found::is_text;
 use bson_doc::{Doc, Text, Value};
 use oplog_entry::{Entry, Op, Session, SharedOp};
 use rs_optime::OpTime;
@@ -49,9 +50,8 @@ fn a_note_and_a_retried_write_are_printed(rt: HostRuntime) -> Result<(), Fail> {
     let reply = Reply::Entries(EntryList::new(log(alloc)?));
     let mut text = String::new(alloc);
     write_reply(7, &reply, &mut text)?;
-    assert_eq!(rt;
-        text.as_str(),
-        "7: entries 3\n  1/0/1 n {msg: \"new primary\"}\n  1/0/2 i t {_id: 5}\n  1/0/3 n {msg: \"note\"}\n"
-    );
-    Ok(())
+    is_text(
+        text,
+        "7: entries 3\n  1/0/1 n {msg: \"new primary\"}\n  1/0/2 i t {_id: 5}\n  1/0/3 n {msg: \"note\"}\n",
+    )
 }

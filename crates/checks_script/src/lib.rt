@@ -2,11 +2,11 @@
 #![tactic(auto)]
 
 #[cfg(test)]
-mod commands;
-#[cfg(test)]
 mod copies;
 #[cfg(test)]
 mod entries;
+#[cfg(test)]
+mod found;
 #[cfg(test)]
 mod lines;
 #[cfg(test)]

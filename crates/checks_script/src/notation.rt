@@ -1,4 +1,5 @@
 // Texts of the notation of documents, and what they stand for by its rules.
+use crate::found::is_text;
 use doc_text::{TextError, read_value, write_value};
 use std::alloc::Global;
 use std::test::Fail;
@@ -24,11 +25,10 @@ fn prints(rt: HostRuntime) -> Result<(), Fail> {
         rt.alloc(),
         r#"{ "a" : -0,"b c" :[007L , Date ( -5 ),Bin(010, "0aFF"), Time(4294967295 ,0)], $_9:{ }, d: "\u0041\u000a\u007F" }"#,
     )?;
-    assert_eq!(rt;
-        text.as_str(),
-        r#"{a: 0, "b c": [7L, Date(-5), Bin(10, "0aff"), Time(4294967295, 0)], $_9: {}, d: "A\n\u007f"}"#
-    );
-    Ok(())
+    is_text(
+        text,
+        r#"{a: 0, "b c": [7L, Date(-5), Bin(10, "0aff"), Time(4294967295, 0)], $_9: {}, d: "A\n\u007f"}"#,
+    )
 }
 
 #[test]

@@ -1,4 +1,5 @@
 // Scripts with what is told of their first fault, and replies with their texts.
+use crate::found::is_text;
 use crate::lines::LINES;
 use fault_script::{ScriptError, parse};
 use rs_optime::OpTime;
@@ -21,11 +22,7 @@ fn told(alloc: Global, script: &[u8]) -> Result<String, Fail> {
 
 /// Fails where another line is printed, and says which.
 fn tells(alloc: Global, script: &[u8], line: &str) -> Result<(), Fail> {
-    let text = told(alloc, script)?;
-    if text.as_str() == line {
-        return Ok(());
-    }
-    Err(Fail::new(text))
+    is_text(told(alloc, script)?, line)
 }
 
 #[test]
@@ -185,23 +182,26 @@ fn a_write_is_told_with_its_optime(rt: HostRuntime) -> Result<(), Fail> {
         term: 1,
         ts: 4_294_967_298,
     };
-    let text = text_of(rt.alloc(), &Reply::Written(at))?;
-    assert_eq!(rt; text.as_str(), "7: written 1/1/2\n");
-    Ok(())
+    is_text(
+        text_of(rt.alloc(), &Reply::Written(at))?,
+        "7: written 1/1/2\n",
+    )
 }
 
 #[test]
 fn a_refusal_is_told_with_its_number(rt: HostRuntime) -> Result<(), Fail> {
     let reply = Reply::Refused(Refusal::WriteConflict(1));
-    let text = text_of(rt.alloc(), &reply)?;
-    assert_eq!(rt; text.as_str(), "7: refused 11 WriteConflict w1\n");
-    Ok(())
+    is_text(
+        text_of(rt.alloc(), &reply)?,
+        "7: refused 11 WriteConflict w1\n",
+    )
 }
 
 #[test]
 fn an_old_number_is_told_with_the_last_one(rt: HostRuntime) -> Result<(), Fail> {
     let reply = Reply::Refused(Refusal::OldNumber(2_147_483_647));
-    let text = text_of(rt.alloc(), &reply)?;
-    assert_eq!(rt; text.as_str(), "7: refused 32 OldNumber 2147483647\n");
-    Ok(())
+    is_text(
+        text_of(rt.alloc(), &reply)?,
+        "7: refused 32 OldNumber 2147483647\n",
+    )
 }

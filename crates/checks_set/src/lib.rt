@@ -1,5 +1,5 @@
-//! What no clause says of whole sets: that a run succeeds with ample memory, what it puts then, and what the
-//! set that is left lends.
+//! What no clause says of whole sets: that a run succeeds with ample memory, what it puts then, what the set
+//! that is left lends, and what change streams and linear reads give, alone and beside one another.
 #![tactic(auto)]
 
 #[cfg(test)]
@@ -13,6 +13,14 @@ mod documents;
 #[cfg(test)]
 mod ends;
 #[cfg(test)]
+mod failover;
+#[cfg(test)]
+mod linear;
+#[cfg(test)]
+mod readers;
+#[cfg(test)]
 mod running;
 #[cfg(test)]
 mod shared;
+#[cfg(test)]
+mod streams;

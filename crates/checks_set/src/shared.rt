@@ -7,11 +7,11 @@ ghost use Rattle.set_model.specs.Run.{AreSizes};
 ghost use Rattle.turn_board.specs.Passes.{IsFree, view};
 
 use crate::blocks::{Held, LISTS, block};
+use crate::streams::{COMMITTED, set_of};
 use fault_script::{Part, parse};
 use rs_disk::MemDisk;
 use set_model::Reply;
-use set_program::{empty_disks, run_block};
-use set_world::World;
+use set_program::run_block;
 use shared_set::{Pass, SharedSet};
 use std::alloc::Global;
 use std::sync::Wait;
@@ -27,23 +27,15 @@ pub fn shared(alloc: Global, nodes: u32, members: u32) -> Result<Shared, Fail>
     ensures parts { IfOk result (λ shared. (view shared.1).parts ≡ 65536) }
     ensures nodes { IfOk result (λ shared. (sizes_of shared.0).nodes ≡ nodes) }
 {
-    let Ok(world) = World::open(alloc, nodes, members, empty_disks(alloc)?) else {
-        return Err(Fail::new("the set can't be opened"));
-    };
+    let world = set_of(alloc, nodes, members)?;
     let Ok(shared) = SharedSet::new(alloc, world) else {
         return Err(Fail::new("the set can't be shared"));
     };
     Ok(shared)
 }
 
-// A write that two of three nodes have, and that is counted by the one that wrote it.
-const COUNTED: &str =
-    "set 3\ncampaign n0\ndeliver m0\ndeliver m2\ndrain n0\ninsert n0 t {_id: 1}\nflush n0
-ack n0 1/0/2 majority\nheartbeat n0 n1\ndeliver n0 n1\nfetch n1\ndeliver n1 n0\ndeliver n0 n1\nflush n1
-report n1 n0\ndeliver n1 n0\nack n0 1/0/2 majority\n";
-
 // Steps each part that is a line.
-fn step_lines<R: Threads + Wait + Sync>(
+pub fn step_lines<R: Threads + Wait + Sync>(
     rt: &R,
     set: &SharedSet<MemDisk>,
     pass: &mut Pass<MemDisk>,
@@ -79,7 +71,7 @@ fn commits_after<R: Threads + Wait + Sync>(
 
 #[test]
 fn a_look_gives_what_is_committed(rt: HostRuntime) -> Result<(), Fail> {
-    assert_eq!(rt; commits_after(&rt, rt.alloc(), COUNTED)?, (2, 0));
+    assert_eq!(rt; commits_after(&rt, rt.alloc(), COMMITTED)?, (2, 0));
     Ok(())
 }
 

@@ -1,13 +1,9 @@
 use denote.Param.Send.{IsSend, sendable}
 use Rattle.std.proofs.Crossing as heap
-use Rattle.rs_disk.specs.contracts.memory.MemDisk as memory
-use Rattle.rs_disk.proofs.past.Past.TheSendSync.{the_send as past_send}
 use Rattle.set_program.proofs.Crosses.{pass_send, set_sync}
 use Rattle.checks_set.specs.contracts.callers.Met as met
+use Rattle.checks_set.proofs.Sends.{disk_send}
 use Rattle.checks_set.proofs.callers.two_callers.Goals as goal
-
-disk_send : IsSend memory.the_row
-disk_send = search (heap.crosses, past_send, sendable) depth 60 fits 20000
 
 met_send : IsSend met.the_row
 met_send = search (disk_send, pass_send, heap.crosses, sendable) depth 60 fits 20000

@@ -1,7 +1,7 @@
 // A stream that asks all nodes in turn behind each line of a script, over a failover.
 ghost use Rattle.std.specs.Prelude.{◌≡◌};
 
-use crate::rows::set_of;
+use crate::streams::set_of;
 use bson_doc::{Doc, Text};
 use change_stream::{ChangeStream, next, open};
 use fault_script::{Part, parse};

@@ -27,7 +27,7 @@ pub fn set_of(alloc: Global, nodes: u32, members: u32) -> Result<World<MemDisk>,
 }
 
 // Steps each part that is a line.
-fn step_lines<R: Threads + Sync>(
+pub fn step_lines<R: Threads + Sync>(
     rt: &R,
     world: &mut World<MemDisk>,
     parts: &[Part],
@@ -44,7 +44,7 @@ fn step_lines<R: Threads + Sync>(
 }
 
 // A write that two of three nodes have, and that the one which wrote it knows to be committed.
-const COMMITTED: &str =
+pub const COMMITTED: &str =
     "set 3\ncampaign n0\ndeliver m0\ndeliver m2\ndrain n0\ninsert n0 t {_id: 1}\nflush n0
 ack n0 1/0/2 majority\nheartbeat n0 n1\ndeliver n0 n1\nfetch n1\ndeliver n1 n0\ndeliver n0 n1\nflush n1
 report n1 n0\ndeliver n1 n0\nack n0 1/0/2 majority\n";

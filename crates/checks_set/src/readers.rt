@@ -1,0 +1,182 @@
+// Two threads that read linearly beside one that writes, over one set.
+ghost use Rattle.std.specs.Prelude.{◌≡◌, true};
+ghost use Rattle.std.specs.List.{list_all};
+ghost use Rattle.fault_script.specs.Script.{is_part_for};
+ghost use Rattle.shared_set.specs.Passes.{IsPass, sizes_of};
+ghost use Rattle.turn_board.specs.Passes.{IsFree};
+
+use crate::shared::{shared, step_lines};
+use bson_doc::Value;
+use fault_script::{Part, parse};
+use linear_read::{LinearAnswer, linear_read};
+use rs_disk::MemDisk;
+use set_model::Refusal;
+use set_world::StepError;
+use shared_set::{Caller, Pass, SharedSet};
+use std::alloc::Global;
+use std::sync::Wait;
+use std::test::Fail;
+use std::thread::{Threads, join};
+
+// So often they meet.
+const MEETINGS: u32 = 100;
+
+// The first of three nodes becomes primary.
+const ELECTED: &str = "set 3\ncampaign n0\ndeliver m0\ndeliver m2\ndrain n0\n";
+
+// It writes a document.
+const WRITTEN: &str = "set 3\ninsert n0 t {_id: 1}\n";
+
+// Plays a script without blocks on a set of three nodes.
+fn play<R: Threads + Wait + Sync>(
+    rt: &R,
+    alloc: Global,
+    set: &SharedSet<MemDisk>,
+    pass: &mut Pass<MemDisk>,
+    script: &str,
+) -> Result<(), Fail>
+    requires pass { IsPass set.now pass.old × IsFree pass.old }
+    requires nodes { (sizes_of set.now).nodes ≡ 3 }
+    ensures pass { IsPass set.now pass.new × IsFree pass.new }
+{
+    let script = parse(alloc, script.as_bytes())?;
+    if script.nodes != 3 {
+        return Err(Fail::new("the script is of another set"));
+    }
+    step_lines(rt, set, pass, script.parts.as_slice())
+}
+
+// What a linear read of the document at the first node answers.
+fn read<R: Threads + Wait + Sync>(
+    rt: &R,
+    alloc: Global,
+    set: &SharedSet<MemDisk>,
+    pass: &mut Pass<MemDisk>,
+) -> Result<LinearAnswer, StepError>
+    requires pass { IsPass set.now pass.old × IsFree pass.old }
+    requires nodes { (sizes_of set.now).nodes ≡ 3 }
+{
+    let mut caller = Caller { set, pass };
+    let answer = linear_read(alloc, rt, &mut caller, 0, 3, "t", &Value::Int32(1));
+    let Caller {
+        set: _set,
+        pass: _pass,
+    } = caller;
+    answer
+}
+
+// Whether a read is answered as one may be beside others: each may take what another fetched.
+fn may_be(answer: &Result<LinearAnswer, StepError>) -> bool {
+    match answer {
+        Ok(LinearAnswer::Found(_) | LinearAnswer::Missing) => true,
+        Ok(LinearAnswer::Refused(why)) => matches!(why, Refusal::Waiting { .. }),
+        Err(_) => false,
+    }
+}
+
+// A reader: whether its read is answered as it may be.
+fn reads<R: Threads + Wait + Sync>(
+    rt: &R,
+    alloc: Global,
+    set: &SharedSet<MemDisk>,
+    mut pass: Pass<MemDisk>,
+) -> bool
+    requires pass { IsPass set.now pass × IsFree pass }
+    requires nodes { (sizes_of set.now).nodes ≡ 3 }
+{
+    may_be(&read(rt, alloc, set, &mut pass))
+}
+
+// Whether each line of these parts is answered.
+fn are_stepped<R: Threads + Wait + Sync>(
+    rt: &R,
+    set: &SharedSet<MemDisk>,
+    pass: &mut Pass<MemDisk>,
+    parts: &[Part],
+) -> bool
+    requires pass { IsPass set.now pass.old × IsFree pass.old }
+    requires fits { list_all (is_part_for (sizes_of set.now).nodes) parts.now ≡ true }
+    ensures pass { IsPass set.now pass.new × IsFree pass.new }
+{
+    for part in parts {
+        if let Part::Line(line, command) = part {
+            if set.step(rt, pass, *line, command).is_err() {
+                return false;
+            }
+        }
+    }
+    true
+}
+
+// The writer: whether it writes, and its read behind that doesn't miss what it wrote.
+fn writes<R: Threads + Wait + Sync>(
+    rt: &R,
+    alloc: Global,
+    set: &SharedSet<MemDisk>,
+    mut pass: Pass<MemDisk>,
+) -> bool
+    requires pass { IsPass set.now pass × IsFree pass }
+    requires nodes { (sizes_of set.now).nodes ≡ 3 }
+{
+    let Ok(script) = parse(alloc, WRITTEN.as_bytes()) else {
+        return false;
+    };
+    if script.nodes != 3 || !are_stepped(rt, set, &mut pass, script.parts.as_slice()) {
+        return false;
+    }
+    let answer = read(rt, alloc, set, &mut pass);
+    may_be(&answer) && !matches!(answer, Ok(LinearAnswer::Missing))
+}
+
+// Two readers: whether the reads of both are answered as they may be.
+fn two_read<R: Threads + Wait + Sync>(
+    rt: &R,
+    alloc: Global,
+    set: &SharedSet<MemDisk>,
+    one: Pass<MemDisk>,
+    two: Pass<MemDisk>,
+) -> bool
+    requires one { IsPass set.now one × IsFree one }
+    requires two { IsPass set.now two × IsFree two }
+    requires nodes { (sizes_of set.now).nodes ≡ 3 }
+{
+    let (first, second) = join(
+        rt,
+        || -> bool
+            requires { IsPass set.now one × IsFree one × ((sizes_of set.now).nodes ≡ 3) }
+        { reads(rt, alloc, set, one) },
+        || -> bool
+            requires { IsPass set.now two × IsFree two × ((sizes_of set.now).nodes ≡ 3) }
+        { reads(rt, alloc, set, two) },
+    );
+    first && second
+}
+
+// Whether all are answered as they may be, and a read behind them shows the document.
+fn meet<R: Threads + Wait + Sync>(rt: &R, alloc: Global) -> Result<bool, Fail> {
+    let (set, mut pass) = shared(alloc, 3, 3)?;
+    let one = set.split(&mut pass);
+    let two = set.split(&mut pass);
+    let three = set.split(&mut pass);
+    play(rt, alloc, &set, &mut pass, ELECTED)?;
+    let (first, second) = join(
+        rt,
+        || -> bool
+            requires { IsPass set one × IsFree one × ((sizes_of set).nodes ≡ 3) }
+        { writes(rt, alloc, &set, one) },
+        || -> bool
+            requires { IsPass set two × IsFree two × IsPass set three × IsFree three
+                × ((sizes_of set).nodes ≡ 3) }
+        { two_read(rt, alloc, &set, two, three) },
+    );
+    let last = read(rt, alloc, &set, &mut pass)?;
+    Ok(first && second && matches!(last, LinearAnswer::Found(_)))
+}
+
+#[test]
+fn a_read_behind_others_shows_what_was_written(rt: HostRuntime) -> Result<(), Fail> {
+    for _ in 0..MEETINGS {
+        assert!(rt; meet(&rt, rt.alloc())?);
+    }
+    Ok(())
+}
