@@ -2,6 +2,7 @@
 
 usage: replset run < SCRIPT
        replset chaos SEED EVENTS NODES
+       replset linear NODE COLL ID < SCRIPT
        replset watch COLL TOKEN NODE... < SCRIPT
        replset trace < SCRIPT
 
@@ -22,7 +23,7 @@ status: 0 the script was run
         5 the output could not be written
         6 the script has more than 8,388,608 bytes
         7 a disk failed while the set was opened
-        9 a node refused to tell changes; the last line tells why
+        9 a node refused a linear read or to tell changes; the last line tells why
         69 there is no toolchain to build the program
         70 the program could not be built, proved or installed
 """
@@ -57,7 +58,8 @@ MEANING = {
 
 # The least and the greatest value of a number in the usage line, and the form of other words.
 BOUNDS = {"SEED": (0, 2**64 - 1), "EVENTS": (0, 5_000), "NODES": (1, 7)}
-FORMS = {"COLL": "[A-Za-z][A-Za-z0-9_.]{0,63}", "TOKEN": "start|[0-9a-f]{32}", "NODE...": "n[0-9]{1,2}"}
+FORMS = {"COLL": "[A-Za-z][A-Za-z0-9_.]{0,63}", "TOKEN": "start|[0-9a-f]{32}", "NODE": "n[0-9]{1,2}", "NODE...": "n[0-9]{1,2}"}
+FORMS["ID"] = "(?s)[^-].*"
 
 # How many words a name with dots may stand for.
 MOST_WORDS = 50
