@@ -10,8 +10,6 @@ mod numbers;
 mod reading;
 mod saving;
 mod stable;
-#[cfg(test)]
-mod tests;
 mod writing;
 
 pub use checkpoints::Checkpoints;

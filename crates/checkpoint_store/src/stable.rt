@@ -67,7 +67,7 @@ impl DocumentMap {
     }
 
     /// Puts a document at a place, over the one that is there.
-    pub(crate) fn insert(&mut self, place: (Text, IdKey), document: Doc) -> Mem<()>
+    pub fn insert(&mut self, place: (Text, IdKey), document: Doc) -> Mem<()>
         ensures { OnOk result (self.new ≡ maps.insert self.old place document) }
     {
         self.documents.insert(place, document)?;

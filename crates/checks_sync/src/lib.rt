@@ -6,3 +6,5 @@
 mod copies;
 #[cfg(test)]
 mod noops;
+#[cfg(test)]
+mod stable;

@@ -1,7 +1,7 @@
 // A copy of the documents as of an optime: memory suffices, and it says what was copied, also when
 // that is gone.
-use crate::stable::{DocumentMap, Stable};
 use bson_doc::{Doc, IdKey, Text, Value};
+use checkpoint_store::{DocumentMap, Stable};
 use rs_optime::OpTime;
 use std::alloc::Global;
 use std::test::Fail;
