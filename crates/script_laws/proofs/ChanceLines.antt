@@ -34,10 +34,10 @@ pub each_true : (a b : Bool) → (a && b) ≡ true → (a ≡ true) × (b ≡ tr
 each_true true b is = (refl, is)
 each_true false b is = absurd cc
 
-low_byte : (c : ℕ) → is_text c ≡ true → (c < 128) × ((c == 13) ≡ false) × ((c == 10) ≡ false)
+pub low_byte : (c : ℕ) → is_text c ≡ true → (c < 128) × ((c == 13) ≡ false) × ((c == 10) ≡ false)
 low_byte c is = let bounds = each_true (nat_lt 31 c) (nat_lt c 127) is in let low = bounds.0 in let high = bounds.1 in (grind arith, grind arith, grind arith)
 
-plain_at : (text : List ℕ) (place : ℕ) → list_all is_text text ≡ true → (slice_index text place < 128) × ((slice_index text place == 13) ≡ false)
+pub plain_at : (text : List ℕ) (place : ℕ) → list_all is_text text ≡ true → (slice_index text place < 128) × ((slice_index text place == 13) ≡ false)
 plain_at [] place plain = (omega arith, refl)
 plain_at (c ∷ text) zero plain = let low = low_byte c (each_true (is_text c) (list_all is_text text) plain).0 in (low.0, low.1)
 plain_at (c ∷ text) (suc place) plain = plain_at text place (each_true (is_text c) (list_all is_text text) plain).1

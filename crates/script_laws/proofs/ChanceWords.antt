@@ -94,7 +94,7 @@ only_word word all = omega (arith, (last word all).count)
 digit_byte : (c : ℕ) → 48 ≤ c → c ≤ 57 → (is_ascii_digit c ≡ true) × (is_inside c ≡ true)
 digit_byte c low high = (grind arith, both (nat_lt 32 c) (nat_lt c 127) (grind arith) (grind arith))
 
-digits_are : (digits : List ℕ) → AllDigits 10 digits → (list_all is_ascii_digit digits ≡ true) × (list_all is_inside digits ≡ true)
+pub digits_are : (digits : List ℕ) → AllDigits 10 digits → (list_all is_ascii_digit digits ≡ true) × (list_all is_inside digits ≡ true)
 digits_are [] all = (refl, refl)
 digits_are (c ∷ digits) all =
     let range = digit_from_value c all.0 in

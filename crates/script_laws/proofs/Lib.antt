@@ -1,7 +1,7 @@
 mod ChanceAsks
 mod ChanceDocuments
 mod ChanceDrawn
-mod ChanceLines
-mod ChanceWords
+pub mod ChanceLines
+pub mod ChanceWords
 mod ChanceWrites
 pub mod ChanceIsScript
