@@ -18,11 +18,11 @@ use Rattle.checkpoint_store.specs.Checkpoint.{no_stable}
 use Rattle.checkpoint_store.specs.Files.{HasCheckpoint, IsCheckpointDisk, IsBeforeOrAfter, IsOneOf as IsOneCheckpoint}
 use Rattle.checkpoint_store.specs.declared.stable.Stable.{Stable}
 use Rattle.checkpoint_store.proofs.OnceLemmas.{rest_has}
-use Rattle.initial_sync.specs.Copies.{AreCopyDisks, Copy, IsOf, IsPartOrWhole, IsWhole, LeaveBoth, documents_of}
-use Rattle.initial_sync.specs.Missing.{HasFront, missing}
-use Rattle.initial_sync.specs.Moments.{BesideCheckpoints, BesideJournal, EachMomentOfBoth, IsBeforeOrBehind}
+use Rattle.initial_sync.specs.Copies.{AreCopyDisks, Copy, IsOf, IsOfSomeCopy, IsPartOrWhole, IsWhole, LeaveBoth, documents_of}
+use Rattle.initial_sync.specs.Missing.{HasFront, IsOfThis, missing}
+use Rattle.initial_sync.specs.Moments.{BesideCheckpoints, BesideJournal, EachMomentOfBoth, IsBefore, IsBeforeOrBehind, IsBehind}
 use Rattle.initial_sync.specs.Runs.{Fills, IsFound, OpensBoth}
-use Rattle.initial_sync.proofs.PartLemmas.{IsBase, come_to, come_whole, gives, missing_renewed, moved, part_or_whole, whole_moved}
+use Rattle.initial_sync.proofs.PartLemmas.{IsBase, come_to, come_whole, gives, missing_renewed, moved, part_or_whole, this_as_it_was, whole_moved}
 
 -- ---- disks that a copy can use
 
@@ -74,14 +74,16 @@ law j j' c c' copy moments leave =
     weaker (IsBeforeOrBehind j c copy) (IsPartOrWhole copy)
     (λ x y. ⊎_elim (λ before. of_before j c copy copy leave x y before.0 before.1) (λ behind. behind.0)) j j' c c' moments
 
+-- and of disks that a copy can use
+pub of_some_copy : (j c : State) → AreCopyDisks j c → (x y : List ℕ) → IsBefore j c x y → IsOfSomeCopy x y
+of_some_copy j c are x y (one, two) =
+    let of = are.leave one.1.0 one.1.1 two.2.0 two.2.1 in
+    (of.0, of.1, moved of.0 one.1.0 x two.2.0 y one.0 two.0 one.1.2 one.2 two.2.2 two.1 of.2)
+
 pub copy_disks : (j j' c c' : State) (copy : Copy) → last_of copy.entries ≢ ZERO → AreCopyDisks j c → EachMomentOfBoth (IsBeforeOrBehind j c copy) j j' c c' → AreCopyDisks j' c'
 copy_disks j j' c c' copy above are moments = record {
   leave = λ x left y here. ⊎_elim
-      (λ before.
-      let one = before.0 in
-      let two = before.1 in
-      let of = are.leave one.1.0 one.1.1 two.2.0 two.2.1 in
-      (of.0, of.1, moved of.0 one.1.0 x two.2.0 y one.0 two.0 one.1.2 one.2 two.2.2 two.1 of.2))
+      (λ before. of_some_copy j c are x y before)
       (λ behind. (copy, above, behind.0))
       (at_the_end (IsBeforeOrBehind j c copy) j j' c c' moments x left y here);
 }
@@ -118,20 +120,30 @@ module _ (j j1 c c1 : State) (copy : Copy) (disk : IsCheckpointDisk c) (opens : 
     shows : LeavesOnly (λ y. HasCheckpoint y stable) c1.file
     shows = rest_has c1 stable is.checkpoints
 
+    behind : (x : List ℕ) → HasFront items (missing copy (kept is.items)) x → IsBehind copy j c x
+    behind x front = record {
+      items = is.items;
+      stable = stable;
+      records = is.records;
+      documents = is.documents;
+      this = this_as_it_was copy is.items stable.at (subst (λ (k : Kept). IsOfThis copy k stable.at) is.kept_is base.this);
+      front = front;
+    }
+
     -- the first of the missing records beside the checkpoint that was found
     beside_found : (x y : List ℕ) → HasFront items (missing copy (kept is.items)) x → HasCheckpoint y stable → IsBeforeOrBehind j c copy x y
     beside_found x y (f, g, split, has) here = ⊎_elim
         (λ none.
         let same : HasJournal x items = subst (HasJournal x) (ap (λ (l : List Record). items ++ l) none ∙ append-nil items) has in
         inl ((is.items, (contents j.file, read_is_image j.file, is.records), inr same), (stable, here, (contents c.file, read_is_image c.file, is.documents))))
-        (λ come. inr (part_or_whole copy found stable items f x y base is.kept_is come has here, (is.items, is.records, (f, g, split, has))))
-        (come_to copy found base.is base.begins order f g (split_as f g split))
+        (λ come. inr (part_or_whole copy found stable items f x y base is.kept_is come has here, behind x (f, g, split, has)))
+        (come_to copy found base.is base.this.entries order f g (split_as f g split))
 
     all_of : (x : List ℕ) → HasJournal x (items ++ missing copy (kept is.items)) → HasFront items (missing copy (kept is.items)) x
     all_of x has = (missing copy (kept is.items), [], sym (append-nil (missing copy (kept is.items))), has)
 
     whole_journal : IsOf copy.term copy.entries (fold with_record found (missing copy (kept is.items)))
-    whole_journal = come_whole copy found base.is base.begins order items (missing copy (kept is.items)) missing_is
+    whole_journal = come_whole copy found base.is base.this.entries order items (missing copy (kept is.items)) missing_is
 
     -- all of them beside the documents
     pub whole_now : (x y : List ℕ) → HasJournal x (items ++ missing copy (kept is.items)) → HasCheckpoint y (documents_of copy.entries) → IsWhole copy x y
@@ -154,7 +166,7 @@ module _ (j j1 c c1 : State) (copy : Copy) (disk : IsCheckpointDisk c) (opens : 
           (λ rests. weakens (IsBeforeOrAfter stable (documents_of copy.entries)) (BesideJournal (IsBeforeOrBehind j c copy) j'.file)
           (λ y either x left.
           let has = subst (λ (l : List Record). HasJournal x (items ++ l)) (missing_renewed copy is.items) (rest_only j' (items ++ missing copy (kept items)) rests x left) in
-          ⊎_elim (λ before. beside_found x y (all_of x has) before) (λ after. inr (inr (whole_now x y has after), (is.items, is.records, all_of x has))) either) c1 c' fills.saves)
+          ⊎_elim (λ before. beside_found x y (all_of x has) before) (λ after. inr (inr (whole_now x y has after), behind x (all_of x has))) either) c1 c' fills.saves)
           fills.in_turn
 
       pub filled : EachMomentOfBoth (IsBeforeOrBehind j c copy) j j' c c'

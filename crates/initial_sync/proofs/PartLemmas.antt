@@ -52,7 +52,7 @@ this_renewed copy items stable this =
 -- a term without a vote, and entries up to the last one; no checkpoint, or that of all entries of this copy
 pub record IsBase (copy : Copy) (found : Kept) (stable : Stable) : Type 0 where
   pub is : IsOf found.vote.term found.entries found
-  pub begins : Begins found.entries copy.entries
+  pub this : IsOfThis copy found stable.at
   pub stable_is : (stable ≡ no_stable) ⊎ ((stable ≡ documents_of copy.entries) × (found.entries ≡ copy.entries))
 
 is_of_itself : (term : ℕ) (log : List Entry) (found : Kept) → IsOf term log found → IsOf found.vote.term found.entries found
@@ -74,7 +74,7 @@ pub base_of : (copy : Copy) (found : Kept) (stable : Stable) (items : List Recor
     → HasJournal x items → found ≡ kept (renewed items) → HasCheckpoint y stable → IsOfThis copy found stable.at → IsBase copy found stable
 base_of copy found stable items x y order (own, above, inl part) has is shows this = record {
   is = is_of_itself part.term part.front found (given_back part.term part.front x items found part.log has is);
-  begins = this.entries;
+  this = this;
   stable_is = inl (checkpoint_once y stable no_stable shows part.none);
 }
 base_of copy found stable items x y order (own, above, inr whole) has is shows this =
@@ -86,7 +86,7 @@ base_of copy found stable items x y order (own, above, inr whole) has is shows t
     (λ last. same_last own.entries copy.entries order (subst (λ (l : List Entry). Begins l copy.entries) here.entries this.entries) above (sym at ∙ last)) this.checkpoint in
     record {
       is = is_of_itself own.term own.entries found here;
-      begins = this.entries;
+      this = this;
       stable_is = inr (same ∙ ap documents_of all, here.entries ∙ all);
     }
 

@@ -7,9 +7,10 @@ use Rattle.repl_msg.specs.Kept.{kept}
 use Rattle.repl_msg.specs.declared.record.Record.{Record}
 use Rattle.node_journal.specs.Files.{HasJournal, IsOneOfRenewed}
 use Rattle.node_journal.specs.Renewed.{renewed}
-use Rattle.checkpoint_store.specs.Files.{IsOneOf as IsOneCheckpoint}
+use Rattle.checkpoint_store.specs.Files.{HasCheckpoint, IsOneOf as IsOneCheckpoint}
+use Rattle.checkpoint_store.specs.declared.stable.Stable.{Stable}
 use Rattle.initial_sync.specs.Copies.{Copy, IsPartOrWhole}
-use Rattle.initial_sync.specs.Missing.{HasFront, missing}
+use Rattle.initial_sync.specs.Missing.{HasFront, IsOfThis, missing}
 
 -- beside this file of the checkpoints, or beside this one of the journal
 abbrev pub BesideCheckpoints : (List ℕ → List ℕ → Type 0) → File → List ℕ → Type 0
@@ -28,15 +29,22 @@ pub record EachMomentOfBoth (P : List ℕ → List ℕ → Type 0) (j j' c c' : 
   pub writes_journal : EachMoment (BesideCheckpoints P checkpoints.file) journal j'
   pub writes_checkpoints : EachMoment (BesideJournal P j'.file) checkpoints c'
 
--- behind the records that are read now, in the newest form, stand the first of those that the copy adds
-abbrev pub IsBehind : Copy → State → List ℕ → Type 0
-IsBehind copy state image =
-    (items : List Record) × HasJournal (contents state.file) items
-    × HasFront (renewed items) (missing copy (kept items)) image
+-- What is read now of both disks can be a part or the whole of the copy. Behind its records, in the newest
+-- form, stand the first of those that the copy adds.
+pub record IsBehind (copy : Copy) (j c : State) (image : List ℕ) : Type 0 where
+  pub items : List Record
+  pub stable : Stable
+  pub records : HasJournal (contents j.file) items
+  pub documents : HasCheckpoint (contents c.file) stable
+  pub this : IsOfThis copy (kept items) stable.at
+  pub front : HasFront (renewed items) (missing copy (kept items)) image
 
--- what a crash before might have left of both disks, or that with the newest form of the journal; or a part
--- or the whole of the copy, behind what is there now
+-- what a crash before might have left of both disks, or that with the newest form of the journal
+abbrev pub IsBefore : State → State → List ℕ → List ℕ → Type 0
+IsBefore j c journal checkpoints = IsOneOfRenewed j journal × IsOneCheckpoint c checkpoints
+
+-- that, or a part or the whole of the copy, behind what is there now
 abbrev pub IsBeforeOrBehind : State → State → Copy → List ℕ → List ℕ → Type 0
 IsBeforeOrBehind j c copy journal checkpoints =
-    (IsOneOfRenewed j journal × IsOneCheckpoint c checkpoints)
-    ⊎ (IsPartOrWhole copy journal checkpoints × IsBehind copy j journal)
+    IsBefore j c journal checkpoints
+    ⊎ (IsPartOrWhole copy journal checkpoints × IsBehind copy j c journal)

@@ -2,7 +2,7 @@
 ghost use Rattle.std.specs.Prelude.{◌≡◌, IfErr, IfOk};
 ghost use Rattle.initial_sync.specs.Answers.{RanBoth};
 ghost use Rattle.initial_sync.specs.Copies.{AreCopyDisks, Copy, IsOf, IsWhole, LeaveBoth, documents_of};
-ghost use Rattle.initial_sync.specs.Reading.{ReadsOver};
+ghost use Rattle.initial_sync.specs.Reading.{AreRead, ReadsOver};
 
 use crate::copying::open_both;
 use checkpoint_store::Stable;
@@ -30,13 +30,16 @@ pub fn read<D: Disk>(
 ) -> Result<(D, D, Standing), (D, D, FileError)>
     requires { AreCopyDisks (D.state journal) (D.state checkpoints) }
 
-    // What a whole copy has is read: its term without a vote, its entries, and their documents.
+    // The records of the journal and the last checkpoint are read.
+    ensures standing { IfOk result (λ read. AreRead (D.state journal) (D.state checkpoints)
+        read.2.kept read.2.stable) }
+    // Of a whole copy that is its term without a vote, its entries, and their documents.
     ensures whole { IfOk result (λ read. (copy : Copy)
         → LeaveBoth (IsWhole copy) (D.state journal).file (D.state checkpoints).file
         → IsOf copy.term copy.entries read.2.kept × (read.2.stable ≡ documents_of copy.entries)) }
 
     // A crash at any moment leaves what one before the call might have left, but that a journal of the first
-    // form may have the record of the newest one.
+    // form may have the record of the newest one. A copy or a reading may be tried on them again.
     ensures read { IfOk result (λ read. ReadsOver (D.state journal) (D.state read.0)
         (D.state checkpoints) (D.state read.1)) }
     ensures refused { IfErr result (λ refused. ReadsOver (D.state journal) (D.state refused.0)

@@ -28,7 +28,7 @@ use Rattle.initial_sync.specs.declared.error.CopyError.TheVariants.{Disk, OtherC
 use Rattle.initial_sync.proofs.MomentLemmas.{at_the_end, weaker}
 use Rattle.sync_copy.specs.Making.{BecomesMember, of_copy, of_file}
 use Rattle.sync_words.specs.declared.stop.SyncStop.{SyncStop}
-use Rattle.sync_words.specs.declared.stop.SyncStop.TheVariants.{DiskFault}
+use Rattle.sync_words.specs.declared.stop.SyncStop.TheVariants.{DiskFault, WriteFault}
 use Rattle.sync_words.specs.Putting.{PutsText}
 
 -- ---- empty disks have no other copy
@@ -130,13 +130,19 @@ made copy ended j mid j' c mid_too c' copied told = record {
   whole = λ _. at_the_end (IsWhole copy) mid j' mid_too c' told;
 }
 
-pub unmade : (copy : Copy) (stop : SyncStop) (j j' c c' : State) → EachMomentOfBoth (IsPartOrWhole copy) j j' c c' → BecomesMember copy (Err stop) j j' c c'
-unmade copy stop j j' c c' copied = record {
+-- a copy that fails isn't a sink that does
+pub not_told : (error : CopyError) (stop : SyncStop) → stop ≡ of_copy error → stop ≢ WriteFault
+not_told Disk stop is told = cc
+not_told OtherCopy stop is told = cc
+not_told NoBytes stop is told = cc
+
+pub unmade : (copy : Copy) (stop : SyncStop) (j j' c c' : State) → stop ≢ WriteFault → EachMomentOfBoth (IsPartOrWhole copy) j j' c c' → BecomesMember copy (Err stop) j j' c c'
+unmade copy stop j j' c c' untold copied = record {
   journal = j';
   checkpoints = c';
   copied = copied;
   told = stays (at_the_end (IsPartOrWhole copy) j j' c c' copied);
-  whole = λ done. absurd (cc done);
+  whole = λ all. absurd (⊎_elim (λ done. cc done) (λ fault. untold (cc fault)) all);
 }
   where
     stays : LeaveBoth (IsPartOrWhole copy) j'.file c'.file → EachMomentOfBoth (IsPartOrWhole copy) j' j' c' c'

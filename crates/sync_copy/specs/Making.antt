@@ -1,5 +1,5 @@
 -- How two empty disks become those of a new member.
-use Rattle.std.specs.Prelude.{◌≡◌, ℕ, List, length, Result, Ok}
+use Rattle.std.specs.Prelude.{◌≡◌, ◌⊎◌, ℕ, List, length, Result, Ok, Err}
 use Rattle.record_file.specs.declared.error.FileError.{FileError}
 use Rattle.record_file.specs.declared.error.FileError.TheVariants.{Disk as FileDisk, Memory as FileMemory}
 use Rattle.rs_disk.specs.State.{State}
@@ -11,7 +11,7 @@ use Rattle.initial_sync.specs.declared.error.CopyError.TheVariants.{Disk, OtherC
 use Rattle.initial_sync.specs.declared.pinned.Pinned.{Pinned}
 use Rattle.sync_words.specs.Texts.{synced_text}
 use Rattle.sync_words.specs.declared.stop.SyncStop.{SyncStop}
-use Rattle.sync_words.specs.declared.stop.SyncStop.TheVariants.{DiskFault, Memory}
+use Rattle.sync_words.specs.declared.stop.SyncStop.TheVariants.{DiskFault, WriteFault, Memory}
 
 -- why no member is made where no copy is
 abbrev pub of_copy : CopyError → SyncStop
@@ -29,11 +29,11 @@ pinned_text number pinned =
     synced_text number pinned.at (length pinned.entries.items) (listed_of pinned.documents.items)
 
 -- Two empty disks become a copy, and are read. At each moment a crash leaves a part of the copy, or the
--- whole; at the end it leaves the whole.
+-- whole; at the end it leaves the whole, also where the sink then failed.
 pub record BecomesMember (copy : Copy) (ended : Result (Unit {0}) SyncStop) (j j' c c' : State)
     : Type 0 where
   pub journal : State
   pub checkpoints : State
   pub copied : EachMomentOfBoth (IsPartOrWhole copy) j journal c checkpoints
   pub told : EachMomentOfBoth (IsPartOrWhole copy) journal j' checkpoints c'
-  pub whole : ended ≡ Ok tt → LeaveBoth (IsWhole copy) j'.file c'.file
+  pub whole : (ended ≡ Ok tt) ⊎ (ended ≡ Err WriteFault) → LeaveBoth (IsWhole copy) j'.file c'.file

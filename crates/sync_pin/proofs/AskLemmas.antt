@@ -1,11 +1,13 @@
 -- How asking a node may end.
-use Rattle.std.proofs.Common.{◌≡◌, ◌≢◌, ◌∙◌, ◌⊎◌, ◌<◌, ⊎_elim, inl, inr, ap, sym, subst, refl, length, ℕ, Option, None, Some, Ok, Err, List, [], ◌∷◌}
+use Rattle.std.proofs.Common.{◌≡◌, ◌≢◌, ◌∙◌, ◌⊎◌, ◌<◌, ⊎_elim, inl, inr, ap, sym, subst, refl, length, Bool, false, ℕ, Option, None, Some, Ok, Err, List, [], ◌∷◌, ◌++◌}
 use Rattle.std.proofs.lemmas.Option.{same_Some}
 use Rattle.std.specs.List.{All, AllPairs}
 use Rattle.std.specs.Io.KnownBytes.{Keeps}
 use Rattle.std.specs.Prelude.{IsSome, Result}
 use Rattle.bson_doc.specs.Tree.{Fields}
+use Rattle.rs_optime.specs.Later.{same_optime}
 use Rattle.rs_optime.specs.declared.optime.OpTime.{OpTime}
+use Rattle.repl_msg.proofs.HasLemmas.{same_itself}
 use Rattle.initial_sync.specs.Pinned.{listed_of}
 use Rattle.initial_sync.specs.declared.pinned.Kept1.{Kept1}
 use Rattle.initial_sync.specs.declared.pinned.Pinned.{Pinned}
@@ -15,6 +17,7 @@ use Rattle.oplog_entry.specs.Log.{IsOplog, StandsBefore}
 use Rattle.oplog_entry.specs.Step.{id_key}
 use Rattle.oplog_entry.specs.Visible.{ZERO}
 use Rattle.oplog_entry.specs.declared.entry.Entry.{Entry}
+use Rattle.set_model.specs.declared.command.Command.{Command}
 use Rattle.set_model.specs.declared.command.Command.TheVariants as commands
 use Rattle.set_model.specs.declared.command.Event.{Event}
 use Rattle.set_model.specs.declared.command.ReadLevel.TheVariants.{Majority}
@@ -34,7 +37,7 @@ use Rattle.sync_words.specs.declared.refusal.SyncRefusal.{SyncRefusal}
 use Rattle.sync_words.specs.declared.refusal.SyncRefusal.TheVariants.{NothingCommitted}
 use Rattle.sync_words.specs.declared.stop.SyncStop.{SyncStop}
 use Rattle.sync_words.specs.declared.stop.SyncStop.TheVariants.{Refused, DiskFault, WriteFault, Memory}
-use Rattle.sync_pin.specs.Asking.{Asks, AsksPoint, HasRoom, IsRefused, IsUpIn, Pins, Tells}
+use Rattle.sync_pin.specs.Asking.{AreDone, Asks, AsksPoint, HasRoom, IsRefused, IsUpIn, Pins, Tells}
 use Rattle.sync_pin.specs.Showing.{shown_documents, shown_point}
 use Rattle.sync_pin.proofs.EventLemmas.{IsThere, dump_tells, dumped, log_tells, state_tells}
 use Rattle.sync_pin.proofs.PinLemmas.{at_end, fit_there, keyed_so}
@@ -63,42 +66,46 @@ pub point_stops : (sizes : Sizes) (node : ℕ) (old new : List Event) (stop : Sy
 point_stops sizes node old new (Refused why) room asks = subst (IsRefused sizes node old new) (sym asks.0) (room, asks.1)
 point_stops sizes node old new DiskFault room asks = absurd asks
 point_stops sizes node old new WriteFault room asks = absurd asks
-point_stops sizes node old new Memory room asks = record {
-  asked = [];
-  unasked = commands.State node ∷ commands.Log node ∷ commands.Dump node Majority ∷ [];
-  all = refl;
-  done = asks;
-}
+point_stops sizes node old new Memory room asks = (room, inl asks)
 
 pub nothing_committed : (sizes : Sizes) (node : ℕ) (old new : List Event) (term : ℕ) (at : OpTime) → HasRoom sizes node → AsksPoint sizes node old new (Ok (term, at)) → at ≡ ZERO
     → Asks sizes node old new (Err (Refused NothingCommitted))
 nothing_committed sizes node old new term at room asks zero =
     (room, record { state = asks.0; asks_state = asks.1; term = term; point = asks.2 ∙ ap (λ (o : OpTime). Some (term, o)) zero })
 
-module _ (sizes : Sizes) (node : ℕ) (old first : List Event) (point : ℕ × OpTime) (asks : AsksPoint sizes node old first (Ok point)) where
+pub not_zero : (at : OpTime) (test : Bool) → test ≡ same_optime at ZERO → test ≡ false → at ≢ ZERO
+not_zero at test is other zero = cc (sym is ∙ other, ap (λ o. same_optime o ZERO) zero ∙ same_itself ZERO)
+
+module _ (sizes : Sizes) (node : ℕ) (old first : List Event) (term : ℕ) (at : OpTime) (room : HasRoom sizes node) (asks : AsksPoint sizes node old first (Ok (term, at))) (above : at ≢ ZERO) where
+  broken_off : (new : List Event) (stop : SyncStop) → stop ≡ Memory → (asked unasked : List Command) → asked ++ unasked ≡ commands.Log node ∷ commands.Dump node Majority ∷ []
+      → AreDone sizes first asked new → Asks sizes node old new (Err stop)
+  broken_off new stop is asked unasked all done = subst (λ s. Asks sizes node old new (Err s)) (sym is) (
+    room,
+    inr (record {
+      first = first;
+      state = asks.0;
+      asks_state = asks.1;
+      term = term;
+      at = at;
+      point = asks.2;
+      above = above;
+      asked = asked;
+      unasked = unasked;
+      all = all;
+      done = done;
+    }),
+  )
+
   pub log_stops : (new : List Event) (stop : SyncStop) → stop ≡ Memory → new ≡ first → Asks sizes node old new (Err stop)
-  log_stops new stop is same = subst (λ s. Asks sizes node old new (Err s)) (sym is) (record {
-    asked = commands.State node ∷ [];
-    unasked = commands.Log node ∷ commands.Dump node Majority ∷ [];
-    all = refl;
-    done = (first, asks.0, asks.1, same);
-  })
+  log_stops new stop is same = broken_off new stop is [] (commands.Log node ∷ commands.Dump node Majority ∷ []) refl same
 
   module _ (second : List Event) (log : List Entry) (asks_log : Tells sizes first second (commands.Log node) (reply.Entries log)) where
     pub documents_stop : (new : List Event) (stop : SyncStop) → stop ≡ Memory
         → (new ≡ second) ⊎ ((answered : Reply) × Tells sizes second new (commands.Dump node Majority) answered) → Asks sizes node old new (Err stop)
-    documents_stop new stop is (inl same) = subst (λ s. Asks sizes node old new (Err s)) (sym is) (record {
-      asked = commands.State node ∷ commands.Log node ∷ [];
-      unasked = commands.Dump node Majority ∷ [];
-      all = refl;
-      done = (first, asks.0, asks.1, (second, reply.Entries log, asks_log, same));
-    })
-    documents_stop new stop is (inr told) = subst (λ s. Asks sizes node old new (Err s)) (sym is) (record {
-      asked = commands.State node ∷ commands.Log node ∷ commands.Dump node Majority ∷ [];
-      unasked = [];
-      all = refl;
-      done = (first, asks.0, asks.1, (second, reply.Entries log, asks_log, (new, told.0, told.1, refl)));
-    })
+    documents_stop new stop is (inl same) =
+        broken_off new stop is (commands.Log node ∷ []) (commands.Dump node Majority ∷ []) refl (second, reply.Entries log, asks_log, same)
+    documents_stop new stop is (inr told) =
+        broken_off new stop is (commands.Log node ∷ commands.Dump node Majority ∷ []) [] refl (second, reply.Entries log, asks_log, (new, told.0, told.1, refl))
 
 -- ---- a node that is up shows its log and its documents
 

@@ -95,12 +95,24 @@ module _ (sizes : Sizes) (node : ℕ) (old new : List Event) where
   IsRefused NodeDown = HasRoom sizes node × Tells sizes old new (commands.State node) (reply.Refused IsDown)
   IsRefused NothingCommitted = HasRoom sizes node × ShowsNothing
 
-  -- some first ones of the three events were done
-  pub record IsBrokenOff : Type 0 where
+  -- its first event shows that something that it has applied is committed, and of the other two events some
+  -- first ones were done
+  pub record GoesOn : Type 0 where
+    pub first : List Event
+    pub state : Reply
+    pub asks_state : Tells sizes old first (commands.State node) state
+    pub term : ℕ
+    pub at : OpTime
+    pub point : shown_point state ≡ Some (term, at)
+    pub above : at ≢ ZERO
     pub asked : List Command
     pub unasked : List Command
-    pub all : asked ++ unasked ≡ commands.State node ∷ commands.Log node ∷ commands.Dump node Majority ∷ []
-    pub done : AreDone sizes old asked new
+    pub all : asked ++ unasked ≡ commands.Log node ∷ commands.Dump node Majority ∷ []
+    pub done : AreDone sizes first asked new
+
+  -- a node that can be asked was asked nothing, or not to the end
+  abbrev pub IsBrokenOff : Type 0
+  IsBrokenOff = HasRoom sizes node × ((new ≡ old) ⊎ GoesOn)
 
   -- what a new member begins with, or why there is none
   abbrev pub Asks : Result Pinned SyncStop → Type 0

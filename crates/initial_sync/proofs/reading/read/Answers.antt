@@ -1,9 +1,12 @@
 use Rattle.initial_sync.proofs.MomentLemmas.{checkpoint_disk}
-use Rattle.initial_sync.proofs.ReadingLemmas.{read_whole, reads_over}
+use Rattle.initial_sync.proofs.ReadingLemmas.{read_so, read_whole, reads_over}
 use Rattle.initial_sync.proofs.reading.read.Goals as goal
 
 pub open_both-requires-clause-checkpoints : goal.open_both-requires-clause-checkpoints
 open_both-requires-clause-checkpoints g c = checkpoint_disk _ _ c.requires
+
+pub returns-in-Ok-clause-standing : goal.returns-in-Ok-clause-standing
+returns-in-Ok-clause-standing g c = read_so _ _ _ _ _ _ c.in-Ok.ensures.found
 
 pub returns-in-Ok-clause-whole : goal.returns-in-Ok-clause-whole
 returns-in-Ok-clause-whole g c = λ copy leave. read_whole copy _ _ _ _ _ _ c.in-Ok.ensures.found leave

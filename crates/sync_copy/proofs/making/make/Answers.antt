@@ -1,6 +1,6 @@
 use Rattle.initial_sync.specs.Copies.{empty_disks, empty_part}
 use Rattle.initial_sync.specs.Pinned.{copy_of}
-use Rattle.sync_copy.proofs.MakeLemmas.{copy_fault, copy_puts, fault_as, made, no_other, ran_then, unmade}
+use Rattle.sync_copy.proofs.MakeLemmas.{copy_fault, copy_puts, fault_as, made, no_other, not_told, ran_then, unmade}
 use Rattle.sync_copy.proofs.making.make.Goals as goal
 
 pub copy-requires-clause-disks : goal.copy-requires-clause-disks
@@ -16,7 +16,7 @@ returns-in-Ok-clause-ran g c = ran_then _ _ _ _ _ _ _ _ c.in-Ok.ensures.ran c.te
 
 pub returns-in-Err-clause-disks : goal.returns-in-Err-clause-disks
 returns-in-Err-clause-disks g c =
-    unmade (copy_of c.args.pinned.now) _ _ _ _ _
+    unmade (copy_of c.args.pinned.now) _ _ _ _ _ (not_told c.in-Err.error _ c.of_copy.ensures)
     (c.in-Err.ensures.goes_on_after_a_crash (empty_part (copy_of c.args.pinned.now) (g.D.Disk.state c.args.journal) (g.D.Disk.state c.args.checkpoints) c.requires.journal c.requires.checkpoints))
 
 pub returns-in-Err-clause-ran : goal.returns-in-Err-clause-ran

@@ -1,7 +1,6 @@
-use Rattle.std.proofs.Common.{ap, ◌∙◌, ◌<◌, ⊎_elim, inl, inr, subst, sym}
+use Rattle.std.proofs.Common.{◌∙◌, ◌<◌, ⊎_elim, inl, inr, subst, sym}
 use Rattle.std.proofs.lemmas.Result.{err_from_is_err_and}
-use Rattle.rs_optime.specs.Later.{same_optime}
-use Rattle.repl_msg.proofs.HasLemmas.{same_is, same_itself}
+use Rattle.repl_msg.proofs.HasLemmas.{same_is}
 use Rattle.oplog_entry.specs.Visible.{ZERO}
 use Rattle.set_model.specs.declared.command.Command.TheVariants as commands
 use Rattle.set_model.specs.declared.command.ReadLevel.TheVariants.{Majority}
@@ -13,7 +12,7 @@ use Rattle.safety_laws.specs.Logs.{LogsRise}
 use Rattle.safety_laws.specs.Majority.{MajorityLogsAreFit}
 use Rattle.initial_sync.specs.Pinned.{listed_of}
 use Rattle.sync_pin.specs.Asking.{IsUpIn, Tells}
-use Rattle.sync_pin.proofs.AskLemmas.{documents_stop, log_stops, nothing_committed, point_stops}
+use Rattle.sync_pin.proofs.AskLemmas.{documents_stop, log_stops, not_zero, nothing_committed, point_stops}
 use Rattle.sync_pin.proofs.PinLemmas.{leaders_begin, pinned_so}
 use Rattle.sync_pin.proofs.asking.ask_all.Goals as goal
 
@@ -51,8 +50,8 @@ returns-then-eq-clause-asks g c =
 pub returns-in_err-entries-clause-asks : goal.returns-in_err-entries-clause-asks
 returns-in_err-entries-clause-asks g c =
     let p = err_from_is_err_and c.from_residual-in_err-entries.result c.from_residual-in_err-entries.ensures.1 in
-    rw (p.1, p.2) (log_stops (g.S.Stepper.sizes c.args.set.now) c.args.node (g.S.Stepper.known c.args.set.now) (g.S.Stepper.known c.ask_point.new.set) (c.in_ok-term.term, c.in_ok-term.at) c.in_ok-term.ensures.asks
-    (g.S.Stepper.known c.ask_entries.new.set) c.in_err-entries.field-0.0 c.in_err-entries.ensures.err.0 c.in_err-entries.ensures.err.1)
+    rw (p.1, p.2) (log_stops (g.S.Stepper.sizes c.args.set.now) c.args.node (g.S.Stepper.known c.args.set.now) (g.S.Stepper.known c.ask_point.new.set) c.in_ok-term.term c.in_ok-term.at c.requires.room c.in_ok-term.ensures.asks
+    (not_zero c.in_ok-term.at c.eq.result c.eq.ensures c.if-eq.false) (g.S.Stepper.known c.ask_entries.new.set) c.in_err-entries.field-0.0 c.in_err-entries.ensures.err.0 c.in_err-entries.ensures.err.1)
 
 pub returns-in_err-entries-clause-stays : goal.returns-in_err-entries-clause-stays
 returns-in_err-entries-clause-stays g c =
@@ -69,8 +68,8 @@ returns-in_err-documents-clause-asks g c =
     let broke = ⊎_elim (λ same. inl same)
     (λ told. inr (told.0, subst (λ (s : Sizes). Tells s second new (commands.Dump c.args.node Majority) told.0) (c.ask_entries.ensures.sizes ∙ c.ask_point.ensures.sizes) told.1)) c.in_err-documents.ensures.err.1 in
     let p = err_from_is_err_and c.from_residual-in_err-documents.result c.from_residual-in_err-documents.ensures.1 in
-    rw (p.1, p.2) (documents_stop sizes c.args.node (g.S.Stepper.known c.args.set.now) first (c.in_ok-term.term, c.in_ok-term.at) c.in_ok-term.ensures.asks second log.0 asks_log
-    new c.in_err-documents.field-0.0 c.in_err-documents.ensures.err.0 broke)
+    rw (p.1, p.2) (documents_stop sizes c.args.node (g.S.Stepper.known c.args.set.now) first c.in_ok-term.term c.in_ok-term.at c.requires.room c.in_ok-term.ensures.asks
+    (not_zero c.in_ok-term.at c.eq.result c.eq.ensures c.if-eq.false) second log.0 asks_log new c.in_err-documents.field-0.0 c.in_err-documents.ensures.err.0 broke)
 
 pub returns-in_err-documents-clause-stays : goal.returns-in_err-documents-clause-stays
 returns-in_err-documents-clause-stays g c =
@@ -90,7 +89,7 @@ returns-clause-asks g c =
         state = c.in_ok-term.ensures.asks.0;
         asks_state = c.in_ok-term.ensures.asks.1;
         point = c.in_ok-term.ensures.asks.2;
-        above = λ zero. cc (sym c.eq.ensures ∙ c.if-eq.false, ap (λ o. same_optime o ZERO) zero ∙ same_itself ZERO);
+        above = not_zero c.in_ok-term.at c.eq.result c.eq.ensures c.if-eq.false;
         log = log.0;
         asks_log = subst (λ (s : Sizes). Tells s first second (commands.Log c.args.node) (reply.Entries log.0)) c.ask_point.ensures.sizes log.1;
         entries = log.2;
