@@ -80,8 +80,9 @@ module _ (node nodes term : ℕ) where
     noted_goes at is = subst (λ r. Going alone sizes known stays is_whole old one (confirms node nodes term) (unless_noted r (acknowledges node nodes))) (sym is)
         (goes (asks (commands.Note node) tells) note_told begun was_noted)
 
-    pub note_refused : (why : Refusal) → Err why ≡ note_written term note → Held alone sizes known stays is_whole old one (confirms node nodes term) (Some why)
-    note_refused why is = ended (Some why) (noted_goes (Err why) is)
+    pub note_refused : (why : Refusal) → Err why ≡ note_written term note → (told : Option Refusal) → Some why ≡ told → Held alone sizes known stays is_whole old one (confirms node nodes term) told
+    note_refused why is told told_is =
+        subst (λ t. Held alone sizes known stays is_whole old one (confirms node nodes term) t) told_is (ended (Some why) (noted_goes (Err why) is))
 
     pub acks_went : (new : S) (at : OpTime) → Ok at ≡ note_written term note → (result : Result (Option Refusal) StepError)
         → Went alone sizes known stays is_whole one new (acknowledges node nodes at) result → Went alone sizes known stays is_whole old new (confirms node nodes term) result
@@ -115,10 +116,20 @@ module _ (node nodes : ℕ) (read : Command) (term : ℕ) where
           → (result : Result LinearAnswer StepError) → IsPassed result error → Went alone sizes known stays is_whole old new (in_term node nodes read term) result
       confirm_breaks broken result passed = breaks (confirms node nodes term) (λ refused. tells (answer_of shown refused)) (found_goes (Ok shown) shown_is) broken result passed
 
-      pub answered : {new : S} (refused : Option Refusal) → Held alone sizes known stays is_whole one new (confirms node nodes term) refused
+      ends_so : {new : S} (refused : Option Refusal) → Held alone sizes known stays is_whole one new (confirms node nodes term) refused
           → (answer : LinearAnswer) → answer_of shown refused ≡ answer → Held alone sizes known stays is_whole old new (in_term node nodes read term) answer
-      answered {new} refused last answer is = subst (λ a. Held alone sizes known stays is_whole old new (in_term node nodes read term) a) is
+      ends_so {new} refused last answer is = subst (λ a. Held alone sizes known stays is_whole old new (in_term node nodes read term) a) is
           (ended (answer_of shown refused) (goes (confirms node nodes term) (λ r. tells (answer_of shown r)) (found_goes (Ok shown) shown_is) last))
+
+  -- that the read comes first, and what confirms it next, is asked for by itself
+  pub answered : {S : Type 0} {alone : Bool} {sizes : S → Sizes} {known : S → List Event} {stays : S → S → Type 0} {is_whole : S → Type 0} {first one mid new : S} {found : Reply} {command : Command}
+      → Held alone sizes known stays is_whole first one (asks command tells) found → command ≡ read → (shown : LinearAnswer) → Ok shown ≡ document_shown found
+      → (refused : Option Refusal) → Held alone sizes known stays is_whole mid new (confirms node nodes term) refused → (old : S) → first ≡ old → one ≡ mid
+      → (answer : LinearAnswer) → answer_of shown refused ≡ answer → Held alone sizes known stays is_whole old new (in_term node nodes read term) answer
+  answered {S} {alone} {sizes} {known} {stays} {is_whole} {first} {one} {mid} {new} asked command_is shown shown_is refused confirmed old begins goes_on answer is =
+      subst (λ s. Held alone sizes known stays is_whole s new (in_term node nodes read term) answer) begins
+      (ends_so asked command_is shown shown_is refused
+      (subst (λ s. Held alone sizes known stays is_whole s new (confirms node nodes term) refused) (sym goes_on) confirmed) answer is)
 
 -- ---- the whole read
 

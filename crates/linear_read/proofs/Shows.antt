@@ -1,5 +1,5 @@
 -- What a linear read shows comes of the three events of one.
-use Rattle.std.proofs.Common.{◌≡◌, ◌∙◌, ◌<◌, ◌+◌, ◌==◌, ap, arith, sym, subst, refl, ℕ, suc, Bool, true, false, if◌then◌else◌, eqb-true, append_assoc, append-nil, length-append, Option, None, Some, Result, Ok, Err, List, [], ◌∷◌, ◌++◌, length}
+use Rattle.std.proofs.Common.{◌≡◌, ◌∙◌, ◌<◌, ◌≤◌, ◌+◌, ◌==◌, ap, arith, sym, subst, refl, ℕ, suc, Bool, true, false, if◌then◌else◌, eqb-true, append_assoc, append-nil, length-append, Option, None, Some, Result, Ok, Err, List, [], ◌∷◌, ◌++◌, length}
 use Rattle.std.specs.Prelude.{IfOk}
 use Rattle.std.proofs.lemmas.Option.{slice_get-get_or}
 use Rattle.std.proofs.Math.Seq.{get_or-append_seam, take-append_seam}
@@ -164,12 +164,12 @@ module _ (alone : Bool) (sizes : Sizes) where
 
 -- ---- the five points
 
-module _ (alone : Bool) (sizes : Sizes) (new : List Event) (stays : PrimariesStay sizes new) (number nodes : ℕ) (collection : List ℕ) (id : Value) where
+module _ (alone : Bool) (sizes : Sizes) (old new : List Event) (stays : PrimariesStay sizes new) (number nodes : ℕ) (collection : List ℕ) (id : Value) where
   abbrev Shows : LinearAnswer → Type 0
-  Shows answer = IsShown sizes new number collection id answer
+  Shows answer = IsShown sizes new (length old) number collection id answer
 
-  refused : (old : List Event) (why : Refusal) (answer : LinearAnswer) → IsHeld alone sizes old new (tells (Refused why)) answer → Shows answer
-  refused old why answer held = subst (λ a. IsShown sizes new number collection id a) held.1 tt
+  refused : (mid : List Event) (why : Refusal) (answer : LinearAnswer) → IsHeld alone sizes mid new (tells (Refused why)) answer → Shows answer
+  refused mid why answer held = subst (λ a. IsShown sizes new (length old) number collection id a) held.1 tt
 
   -- who showed its term was primary in it
   primary_at : (place term : ℕ) (state : Reply) → Asks sizes new place number (commands.State number) state → term_shown state ≡ Ok term
@@ -182,17 +182,17 @@ module _ (alone : Bool) (sizes : Sizes) (new : List Event) (stays : PrimariesSta
       (there.node, record { at = there.before; term_is = tells.1; role = ap is_leading tells.0 }, tells.0)
 
   -- the answer of a linear read is what its read was told
-  shows_as : (place : ℕ) (node : Node) (found : Reply) → IsLinear sizes new place number node collection id found → (shown : LinearAnswer) → document_shown found ≡ Ok shown → Shows shown
-  shows_as place node found is_linear (Found document) ok =
-      (place, node, subst (λ r. IsLinear sizes new place number node collection id r) (found_of found document ok) is_linear)
-  shows_as place node found is_linear Missing ok =
+  shows_as : (place : ℕ) (node : Node) (found : Reply) → length old ≤ place → IsLinear sizes new place number node collection id found → (shown : LinearAnswer) → document_shown found ≡ Ok shown → Shows shown
+  shows_as place node found behind is_linear (Found document) ok =
+      (place, node, behind, subst (λ r. IsLinear sizes new place number node collection id r) (found_of found document ok) is_linear)
+  shows_as place node found behind is_linear Missing ok =
       let asked : Asks sizes new place number (commands.Read number levels.Local collection id) found = is_linear.reads in
       let there : DidAt sizes new place number (λ n. read n levels.Local collection (tree_of id)) found =
       did_at sizes new place number asked.event (λ n. read n levels.Local collection (tree_of id)) found asked.answers
       (did (world_at sizes new place) asked.event (commands.Read number levels.Local collection id) number (λ n. read n levels.Local collection (tree_of id)) found asked.command_is refl (λ n. refl)
       (taken_document found Missing ok) asked.answers.reply_is) in
-      (place, node, subst (λ r. IsLinear sizes new place number node collection id r) (missing_of there.node collection found ok (key_of (tree_of id)) there.told) is_linear)
-  shows_as place node found is_linear (Refused why) ok = tt
+      (place, node, behind, subst (λ r. IsLinear sizes new place number node collection id r) (missing_of there.node collection found ok (key_of (tree_of id)) there.told) is_linear)
+  shows_as place node found behind is_linear (Refused why) ok = tt
 
   -- a command that wasn't refused was acknowledged
   acked_at : (place : ℕ) (at : OpTime) (told : Reply) → Asks sizes new place number (commands.Ack number (targets.At at) concerns.Majority) told → refusal_of told ≡ None → told ≡ reply.Acked at
@@ -203,7 +203,7 @@ module _ (alone : Bool) (sizes : Sizes) (new : List Event) (stays : PrimariesSta
       (taken_ack told none) asked.answers.reply_is) in
       acked_of there.node at told there.told none
 
-  module _ (old one two three end : List Event) (state found note : Reply) (term : ℕ) (shown : LinearAnswer) (at : OpTime) (why : Option Refusal)
+  module _ (one two three end : List Event) (state found note : Reply) (term : ℕ) (shown : LinearAnswer) (at : OpTime) (why : Option Refusal)
       (asks_state : StepsOnce alone sizes old one 0 (commands.State number) state) (state_is : term_shown state ≡ Ok term)
       (asks_read : StepsOnce alone sizes one two 0 (commands.Read number levels.Local collection id) found) (found_is : document_shown found ≡ Ok shown)
       (asks_note : StepsOnce alone sizes two three 0 (commands.Note number) note) (note_is : note_written term note ≡ Ok at)
@@ -252,13 +252,20 @@ module _ (alone : Bool) (sizes : Sizes) (new : List Event) (stays : PrimariesSta
     primary : (node : Node) × Leads sizes new (length asks_state.met) number term node × (node.role ≡ roles.Primary)
     primary = primary_at (length asks_state.met) term state asked_state state_is
 
+    state_before : length asks_state.met < length asks_read.met
+    state_before = later alone sizes old one two (commands.State number) (commands.Read number levels.Local collection id) state found asks_state asks_read
+
+    read_behind : length old ≤ length asks_read.met
+    read_behind =
+        let long : length asks_state.met ≡ length old + length asks_state.learns.others = ap length asks_state.learns.new_is ∙ length-append old asks_state.learns.others in
+        omega (arith, long, state_before)
+
     read_before : length asks_read.met < length asks_note.met
     read_before = later alone sizes one two three (commands.Read number levels.Local collection id) (commands.Note number) found note asks_read asks_note
 
     reader : (node : Node) × Leads sizes new (length asks_read.met) number term node × (node.role ≡ roles.Primary)
     reader = stays (length asks_state.met) (length asks_read.met) (length asks_note.met) number term primary.0 note_at.old
-        (let less : length asks_state.met < length asks_read.met =
-        later alone sizes old one two (commands.State number) (commands.Read number levels.Local collection id) state found asks_state asks_read in omega (arith, less))
+        (let less : length asks_state.met < length asks_read.met = state_before in omega (arith, less))
         (let less : length asks_read.met < length asks_note.met = read_before in omega (arith, less))
         primary.1 primary.2 (subst (λ t. Leads sizes new (length asks_note.met) number t note_at.old) noted.1 note_at.before)
 
@@ -281,12 +288,12 @@ module _ (alone : Bool) (sizes : Sizes) (new : List Event) (stays : PrimariesSta
     unless_why answer answer_is = go why refl
       where
         go : (w : Option Refusal) → why ≡ w → Shows answer
-        go (Some w) is = subst (λ a. IsShown sizes new number collection id a) (ap (answer_of shown) (sym is) ∙ answer_is) tt
-        go None is = subst (λ a. IsShown sizes new number collection id a) (ap (answer_of shown) (sym is) ∙ answer_is)
-            (shows_as (length asks_read.met) reader.0 found (is_linear is) shown found_is)
+        go (Some w) is = subst (λ a. IsShown sizes new (length old) number collection id a) (ap (answer_of shown) (sym is) ∙ answer_is) tt
+        go None is = subst (λ a. IsShown sizes new (length old) number collection id a) (ap (answer_of shown) (sym is) ∙ answer_is)
+            (shows_as (length asks_read.met) reader.0 found read_behind (is_linear is) shown found_is)
 
-  pub shows : (old : List Event) (answer : LinearAnswer) → IsHeld alone sizes old new (linear number nodes collection id) answer → Shows answer
-  shows old answer held = by_state (term_shown held.1) refl held.3
+  pub shows : (answer : LinearAnswer) → IsHeld alone sizes old new (linear number nodes collection id) answer → Shows answer
+  shows answer held = by_state (term_shown held.1) refl held.3
     where
       by_state : (term : Result ℕ Refusal) → term_shown held.1 ≡ term
           → IsHeld alone sizes held.0 new (unless_refused term (λ t. in_term number nodes (commands.Read number levels.Local collection id) t)) answer → Shows answer
@@ -304,15 +311,15 @@ module _ (alone : Bool) (sizes : Sizes) (new : List Event) (stays : PrimariesSta
               by_note : (at : Result OpTime Refusal) → note_written term ends.2.1 ≡ at
                   → IsHeld alone sizes ends.2.0 ends.0 (unless_noted at (acknowledges number nodes)) ends.1 → Shows answer
               by_note (Err why) note_is last =
-                  subst (λ a. IsShown sizes new number collection id a) (ap (answer_of shown) last.1 ∙ ends.3.1) tt
+                  subst (λ a. IsShown sizes new (length old) number collection id a) (ap (answer_of shown) last.1 ∙ ends.3.1) tt
               by_note (Ok at) note_is last =
-                  unless_why old held.0 rest.0 ends.2.0 ends.0 held.1 rest.1 ends.2.1 term shown at ends.1 held.2 is rest.2 found_is ends.2.2 note_is last ends.3.0 answer ends.3.1
+                  unless_why held.0 rest.0 ends.2.0 ends.0 held.1 rest.1 ends.2.1 term shown at ends.1 held.2 is rest.2 found_is ends.2.2 note_is last ends.3.0 answer ends.3.1
 
 -- ---- the call
 
 pub went_shown : {S : Type 0} (alone : Bool) (sizes : S → Sizes) (known : S → List Event) (stays : S → S → Type 0) (is_whole : S → Type 0) (old new : S) (number nodes : ℕ) (collection : List ℕ) (id : Value)
     → PrimariesStay (sizes old) (known new) → (result : Result LinearAnswer StepError) → Went alone sizes known stays is_whole old new (linear number nodes collection id) result
-    → IfOk result (λ answer. IsShown (sizes old) (known new) number collection id answer)
+    → IfOk result (λ answer. IsShown (sizes old) (known new) (length (known old)) number collection id answer)
 went_shown alone sizes known stays is_whole old new number nodes collection id law (Ok answer) went =
-    shows alone (sizes old) (known new) law number nodes collection id (known old) answer went.held
+    shows alone (sizes old) (known old) (known new) law number nodes collection id answer went.held
 went_shown alone sizes known stays is_whole old new number nodes collection id law (Err error) went = tt

@@ -1,6 +1,6 @@
 -- Linearizable reads (MongoDB manual, read concern "linearizable"): a read shows each write that was
 -- acknowledged before it.
-use Rattle.std.specs.Prelude.{◌≡◌, ◌<◌, ℕ, suc, true, false, List, Some, ⊤}
+use Rattle.std.specs.Prelude.{◌≡◌, ◌<◌, ◌≤◌, ℕ, suc, true, false, List, Some, ⊤}
 use Rattle.std.specs.FinMap as maps
 use Rattle.bson_doc.specs.Key.{key_of}
 use Rattle.bson_doc.specs.Tree.{Tree}
@@ -71,12 +71,13 @@ module _ (sizes : Sizes) (events : List Event) where
       → IsLinear place number node collection id shown
       → HoldsAcked place node × (is_refusal shown ≡ false → ShowsOf node.log collection (tree_of id) shown)
 
-  -- What a linear read showed comes of one: the document, or that there is none.
-  abbrev pub Comes : ℕ → List ℕ → Value → Reply → Type 0
-  Comes number collection id shown =
-      (place : ℕ) × (node : Node) × IsLinear place number node collection id shown
+  -- What is shown comes of a linear read behind so many events at least: the document, or that there is none.
+  abbrev pub Comes : ℕ → ℕ → List ℕ → Value → Reply → Type 0
+  Comes first number collection id shown =
+      (place : ℕ) × (node : Node) × (first ≤ place) × IsLinear place number node collection id shown
 
-  abbrev pub IsShown : ℕ → List ℕ → Value → LinearAnswer → Type 0
-  IsShown number collection id (Found document) = Comes number collection id (reply.Found document)
-  IsShown number collection id Missing = Comes number collection id reply.Missing
-  IsShown number collection id (Refused why) = ⊤
+  abbrev pub IsShown : ℕ → ℕ → List ℕ → Value → LinearAnswer → Type 0
+  IsShown first number collection id (Found document) =
+      Comes first number collection id (reply.Found document)
+  IsShown first number collection id Missing = Comes first number collection id reply.Missing
+  IsShown first number collection id (Refused why) = ⊤

@@ -45,7 +45,7 @@ pub fn linear_read<R: Threads + Wait + Sync, S: Stepper>(
     ensures ok { IfOk result (λ answer. IsHeld S.is_alone (S.sizes set.old) (S.known set.old)
         (S.known set.new) (linear node nodes coll.now id.now) answer) }
     ensures shown { IfOk result (λ answer. IsShown (S.sizes set.old) (S.known set.new)
-        node coll.now id.now answer) }
+        (length (S.known set.old)) node coll.now id.now answer) }
     ensures err { OnErr result (IsBrokenOff S.is_alone (S.sizes set.old) (S.known set.old)
         (S.known set.new) (linear node nodes coll.now id.now)) }
     ensures full { IsErrOf result AStepError.HistoryFull → length (S.known set.new) ≡ 4294967295 }
@@ -115,7 +115,8 @@ fn read_in_term<R: Threads + Wait + Sync, S: Stepper>(
         Ok(shown) => shown,
         Err(why) => return Ok(LinearAnswer::Refused(why)),
     };
-    match confirm(rt, set, node, nodes, term)? {
+    let refused = confirm(rt, set, node, nodes, term)?;
+    match refused {
         None => Ok(shown),
         Some(why) => Ok(LinearAnswer::Refused(why)),
     }

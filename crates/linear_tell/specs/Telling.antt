@@ -1,5 +1,5 @@
 -- What a linear read that words ask for asks, and what is put of it.
-use Rattle.std.specs.Prelude.{◌≡◌, ◌⊎◌, ◌≤◌, ◌<◌, ℕ, Bool, true, false, List, take, Option, Result, Ok, Err}
+use Rattle.std.specs.Prelude.{◌≡◌, ◌⊎◌, ◌≤◌, ◌<◌, ℕ, Bool, true, false, List, length, take, Option, Result, Ok, Err}
 use Rattle.std.specs.Io.KnownBytes.{Appends, Keeps}
 use Rattle.set_model.specs.declared.command.Event.{Event}
 use Rattle.set_model.specs.Run.{Sizes}
@@ -28,12 +28,13 @@ PutsText held now text (Err WriteFault) = (count : ℕ) × Appends held now (tak
 PutsText held now text (Err Memory) = Keeps held now
 
 module _ (alone : Bool) (sizes : Sizes) (linear : Linear) (old new : List Event) where
-  -- the set has got the node, which answers the five points so, and what it shows comes of a linear read
+  -- the set has got the node, which answers the five points so, and what it shows comes of a linear read of
+  -- this call
   abbrev pub Answers : LinearAnswer → Type 0
   Answers answer =
       (linear.node < sizes.nodes)
       × IsHeld alone sizes old new (points linear.node sizes.nodes linear.collection linear.id) answer
-      × IsShown sizes new linear.node linear.collection linear.id answer
+      × IsShown sizes new (length old) linear.node linear.collection linear.id answer
 
   -- What came of the read. A set that hasn't got the node is asked nothing.
   abbrev pub Comes : LinearTold → Type 0

@@ -7,4 +7,4 @@ returns-in-Ok g c =
     acks_went c.args.node c.args.nodes c.args.term c.in_ok-ask.ensures.went (search rules) c.acknowledge.new.set c.in-Ok.at c.in-Ok.ensures c.acknowledge.result c.acknowledge.ensures
 
 pub returns : goal.returns
-returns g c = note_refused c.args.node c.args.nodes c.args.term c.in_ok-ask.ensures.went (search rules) c.in-Err.why c.in-Err.ensures
+returns g c = note_refused c.args.node c.args.nodes c.args.term c.in_ok-ask.ensures.went (search rules) c.in-Err.why c.in-Err.ensures _ (search rules)

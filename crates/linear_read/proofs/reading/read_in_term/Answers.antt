@@ -6,14 +6,16 @@ use Rattle.linear_read.proofs.reading.read_in_term.Goals as goal
 pub returns-in-Err : goal.returns-in-Err
 returns-in-Err g c = read_refused c.args.node c.args.nodes c.args.read c.args.term c.in_ok-ask.ensures.went (search rules) c.in-Err.why c.in-Err.ensures
 
-pub returns-in_err-confirm : goal.returns-in_err-confirm
-returns-in_err-confirm g c =
-    confirm_breaks c.args.node c.args.nodes c.args.read c.args.term c.in_ok-ask.ensures.went (search rules) c.in-Ok.shown c.in-Ok.ensures c.in_err-confirm.ensures c.from_residual-in_err-confirm.result c.from_residual-in_err-confirm.ensures
+pub returns-in_err-refused : goal.returns-in_err-refused
+returns-in_err-refused g c =
+    confirm_breaks c.args.node c.args.nodes c.args.read c.args.term c.in_ok-ask.ensures.went (search rules) c.in-Ok.shown c.in-Ok.ensures c.in_err-refused.ensures c.from_residual-in_err-refused.result c.from_residual-in_err-refused.ensures
 
 pub returns-in-None : goal.returns-in-None
 returns-in-None g c =
-    answered c.args.node c.args.nodes c.args.read c.args.term c.in_ok-ask.ensures.went (search rules) c.in-Ok.shown c.in-Ok.ensures c.in_ok-confirm.field-0 c.in_ok-confirm.ensures c.in-Ok.shown (search rules)
+    answered c.args.node c.args.nodes c.args.read c.args.term c.in_ok-ask.ensures.went (search rules) c.in-Ok.shown c.in-Ok.ensures c.in_ok-refused.refused c.in_ok-refused.ensures
+    c.args.set.now (search rules) (search rules) c.in-Ok.shown (search rules)
 
 pub returns-in-Some : goal.returns-in-Some
 returns-in-Some g c =
-    answered c.args.node c.args.nodes c.args.read c.args.term c.in_ok-ask.ensures.went (search rules) c.in-Ok.shown c.in-Ok.ensures c.in_ok-confirm.field-0 c.in_ok-confirm.ensures (Refused c.in-Some.why) (search rules)
+    answered c.args.node c.args.nodes c.args.read c.args.term c.in_ok-ask.ensures.went (search rules) c.in-Ok.shown c.in-Ok.ensures c.in_ok-refused.refused c.in_ok-refused.ensures
+    c.args.set.now (search rules) (search rules) (Refused c.in-Some.why) (search rules)
