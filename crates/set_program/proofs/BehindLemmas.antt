@@ -1,6 +1,6 @@
 -- Work behind a script.
 use Rattle.std.proofs.Common.{◌≡◌, ◌≢◌, ℕ, true, false, List, Option, Result, Ok, Err, refl, sym, subst, inl, inr}
-use Rattle.std.specs.Prelude.{Bool, ◌⊎◌}
+use Rattle.std.specs.Prelude.{Bool}
 use Rattle.std.specs.Io.KnownBytes.{Appends}
 use Rattle.rs_disk.specs.State.{State}
 use Rattle.set_model.specs.declared.command.Event.{Event}
@@ -12,12 +12,12 @@ use Rattle.set_world.specs.World.{Set}
 use Rattle.set_world.proofs.WentLemmas.{went_nowhere}
 use Rattle.change_watch.specs.Following.{StaysSo}
 use Rattle.set_program.specs.declared.stop.Stop.{Stop}
-use Rattle.set_program.specs.declared.stop.Stop.TheVariants.{Memory, Usage, Script as NoScript, ReadFault, WriteFault, TooLong, DiskFault, Refused}
+use Rattle.set_program.specs.declared.stop.Stop.TheVariants.{Memory, Usage, Script as NoScript, ReadFault, WriteFault, TooLong, DiskFault, CopyFault, Refused}
 use Rattle.set_program.specs.Behind.{EndsBehind}
-use Rattle.set_program.specs.Disks.{DisksPlayed, DisksRan}
+use Rattle.set_program.specs.Disks.{DisksPlayed}
 use Rattle.set_program.specs.Headline.{EndsRun}
-use Rattle.set_program.specs.Orders.{ComesNext, Follows, IsInBlock}
-use Rattle.set_program.specs.Parts.{DisksGo}
+use Rattle.set_program.specs.Orders.{Follows}
+use Rattle.set_program.specs.Parts.{DisksBehind, DisksGo}
 use Rattle.set_program.proofs.DisksLemmas.{played_on}
 
 -- work behind a script may stop so
@@ -30,6 +30,7 @@ stops_work NoScript = false
 stops_work ReadFault = false
 stops_work TooLong = false
 stops_work DiskFault = false
+stops_work CopyFault = false
 
 pub went_by : {D : Type 0} (state : D → State) (old new : Set D) → StaysSo (λ before after. GoesOn state before after) old new → WentOn state old new
 went_by {D} state old new (inl same) = subst (λ (set : Set D). WentOn state old set) (sym same) (went_nowhere state old)
@@ -68,6 +69,7 @@ module _ {D : Type 0} (Works : Work) (only : (stop : Stop) → stops_work stop �
       by_end (Err ReadFault) works = never _ ReadFault refl works
       by_end (Err TooLong) works = never _ TooLong refl works
       by_end (Err DiskFault) works = never _ DiskFault refl works
+      by_end (Err CopyFault) works = never _ CopyFault refl works
 
 -- it stopped
 pub script_stops : {D : Type 0} (Works : Work) (parts : List Part) (old new : Option (List ℕ)) (set : Set D) (stop : Stop) → EndsRun parts old new (Err stop) set
@@ -80,16 +82,13 @@ script_stops Works parts old new set NoScript never = absurd never
 script_stops Works parts old new set ReadFault never = absurd never
 script_stops Works parts old new set TooLong never = absurd never
 script_stops Works parts old new set DiskFault never = absurd never
+script_stops Works parts old new set CopyFault never = absurd never
 
 -- ---- the disks
 
 module _ {D : Type 0} (state : D → State) (parts : List Part) (first : List D) where
-  -- the disks of a task whose work comes behind a script
-  abbrev pub DisksBehind : Set D → Type 0 → Type 0
-  DisksBehind set Out = DisksRan state Out (ComesNext parts set.history) (λ earlier later. IsInBlock parts earlier later ⊎ Follows parts earlier) first set
-
   -- those of a script that stopped
-  pub stopped_disks : (set : Set D) (Out : Type 0) → DisksGo state parts first set Out → DisksBehind set Out
+  pub stopped_disks : (set : Set D) (Out : Type 0) → DisksGo state parts first set Out → DisksBehind state parts first set Out
   stopped_disks set Out (inl played) = inl played
   stopped_disks set Out (inr (out, inl began)) = inr (out, inl began)
   stopped_disks set Out (inr (out, inr broke)) = inr (
@@ -111,10 +110,10 @@ module _ {D : Type 0} (state : D → State) (parts : List Part) (first : List D)
   script_disks set Out enough (inr (out, more)) = absurd (enough out)
 
   module _ (mid last : Set D) (went : WentOn state mid last) (follows : Follows parts mid.history) (played : DisksPlayed state first mid) where
-    whole_disks : (Out : Type 0) → last.whole ≡ true → DisksBehind last Out
+    whole_disks : (Out : Type 0) → last.whole ≡ true → DisksBehind state parts first last Out
     whole_disks Out whole = inl (played_on state first mid last went.added went.sizes went.history (went.played whole) played)
 
-    broken_disks : (Out : Type 0) → Out → DisksBehind last Out
+    broken_disks : (Out : Type 0) → Out → DisksBehind state parts first last Out
     broken_disks Out out = inr (
       out,
       inr (record {
@@ -129,7 +128,7 @@ module _ {D : Type 0} (state : D → State) (parts : List Part) (first : List D)
     )
 
     -- those of the work
-    pub work_disks : (ended : Result (Unit {0}) Stop) → (ended ≢ Err Memory → last.whole ≡ true) → DisksBehind last (ended ≡ Err Memory)
+    pub work_disks : (ended : Result (Unit {0}) Stop) → (ended ≢ Err Memory → last.whole ≡ true) → DisksBehind state parts first last (ended ≡ Err Memory)
     work_disks (Ok done) whole = whole_disks _ (whole (λ same. cc same))
     work_disks (Err Memory) whole = broken_disks _ refl
     work_disks (Err WriteFault) whole = whole_disks _ (whole (λ same. cc same))
@@ -139,3 +138,4 @@ module _ {D : Type 0} (state : D → State) (parts : List Part) (first : List D)
     work_disks (Err ReadFault) whole = whole_disks _ (whole (λ same. cc same))
     work_disks (Err TooLong) whole = whole_disks _ (whole (λ same. cc same))
     work_disks (Err DiskFault) whole = whole_disks _ (whole (λ same. cc same))
+    work_disks (Err CopyFault) whole = whole_disks _ (whole (λ same. cc same))

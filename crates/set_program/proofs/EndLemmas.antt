@@ -1,7 +1,9 @@
 -- How a call ends.
-use Rattle.std.proofs.Common.{ℕ, ◌≡◌, ◌<◌, Bool, true, false, List, [], ◌∷◌, length, Option, None, Some, Result, Ok, Err, String, refl, subst, sym, arith, inl, inr, ⊎_elim, ◌∙◌}
+use Rattle.std.proofs.Common.{ℕ, ◌≡◌, ◌<◌, Bool, true, false, List, [], ◌∷◌, length, Option, None, Some, Result, Ok, Err, String, refl, ap, subst, sym, arith, inl, inr, ⊎_elim, ◌∙◌}
+use Rattle.std.proofs.lemmas.Option.{same_Some}
 use Rattle.std.specs.Prelude.{◌≢◌, IfSome}
 use Rattle.std.specs.declared.alloc.Global.{Global}
+use Rattle.rs_disk.specs.State.{State}
 use Rattle.rs_io.specs.Fault.{CountRose}
 use Rattle.rs_io.specs.ReadAll.{ReadsAll}
 use Rattle.rs_io.specs.declared.reading.ReadAllError.{ReadAllError}
@@ -17,17 +19,21 @@ use Rattle.set_world.specs.World.{Set}
 use Rattle.set_program.specs.declared.outcome.Left.{Left}
 use Rattle.set_program.specs.declared.outcome.Left.TheVariants.{World, Parts}
 use Rattle.set_program.specs.declared.stop.Stop.{Stop}
-use Rattle.set_program.specs.declared.stop.Stop.TheVariants.{Memory, Usage, Script as NoScript, ReadFault, WriteFault, TooLong, DiskFault, Refused}
+use Rattle.set_program.specs.declared.stop.Stop.TheVariants.{Memory, Usage, Script as NoScript, ReadFault, WriteFault, TooLong, DiskFault, CopyFault, Refused}
 use Rattle.set_program.specs.Asking.{ReadsSource, RunsScript}
 use Rattle.rs_io.specs.Put.{Puts}
 use Rattle.rs_io.specs.declared.sink.SinkError.{SinkError}
 use Rattle.rs_io.specs.declared.sink.SinkError.TheVariants.{Failed, Memory as NoRoom}
-use Rattle.set_program.specs.Causes.{of_read, of_sink}
+use Rattle.set_program.specs.Causes.{of_read, of_sink, of_sync}
 use Rattle.set_program.specs.Headline.{Asks, AsksNothing, AsksSource, Ends, EndsTask, EndsWithoutRun, HasNoFault, IsFaulty, IsOneOf, IsReadable, IsScriptOf, limit, status_of, usage}
 use Rattle.set_program.specs.declared.words.Task.{Task}
-use Rattle.set_program.specs.declared.words.Task.TheVariants.{Run, Trace, Chaos, Linear as ReadsLinear, Watch as Watches}
+use Rattle.set_program.specs.declared.words.Task.TheVariants.{Run, Trace, Chaos, Sync, Linear as ReadsLinear, Watch as Watches}
 use Rattle.set_program.specs.Left.{IfSet}
+use Rattle.set_program.specs.Syncing.{ended_so}
 use Rattle.set_program.specs.Tasks.{is_of_source, may_end_in}
+use Rattle.sync_words.specs.Putting.{PutsText}
+use Rattle.sync_words.specs.declared.stop.SyncStop.{SyncStop}
+use Rattle.sync_words.specs.declared.stop.SyncStop.TheVariants as syncs
 use Rattle.change_watch.proofs.KeepLemmas.{Keeps-same}
 
 -- ---- the script is read
@@ -50,6 +56,7 @@ source_stops words left rest old new NoScript asks reads = (asks, reads)
 source_stops words left rest old new ReadFault asks reads = (asks, reads)
 source_stops words left rest old new TooLong asks (kept, over) = (asks, kept, over)
 source_stops words left rest old new DiskFault asks reads = absurd reads
+source_stops words left rest old new CopyFault asks reads = absurd reads
 source_stops words left rest old new Refused asks reads = absurd reads
 source_stops words left rest old new Memory asks reads = reads
 source_stops words left rest old new WriteFault asks reads = inr (asks, reads)
@@ -63,10 +70,11 @@ usage_stops words left rest old new NoRoom none kept = kept
 -- ---- it is run
 
 -- what was asked for was run
-pub run_ends : {D : Type 0} (words : List (String Global)) (left rest old new : Option (List ℕ)) (task : Task) (read : Script) (ended : Result (Unit {0}) Stop) (outcome : Left D)
-    → Asks words task → IsScriptOf task left rest read → RunsScript task read old new ended outcome → Ends words left rest old new ended outcome
-run_ends words left rest old new task read ended (World set) asks is runs = (task, asks, (read, is, runs.0, runs.1))
-run_ends words left rest old new task read ended (Parts events disks) asks is (none, kept, one) = (none, ⊎_elim no_memory failed one)
+pub run_ends : {D : Type 0} (state : D → State) (handed : List D) (words : List (String Global)) (left rest old new : Option (List ℕ)) (task : Task) (read : Script) (ended : Result (Unit {0}) Stop) (outcome : Left D)
+    → Asks words task → IsScriptOf task left rest read → RunsScript state handed task read old new ended outcome → Ends state handed words left rest old new ended outcome
+run_ends state handed words left rest old new task read ended (World set) asks is runs = (task, asks, (read, is, runs.0, runs.1))
+run_ends state handed words left rest old new task read ended (Parts events disks) asks is (inr member) = inr (task, asks, (read, is, member))
+run_ends state handed words left rest old new task read ended (Parts events disks) asks is (inl (none, kept, one)) = inl (none, ⊎_elim no_memory failed one)
   where
     no_memory : ended ≡ Err Memory → EndsWithoutRun words left rest old new ended
     no_memory same = rw same kept
@@ -114,6 +122,7 @@ not_of_source Run seed events nodes of_source same = cc same
 not_of_source Trace seed events nodes of_source same = cc same
 not_of_source (ReadsLinear linear) seed events nodes of_source same = cc same
 not_of_source (Watches watch) seed events nodes of_source same = cc same
+not_of_source (Sync node) seed events nodes of_source same = cc same
 not_of_source (Chaos s e n) seed events nodes of_source same = cc of_source
 
 reads_nothing : (P : Type 0) (words : List (String Global)) (seed events nodes : ℕ) → AsksSource words → Asks words (Chaos seed events nodes) → P
@@ -132,6 +141,7 @@ ends_before NoScript = true
 ends_before ReadFault = true
 ends_before TooLong = true
 ends_before DiskFault = true
+ends_before CopyFault = false
 ends_before Refused = false
 
 never : {D : Type 0} (P : Type 0) (task : Task) (parts : List Part) (old new : Option (List ℕ)) (stop : Stop) (set : Set D) → ends_before stop ≡ true → EndsTask task parts old new (Err stop) set → P
@@ -143,6 +153,7 @@ never P Run parts old new NoScript set before ends = absurd ends
 never P Run parts old new ReadFault set before ends = absurd ends
 never P Run parts old new TooLong set before ends = absurd ends
 never P Run parts old new DiskFault set before ends = absurd ends
+never P Run parts old new CopyFault set before ends = absurd (cc before)
 never P Run parts old new Refused set before ends = absurd (cc before)
 never P Trace parts old new Memory set before ends = absurd (cc before)
 never P Trace parts old new WriteFault set before ends = absurd (cc before)
@@ -151,6 +162,7 @@ never P Trace parts old new NoScript set before ends = absurd ends
 never P Trace parts old new ReadFault set before ends = absurd ends
 never P Trace parts old new TooLong set before ends = absurd ends
 never P Trace parts old new DiskFault set before ends = absurd ends
+never P Trace parts old new CopyFault set before ends = absurd (cc before)
 never P Trace parts old new Refused set before ends = absurd (cc before)
 never P (ReadsLinear linear) parts old new Memory set before ends = absurd (cc before)
 never P (ReadsLinear linear) parts old new WriteFault set before ends = absurd (cc before)
@@ -159,6 +171,7 @@ never P (ReadsLinear linear) parts old new NoScript set before ends = absurd end
 never P (ReadsLinear linear) parts old new ReadFault set before ends = absurd ends
 never P (ReadsLinear linear) parts old new TooLong set before ends = absurd ends
 never P (ReadsLinear linear) parts old new DiskFault set before ends = absurd ends
+never P (ReadsLinear linear) parts old new CopyFault set before ends = absurd (cc before)
 never P (ReadsLinear linear) parts old new Refused set before ends = absurd (cc before)
 never P (Watches watch) parts old new Memory set before ends = absurd (cc before)
 never P (Watches watch) parts old new WriteFault set before ends = absurd (cc before)
@@ -167,7 +180,17 @@ never P (Watches watch) parts old new NoScript set before ends = absurd ends
 never P (Watches watch) parts old new ReadFault set before ends = absurd ends
 never P (Watches watch) parts old new TooLong set before ends = absurd ends
 never P (Watches watch) parts old new DiskFault set before ends = absurd ends
+never P (Watches watch) parts old new CopyFault set before ends = absurd (cc before)
 never P (Watches watch) parts old new Refused set before ends = absurd (cc before)
+never P (Sync node) parts old new Memory set before ends = absurd (cc before)
+never P (Sync node) parts old new WriteFault set before ends = absurd (cc before)
+never P (Sync node) parts old new Usage set before ends = absurd ends
+never P (Sync node) parts old new NoScript set before ends = absurd ends
+never P (Sync node) parts old new ReadFault set before ends = absurd ends
+never P (Sync node) parts old new TooLong set before ends = absurd ends
+never P (Sync node) parts old new DiskFault set before ends = absurd ends
+never P (Sync node) parts old new CopyFault set before ends = absurd (cc before)
+never P (Sync node) parts old new Refused set before ends = absurd (cc before)
 never P (Chaos seed events nodes) parts old new Memory set before ends = absurd (cc before)
 never P (Chaos seed events nodes) parts old new WriteFault set before ends = absurd (cc before)
 never P (Chaos seed events nodes) parts old new Usage set before ends = absurd ends
@@ -175,23 +198,31 @@ never P (Chaos seed events nodes) parts old new NoScript set before ends = absur
 never P (Chaos seed events nodes) parts old new ReadFault set before ends = absurd ends
 never P (Chaos seed events nodes) parts old new TooLong set before ends = absurd ends
 never P (Chaos seed events nodes) parts old new DiskFault set before ends = absurd ends
+never P (Chaos seed events nodes) parts old new CopyFault set before ends = absurd (cc before)
 never P (Chaos seed events nodes) parts old new Refused set before ends = absurd (cc before)
 
--- so nothing was run where a call ends otherwise
-only_unrun : {D : Type 0} (P : Type 0) (words : List (String Global)) (left rest old new : Option (List ℕ)) (stop : Stop) (outcome : Left D)
-    → ends_before stop ≡ true → (EndsWithoutRun words left rest old new (Err stop) → P) → Ends words left rest old new (Err stop) outcome → P
-only_unrun P words left rest old new stop (World set) before unrun (task, asks, (read, is, sizes, ends)) = never P task read.parts old new stop set before ends
-only_unrun P words left rest old new stop (Parts events disks) before unrun (none, ends) = unrun ends
+-- a member that was made, or wasn't, ends no call before its script is run
+member_never : (stop : Stop) (made : Result (Unit {0}) SyncStop) → ends_before stop ≡ true → Err stop ≡ ended_so made → ⊥
+unfolding ends_before
+member_never stop (Ok done) before is = cc is
+member_never stop (Err why) before is = cc (before, ap early is, behind why)
+  where
+    early : Result (Unit {0}) Stop → Bool
+    early (Ok done) = false
+    early (Err other) = ends_before other
 
--- only work behind a script is refused
-refused_task : {D : Type 0} (words : List (String Global)) (left rest old new : Option (List ℕ)) (outcome : Left D) → Ends words left rest old new (Err Refused) outcome
-    → (task : Task) × Asks words task × IsOneOf (may_end_in task) 9
-refused_task words left rest old new (World set) (Run, asks, (read, is, sizes, ends)) = absurd ends
-refused_task words left rest old new (World set) (Trace, asks, (read, is, sizes, ends)) = absurd ends
-refused_task words left rest old new (World set) (Chaos seed events nodes, asks, (read, is, sizes, ends)) = absurd ends
-refused_task words left rest old new (World set) (ReadsLinear linear, asks, (read, is, sizes, ends)) = (ReadsLinear linear, asks, refl)
-refused_task words left rest old new (World set) (Watches watch, asks, (read, is, sizes, ends)) = (Watches watch, asks, refl)
-refused_task words left rest old new (Parts events disks) (none, ends) = absurd ends
+    behind : (why : SyncStop) → ends_before (of_sync why) ≡ false
+    behind (syncs.Refused reason) = refl
+    behind syncs.DiskFault = refl
+    behind syncs.WriteFault = refl
+    behind syncs.Memory = refl
+
+-- so nothing was run where a call ends otherwise
+only_unrun : {D : Type 0} (P : Type 0) (state : D → State) (handed : List D) (words : List (String Global)) (left rest old new : Option (List ℕ)) (stop : Stop) (outcome : Left D)
+    → ends_before stop ≡ true → (EndsWithoutRun words left rest old new (Err stop) → P) → Ends state handed words left rest old new (Err stop) outcome → P
+only_unrun P state handed words left rest old new stop (World set) before unrun (task, asks, (read, is, sizes, ends)) = never P task read.parts old new stop set before ends
+only_unrun P state handed words left rest old new stop (Parts events disks) before unrun (inl (none, ends)) = unrun ends
+only_unrun P state handed words left rest old new stop (Parts events disks) before unrun (inr (task, asks, (read, is, ends))) = absurd (member_never stop ends.member.made before ends.member.ends)
 
 -- each task may end in these
 with_end : (task : Task) → IsOneOf (may_end_in task) 0
@@ -199,6 +230,7 @@ with_end Run = refl
 with_end Trace = refl
 with_end (ReadsLinear linear) = refl
 with_end (Watches watch) = refl
+with_end (Sync node) = refl
 with_end (Chaos seed events nodes) = refl
 
 with_memory : (task : Task) → IsOneOf (may_end_in task) 1
@@ -206,6 +238,7 @@ with_memory Run = refl
 with_memory Trace = refl
 with_memory (ReadsLinear linear) = refl
 with_memory (Watches watch) = refl
+with_memory (Sync node) = refl
 with_memory (Chaos seed events nodes) = refl
 
 with_disk : (task : Task) → IsOneOf (may_end_in task) 7
@@ -213,53 +246,95 @@ with_disk Run = refl
 with_disk Trace = refl
 with_disk (ReadsLinear linear) = refl
 with_disk (Watches watch) = refl
+with_disk (Sync node) = refl
 with_disk (Chaos seed events nodes) = refl
 
--- words ask for one task
-with_refusal : (words : List (String Global)) (task other : Task) → Asks words task → Asks words other → IsOneOf (may_end_in other) 9 → IsOneOf (may_end_in task) 9
-with_refusal words task other asks others may = subst (λ (t : Task). IsOneOf (may_end_in t) 9) (cc (sym others ∙ asks)) may
+-- the words ask for a task that may end so
+abbrev AsksEnding : List (String Global) → ℕ → Type 0
+AsksEnding words status = (task : Task) × Asks words task × IsOneOf (may_end_in task) status
 
-pub completes : {D : Type 0} (words : List (String Global)) (left rest old new : Option (List ℕ)) (ended : Result (Unit {0}) Stop) (outcome : Left D)
+asked_ending : (words : List (String Global)) (task : Task) (status : ℕ) → Asks words task → AsksEnding words status → IsOneOf (may_end_in task) status
+asked_ending words task status asks (other, asked, may) = subst (λ t. IsOneOf (may_end_in t) status) (same_Some other task (sym asked ∙ asks)) may
+
+-- a member isn't made where it is refused
+made_unrefused : (held now : Option (List ℕ)) (text : List ℕ) (made : Result (Unit {0}) SyncStop) → Err Refused ≡ ended_so made → PutsText held now text made → ⊥
+made_unrefused held now text (Ok done) is puts = cc is
+made_unrefused held now text (Err (syncs.Refused why)) is puts = puts
+made_unrefused held now text (Err syncs.DiskFault) is puts = cc is
+made_unrefused held now text (Err syncs.WriteFault) is puts = cc is
+made_unrefused held now text (Err syncs.Memory) is puts = cc is
+
+-- only work behind a script is refused
+refused_ending : {D : Type 0} (state : D → State) (handed : List D) (words : List (String Global)) (left rest old new : Option (List ℕ)) (outcome : Left D) → Ends state handed words left rest old new (Err Refused) outcome
+    → AsksEnding words 9
+refused_ending state handed words left rest old new (World set) (Run, asks, (read, is, sizes, ends)) = absurd ends
+refused_ending state handed words left rest old new (World set) (Trace, asks, (read, is, sizes, ends)) = absurd ends
+refused_ending state handed words left rest old new (World set) (Chaos seed events nodes, asks, (read, is, sizes, ends)) = absurd ends
+refused_ending state handed words left rest old new (World set) (ReadsLinear linear, asks, (read, is, sizes, ends)) = (ReadsLinear linear, asks, refl)
+refused_ending state handed words left rest old new (World set) (Watches watch, asks, (read, is, sizes, ends)) = (Watches watch, asks, refl)
+refused_ending state handed words left rest old new (World set) (Sync node, asks, (read, is, sizes, ends)) = (Sync node, asks, refl)
+refused_ending state handed words left rest old new (Parts events disks) (inl (none, ends)) = absurd ends
+refused_ending state handed words left rest old new (Parts events disks) (inr (task, asks, (read, is, ends))) =
+    absurd (made_unrefused _ _ _ ends.member.made ends.member.ends ends.member.adds.puts)
+
+-- only the disks of a new member fail behind a script
+copy_ending : {D : Type 0} (state : D → State) (handed : List D) (words : List (String Global)) (left rest old new : Option (List ℕ)) (outcome : Left D) → Ends state handed words left rest old new (Err CopyFault) outcome
+    → AsksEnding words 8
+copy_ending state handed words left rest old new (World set) (Run, asks, (read, is, sizes, ends)) = absurd ends
+copy_ending state handed words left rest old new (World set) (Trace, asks, (read, is, sizes, ends)) = absurd ends
+copy_ending state handed words left rest old new (World set) (Chaos seed events nodes, asks, (read, is, sizes, ends)) = absurd ends
+copy_ending state handed words left rest old new (World set) (ReadsLinear linear, asks, (read, is, sizes, ends)) = absurd ends
+copy_ending state handed words left rest old new (World set) (Watches watch, asks, (read, is, sizes, ends)) = absurd ends
+copy_ending state handed words left rest old new (World set) (Sync node, asks, (read, is, sizes, ends)) = absurd ends
+copy_ending state handed words left rest old new (Parts events disks) (inl (none, ends)) = absurd ends
+copy_ending state handed words left rest old new (Parts events disks) (inr (task, asks, (read, is, ends))) =
+    (task, asks, subst (λ t. IsOneOf (may_end_in t) 8) (sym ends.task_is) refl)
+
+pub completes : {D : Type 0} (state : D → State) (handed : List D) (words : List (String Global)) (left rest old new : Option (List ℕ)) (ended : Result (Unit {0}) Stop) (outcome : Left D)
     (SteadySource SteadySink : Type 0) (reads reads' writes writes' : ℕ)
-    → Ends words left rest old new ended outcome → (status_of ended ≡ 4 → CountRose reads reads') → (status_of ended ≡ 5 → CountRose writes writes')
+    → Ends state handed words left rest old new ended outcome → (status_of ended ≡ 4 → CountRose reads reads') → (status_of ended ≡ 5 → CountRose writes writes')
     → (SteadySource → status_of ended ≢ 4) → (SteadySink → status_of ended ≢ 5)
     → (task : Task) → Asks words task → is_of_source task ≡ true → HasNoFault SteadySource reads reads' → HasNoFault SteadySink writes writes'
     → IfSome left (λ bytes. IsReadable bytes → IsOneOf (may_end_in task) (status_of ended))
 unfolding ends_before
-completes words left rest old new (Ok done) outcome SteadySource SteadySink reads reads' writes writes' ends read_fault write_fault steady_source steady_sink task asks of_source source sink = whatever left _ (with_end task)
-completes words left rest old new (Err Memory) outcome SteadySource SteadySink reads reads' writes writes' ends read_fault write_fault steady_source steady_sink task asks of_source source sink = whatever left _ (with_memory task)
-completes words left rest old new (Err DiskFault) outcome SteadySource SteadySink reads reads' writes writes' ends read_fault write_fault steady_source steady_sink task asks of_source source sink = whatever left _ (with_disk task)
-completes words left rest old new (Err ReadFault) outcome SteadySource SteadySink reads reads' writes writes' ends read_fault write_fault steady_source steady_sink task asks of_source source sink =
+completes state handed words left rest old new (Ok done) outcome SteadySource SteadySink reads reads' writes writes' ends read_fault write_fault steady_source steady_sink task asks of_source source sink = whatever left _ (with_end task)
+completes state handed words left rest old new (Err Memory) outcome SteadySource SteadySink reads reads' writes writes' ends read_fault write_fault steady_source steady_sink task asks of_source source sink = whatever left _ (with_memory task)
+completes state handed words left rest old new (Err DiskFault) outcome SteadySource SteadySink reads reads' writes writes' ends read_fault write_fault steady_source steady_sink task asks of_source source sink = whatever left _ (with_disk task)
+completes state handed words left rest old new (Err ReadFault) outcome SteadySource SteadySink reads reads' writes writes' ends read_fault write_fault steady_source steady_sink task asks of_source source sink =
     absurd (no_fault SteadySource reads reads' source (λ steady. steady_source steady refl) (read_fault refl))
-completes words left rest old new (Err WriteFault) outcome SteadySource SteadySink reads reads' writes writes' ends read_fault write_fault steady_source steady_sink task asks of_source source sink =
+completes state handed words left rest old new (Err WriteFault) outcome SteadySource SteadySink reads reads' writes writes' ends read_fault write_fault steady_source steady_sink task asks of_source source sink =
     absurd (no_fault SteadySink writes writes' sink (λ steady. steady_sink steady refl) (write_fault refl))
-completes words left rest old new (Err Usage) outcome SteadySource SteadySink reads reads' writes writes' ends read_fault write_fault steady_source steady_sink task asks of_source source sink =
-    only_unrun _ words left rest old new Usage outcome refl (λ unrun. asks_something _ words task asks unrun.0) ends
-completes words left rest old new (Err NoScript) outcome SteadySource SteadySink reads reads' writes writes' ends read_fault write_fault steady_source steady_sink task asks of_source source sink =
-    only_unrun _ words left rest old new NoScript outcome refl (λ unrun. faulty left rest unrun.1.0 _ unrun.1.1) ends
-completes words left rest old new (Err TooLong) outcome SteadySource SteadySink reads reads' writes writes' ends read_fault write_fault steady_source steady_sink task asks of_source source sink =
-    only_unrun _ words left rest old new TooLong outcome refl (λ unrun. over_limit left _ unrun.2) ends
-completes words left rest old new (Err Refused) outcome SteadySource SteadySink reads reads' writes writes' ends read_fault write_fault steady_source steady_sink task asks of_source source sink =
-    let refused = refused_task words left rest old new outcome ends in whatever left _ (with_refusal words task refused.0 asks refused.1 refused.2)
+completes state handed words left rest old new (Err Usage) outcome SteadySource SteadySink reads reads' writes writes' ends read_fault write_fault steady_source steady_sink task asks of_source source sink =
+    only_unrun _ state handed words left rest old new Usage outcome refl (λ unrun. asks_something _ words task asks unrun.0) ends
+completes state handed words left rest old new (Err NoScript) outcome SteadySource SteadySink reads reads' writes writes' ends read_fault write_fault steady_source steady_sink task asks of_source source sink =
+    only_unrun _ state handed words left rest old new NoScript outcome refl (λ unrun. faulty left rest unrun.1.0 _ unrun.1.1) ends
+completes state handed words left rest old new (Err TooLong) outcome SteadySource SteadySink reads reads' writes writes' ends read_fault write_fault steady_source steady_sink task asks of_source source sink =
+    only_unrun _ state handed words left rest old new TooLong outcome refl (λ unrun. over_limit left _ unrun.2) ends
+completes state handed words left rest old new (Err Refused) outcome SteadySource SteadySink reads reads' writes writes' ends read_fault write_fault steady_source steady_sink task asks of_source source sink =
+    whatever left _ (asked_ending words task 9 asks (refused_ending state handed words left rest old new outcome ends))
+completes state handed words left rest old new (Err CopyFault) outcome SteadySource SteadySink reads reads' writes writes' ends read_fault write_fault steady_source steady_sink task asks of_source source sink =
+    whatever left _ (asked_ending words task 8 asks (copy_ending state handed words left rest old new outcome ends))
 
 -- ---- a generated script is run
 
-pub completes_chaos : {D : Type 0} (words : List (String Global)) (left rest old new : Option (List ℕ)) (ended : Result (Unit {0}) Stop) (outcome : Left D) (SteadySink : Type 0) (writes writes' : ℕ)
-    → Ends words left rest old new ended outcome → (status_of ended ≡ 5 → CountRose writes writes') → (SteadySink → status_of ended ≢ 5)
+pub completes_chaos : {D : Type 0} (state : D → State) (handed : List D) (words : List (String Global)) (left rest old new : Option (List ℕ)) (ended : Result (Unit {0}) Stop) (outcome : Left D) (SteadySink : Type 0) (writes writes' : ℕ)
+    → Ends state handed words left rest old new ended outcome → (status_of ended ≡ 5 → CountRose writes writes') → (SteadySink → status_of ended ≢ 5)
     → (seed events nodes : ℕ) → Asks words (Chaos seed events nodes) → HasNoFault SteadySink writes writes' → IsOneOf (0 ∷ 1 ∷ 7 ∷ []) (status_of ended)
 unfolding ends_before
-completes_chaos words left rest old new (Ok done) outcome SteadySink writes writes' ends write_fault steady_sink seed events nodes asks sink = refl
-completes_chaos words left rest old new (Err Memory) outcome SteadySink writes writes' ends write_fault steady_sink seed events nodes asks sink = refl
-completes_chaos words left rest old new (Err DiskFault) outcome SteadySink writes writes' ends write_fault steady_sink seed events nodes asks sink = refl
-completes_chaos words left rest old new (Err WriteFault) outcome SteadySink writes writes' ends write_fault steady_sink seed events nodes asks sink =
+completes_chaos state handed words left rest old new (Ok done) outcome SteadySink writes writes' ends write_fault steady_sink seed events nodes asks sink = refl
+completes_chaos state handed words left rest old new (Err Memory) outcome SteadySink writes writes' ends write_fault steady_sink seed events nodes asks sink = refl
+completes_chaos state handed words left rest old new (Err DiskFault) outcome SteadySink writes writes' ends write_fault steady_sink seed events nodes asks sink = refl
+completes_chaos state handed words left rest old new (Err WriteFault) outcome SteadySink writes writes' ends write_fault steady_sink seed events nodes asks sink =
     absurd (no_fault SteadySink writes writes' sink (λ steady. steady_sink steady refl) (write_fault refl))
-completes_chaos words left rest old new (Err Usage) outcome SteadySink writes writes' ends write_fault steady_sink seed events nodes asks sink =
-    only_unrun _ words left rest old new Usage outcome refl (λ unrun. asks_something _ words (Chaos seed events nodes) asks unrun.0) ends
-completes_chaos words left rest old new (Err ReadFault) outcome SteadySink writes writes' ends write_fault steady_sink seed events nodes asks sink =
-    only_unrun _ words left rest old new ReadFault outcome refl (λ unrun. reads_nothing _ words seed events nodes unrun.0 asks) ends
-completes_chaos words left rest old new (Err NoScript) outcome SteadySink writes writes' ends write_fault steady_sink seed events nodes asks sink =
-    only_unrun _ words left rest old new NoScript outcome refl (λ unrun. reads_nothing _ words seed events nodes unrun.0 asks) ends
-completes_chaos words left rest old new (Err TooLong) outcome SteadySink writes writes' ends write_fault steady_sink seed events nodes asks sink =
-    only_unrun _ words left rest old new TooLong outcome refl (λ unrun. reads_nothing _ words seed events nodes unrun.0 asks) ends
-completes_chaos words left rest old new (Err Refused) outcome SteadySink writes writes' ends write_fault steady_sink seed events nodes asks sink =
-    let refused = refused_task words left rest old new outcome ends in with_refusal words (Chaos seed events nodes) refused.0 asks refused.1 refused.2
+completes_chaos state handed words left rest old new (Err Usage) outcome SteadySink writes writes' ends write_fault steady_sink seed events nodes asks sink =
+    only_unrun _ state handed words left rest old new Usage outcome refl (λ unrun. asks_something _ words (Chaos seed events nodes) asks unrun.0) ends
+completes_chaos state handed words left rest old new (Err ReadFault) outcome SteadySink writes writes' ends write_fault steady_sink seed events nodes asks sink =
+    only_unrun _ state handed words left rest old new ReadFault outcome refl (λ unrun. reads_nothing _ words seed events nodes unrun.0 asks) ends
+completes_chaos state handed words left rest old new (Err NoScript) outcome SteadySink writes writes' ends write_fault steady_sink seed events nodes asks sink =
+    only_unrun _ state handed words left rest old new NoScript outcome refl (λ unrun. reads_nothing _ words seed events nodes unrun.0 asks) ends
+completes_chaos state handed words left rest old new (Err TooLong) outcome SteadySink writes writes' ends write_fault steady_sink seed events nodes asks sink =
+    only_unrun _ state handed words left rest old new TooLong outcome refl (λ unrun. reads_nothing _ words seed events nodes unrun.0 asks) ends
+completes_chaos state handed words left rest old new (Err Refused) outcome SteadySink writes writes' ends write_fault steady_sink seed events nodes asks sink =
+    asked_ending words (Chaos seed events nodes) 9 asks (refused_ending state handed words left rest old new outcome ends)
+completes_chaos state handed words left rest old new (Err CopyFault) outcome SteadySink writes writes' ends write_fault steady_sink seed events nodes asks sink =
+    asked_ending words (Chaos seed events nodes) 8 asks (copy_ending state handed words left rest old new outcome ends)

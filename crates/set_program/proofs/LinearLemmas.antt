@@ -7,7 +7,7 @@ use Rattle.linear_tell.specs.declared.stop.LinearStop.{LinearStop}
 use Rattle.linear_tell.specs.declared.stop.LinearStop.TheVariants as linears
 use Rattle.linear_tell.specs.Telling.{Tells}
 use Rattle.set_program.specs.declared.stop.Stop.{Stop}
-use Rattle.set_program.specs.declared.stop.Stop.TheVariants.{Memory, Usage, Script as NoScript, ReadFault, WriteFault, TooLong, DiskFault, Refused}
+use Rattle.set_program.specs.declared.stop.Stop.TheVariants.{Memory, Usage, Script as NoScript, ReadFault, WriteFault, TooLong, DiskFault, CopyFault, Refused}
 use Rattle.set_program.specs.Causes.{of_linear}
 use Rattle.set_program.specs.ReadingLinearly.{ReadsLinearly}
 use Rattle.set_program.proofs.BehindLemmas.{stops_work}
@@ -28,3 +28,4 @@ only_linear linear NoScript other sizes events scripted new told works = works
 only_linear linear ReadFault other sizes events scripted new told works = works
 only_linear linear TooLong other sizes events scripted new told works = works
 only_linear linear DiskFault other sizes events scripted new told works = works
+only_linear linear CopyFault other sizes events scripted new told works = works

@@ -18,13 +18,14 @@ use Rattle.set_world.specs.Disks.{AllBegin, Opens, OneFaultCounted}
 use Rattle.set_program.specs.declared.outcome.Left.{Left}
 use Rattle.set_program.specs.declared.outcome.Left.TheVariants.{World, Parts}
 use Rattle.set_program.specs.declared.stop.Stop.{Stop}
-use Rattle.set_program.specs.declared.stop.Stop.TheVariants.{Memory, Usage, Script as NoScript, ReadFault, WriteFault, TooLong, DiskFault, Refused}
+use Rattle.set_program.specs.declared.stop.Stop.TheVariants.{Memory, Usage, Script as NoScript, ReadFault, WriteFault, TooLong, DiskFault, CopyFault, Refused}
 use Rattle.set_program.specs.declared.words.Task.{Task}
-use Rattle.set_program.specs.declared.words.Task.TheVariants.{Run, Trace, Chaos, Linear as ReadsLinear, Watch as Watches}
+use Rattle.set_program.specs.declared.words.Task.TheVariants.{Run, Trace, Chaos, Sync, Linear as ReadsLinear, Watch as Watches}
 use Rattle.set_program.specs.Asking.{OpensScript, RunsScript}
 use Rattle.set_program.specs.Causes.{of_file}
-use Rattle.set_program.specs.Headline.{Asks, Ends, EndsTask, IsAsked, IsScriptOf, IsUnarmed, LeavesDisks, opening_error, status_of, status_of_stop}
+use Rattle.set_program.specs.Headline.{Asks, Ends, EndsTask, IsAsked, IsScriptOf, LeavesDisks, opening_error, status_of, status_of_stop}
 use Rattle.set_program.specs.Left.{disks_of}
+use Rattle.set_program.specs.Disks.{IsUnarmed}
 use Rattle.set_program.specs.Parts.{DisksEnd, DisksGo}
 use Rattle.change_watch.proofs.KeepLemmas.{Keeps-same}
 
@@ -54,8 +55,8 @@ set_leaves {D} state task read handed old new result sizes same opens goes = (
 refuses : {D : Type 0} (state : D → State) (task : Task) (read : Script) (handed : List D) (error : FileError) (events : Vec Event Global) (disks : Vec D Global)
     → Opens state read.nodes (Err error) handed disks.items → AllBegin state (first_config read.members) read.nodes disks.items
     → OpensScript state task read handed (status_of_stop (of_file error)) (Parts events disks)
-refuses state task read handed Disk events disks opens stand = (refl, opens, stand)
-refuses state task read handed NoBytes events disks opens stand = (refl, opens, stand)
+refuses state task read handed Disk events disks opens stand = inl (refl, opens, stand)
+refuses state task read handed NoBytes events disks opens stand = inl (refl, opens, stand)
 
 pub refused_leaves : {D : Type 0} (state : D → State) (task : Task) (read : Script) (handed : List D) (error : FileError) (stop : Stop) (events : Vec Event Global) (disks : Vec D Global)
     → stop ≡ of_file error → Opens state read.nodes (Err error) handed disks.items → AllBegin state (first_config read.members) read.nodes disks.items
@@ -67,16 +68,17 @@ stops : (error : FileError) (ended : Result (Unit {0}) Stop) → ended ≡ Err (
 stops Disk ended is = inr is
 stops NoBytes ended is = inl is
 
-pub refused_runs : {D : Type 0} (task : Task) (read : Script) (held : Option (List ℕ)) (error : FileError) (stop : Stop) (events : Vec Event Global) (disks : Vec D Global)
-    → stop ≡ of_file error → events.items ≡ [] → RunsScript task read held held (Err stop) (Parts events disks)
-refused_runs task read held error stop events disks is none = (none, Keeps-same held, stops error (Err stop) (ap Err is))
+pub refused_runs : {D : Type 0} (state : D → State) (handed : List D) (task : Task) (read : Script) (held : Option (List ℕ)) (error : FileError) (stop : Stop) (events : Vec Event Global) (disks : Vec D Global)
+    → stop ≡ of_file error → events.items ≡ [] → RunsScript state handed task read held held (Err stop) (Parts events disks)
+refused_runs state handed task read held error stop events disks is none = inl (none, Keeps-same held, stops error (Err stop) (ap Err is))
 
 -- ---- what the whole call leaves
 
 pub asked_leaves : {D : Type 0} (state : D → State) (words : List (String Global)) (left rest : Option (List ℕ)) (task : Task) (read : Script) (handed : List D) (status : ℕ) (outcome : Left D)
     → Asks words task → IsScriptOf task left rest read → OpensScript state task read handed status outcome → LeavesDisks state words left rest handed status outcome
 asked_leaves state words left rest task read handed status (World set) asks is opens = (task, read, asks, is, opens)
-asked_leaves state words left rest task read handed status (Parts events disks) asks is (one, opens, stand) = inr (one, (read, (task, asks, is), opens, stand))
+asked_leaves state words left rest task read handed status (Parts events disks) asks is (inl (one, opens, stand)) = inr (inl (one, (read, (task, asks, is), opens, stand)))
+asked_leaves state words left rest task read handed status (Parts events disks) asks is (inr member) = inr (inr member)
 
 -- a set that was opened doesn't end with a fault of a disk
 not_opening : {D : Type 0} (task : Task) (parts : List Part) (old new : Option (List ℕ)) (ended : Result (Unit {0}) Stop) (set : Set D) → EndsTask task parts old new ended set → status_of ended ≢ 7
@@ -87,23 +89,26 @@ not_opening task parts old new (Err Usage) set ends seven = cc seven
 not_opening task parts old new (Err NoScript) set ends seven = cc seven
 not_opening task parts old new (Err ReadFault) set ends seven = cc seven
 not_opening task parts old new (Err TooLong) set ends seven = cc seven
+not_opening task parts old new (Err CopyFault) set ends seven = cc seven
 not_opening task parts old new (Err Refused) set ends seven = cc seven
 not_opening Run parts old new (Err DiskFault) set ends seven = ends
 not_opening (ReadsLinear linear) parts old new (Err DiskFault) set ends seven = ends
 not_opening (Watches watch) parts old new (Err DiskFault) set ends seven = ends
+not_opening (Sync node) parts old new (Err DiskFault) set ends seven = ends
 not_opening Trace parts old new (Err DiskFault) set ends seven = ends
 not_opening (Chaos seed events nodes) parts old new (Err DiskFault) set ends seven = ends
 
 -- what holds of the opening of a script's set holds where a disk failed
 when_failed : {D : Type 0} (state : D → State) (words : List (String Global)) (left rest old new : Option (List ℕ)) (handed : List D) (ended : Result (Unit {0}) Stop) (outcome : Left D)
-    → Ends words left rest old new ended outcome → LeavesDisks state words left rest handed (status_of ended) outcome → status_of ended ≡ 7
+    → Ends state handed words left rest old new ended outcome → LeavesDisks state words left rest handed (status_of ended) outcome → status_of ended ≡ 7
     → (read : Script) × IsAsked words left rest read × Opens state read.nodes (Err (opening_error (status_of ended))) handed (disks_of outcome)
 when_failed state words left rest old new handed ended (World set) (task, asks, (read, is, sizes, runs)) leaves seven = absurd (not_opening task read.parts old new ended set runs seven)
 when_failed state words left rest old new handed ended (Parts events disks) ends (inl (other, same)) seven = absurd (other seven)
-when_failed state words left rest old new handed ended (Parts events disks) ends (inr (one, (read, asked, opens, stand))) seven = (read, asked, opens)
+when_failed state words left rest old new handed ended (Parts events disks) ends (inr (inl (one, (read, asked, opens, stand)))) seven = (read, asked, opens)
+when_failed state words left rest old new handed ended (Parts events disks) ends (inr (inr (other, some))) seven = absurd (other seven)
 
 pub disk_failed : {D : Type 0} (state : D → State) (words : List (String Global)) (left rest old new : Option (List ℕ)) (handed : List D) (ended : Result (Unit {0}) Stop) (outcome : Left D)
-    → Ends words left rest old new ended outcome → LeavesDisks state words left rest handed (status_of ended) outcome → status_of ended ≡ 7
+    → Ends state handed words left rest old new ended outcome → LeavesDisks state words left rest handed (status_of ended) outcome → status_of ended ≡ 7
     → (read : Script) × IsAsked words left rest read × OneFaultCounted state (2 * read.nodes) handed (disks_of outcome)
 disk_failed state words left rest old new handed ended outcome ends leaves seven =
     let failed = when_failed state words left rest old new handed ended outcome ends leaves seven in
@@ -115,7 +120,7 @@ unarmed_at {D} state handed unarmed place disk at =
     (All-get_or (λ (d : D). IsUnarmed (state d)) handed place disk (slice_get_within handed place disk at) unarmed)
 
 pub none_failed : {D : Type 0} (state : D → State) (words : List (String Global)) (left rest old new : Option (List ℕ)) (handed : List D) (ended : Result (Unit {0}) Stop) (outcome : Left D)
-    → Ends words left rest old new ended outcome → LeavesDisks state words left rest handed (status_of ended) outcome → All (λ (disk : D). IsUnarmed (state disk)) handed → status_of ended ≢ 7
+    → Ends state handed words left rest old new ended outcome → LeavesDisks state words left rest handed (status_of ended) outcome → All (λ (disk : D). IsUnarmed (state disk)) handed → status_of ended ≢ 7
 none_failed {D} state words left rest old new handed ended outcome ends leaves unarmed seven =
     let failed = when_failed state words left rest old new handed ended outcome ends leaves seven in
     let armed = failed.2.only_armed (ap opening_error seven) (λ place disk within at. (unarmed_at state handed unarmed place disk at).0) in

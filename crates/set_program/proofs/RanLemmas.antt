@@ -16,9 +16,10 @@ use Rattle.set_model.specs.Limits.{AllFit, Fits, IsRun, is_for}
 use Rattle.set_model.specs.Node.{Node}
 use Rattle.set_model.specs.Rows.{row}
 use Rattle.set_model.specs.Run.{AreSizes, Run, Sizes, after, opening, run}
-use Rattle.set_model.specs.Safety.{Answers}
+use Rattle.set_model.specs.Safety.{Answers, Safe}
 use Rattle.set_model.specs.Stores.{done}
 use Rattle.set_model.specs.World.{World, Step, acts, step, task, touched_node}
+use Rattle.safety_laws.specs.Laws.{InEveryRun}
 use Rattle.node_core.specs.Acting.{RunsWithoutOrders, is_disk_fail}
 use Rattle.set_world.specs.Disks.{WasUsed, Opens}
 use Rattle.set_world.specs.World.{Set}
@@ -26,10 +27,11 @@ use Rattle.set_world.proofs.ActingLemmas.{plan_is, step_is}
 use Rattle.set_world.proofs.DisksOpenLemmas.{there_too}
 use Rattle.set_world.proofs.NodesLemmas.{named}
 use Rattle.set_program.specs.Counts.{FailedAtLeast, FailuresCount, FaultsAreArmed, FaultsHaveCauses, OfNode, EitherFaultCounted, OrdersAre, OrdersCount, failures_at}
-use Rattle.set_program.specs.Disks.{DisksRan}
-use Rattle.set_program.specs.Headline.{BreaksIn, IsUnarmed, LeavesDisks}
+use Rattle.set_program.specs.Disks.{DisksPlayed, DisksRan, IsUnarmed}
+use Rattle.set_program.specs.Headline.{BreaksIn, LeavesDisks}
 use Rattle.set_program.specs.Orders.{ComesNext}
 use Rattle.set_program.specs.Left.{IfSet}
+use Rattle.set_program.specs.Syncing.{IsRunSafely}
 use Rattle.set_program.specs.declared.outcome.Left.{Left}
 use Rattle.set_program.specs.declared.outcome.Left.TheVariants.{World as Ran, Parts}
 use Rattle.set_program.proofs.OpenLemmas.{unarmed_at}
@@ -240,29 +242,65 @@ module _ {D : Type 0} (state : D → State) (handed : List D) (many : length han
   ran_of opened set sizes opens ran number less =
       node_ran state handed opened set opens ran number (let most : set.sizes.nodes ≤ 7 = sizes.most in omega (arith, less, most, many))
 
-  module _ (words : List (String Global)) (left rest : Option (List ℕ)) (status : ℕ) where
-    pub failures_left : (outcome : Left D) → IfSet outcome (λ set. AreSizes set.sizes) → LeavesDisks state words left rest handed status outcome → IfSet outcome (FailuresCount state handed)
-    failures_left (Parts events disks) sizes leaves = tt
-    failures_left (Ran set) sizes (task, read, asked, is, (opened, opens, ran)) = λ number less.
-        of_node state handed set.disks number (NodeRan number (opening set.sizes).world set.history) (FailedAtLeast (failures_at number (opening set.sizes).world set.history))
-        (λ j j' c c' node. failures_ran number set.sizes set.history j j' c c' node) (ran_of opened set sizes opens (ran_to state (status ≡ 1) (ComesNext read.parts set.history) (BreaksIn task read.parts) opened set ran) number less)
+  -- a set whose events were played on disks that were opened
+  module _ (opened : List D) (set : Set D) (sizes : AreSizes set.sizes) (opens : Opens state set.sizes.nodes (Ok tt) handed opened) (ran : RanTo state opened set) where
+    abbrev Went : ℕ → State → State → State → State → Type 0
+    Went number = NodeRan number (opening set.sizes).world set.history
 
-    pub orders_left : (outcome : Left D) → IfSet outcome (λ set. AreSizes set.sizes) → LeavesDisks state words left rest handed status outcome → IfSet outcome (OrdersCount state handed)
-    orders_left (Parts events disks) sizes leaves = tt
-    orders_left (Ran set) sizes (task, read, asked, is, (opened, opens, ran)) = λ number less.
-        of_node state handed set.disks number (NodeRan number (opening set.sizes).world set.history) (OrdersAre number (opening set.sizes).world set.history)
-        (λ j j' c c' node. orders_ran number set.sizes set.history j j' c c' node) (ran_of opened set sizes opens (ran_to state (status ≡ 1) (ComesNext read.parts set.history) (BreaksIn task read.parts) opened set ran) number less)
+    failures_of : FailuresCount state handed set
+    failures_of = λ number less.
+        of_node state handed set.disks number (Went number) (FailedAtLeast (failures_at number (opening set.sizes).world set.history))
+        (λ j j' c c' node. failures_ran number set.sizes set.history j j' c c' node) (ran_of opened set sizes opens ran number less)
 
-    pub causes_left : (outcome : Left D) → IfSet outcome (λ set. AreSizes set.sizes) → LeavesDisks state words left rest handed status outcome → IfSet outcome (FaultsHaveCauses state handed)
-    causes_left (Parts events disks) sizes leaves = tt
-    causes_left (Ran set) sizes (task, read, asked, from, (opened, opens, ran)) = λ place number event less is.
-        of_node state handed set.disks number (NodeRan number (opening set.sizes).world set.history) EitherFaultCounted
-        (λ j j' c c' node. fault_ran number set.sizes set.history j j' c c' node place event is) (ran_of opened set sizes opens (ran_to state (status ≡ 1) (ComesNext read.parts set.history) (BreaksIn task read.parts) opened set ran) number less)
+    orders_of : OrdersCount state handed set
+    orders_of = λ number less.
+        of_node state handed set.disks number (Went number) (OrdersAre number (opening set.sizes).world set.history)
+        (λ j j' c c' node. orders_ran number set.sizes set.history j j' c c' node) (ran_of opened set sizes opens ran number less)
 
-    pub armed_left : (outcome : Left D) → IfSet outcome (λ set. AreSizes set.sizes) → IfSet outcome (λ set. IsRun set.sizes set.history) → LeavesDisks state words left rest handed status outcome
-        → All (λ (disk : D). IsUnarmed (state disk)) handed → IfSet outcome (λ set. FaultsAreArmed set.sizes set.history)
-    armed_left (Parts events disks) sizes is_run leaves unarmed = tt
-    armed_left (Ran set) sizes is_run (task, read, asked, from, (opened, opens, ran)) unarmed = λ place number event less is.
-        let node = ran_of opened set sizes opens (ran_to state (status ≡ 1) (ComesNext read.parts set.history) (BreaksIn task read.parts) opened set ran) number less in
+    causes_of : FaultsHaveCauses state handed set
+    causes_of = λ place number event less is.
+        of_node state handed set.disks number (Went number) EitherFaultCounted
+        (λ j j' c c' node. fault_ran number set.sizes set.history j j' c c' node place event is) (ran_of opened set sizes opens ran number less)
+
+    armed_of : IsRun set.sizes set.history → All (λ (disk : D). IsUnarmed (state disk)) handed → FaultsAreArmed set.sizes set.history
+    armed_of is_run unarmed = λ place number event less is.
+        let node = ran_of opened set sizes opens ran number less in
         armed_ran number set.sizes set.history (state node.journal) (state node.journal') (state node.checkpoints) (state node.checkpoints') node.so is_run
         (unarmed_at state handed unarmed (2 * number) node.journal node.journal_was) (unarmed_at state handed unarmed (2 * number + 1) node.checkpoints node.checkpoints_was) place event is
+
+  -- a set that was closed behind its events
+  pub ran_safely : (opened : List D) (set : Set D) → AreSizes set.sizes → Opens state set.sizes.nodes (Ok tt) handed opened → DisksPlayed state opened set → IsRun set.sizes set.history → InEveryRun Safe → IsRunSafely state handed set
+  ran_safely opened set sizes opens played is_run law =
+      let ran : RanTo state opened set = ran_to state ⊥ (λ line command. ⊥) (λ earlier later. ⊥) opened set (inl played) in
+      record {
+        safe = law set.sizes set.history sizes is_run;
+        orders = orders_of opened set sizes opens ran;
+        failures = failures_of opened set sizes opens ran;
+        causes = causes_of opened set sizes opens ran;
+        armed = armed_of opened set sizes opens ran is_run;
+      }
+
+  module _ (words : List (String Global)) (left rest : Option (List ℕ)) (status : ℕ) where
+    abbrev Leaves : Left D → Type 0
+    Leaves outcome = LeavesDisks state words left rest handed status outcome
+
+    pub failures_left : (outcome : Left D) → IfSet outcome (λ set. AreSizes set.sizes) → Leaves outcome → IfSet outcome (FailuresCount state handed)
+    failures_left (Parts events disks) sizes leaves = tt
+    failures_left (Ran set) sizes (task, read, asked, is, (opened, opens, ran)) =
+        failures_of opened set sizes opens (ran_to state (status ≡ 1) (ComesNext read.parts set.history) (BreaksIn task read.parts) opened set ran)
+
+    pub orders_left : (outcome : Left D) → IfSet outcome (λ set. AreSizes set.sizes) → Leaves outcome → IfSet outcome (OrdersCount state handed)
+    orders_left (Parts events disks) sizes leaves = tt
+    orders_left (Ran set) sizes (task, read, asked, is, (opened, opens, ran)) =
+        orders_of opened set sizes opens (ran_to state (status ≡ 1) (ComesNext read.parts set.history) (BreaksIn task read.parts) opened set ran)
+
+    pub causes_left : (outcome : Left D) → IfSet outcome (λ set. AreSizes set.sizes) → Leaves outcome → IfSet outcome (FaultsHaveCauses state handed)
+    causes_left (Parts events disks) sizes leaves = tt
+    causes_left (Ran set) sizes (task, read, asked, from, (opened, opens, ran)) =
+        causes_of opened set sizes opens (ran_to state (status ≡ 1) (ComesNext read.parts set.history) (BreaksIn task read.parts) opened set ran)
+
+    pub armed_left : (outcome : Left D) → IfSet outcome (λ set. AreSizes set.sizes) → IfSet outcome (λ set. IsRun set.sizes set.history) → Leaves outcome
+        → All (λ (disk : D). IsUnarmed (state disk)) handed → IfSet outcome (λ set. FaultsAreArmed set.sizes set.history)
+    armed_left (Parts events disks) sizes is_run leaves unarmed = tt
+    armed_left (Ran set) sizes is_run (task, read, asked, from, (opened, opens, ran)) unarmed =
+        armed_of opened set sizes opens (ran_to state (status ≡ 1) (ComesNext read.parts set.history) (BreaksIn task read.parts) opened set ran) is_run unarmed

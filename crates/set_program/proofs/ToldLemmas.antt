@@ -7,7 +7,7 @@ use Rattle.fault_script.specs.declared.script.Part.{Part}
 use Rattle.fault_script.specs.Script.{lines_in}
 use Rattle.set_world.specs.World.{Set}
 use Rattle.set_program.specs.declared.stop.Stop.{Stop}
-use Rattle.set_program.specs.declared.stop.Stop.TheVariants.{Memory, Usage, Script as NoScript, ReadFault, WriteFault, TooLong, DiskFault, Refused}
+use Rattle.set_program.specs.declared.stop.Stop.TheVariants.{Memory, Usage, Script as NoScript, ReadFault, WriteFault, TooLong, DiskFault, CopyFault, Refused}
 use Rattle.set_program.specs.Headline.{EndsWithSummary, summary_put}
 use Rattle.set_program.specs.Parts.{AllStepped}
 use Rattle.set_program.specs.Plays.{PutsText}
@@ -30,5 +30,6 @@ module _ {D : Type 0} (state : D → State) (parts : List Part) (old new : Set D
   told_ends held now (Err NoScript) never = absurd never
   told_ends held now (Err ReadFault) never = absurd never
   told_ends held now (Err TooLong) never = absurd never
+  told_ends held now (Err CopyFault) never = absurd never
   told_ends held now (Err DiskFault) never = absurd never
   told_ends held now (Err Refused) never = absurd never

@@ -16,7 +16,7 @@ use Rattle.run_checker.specs.Trace.{entries_text, entry_text, header_text}
 use Rattle.run_checker.proofs.TraceLemmas.{entries_all, entries_front, entries_more, take_front}
 use Rattle.set_world.specs.World.{Set}
 use Rattle.set_program.specs.declared.stop.Stop.{Stop}
-use Rattle.set_program.specs.declared.stop.Stop.TheVariants.{Memory, Usage, Script as NoScript, ReadFault, WriteFault, TooLong, DiskFault, Refused}
+use Rattle.set_program.specs.declared.stop.Stop.TheVariants.{Memory, Usage, Script as NoScript, ReadFault, WriteFault, TooLong, DiskFault, CopyFault, Refused}
 use Rattle.set_program.specs.Headline.{EndsWithTrace, answers, trace_sizes}
 use Rattle.set_program.specs.Parts.{AllStepped}
 use Rattle.set_program.specs.Plays.{PutsEntries, PutsText, PutsTrace}
@@ -67,6 +67,7 @@ module _ (events : List Event) (replies : List (ℕ × Reply)) (place : ℕ) (ev
   entry_stops NoScript never = absurd never
   entry_stops ReadFault never = absurd never
   entry_stops TooLong never = absurd never
+  entry_stops CopyFault never = absurd never
   entry_stops DiskFault never = absurd never
   entry_stops Refused never = absurd never
 
@@ -106,6 +107,7 @@ module _ {D : Type 0} (held now : Option (List ℕ)) (set : Set D) (sizes : ℕ 
       stops NoScript never = absurd never
       stops ReadFault never = absurd never
       stops TooLong never = absurd never
+      stops CopyFault never = absurd never
       stops DiskFault never = absurd never
       stops Refused never = absurd never
 
@@ -132,6 +134,7 @@ module _ {D : Type 0} (held now : Option (List ℕ)) (set : Set D) (sizes : ℕ 
       goes_on (Err NoScript) never = absurd never
       goes_on (Err ReadFault) never = absurd never
       goes_on (Err TooLong) never = absurd never
+      goes_on (Err CopyFault) never = absurd never
       goes_on (Err DiskFault) never = absurd never
       goes_on (Err Refused) never = absurd never
 
@@ -146,5 +149,6 @@ traced_ends state parts old new after stepped held now (Err Usage) never = absur
 traced_ends state parts old new after stepped held now (Err NoScript) never = absurd never
 traced_ends state parts old new after stepped held now (Err ReadFault) never = absurd never
 traced_ends state parts old new after stepped held now (Err TooLong) never = absurd never
+traced_ends state parts old new after stepped held now (Err CopyFault) never = absurd never
 traced_ends state parts old new after stepped held now (Err DiskFault) never = absurd never
 traced_ends state parts old new after stepped held now (Err Refused) never = absurd never

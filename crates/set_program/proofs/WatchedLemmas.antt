@@ -7,7 +7,7 @@ use Rattle.change_watch.specs.declared.stop.WatchStop.{WatchStop}
 use Rattle.change_watch.specs.declared.stop.WatchStop.TheVariants as watches
 use Rattle.change_watch.specs.Following.{Follows as Asks}
 use Rattle.set_program.specs.declared.stop.Stop.{Stop}
-use Rattle.set_program.specs.declared.stop.Stop.TheVariants.{Memory, Usage, Script as NoScript, ReadFault, WriteFault, TooLong, DiskFault, Refused}
+use Rattle.set_program.specs.declared.stop.Stop.TheVariants.{Memory, Usage, Script as NoScript, ReadFault, WriteFault, TooLong, DiskFault, CopyFault, Refused}
 use Rattle.set_program.specs.Causes.{of_watch}
 use Rattle.set_program.specs.Watching.{Watches}
 use Rattle.set_program.proofs.BehindLemmas.{stops_work}
@@ -28,3 +28,4 @@ only_watched watch NoScript other sizes events scripted new told works = works
 only_watched watch ReadFault other sizes events scripted new told works = works
 only_watched watch TooLong other sizes events scripted new told works = works
 only_watched watch DiskFault other sizes events scripted new told works = works
+only_watched watch CopyFault other sizes events scripted new told works = works

@@ -1,5 +1,5 @@
 -- The two halves of a call: a script is read, and it is run.
-use Rattle.std.specs.Prelude.{ℕ, ◌≡◌, ◌<◌, ◌⊎◌, Option, Result, Ok, Err, List, [], ◌∷◌, String, length, IfSome}
+use Rattle.std.specs.Prelude.{ℕ, ◌≡◌, ◌≢◌, ◌<◌, ◌⊎◌, Option, Result, Ok, Err, List, [], ◌∷◌, String, length, IfSome}
 use Rattle.std.specs.Io.KnownBytes.{Appends, Keeps}
 use Rattle.std.specs.declared.alloc.Global.{Global}
 use Rattle.rs_disk.specs.State.{State}
@@ -12,11 +12,12 @@ use Rattle.set_world.specs.Disks.{AllBegin, Opens}
 use Rattle.set_program.specs.declared.outcome.Left.{Left}
 use Rattle.set_program.specs.declared.outcome.Left.TheVariants.{World, Parts}
 use Rattle.set_program.specs.declared.stop.Stop.{Stop}
-use Rattle.set_program.specs.declared.stop.Stop.TheVariants.{Memory, Usage, Script as NoScript, ReadFault, WriteFault, TooLong, DiskFault, Refused}
+use Rattle.set_program.specs.declared.stop.Stop.TheVariants.{Memory, Usage, Script as NoScript, ReadFault, WriteFault, TooLong, DiskFault, CopyFault, Refused}
 use Rattle.set_program.specs.declared.words.Task.{Task}
 use Rattle.set_program.specs.Headline.{Asks, EndsTask, EndsWithoutRun, IsFaulty, IsOneOf, IsRead, IsScriptOf, limit, opening_error}
 use Rattle.set_program.specs.Orders.{AnyPrefix, PutsPrefix}
 use Rattle.set_program.specs.Parts.{DisksEnd}
+use Rattle.set_program.specs.Syncing.{EndsWithMember}
 
 -- the words ask for this task and its script, or nothing is run
 abbrev pub Reads : List (String Global) → Option (List ℕ) → Option (List ℕ) → Option (List ℕ)
@@ -34,18 +35,20 @@ ReadsSource left rest old new (Err NoScript) =
 ReadsSource left rest old new (Err ReadFault) = Keeps old new
 ReadsSource left rest old new (Err TooLong) = Keeps old new × IfSome left (λ bytes. limit < length bytes)
 ReadsSource left rest old new (Err DiskFault) = ⊥
+ReadsSource left rest old new (Err CopyFault) = ⊥
 ReadsSource left rest old new (Err Refused) = ⊥
 ReadsSource left rest old new (Err Memory) = Keeps old new
 ReadsSource left rest old new (Err WriteFault) =
     (fault : ScriptFault) × IsFaulty left rest fault × PutsPrefix AnyPrefix old new [] (fault_text fault)
 
--- a set of the script's sizes was run, or it couldn't be opened
-abbrev pub RunsScript : {D : Type 0} → Task → Script → Option (List ℕ) → Option (List ℕ)
-    → Result (Unit {0}) Stop → Left D → Type 0
-RunsScript task read old new ended (World set) =
+-- a set of the script's sizes was run, or it couldn't be opened; or it was closed, and a new member made
+abbrev pub RunsScript : {D : Type 0} → (D → State) → List D → Task → Script → Option (List ℕ)
+    → Option (List ℕ) → Result (Unit {0}) Stop → Left D → Type 0
+RunsScript state handed task read old new ended (World set) =
     (set.sizes ≡ sizes_of read) × EndsTask task read.parts old new ended set
-RunsScript task read old new ended (Parts events disks) =
-    (events.items ≡ []) × Keeps old new × ((ended ≡ Err Memory) ⊎ (ended ≡ Err DiskFault))
+RunsScript state handed task read old new ended (Parts events disks) =
+    ((events.items ≡ []) × Keeps old new × ((ended ≡ Err Memory) ⊎ (ended ≡ Err DiskFault)))
+    ⊎ EndsWithMember state handed task read old new ended events.items disks.items
 
 -- and these disks are left
 abbrev pub OpensScript : {D : Type 0} → (D → State) → Task → Script → List D → ℕ → Left D → Type 0
@@ -53,5 +56,6 @@ OpensScript {D} state task read handed status (World set) =
     (opened : List D) × Opens state set.sizes.nodes (Ok tt) handed opened
     × DisksEnd state task read.parts opened set (status ≡ 1)
 OpensScript {D} state task read handed status (Parts events disks) =
-    IsOneOf (1 ∷ 7 ∷ []) status × Opens state read.nodes (Err (opening_error status)) handed disks.items
-    × AllBegin state (first_config read.members) read.nodes disks.items
+    (IsOneOf (1 ∷ 7 ∷ []) status × Opens state read.nodes (Err (opening_error status)) handed disks.items
+    × AllBegin state (first_config read.members) read.nodes disks.items)
+    ⊎ ((status ≢ 7) × (events.items ≢ []))

@@ -7,7 +7,7 @@ use Rattle.set_world.specs.World.{Set}
 use Rattle.fault_script.specs.declared.script.Part.{Part}
 use Rattle.transcript.specs.Replies.{text}
 use Rattle.set_program.specs.declared.stop.Stop.{Stop}
-use Rattle.set_program.specs.declared.stop.Stop.TheVariants.{Memory, Usage, Script as NoScript, ReadFault, WriteFault, TooLong, DiskFault, Refused}
+use Rattle.set_program.specs.declared.stop.Stop.TheVariants.{Memory, Usage, Script as NoScript, ReadFault, WriteFault, TooLong, DiskFault, CopyFault, Refused}
 use Rattle.set_program.specs.Orders.{AnyPrefix, Follows, NoPrefix, StopsAtAPoint}
 
 -- The script is played to its end, and its transcript put. Then this holds of its events, and of what the
@@ -36,3 +36,4 @@ EndsBehind parts old new Works (Err NoScript) set = ⊥
 EndsBehind parts old new Works (Err ReadFault) set = ⊥
 EndsBehind parts old new Works (Err TooLong) set = ⊥
 EndsBehind parts old new Works (Err DiskFault) set = ⊥
+EndsBehind parts old new Works (Err CopyFault) set = ⊥

@@ -1,5 +1,5 @@
 -- What a run does to the set's disks.
-use Rattle.std.specs.Prelude.{◌≡◌, ◌++◌, ◌⊎◌, ℕ, List}
+use Rattle.std.specs.Prelude.{◌≡◌, ◌++◌, ◌⊎◌, ℕ, IsTrue, List}
 use Rattle.rs_disk.specs.State.{State}
 use Rattle.set_model.specs.declared.command.Command.{Command}
 use Rattle.set_model.specs.declared.command.Event.{Event}
@@ -7,6 +7,10 @@ use Rattle.set_model.specs.Run.{opening, run}
 use Rattle.set_world.specs.World.{Set}
 use Rattle.set_world.specs.Disks.{DisksUndone}
 use Rattle.set_world.specs.Went.{DisksPlay, DisksRun}
+
+-- it fails only where it is armed, and it isn't armed
+abbrev pub IsUnarmed : State → Type 0
+IsUnarmed disk = IsTrue disk.is_steady × (¬ IsTrue disk.is_armed)
 
 -- from these disks a set came by its events to those that it has
 abbrev pub DisksPlayed : {D : Type 0} → (D → State) → List D → Set D → Type 0

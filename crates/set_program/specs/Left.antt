@@ -10,6 +10,11 @@ abbrev pub IfSet : {D : Type 0} → Left D → (Set D → Type 0) → Type 0
 IfSet (World set) Holds = Holds set
 IfSet (Parts events disks) Holds = ⊤
 
+-- this holds of the events and the disks, where they are all that is left
+abbrev pub IfParts : {D : Type 0} → Left D → (List Event → List D → Type 0) → Type 0
+IfParts (World set) Holds = ⊤
+IfParts (Parts events disks) Holds = Holds events.items disks.items
+
 abbrev pub events_of : {D : Type 0} → Left D → List Event
 events_of (World set) = set.history
 events_of (Parts events disks) = events.items

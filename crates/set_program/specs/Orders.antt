@@ -45,6 +45,10 @@ pub record IsInBlock (whole : List Part) (earlier later : List Event) : Type 0 w
   pub merge : IsMerge threads lines
   pub front : map line_of later ≡ take (length later) lines
 
+-- in a block, or in the work behind the whole script
+abbrev pub IsInBlockOrBehind : List Part → List Event → List Event → Type 0
+IsInBlockOrBehind whole earlier later = IsInBlock whole earlier later ⊎ Follows whole earlier
+
 -- the events are those of some first lines, in an order in which all may be played
 pub record FollowsInPart (parts : List Part) (events : List Event) : Type 0 where
   pub lines : List (ℕ × Command)

@@ -15,7 +15,7 @@ use Rattle.set_world.specs.Went.{DisksPlay, DisksRun}
 use Rattle.set_world.specs.World.{Set}
 use Rattle.set_program.specs.Disks.{DisksRan}
 use Rattle.set_program.specs.Headline.{BreaksIn}
-use Rattle.set_program.specs.Orders.{ComesNext, Follows, FollowsInPart, IsInBlock, IsOrderOf}
+use Rattle.set_program.specs.Orders.{ComesNext, Follows, FollowsInPart, IsInBlock, IsInBlockOrBehind, IsOrderOf}
 use Rattle.set_program.specs.Steps.{GoesOn, line_of}
 use Rattle.set_program.specs.declared.words.Task.{Task}
 
@@ -81,6 +81,11 @@ DisksGo state parts first set OutOfMemory =
 abbrev pub DisksEnd : {D : Type 0} → (D → State) → Task → List Part → List D → Set D → Type 0 → Type 0
 DisksEnd state task parts first set OutOfMemory =
     DisksRan state OutOfMemory (ComesNext parts set.history) (BreaksIn task parts) first set
+
+-- the same of each task whose work comes behind the parts
+abbrev pub DisksBehind : {D : Type 0} → (D → State) → List Part → List D → Set D → Type 0 → Type 0
+DisksBehind state parts first set OutOfMemory =
+    DisksRan state OutOfMemory (ComesNext parts set.history) (IsInBlockOrBehind parts) first set
 
 -- all parts are played, and the replies of the run kept
 pub record AllStepped {D : Type 0} (state : D → State) (parts : List Part) (old new : Set D)

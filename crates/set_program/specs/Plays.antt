@@ -13,7 +13,7 @@ use Rattle.run_checker.specs.Trace.{entries_text}
 use Rattle.set_world.specs.Went.{DisksPlay}
 use Rattle.set_world.specs.World.{Set}
 use Rattle.set_program.specs.declared.stop.Stop.{Stop}
-use Rattle.set_program.specs.declared.stop.Stop.TheVariants.{Memory, Usage, Script as NoScript, ReadFault, WriteFault, TooLong, DiskFault, Refused}
+use Rattle.set_program.specs.declared.stop.Stop.TheVariants.{Memory, Usage, Script as NoScript, ReadFault, WriteFault, TooLong, DiskFault, CopyFault, Refused}
 use Rattle.set_program.specs.Headline.{PutsFirst, trace_put}
 use Rattle.set_program.specs.Orders.{AnyPrefix, IsOrderOf, NoPrefix, PutsPrefix, PutsReplies}
 use Rattle.set_program.specs.Parts.{SteppedSome}
@@ -31,6 +31,7 @@ PutsText held now piece (Err NoScript) = ⊥
 PutsText held now piece (Err ReadFault) = ⊥
 PutsText held now piece (Err TooLong) = ⊥
 PutsText held now piece (Err DiskFault) = ⊥
+PutsText held now piece (Err CopyFault) = ⊥
 PutsText held now piece (Err Refused) = ⊥
 
 -- replies are put one after another
@@ -43,6 +44,7 @@ PutsEach held now replies (Err NoScript) = ⊥
 PutsEach held now replies (Err ReadFault) = ⊥
 PutsEach held now replies (Err TooLong) = ⊥
 PutsEach held now replies (Err DiskFault) = ⊥
+PutsEach held now replies (Err CopyFault) = ⊥
 PutsEach held now replies (Err Refused) = ⊥
 
 -- ---- a trace
@@ -61,6 +63,7 @@ PutsEntries held now events replies (Err NoScript) = ⊥
 PutsEntries held now events replies (Err ReadFault) = ⊥
 PutsEntries held now events replies (Err TooLong) = ⊥
 PutsEntries held now events replies (Err DiskFault) = ⊥
+PutsEntries held now events replies (Err CopyFault) = ⊥
 PutsEntries held now events replies (Err Refused) = ⊥
 
 -- the trace of a set's run is put
@@ -74,6 +77,7 @@ PutsTrace held now set (Err NoScript) = ⊥
 PutsTrace held now set (Err ReadFault) = ⊥
 PutsTrace held now set (Err TooLong) = ⊥
 PutsTrace held now set (Err DiskFault) = ⊥
+PutsTrace held now set (Err CopyFault) = ⊥
 PutsTrace held now set (Err Refused) = ⊥
 
 -- ---- a part
@@ -111,6 +115,7 @@ PlaysPart part held now old new (Err NoScript) = ⊥
 PlaysPart part held now old new (Err ReadFault) = ⊥
 PlaysPart part held now old new (Err TooLong) = ⊥
 PlaysPart part held now old new (Err DiskFault) = ⊥
+PlaysPart part held now old new (Err CopyFault) = ⊥
 PlaysPart part held now old new (Err Refused) = ⊥
 
 -- the disks are those that its events leave; out of memory, more may have used them

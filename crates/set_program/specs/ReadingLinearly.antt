@@ -6,7 +6,7 @@ use Rattle.linear_words.specs.declared.asked.Linear.{Linear}
 use Rattle.linear_tell.specs.declared.stop.LinearStop.TheVariants as linears
 use Rattle.linear_tell.specs.Telling.{Tells}
 use Rattle.set_program.specs.declared.stop.Stop.{Stop}
-use Rattle.set_program.specs.declared.stop.Stop.TheVariants.{Memory, Usage, Script as NoScript, ReadFault, WriteFault, TooLong, DiskFault, Refused}
+use Rattle.set_program.specs.declared.stop.Stop.TheVariants.{Memory, Usage, Script as NoScript, ReadFault, WriteFault, TooLong, DiskFault, CopyFault, Refused}
 
 -- Its commands are those from the script's events to those that the set has, and the line that tells what
 -- came of it is put behind what the sink held.
@@ -25,3 +25,4 @@ ReadsLinearly linear sizes events new (Err NoScript) scripted told = ⊥
 ReadsLinearly linear sizes events new (Err ReadFault) scripted told = ⊥
 ReadsLinearly linear sizes events new (Err TooLong) scripted told = ⊥
 ReadsLinearly linear sizes events new (Err DiskFault) scripted told = ⊥
+ReadsLinearly linear sizes events new (Err CopyFault) scripted told = ⊥

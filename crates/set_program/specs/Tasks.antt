@@ -4,6 +4,7 @@
 --     trace                      the same, and in place of the replies the trace of its run is put
 --     linear NODE COLL ID        the same as `run`, and then a linear read is done, and what came of it put
 --     watch COLL TOKEN NODE..    the same as `run`, and then changes are put that nodes have behind a token
+--     sync NODE                  the same as `run`, and then a new member is made of what a node committed
 --     chaos SEED EVENTS NODES    a generated script is run, and its summary put
 --
 -- SEED, EVENTS and NODES are one to twenty decimal digits: a number of 64 bits, one up to 5,000, and one from
@@ -13,12 +14,12 @@ use Rattle.std.specs.Char.{is_ascii_digit}
 use Rattle.std.specs.List.{list_all}
 use Rattle.std.specs.Str.{bytes_eq}
 use Rattle.std.specs.Str.Parse.{digits_value}
-use Rattle.change_words.specs.Asked.{watch_of}
+use Rattle.change_words.specs.Asked.{node_of, watch_of}
 use Rattle.change_words.specs.declared.asked.Watch.{Watch}
 use Rattle.linear_words.specs.Asked.{linear_of}
 use Rattle.linear_words.specs.declared.asked.Linear.{Linear}
 use Rattle.set_program.specs.declared.words.Task.{Task}
-use Rattle.set_program.specs.declared.words.Task.TheVariants.{Run, Trace, Chaos, Linear as ReadsLinear, Watch as Watches}
+use Rattle.set_program.specs.declared.words.Task.TheVariants.{Run, Trace, Chaos, Sync, Linear as ReadsLinear, Watch as Watches}
 
 abbrev pub if_within : (least most : ℕ) → ℕ → Option ℕ
 if_within least most number = if nat_le least number && nat_le number most then Some number else None
@@ -67,12 +68,18 @@ linear_task (node ∷ collection ∷ id ∷ []) =
     option_map (λ (linear : Linear). ReadsLinear linear) (linear_of node collection id)
 linear_task (node ∷ collection ∷ id ∷ more ∷ others) = None
 
+abbrev pub sync_task : List (List ℕ) → Option Task
+sync_task [] = None
+sync_task (node ∷ []) = option_map (λ (number : ℕ). Sync number) (node_of node)
+sync_task (node ∷ more ∷ others) = None
+
 abbrev pub word_task : List ℕ → List (List ℕ) → Option Task
 word_task name words =
     if bytes_eq name (codes "run") then alone Run words
     else if bytes_eq name (codes "trace") then alone Trace words
     else if bytes_eq name (codes "linear") then linear_task words
     else if bytes_eq name (codes "watch") then watch_task words
+    else if bytes_eq name (codes "sync") then sync_task words
     else if bytes_eq name (codes "chaos") then chaos_task words
     else None
 
@@ -88,6 +95,7 @@ IsBounded Run = ⊤
 IsBounded Trace = ⊤
 IsBounded (ReadsLinear linear) = ⊤
 IsBounded (Watches watch) = ⊤
+IsBounded (Sync node) = ⊤
 IsBounded (Chaos seed events nodes) = (events ≤ 5000) × (1 ≤ nodes) × (nodes ≤ 7)
 
 -- the script of a task is the source's
@@ -96,6 +104,7 @@ is_of_source Run = true
 is_of_source Trace = true
 is_of_source (ReadsLinear linear) = true
 is_of_source (Watches watch) = true
+is_of_source (Sync node) = true
 is_of_source (Chaos seed events nodes) = false
 
 -- the statuses in which a task may end where the source and the sink have no fault and a script is read
@@ -104,4 +113,5 @@ may_end_in Run = 0 ∷ 1 ∷ 7 ∷ []
 may_end_in Trace = 0 ∷ 1 ∷ 7 ∷ []
 may_end_in (ReadsLinear linear) = 0 ∷ 1 ∷ 7 ∷ 9 ∷ []
 may_end_in (Watches watch) = 0 ∷ 1 ∷ 7 ∷ 9 ∷ []
+may_end_in (Sync node) = 0 ∷ 1 ∷ 7 ∷ 8 ∷ 9 ∷ []
 may_end_in (Chaos seed events nodes) = 0 ∷ 1 ∷ 7 ∷ []

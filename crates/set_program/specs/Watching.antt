@@ -7,7 +7,7 @@ use Rattle.change_words.specs.declared.refusal.WatchRefusal.{WatchRefusal}
 use Rattle.change_watch.specs.declared.stop.WatchStop.TheVariants as watches
 use Rattle.change_watch.specs.Following.{Follows}
 use Rattle.set_program.specs.declared.stop.Stop.{Stop}
-use Rattle.set_program.specs.declared.stop.Stop.TheVariants.{Memory, Usage, Script as NoScript, ReadFault, WriteFault, TooLong, DiskFault, Refused}
+use Rattle.set_program.specs.declared.stop.Stop.TheVariants.{Memory, Usage, Script as NoScript, ReadFault, WriteFault, TooLong, DiskFault, CopyFault, Refused}
 
 -- It asks its nodes, from the script's events to those that the set has, and what it tells is put behind what
 -- the sink held.
@@ -26,3 +26,4 @@ Watches watch sizes events new (Err NoScript) scripted told = ⊥
 Watches watch sizes events new (Err ReadFault) scripted told = ⊥
 Watches watch sizes events new (Err TooLong) scripted told = ⊥
 Watches watch sizes events new (Err DiskFault) scripted told = ⊥
+Watches watch sizes events new (Err CopyFault) scripted told = ⊥

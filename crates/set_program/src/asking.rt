@@ -23,7 +23,7 @@ use transcript::write_fault;
 /// How many bytes a script may have.
 const MAX_SCRIPT: usize = 8_388_608;
 
-const USAGE: &str = "usage: replset run | replset chaos SEED EVENTS NODES \
+const USAGE: &str = "usage: replset run | replset chaos SEED EVENTS NODES | replset sync NODE \
     | replset linear NODE COLL ID | replset watch COLL TOKEN NODE... | replset trace\n";
 
 /// The task that the words ask for, and the script that is to be run. Where there is none, it is said why.
@@ -54,6 +54,7 @@ pub fn read_script<S: Source, K: Sink>(
             Ok((Task::Linear(linear), source_script(alloc, source, sink)?))
         }
         Some(Task::Watch(watch)) => Ok((Task::Watch(watch), source_script(alloc, source, sink)?)),
+        Some(Task::Sync { node }) => Ok((Task::Sync { node }, source_script(alloc, source, sink)?)),
         Some(
             Task::Chaos {
                 seed,

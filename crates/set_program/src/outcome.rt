@@ -12,18 +12,19 @@ use set_world::World;
 /// How a call of the program ended: the status that it exits with, and what it leaves.
 #[derive(Drop)]
 pub struct Outcome<D: Disk> {
-    /// 0 to 7, or 9, as `run_set` says.
+    /// 0 to 9, as `run_set` says.
     pub status: u8,
     /// The set, or its disks.
     pub left: Left<D>,
 }
 
-/// The set as far as it was run, or its disks where it wasn't run.
+/// The set as far as it was run; or its events and disks, where it wasn't run or a new member was made.
 #[derive(Drop)]
 pub enum Left<D: Disk> {
     /// The set, as far as it was run.
     World(World<D>),
-    /// The set wasn't opened: there are no events, and these are the disks.
+    /// The set wasn't opened, and there are no events; or it was closed for a new member. These are its
+    /// events and the disks.
     Parts(Vec<Event>, Vec<D>),
 }
 

@@ -2,10 +2,10 @@
 ghost use Rattle.std.specs.Prelude.{◌≡◌, IfOk, IfSome, map, string_bytes};
 ghost use Rattle.std.specs.Char.{is_ascii_digit};
 ghost use Rattle.std.specs.List.{list_all};
-ghost use Rattle.set_program.specs.Tasks.{IsBounded, alone, chaos_of, chaos_task, linear_task, number_word, task_of, watch_task, word_task};
+ghost use Rattle.set_program.specs.Tasks.{IsBounded, alone, chaos_of, chaos_task, linear_task, number_word, sync_task, task_of, watch_task, word_task};
 
 use bson_doc::Mem;
-use change_words::{Watch, read_watch};
+use change_words::{Watch, node_of, read_watch};
 use linear_words::{Linear, read_linear};
 use std::alloc::Global;
 
@@ -22,6 +22,8 @@ pub enum Task {
     Linear(Linear),
     /// The script of the source is run, and then it is told which changes nodes have behind a token.
     Watch(Watch),
+    /// The script of the source is run, and then a new member is made of what this node has committed.
+    Sync { node: u32 },
 }
 
 /// The task that some words ask for; none where they ask for nothing.
@@ -45,6 +47,7 @@ fn word_task(alloc: Global, name: &str, words: &[String]) -> Mem<Option<Task>>
         "trace" => Ok(alone(Task::Trace, words)),
         "linear" => linear_task(alloc, words),
         "watch" => watch_task(alloc, words),
+        "sync" => Ok(sync_task(words)),
         "chaos" => Ok(chaos_task(words)),
         _ => Ok(None),
     }
@@ -82,6 +85,18 @@ fn watch_task(alloc: Global, words: &[String]) -> Mem<Option<Task>>
             Ok(watch.map(Task::Watch))
         }
         _ => Ok(None),
+    }
+}
+
+fn sync_task(words: &[String]) -> Option<Task>
+    ensures asked { result ≡ sync_task (map string_bytes words.now) }
+    ensures bounds { IfSome result IsBounded }
+{
+    match words {
+        [node] => Some(Task::Sync {
+            node: node_of(node.as_bytes())?,
+        }),
+        _ => None,
     }
 }
 
