@@ -56,7 +56,7 @@ const WRONG_WORDS: [&[&str]; 11] = [
 ];
 
 /// What is put where the words ask for nothing.
-const USAGE: &str = "usage: replset run | replset chaos SEED EVENTS NODES \
+const USAGE: &str = "usage: replset run | replset chaos SEED EVENTS NODES | replset sync NODE \
     | replset linear NODE COLL ID | replset watch COLL TOKEN NODE... | replset trace\n";
 
 #[test]

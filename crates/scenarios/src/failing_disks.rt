@@ -65,6 +65,55 @@ pub fn are_survived<R: Threads + Wait + Sync>(
     Ok(true)
 }
 
+/// Words that ask for a new member behind a script of one node, and its two disks.
+const SYNC: [&str; 2] = ["sync", "n0"];
+
+const MEMBER_DISKS: [usize; 2] = [2, 3];
+
+/// How many calls each of them gets, where two records are stored on the journal beside that of its form, and
+/// three on the checkpoints, and both are read again.
+const MEMBER_CALLS: u32 = 19;
+
+/// Whether no member is made where one of its disks fails, in whichever of its calls and in whichever way:
+/// the transcript alone is put then.
+pub fn end_a_sync<R: Threads + Wait + Sync>(
+    rt: &R,
+    alloc: Global,
+    script: &str,
+    transcript: &str,
+    told: &str,
+) -> Result<bool> {
+    for disk in MEMBER_DISKS {
+        for pick in PICKS {
+            if !ends_at_each_call(rt, alloc, script, transcript, told, disk, pick)? {
+                return Ok(false);
+            }
+        }
+    }
+    Ok(true)
+}
+
+fn ends_at_each_call<R: Threads + Wait + Sync>(
+    rt: &R,
+    alloc: Global,
+    script: &str,
+    transcript: &str,
+    told: &str,
+    disk: usize,
+    pick: Option<u64>,
+) -> Result<bool> {
+    for before in 0..MEMBER_CALLS {
+        let call = before + 1;
+        let ran = run_with_fault(rt, alloc, &SYNC, script, Fault { disk, call, pick })?;
+        if !ran.is(8, transcript) {
+            return Ok(false);
+        }
+    }
+    let call = MEMBER_CALLS + 1;
+    let ran = run_with_fault(rt, alloc, &SYNC, script, Fault { disk, call, pick })?;
+    Ok(ran.is(0, told))
+}
+
 /// A script behind which each node is restarted and shows its log, and what it prints where no disk fails.
 #[derive(Drop)]
 struct Trial {
@@ -105,13 +154,13 @@ impl Trial {
     ) -> Result<bool> {
         for before in 0..calls {
             let call = before + 1;
-            let ran = run_with_fault(rt, alloc, &self.script, Fault { disk, call, pick })?;
+            let ran = run_with_fault(rt, alloc, &RUN, &self.script, Fault { disk, call, pick })?;
             if !self.is_lawful(alloc, ran, call <= opening(disk))? {
                 return Ok(false);
             }
         }
         let call = calls.saturating_add(1);
-        let ran = run_with_fault(rt, alloc, &self.script, Fault { disk, call, pick })?;
+        let ran = run_with_fault(rt, alloc, &RUN, &self.script, Fault { disk, call, pick })?;
         Ok(ran.is(0, &self.whole))
     }
 

@@ -29,9 +29,10 @@ fn main(rt: HostRuntime) -> Result<ExitCode> {
     let traces = traced(&rt, &rt)?;
     let watches = behind(&rt, &rt, &watches::SCRIPTS, "watch", "changes")?;
     let reads = behind(&rt, &rt, &watches::LINEAR, "linear", "linear reads")?;
+    let members = behind(&rt, &rt, &watches::SYNCED, "sync", "new members")?;
     let limits = limits(&rt, &rt)?;
     let faults = faults(&rt, &rt)?;
-    Ok(if examples && traces && watches && reads && limits && faults {
+    Ok(if examples && traces && watches && reads && members && limits && faults {
         ExitCode::SUCCESS
     } else {
         ExitCode::FAILURE
@@ -83,7 +84,7 @@ fn traced<R: Threads + Wait + Sync>(rt: &HostRuntime, threads: &R) -> Result<boo
     Ok(as_written)
 }
 
-/// Changes, or linear reads, that are asked for behind scripts.
+/// What words ask for behind scripts: changes, linear reads or new members.
 fn behind<R: Threads + Wait + Sync>(
     rt: &HostRuntime,
     threads: &R,
@@ -138,7 +139,24 @@ fn faults<R: Threads + Wait + Sync>(rt: &HostRuntime, threads: &R) -> Result<boo
         let what = format!(in alloc; "{name} on failing disks")?;
         borne = tell(rt, &what, holds)? && borne;
     }
-    Ok(refused && repeated && borne && sinks(rt, threads)?)
+    let member = tell(
+        rt,
+        "a new member on failing disks",
+        fails_with_its_disks(rt, threads)?,
+    )?;
+    Ok(refused && repeated && borne && member && sinks(rt, threads)?)
+}
+
+/// Whether a new member behind a script ends as it is to where its disks fail.
+fn fails_with_its_disks<R: Threads + Wait + Sync>(rt: &HostRuntime, threads: &R) -> Result<bool> {
+    let name = watches::FAILED;
+    let (script, transcript) = (text(rt, name, "replset")?, text(rt, name, "out")?);
+    let table = text(rt, name, "sync")?;
+    let Some((_, lines)) = table.split_once('\n') else {
+        return Ok(false);
+    };
+    let told = format!(in rt.alloc(); "{transcript}{lines}")?;
+    failing_disks::end_a_sync(threads, rt.alloc(), &script, &transcript, &told)
 }
 
 /// Sinks that fail in one of their calls.

@@ -92,16 +92,17 @@ pub fn run_with_lost_reply<R: Threads + Wait + Sync>(
     run_on(rt, alloc, words, input, vec![in alloc; call]?, disks)
 }
 
-/// The script is run, and a disk fails.
+/// What the words come to over the script, where a disk fails.
 pub fn run_with_fault<R: Threads + Wait + Sync>(
     rt: &R,
     alloc: Global,
+    words: &[&str],
     script: &str,
     fault: Fault,
 ) -> Result<Ran> {
     let disks = disks_with(alloc, fault)?;
     let input = script.as_bytes().to_vec(alloc)?;
-    run_on(rt, alloc, &RUN, input, Vec::new(alloc), disks)
+    run_on(rt, alloc, words, input, Vec::new(alloc), disks)
 }
 
 /// As many empty disks as a set is given, of which one fails.

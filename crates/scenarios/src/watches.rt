@@ -1,4 +1,4 @@
-//! Changes, and linear reads, that are asked for behind example scripts.
+//! Changes, linear reads and new members that are asked for behind example scripts.
 
 use crate::lost_replies::end_the_run;
 use crate::runs::run;
@@ -17,7 +17,12 @@ pub const SCRIPTS: [&str; 5] = [
 ];
 
 /// Those beside which words stand that ask for linear reads.
-pub const LINEAR: [&str; 2] = ["linear_failover", "linear_stale"];
+pub const LINEAR: [&str; 4] = [
+    "linear_alone",
+    "linear_failover",
+    "linear_not_fetched",
+    "linear_stale",
+];
 
 /// A script that is run into a sink that fails, with the words of the first row of a table.
 #[derive(Clone, Copy, Drop)]
@@ -42,6 +47,12 @@ pub const LOST: [IntoFailingSink; 2] = [
         what: "linear reads",
     },
 ];
+
+/// Those beside which words stand that ask for new members.
+pub const SYNCED: [&str; 4] = ["acknowledged", "stream_failover", "sync_failover", "synced"];
+
+/// The one of them whose new member is run on failing disks.
+pub const FAILED: &str = "synced";
 
 /// What a refusal has, and no other line of these.
 const REFUSED: &str = " refused ";
