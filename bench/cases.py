@@ -59,8 +59,8 @@ def parse(n):
     return ["set 1", *lines, "insert n0 items {_id: 1000000, n: 1234x}"]
 
 
-def watched(n):
-    """Inserts that are flushed behind them all, each told by a watch; a flush takes two thousand entries."""
+def flushed(n):
+    """Inserts that are flushed behind them all; a flush takes two thousand entries."""
     return inserts(n) + ["flush n0"] * (n // 2000 + 1)
 
 
@@ -279,7 +279,8 @@ CASES = {
     "retried": Case(retried, 50_000, 20_000),
     "sessions": Case(sessions, 50_000, 20_000),
     "pairs": Case(pairs, 60_000, 10_000),
-    "watched": Case(watched, 95_000, 20_000, words=lambda n: ["watch", "items", "start", "n0"]),
+    "watched": Case(flushed, 95_000, 20_000, words=lambda n: ["watch", "items", "start", "n0"]),
+    "synced": Case(flushed, 190_000, 20_000, words=lambda n: ["sync", "n0"]),
     "updates": Case(updates, 50_000, 5_000),
     "mixed": Case(mixed, 90_000, 3_500),
     "writers": Case(writers, 40_000, 40_000),

@@ -2,6 +2,7 @@
 
 usage: replset run < SCRIPT
        replset chaos SEED EVENTS NODES
+       replset sync NODE < SCRIPT
        replset linear NODE COLL ID < SCRIPT
        replset watch COLL TOKEN NODE... < SCRIPT
        replset trace < SCRIPT
@@ -23,7 +24,8 @@ status: 0 the script was run
         5 the output could not be written
         6 the script has more than 8,388,608 bytes
         7 a disk failed while the set was opened
-        9 a node refused a linear read or to tell changes; the last line tells why
+        8 a disk of a new member failed
+        9 what was to come behind the script was refused; the last line tells why
         69 there is no toolchain to build the program
         70 the program could not be built, proved or installed
 """
@@ -54,6 +56,7 @@ MEANING = {
     OUTPUT_FAILED: "the output could not be written; what was written is the beginning of it",
     6: "the script has more than 8,388,608 bytes",
     7: "a disk failed while the set was opened",
+    8: "a disk of the new member failed",
 }
 
 # The least and the greatest value of a number in the usage line, and the form of other words.

@@ -6,7 +6,7 @@ _replset() {
         at=2 options=
     fi
     if ((COMP_CWORD == at)); then
-        mapfile -t COMPREPLY < <(compgen -W "run chaos linear watch trace $options" -- "$word")
+        mapfile -t COMPREPLY < <(compgen -W "run chaos sync linear watch trace $options" -- "$word")
     elif [[ ${COMP_WORDS[at]} == --install ]] && ((COMP_CWORD == 2)); then
         mapfile -t COMPREPLY < <(compgen -d -- "$word")
     elif [[ ${COMP_WORDS[at]} == chaos ]] && ((COMP_CWORD == at + 3)); then
