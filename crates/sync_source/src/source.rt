@@ -1,9 +1,9 @@
 ghost use Rattle.std.specs.Prelude.{◌≡◌, Some, min};
-ghost use Rattle.std.specs.Option.{option_map_or};
+ghost use Rattle.std.specs.Option.{option_map, option_map_or};
 ghost use Rattle.std.specs.Result.{result_ok};
 ghost use Rattle.member_config.specs.Numbers.{lowest};
 ghost use Rattle.repl_msg.specs.Sources as words;
-ghost use Rattle.sync_source.specs.Known.{first_of_member, heard_of};
+ghost use Rattle.sync_source.specs.Known.{first_of_member, heard_by, heard_of};
 
 use member_config::Config;
 use rs_optime::OpTime;
@@ -40,7 +40,7 @@ pub fn choose(config: &Config, own: u32, last: OpTime, known: &[Known]) -> Resul
 }
 
 /// The lower of a number and another, if there is one.
-fn lower(lowest: Option<u32>, number: u32) -> Option<u32>
+pub(crate) fn lower(lowest: Option<u32>, number: u32) -> Option<u32>
     ensures { result ≡ Some (option_map_or (min number) lowest number) }
 {
     match lowest {
@@ -52,7 +52,14 @@ fn lower(lowest: Option<u32>, number: u32) -> Option<u32>
 fn goes_further(config: &Config, last: OpTime, known: &[Known], member: u32) -> bool
     ensures { result ≡ words.goes_further config.now last (heard_of known.now member) }
 {
-    match known_of(known, member) {
+    is_further(config, last, known_of(known, member))
+}
+
+/// Whether a member goes further, by what was heard of it.
+pub(crate) fn is_further(config: &Config, last: OpTime, heard: Option<Known>) -> bool
+    ensures { result ≡ words.goes_further config.now last (option_map heard_by heard) }
+{
+    match heard {
         None => false,
         Some(heard) => last < heard.last && (config.chaining || heard.primary),
     }

@@ -1,9 +1,10 @@
-use Rattle.std.proofs.Common.{◌∙◌, ap, arith}
+use Rattle.std.proofs.Common.{◌∙◌, ap}
 use Rattle.std.specs.FinMap as maps
-use Rattle.sync_source.proofs.TableLemmas.{known_of-set}
+use Rattle.sync_source.proofs.TableLemmas.{heard_with}
+use Rattle.sync_source.specs.Table.{Table}
 use Rattle.sync_source.proofs.table.KnownTable.set.Goals as goal
 
 pub returns : goal.returns
 returns c =
-    known_of-set c.self.inside.places.items c.args.member (record { last = c.args.last; primary = c.args.primary }) (omega (arith, c.self.invariant))
-    ∙ ap (λ table. maps.insert table c.args.member (record { last = c.args.last; primary = c.args.primary })) c.self.view_is
+    heard_with c.self.inside.known.entries c.insert.new.self.entries c.args.member _ c.in-Ok.ensures.updates.0
+    ∙ ap (λ (t : Table). maps.insert t.heard c.args.member (record { last = c.args.last; primary = c.args.primary })) c.self.view_is
