@@ -256,7 +256,7 @@ few_voters nodes config fine =
     let one : (has_wrong_count config ≡ false) × _ = unless_some (has_wrong_count config) 1 _ fine.rules in
     let two : (has_twice (numbers config) ≡ false) × _ = unless_some (has_twice (numbers config)) 2 _ one.1 in
     let three : (has_wrong_votes config ≡ false) × _ = unless_some (has_wrong_votes config) 3 _ two.1 in
-    ltb-false 7 (length (voters config)) (or_parts _ _ (or_parts _ _ three.0).0).1
+    ltb-false 7 (length (voters config)) (or_parts _ _ three.0).1
 
 in_put : (number : ℕ) (list : List ℕ) (n : ℕ) → In n (put number list) → In n (number ∷ list)
 in_put number [] n there = there

@@ -9,7 +9,7 @@ use Rattle.rs_optime.specs.Membership.{In}
 use Rattle.rs_optime.proofs.MembershipLemmas.{in_all}
 use Rattle.oplog_entry.specs.declared.entry.Entry.{Entry}
 use Rattle.member_config.specs.declared.config.Config.{Config}
-use Rattle.member_config.specs.Config.{first_config, members_from}
+use Rattle.member_config.specs.Config.{members_from}
 use Rattle.member_config.specs.Numbers.{first_of}
 use Rattle.repl_msg.specs.declared.message.Body.{Body}
 use Rattle.repl_msg.specs.declared.message.Body.TheVariants as bodies
@@ -30,7 +30,7 @@ use Rattle.set_model.specs.World.{World, Task, acts, takes, nothing, task, touch
 use Rattle.commit_machine.proofs.Growth.{in_append}
 use Rattle.safety_laws.specs.Bounds.{AreTimed, last_timestamp, IsSmallNode, IsSmallMessage, NumbersStaySmall, IsLawfulConfig, ConfigsAreLawful}
 use Rattle.safety_laws.proofs.Frame.{task_sent, world_after}
-use Rattle.safety_laws.proofs.Opening.{first_rule, get_from}
+use Rattle.safety_laws.proofs.Opening.{first_fine, opening_config, get_from}
 use Rattle.safety_laws.proofs.Places.{get_set_same, get_set_other}
 use Rattle.safety_laws.proofs.Replies.{contained}
 use Rattle.safety_laws.proofs.SmallNodes.{Limits, AreTimely, FineRecord, FineStore, NodeFine, FineMessage, FineOutcome, FinePlan, fine_done, closed_times}
@@ -209,12 +209,12 @@ sends_from nodes start (event ∷ events) bound (suc place) fit fine =
     sends_from nodes (after start event) events (suc bound) place fit.1 (step_fine nodes bound start.world event fit.0 fine)
 
 -- the first members are nodes of the set
-first_known : (first count nodes : ℕ) → first + count ≤ nodes → filter (λ number. not (nat_lt number nodes)) (map (λ m. m.number) (members_from first count)) ≡ []
-first_known first zero nodes within = refl
-first_known first (suc count) nodes within = go (nat_lt first nodes) (first_known (first + 1) count nodes (omega (arith, within))) less
+first_known : (voting first count nodes : ℕ) → first + count ≤ nodes → filter (λ number. not (nat_lt number nodes)) (map (λ m. m.number) (members_from voting first count)) ≡ []
+first_known voting first zero nodes within = refl
+first_known voting first (suc count) nodes within = go (nat_lt first nodes) (first_known voting (first + 1) count nodes (omega (arith, within))) less
   where
     rest : List ℕ
-    rest = filter (λ number. not (nat_lt number nodes)) (map (λ m. m.number) (members_from (first + 1) count))
+    rest = filter (λ number. not (nat_lt number nodes)) (map (λ m. m.number) (members_from voting (first + 1) count))
 
     less : nat_lt first nodes ≡ true
     less = lt-ltb first nodes (omega (arith, within))
@@ -223,10 +223,10 @@ first_known first (suc count) nodes within = go (nat_lt first nodes) (first_know
     go true none is = none
     go false none is = absurd (cc is)
 
-first_lawful : (sizes : Sizes) → AreSizes sizes → IsLawfulConfig sizes.nodes (first_config sizes.members)
+first_lawful : (sizes : Sizes) → AreSizes sizes → IsLawfulConfig sizes.nodes (opening_config sizes)
 first_lawful sizes are = record {
-  rules = first_rule sizes.members are.one (let within : sizes.members ≤ 7 = omega (arith, are.within, are.most) in within);
-  members = ap first_of (first_known 0 sizes.members sizes.nodes (let within : 0 + sizes.members ≤ sizes.nodes = omega (arith, are.within) in within));
+  rules = first_fine sizes are;
+  members = ap first_of (first_known sizes.voters 0 sizes.members sizes.nodes (let within : 0 + sizes.members ≤ sizes.nodes = omega (arith, are.within) in within));
 }
 
 count_from : (first : Config) (from count : ℕ) → length (nodes_from first from count) ≡ count
@@ -248,10 +248,10 @@ opening_fine nodes place first less fine = (
 
 opening_world_fine : (sizes : Sizes) → AreSizes sizes → IsFineWorld sizes.nodes 0 (opening sizes).world
 opening_world_fine sizes are = record {
-  count = count_from (first_config sizes.members) 0 sizes.nodes;
+  count = count_from (opening_config sizes) 0 sizes.nodes;
   each = λ m node there. subst (λ n. NodeFine (limits sizes.nodes 0 m) n)
-      (sym (get_from (first_config sizes.members) 0 sizes.nodes m node there ∙ ap (opening_node (first_config sizes.members)) (let same : 0 + m ≡ m = omega arith in same)))
-      (opening_fine sizes.nodes m (first_config sizes.members) (place_from (first_config sizes.members) 0 sizes.nodes m node there) (first_lawful sizes are));
+      (sym (get_from (opening_config sizes) 0 sizes.nodes m node there ∙ ap (opening_node (opening_config sizes)) (let same : 0 + m ≡ m = omega arith in same)))
+      (opening_fine sizes.nodes m (opening_config sizes) (place_from (opening_config sizes) 0 sizes.nodes m node there) (first_lawful sizes are));
   messages = λ message there. absurd there;
   few = omega arith;
 }

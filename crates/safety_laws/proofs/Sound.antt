@@ -1,7 +1,6 @@
 -- What the next step of a node that is up may rest on holds in every run.
 use Rattle.std.proofs.Common.{◌≡◌, ◌≤◌, inl, inr, refl, sym, subst, arith, ℕ, true, Some, None, List, length}
 use Rattle.std.specs.FinMap as maps
-use Rattle.std.specs.FinSet as sets
 use Rattle.std.proofs.lemmas.Bool.{cases_Bool}
 use Rattle.rs_optime.specs.declared.optime.OpTime.{OpTime}
 use Rattle.rs_optime.specs.Membership.{In}

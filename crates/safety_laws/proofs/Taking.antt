@@ -39,7 +39,7 @@ pub can_be_taken : (sizes : Sizes) (events : List Event) → AreSizes sizes → 
 can_be_taken sizes events are numbers configs replies rollbacks message node short sent at = record {
   sender =
       let less : message.from < sizes.nodes = (numbers.messages (length events) message sent_there).sender in
-      let most : sizes.nodes ≤ 7 = are.most in
+      let most : sizes.nodes ≤ 50 = are.most in
       omega (arith, less, most);
   term = let within : message.term ≤ length events = (numbers.messages (length events) message sent_there).term in omega (arith, within, short);
   asked = asked_early (length events) short (term_asked message.body) (numbers.messages (length events) message sent_there).asked;
