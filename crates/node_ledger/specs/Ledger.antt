@@ -22,7 +22,7 @@ pub record Ledger : Type 0 where
 
 -- a configuration of no members
 abbrev pub nobody : Config
-nobody = first_config 0
+nobody = first_config 0 0
 
 -- a node with these fields, and the others as the set begins
 abbrev pub ledger_node : ℕ → Role → ℕ → List Entry → sets.FinSet optime_cmp → maps.FinMap nat_cmp Writer → ℕ

@@ -21,9 +21,10 @@ use Rattle.set_model.specs.Outcome.{Outcome, ignored, message_to, replied, sendi
 use Rattle.set_model.specs.Points.{commit_after, last_point, visible_point}
 use Rattle.set_model.specs.Roles.{is_candidate, is_primary, is_secondary}
 use Rattle.set_model.specs.Stores.{Plan, config_record, finished, in_doubt, storing}
-use Rattle.node_state.specs.Ahead.{taking}
+use Rattle.node_state.specs.Ahead.{taking, view_in_term}
 use Rattle.node_state.specs.HeardBeats.{beat_after, commit_learnt, installs, newer, told_of}
 use Rattle.node_state.specs.Ready.{IsHeard}
+use Rattle.node_state.specs.StateView.{StateView}
 use Rattle.node_state.specs.MessageContinuation.{answered, message_plan}
 use Rattle.node_state.specs.declared.turn.Answer.{Answer}
 use Rattle.node_state.specs.declared.turn.HeardBeat.{HeardBeat}
@@ -150,15 +151,15 @@ secondary_is Candidate is = absurd (cc is)
 secondary_is Draining is = absurd (cc is)
 secondary_is Primary is = absurd (cc is)
 
-heard_at : (node : Node) (hearing : HeardBeat) (config : Config) (primary : Bool) (installing : Bool) → hearing.from < 50 → hearing.primary ≡ primary → rule config ≡ None
-    → (installing ≡ true → is_secondary (cond (is_candidate node.role && primary) Secondary node.role) ≡ true) → IsHeard (newer installing config) hearing node
-heard_at node hearing config primary true from_is primary_is lawful secondary =
-    (from_is, (refl, lawful, ap (λ p. cond (is_candidate node.role && p) Secondary node.role) primary_is ∙ secondary_is _ (secondary refl)))
-heard_at node hearing config primary false from_is primary_is lawful secondary = (from_is, tt)
+heard_at : (standing : StateView) (hearing : HeardBeat) (config : Config) (primary : Bool) (installing : Bool) → 0 < standing.places → hearing.primary ≡ primary → rule config ≡ None
+    → (installing ≡ true → is_secondary (cond (is_candidate standing.node.role && primary) Secondary standing.node.role) ≡ true) → IsHeard (newer installing config) hearing standing
+heard_at standing hearing config primary true place primary_is lawful secondary =
+    (place, (refl, lawful, ap (λ p. cond (is_candidate standing.node.role && p) Secondary standing.node.role) primary_is ∙ secondary_is _ (secondary refl)))
+heard_at standing hearing config primary false place primary_is lawful secondary = (place, tt)
 
-pub ready_is : (raised : Bool) (node : Node) (term : ℕ) (beat : Beat) (hearing : HeardBeat) (installing : Bool) → hearing.from < 50 → hearing.primary ≡ beat.primary → rule beat.config ≡ None
-    → installing ≡ installs (taking raised term node) beat → IsHeard (newer installing beat.config) hearing (taking raised term node)
-ready_is true node term beat hearing installing from_is primary_is lawful installing_is =
-    heard_at (taking true term node) hearing beat.config beat.primary installing from_is primary_is lawful (λ is. (and_parts _ _ (sym installing_is ∙ is)).0)
-ready_is false node term beat hearing installing from_is primary_is lawful installing_is =
-    heard_at node hearing beat.config beat.primary installing from_is primary_is lawful (λ is. (and_parts _ _ (sym installing_is ∙ is)).0)
+pub ready_is : (raised : Bool) (standing : StateView) (term : ℕ) (beat : Beat) (hearing : HeardBeat) (installing : Bool) → 0 < standing.places → hearing.primary ≡ beat.primary → rule beat.config ≡ None
+    → installing ≡ installs (taking raised term standing.node) beat → IsHeard (newer installing beat.config) hearing (view_in_term raised term standing)
+ready_is true standing term beat hearing installing place primary_is lawful installing_is =
+    heard_at (view_in_term true term standing) hearing beat.config beat.primary installing place primary_is lawful (λ is. (and_parts _ _ (sym installing_is ∙ is)).0)
+ready_is false standing term beat hearing installing place primary_is lawful installing_is =
+    heard_at standing hearing beat.config beat.primary installing place primary_is lawful (λ is. (and_parts _ _ (sym installing_is ∙ is)).0)

@@ -200,7 +200,7 @@ stores_well item (Cut point removed lost) standing tally optimes sound coherent 
 pub well_in_memory : (ledger : Node) (rest : BesideLedger) (optimes : List OpTime) → IsSound ledger → IsCoherent (seen_node ledger rest) rest.tally optimes → IsWellKept rest.records ledger.stable
 well_in_memory ledger rest optimes sound coherent = well_kept (seen_node ledger rest) rest.tally optimes (sound_seen ledger rest sound) coherent
 
-pub stores_in_memory : (item : Store) (then : Continuation) (ledger : Node) (rest : BesideLedger) (spare : ℕ) (optimes : List OpTime) → IsSound ledger → IsCoherent (seen_node ledger rest) rest.tally optimes
-    → IsReadyTurn (Storing item then) (record { node = seen_node ledger rest; spare = spare }) → StoresWell (seen_node ledger rest) item
-stores_in_memory item then ledger rest spare optimes sound coherent ready =
-    stores_well item then (record { node = seen_node ledger rest; spare = spare }) rest.tally optimes (sound_seen ledger rest sound) coherent ready.0 ready.1
+pub stores_in_memory : (item : Store) (then : Continuation) (ledger : Node) (rest : BesideLedger) (spare places : ℕ) (optimes : List OpTime) → IsSound ledger → IsCoherent (seen_node ledger rest) rest.tally optimes
+    → IsReadyTurn (Storing item then) (record { node = seen_node ledger rest; spare = spare; places = places }) → StoresWell (seen_node ledger rest) item
+stores_in_memory item then ledger rest spare places optimes sound coherent ready =
+    stores_well item then (record { node = seen_node ledger rest; spare = spare; places = places }) rest.tally optimes (sound_seen ledger rest sound) coherent ready.0 ready.1

@@ -1,8 +1,9 @@
 -- Turns of messages: before and after their term is taken.
-use Rattle.std.proofs.Common.{◌≡◌, ◌∙◌, ◌<◌, ◌≤◌, ap, sym, subst, arith, ℕ, Bool, true, false, List, [], ◌∷◌, ◌++◌, None, Some, length}
-use Rattle.std.specs.Prelude.{nat_lt}
+use Rattle.std.proofs.Common.{◌≡◌, ◌∙◌, ◌<◌, ◌≤◌, ap, sym, subst, arith, ℕ, Bool, true, false, List, [], ◌∷◌, ◌++◌, None, Some, length, IfOk}
+use Rattle.std.specs.Prelude.{nat_lt, Result}
 use Rattle.std.proofs.lemmas.Bool.Decides.{nat_tests}
 use Rattle.std.specs.List.{All}
+use Rattle.std.specs.declared.alloc.AllocError.{AllocError}
 use Rattle.oplog_entry.specs.declared.entry.Entry.{Entry}
 use Rattle.repl_msg.specs.declared.message.FetchReply.{FetchReply}
 use Rattle.repl_msg.specs.declared.record.Record.{Record}
@@ -49,6 +50,13 @@ told_now told term plan old new foretells =
     let same : new.records ≡ old.records = ap (λ (n : Node). n.records) foretells.same in
     sym (ap (λ (list : List Record). message_plan told (record new { records = list })) same ∙ foretells.comes_to old.records)
 
+-- ---- another node that is the same
+
+pub told_same : (result : Result MessageContinuation AllocError) (term : ℕ) (plan : Node → Plan) (old new : Node) → new ≡ old
+    → IfOk result (λ (told : MessageContinuation). IsPreparedFor told (nat_lt new.term term) term plan new new)
+    → IfOk result (λ (told : MessageContinuation). IsPreparedFor told (nat_lt old.term term) term plan old new)
+told_same result term plan old new same = subst (λ (n : Node). IfOk result (λ (told : MessageContinuation). IsPreparedFor told (nat_lt n.term term) term plan n new)) same
+
 -- ---- what is ready stays so with other records
 
 fetch_with : (node : Node) (items : List Record) (term : ℕ) (fetched : FetchReply) → CanTakeEntries node term fetched → CanTakeEntries (record node { records = items }) term fetched
@@ -56,7 +64,7 @@ fetch_with node items term fetched can = record { order = can.order; base = can.
 
 pub ready_with : (told : MessageContinuation) (standing : StateView) (items : List Record) → IsReadyMessage told standing → IsReadyMessage told (record standing { node = record standing.node { records = items } })
 ready_with (Answered next sent) standing items ready = tt
-ready_with (Fetched from fetched) standing items ready = record { from_is = ready.from_is; lawful = fetch_with standing.node items standing.node.term fetched ready.lawful; room = ready.room }
+ready_with (Fetched from fetched) standing items ready = record { place = ready.place; lawful = fetch_with standing.node items standing.node.term fetched ready.lawful; room = ready.room }
 ready_with (Heard (Some newer) hearing) standing items ready = ready
 ready_with (Heard None hearing) standing items ready = ready
 ready_with (RolledBack point removed lost) standing items ready = record { role = ready.role; commit = ready.commit; applied = ready.applied; there = ready.there; rollback = ready.rollback }
@@ -81,10 +89,10 @@ fetch_then false node term fetched is can = record {
     no_less : (a b : ℕ) → nat_lt b a ≡ false → a ≤ b
     no_less a b test = grind (arith, nat_tests)
 
-pub ready_fetched : (raised : Bool) (old : Node) (new : StateView) (term from : ℕ) (given reply : FetchReply) → new.node ≡ old → given ≡ reply → raised ≡ nat_lt old.term term
-    → from < 50 → CanTakeEntries old term reply → length given.entries ≤ new.spare → IsFetched from given (view_in_term raised term new)
-ready_fetched raised old new term from given reply same copied is from_is can room = record {
-  from_is = from_is;
+pub ready_fetched : (raised : Bool) (old : Node) (new : StateView) (term : ℕ) (given reply : FetchReply) → new.node ≡ old → given ≡ reply → raised ≡ nat_lt old.term term
+    → 0 < new.places → CanTakeEntries old term reply → length given.entries ≤ new.spare → IsFetched given (view_in_term raised term new)
+ready_fetched raised old new term given reply same copied is place can room = record {
+  place = place;
   lawful = fetch_then raised new.node term given (is ∙ ap (λ (n : Node). nat_lt n.term term) (sym same))
       (subst (λ (n : Node). CanTakeEntries n term given) (sym same) (subst (CanTakeEntries old term) (sym copied) can));
   room = room;
@@ -92,12 +100,12 @@ ready_fetched raised old new term from given reply same copied is from_is can ro
 
 -- the node is in the message's term, whose record stands
 pub ready_entered : (told : MessageContinuation) (item : Store) (term : ℕ) (old new : StateView) → item ≡ vote_record term None → new.node ≡ in_new_term (stored old.node item) term None → new.spare ≡ old.spare
-    → IsReadyMessage told (in_term_of term old) → IsReadyMessage told new
-ready_entered told item term old new item_is node_is spare_is ready =
+    → new.places ≡ old.places → IsReadyMessage told (in_term_of term old) → IsReadyMessage told new
+ready_entered told item term old new item_is node_is spare_is places_is ready =
     subst (IsReadyMessage told) (sym made) (ready_with told (in_term_of term old) (records_after old.node.records (vote_record term None)) ready)
   where
     node_then : new.node ≡ in_new_term (stored old.node (vote_record term None)) term None
     node_then = node_is ∙ ap (λ (s : Store). in_new_term (stored old.node s) term None) item_is
 
-    made : new ≡ record { node = in_new_term (stored old.node (vote_record term None)) term None; spare = old.spare }
-    made = λ i. record { node = node_then i; spare = spare_is i }
+    made : new ≡ record { node = in_new_term (stored old.node (vote_record term None)) term None; spare = old.spare; places = old.places }
+    made = λ i. record { node = node_then i; spare = spare_is i; places = places_is i }

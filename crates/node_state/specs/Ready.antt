@@ -90,11 +90,11 @@ pub record IsVoteGiven (item : Store) (from : ℕ) (ask : VoteAsk) (why : Option
   pub from_is : from < 50
   pub sent_is : sent ≡ message_to node from (bodies.VoteReply ask.asked ask.dry why) ∷ []
 
-pub record IsInstall (item : Store) (config : Config) (hearing : HeardBeat) (node : Node) : Type 0 where
+pub record IsInstall (item : Store) (config : Config) (standing : StateView) : Type 0 where
   pub item_is : item ≡ config_record config
   pub lawful : rule config ≡ None
-  pub role : node.role ≡ Secondary
-  pub from_is : hearing.from < 50
+  pub role : standing.node.role ≡ Secondary
+  pub place : 0 < standing.places
 
 -- a point up to which the log is applied, no earlier than the commit point
 pub record IsCut (point : OpTime) (node : Node) : Type 0 where
@@ -106,22 +106,22 @@ pub record IsCut (point : OpTime) (node : Node) : Type 0 where
 
 -- ---- once a message's term is taken
 
-pub record IsFetched (from : ℕ) (fetched : FetchReply) (standing : StateView) : Type 0 where
-  pub from_is : from < 50
+pub record IsFetched (fetched : FetchReply) (standing : StateView) : Type 0 where
+  pub place : 0 < standing.places
   pub lawful : CanTakeEntries standing.node standing.node.term fetched
   pub room : length fetched.entries ≤ standing.spare
 
 -- a configuration that is kept and installed alike
-abbrev pub IsHeard : Option NewConfig → HeardBeat → Node → Type 0
-IsHeard newer hearing node =
-    (hearing.from < 50)
+abbrev pub IsHeard : Option NewConfig → HeardBeat → StateView → Type 0
+IsHeard newer hearing standing =
+    (0 < standing.places)
     × IfSome newer (λ new. (new.kept ≡ new.installed) × (rule new.installed ≡ None)
-    × ((given_way node (beat_in hearing node)).role ≡ Secondary))
+    × ((given_way standing.node (beat_in hearing standing.node)).role ≡ Secondary))
 
 abbrev pub IsReadyMessage : MessageContinuation → StateView → Type 0
 IsReadyMessage (Answered next sent) standing = ⊤
-IsReadyMessage (Fetched from fetched) standing = IsFetched from fetched standing
-IsReadyMessage (Heard newer hearing) standing = IsHeard newer hearing standing.node
+IsReadyMessage (Fetched from fetched) standing = IsFetched fetched standing
+IsReadyMessage (Heard newer hearing) standing = IsHeard newer hearing standing
 IsReadyMessage (RolledBack point removed lost) standing = IsCut point standing.node
 IsReadyMessage (Ignored why) standing = ⊤
 
@@ -148,7 +148,7 @@ IsReady item (VoteInTerm next from ask why sent) standing =
 IsReady item (VoteGiven next from ask why sent) standing =
     IsVoteGiven item from ask why sent.items standing.node
 IsReady item (TookTerm term told) standing = IsTerm item term told standing
-IsReady item (Installed config hearing) standing = IsInstall item config hearing standing.node
+IsReady item (Installed config hearing) standing = IsInstall item config standing
 IsReady item (Cut point removed lost) standing = (item ≡ cut_record point) × IsCut point standing.node
 
 -- what a node stores can be kept: a vote for a member, a configuration that breaks no rule, and at most 2,000

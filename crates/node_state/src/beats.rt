@@ -32,7 +32,7 @@ impl State {
         beat: &Beat,
         own: InTerm,
     ) -> Mem<MessageContinuation>
-        requires from { message.now.from < 50 }
+        requires place { 0 < self.now.places }
         requires config { rule beat.now.config ≡ None }
         requires own { IsInTerm own message.now.term self.now.node }
         ensures told { IfOk result (λ told.
@@ -57,7 +57,7 @@ impl State {
         beat: &Beat,
         own: InTerm,
     ) -> Mem<MessageContinuation>
-        requires from { message.now.from < 50 }
+        requires place { 0 < self.now.places }
         requires config { rule beat.now.config ≡ None }
         requires own { IsInTerm own message.now.term self.now.node }
         ensures told { IfOk result (λ told.
@@ -163,7 +163,7 @@ impl State {
 
     /// Takes a heartbeat, or the answer to one. A newer configuration goes to the journal first.
     pub(crate) fn hear(&mut self, newer: Option<NewConfig>, hearing: HeardBeat) -> Turn
-        requires ready { IsHeard newer hearing self.old.node }
+        requires ready { IsHeard newer hearing self.old }
         ensures turn { Means result self.new.node
             (heard_with hearing newer (beats.given_way self.old.node (beat_in hearing self.old.node))) }
         ensures ready { IsReadyTurn result self.new }
@@ -189,7 +189,7 @@ impl State {
         config: Config,
         hearing: HeardBeat,
     ) -> Turn
-        requires ready { IsInstall item.now config hearing self.old.node }
+        requires ready { IsInstall item.now config self.old }
         ensures turn { Means result self.new.node
             (rest_of (continuations.Installed config hearing) (stored self.old.node item.now)) }
         ensures ready { IsReadyTurn result self.new }
@@ -200,7 +200,8 @@ impl State {
 
     /// A candidate that hears a primary is a secondary, and its votes are forgotten.
     fn give_way(&mut self, hearing: &HeardBeat)
-        ensures { self.new.node ≡ beats.given_way self.old.node (beat_in hearing.now self.old.node) }
+        ensures node { self.new.node ≡ beats.given_way self.old.node (beat_in hearing.now self.old.node) }
+        ensures places { self.new.places ≡ self.old.places }
     {
         if hearing.primary && self.ledger.role() == Role::Candidate {
             self.ledger.set_role(Role::Secondary);
@@ -211,7 +212,7 @@ impl State {
     /// Notes what the heartbeat tells of its sender, learns its commit point, and sends the answer if
     /// there is one.
     fn heard(&mut self, hearing: HeardBeat) -> Turn
-        requires from { hearing.from < 50 }
+        requires place { 0 < self.old.places }
         ensures turn { Means result self.new.node (finished (heard_outcome hearing self.old.node)) }
         ensures ready { IsReadyTurn result self.new }
     {
@@ -227,7 +228,7 @@ impl State {
 
     /// Notes how far the sender's log is visible and whether it is primary, and learns its commit point.
     fn learn_of(&mut self, hearing: &HeardBeat)
-        requires from { hearing.now.from < 50 }
+        requires place { 0 < self.old.places }
         ensures { self.new.node ≡ beats.commit_heard
             (heard_of self.old.node hearing.now.from hearing.now.visible hearing.now.primary)
             (beat_in hearing.now self.old.node) }

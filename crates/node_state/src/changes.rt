@@ -29,6 +29,7 @@ impl State {
         requires vote { IfSome vote (λ voter. voter < 50) }
         ensures node { self.new.node ≡ in_new_term (stored self.old.node item.now) term vote }
         ensures spare { self.new.spare ≡ self.old.spare }
+        ensures places { self.new.places ≡ self.old.places }
     {
         self.ledger.recall_sound();
         self.ledger.step_down();

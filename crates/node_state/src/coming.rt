@@ -83,7 +83,7 @@ impl State {
             commit: stable,
             config,
             progress: Progress::new(alloc),
-            known: KnownTable::new(alloc)?,
+            known: KnownTable::new(alloc),
             tally: None,
             dry_run: None,
             lost: LostList::new(alloc),

@@ -46,7 +46,6 @@ impl State {
         message: &Message,
         reply: &FetchReply,
     ) -> Mem<MessageContinuation>
-        requires from { message.now.from < 50 }
         requires fetched { CanTakeEntries self.old.node message.now.term reply.now }
         ensures told { IfOk result (λ told.
             IsPreparedFor told (nat_lt self.old.node.term message.now.term) message.now.term
@@ -64,10 +63,13 @@ impl State {
         })
     }
 
+    /// Makes room for so many entries, and for what is heard of their sender.
     fn make_room(&mut self, count: usize) -> Mem<()>
         ensures node { self.new.node ≡ self.old.node }
         ensures room { OnOk result (count ≤ self.new.spare) }
+        ensures place { OnOk result (0 < self.new.places) }
     {
+        self.known.make_room()?;
         self.unjournaled.reserve(count)?;
         self.ledger.reserve(count)
     }
@@ -75,7 +77,7 @@ impl State {
     /// Appends the entries if they continue a secondary's log, and replies with their number and the
     /// log's last optime.
     pub(crate) fn take_entries(&mut self, from: u32, reply: FetchReply) -> Turn
-        requires ready { IsFetched from reply self.old }
+        requires ready { IsFetched reply self.old }
         ensures turn { Means result self.new.node (finished (rows.entries_told self.old.node from reply)) }
         ensures ready { IsReadyTurn result self.new }
     {
@@ -89,7 +91,7 @@ impl State {
     }
 
     fn follow(&mut self, from: u32, reply: FetchReply) -> Turn
-        requires ready { IsFetched from reply self.old }
+        requires ready { IsFetched reply self.old }
         requires role { self.old.node.role ≡ Secondary }
         requires base { continues (last_point self.old.node) reply ≡ true }
         ensures turn { Means result self.new.node (finished
@@ -109,7 +111,7 @@ impl State {
 
     /// Notes how far the sender's log is visible and whether it is primary, and learns its commit point.
     fn learn_from(&mut self, from: u32, visible: OpTime, commit: OpTime, primary: bool)
-        requires { from < 50 }
+        requires { 0 < self.old.places }
         ensures { self.new.node ≡ learnt (heard_of self.old.node from visible primary) commit }
     {
         self.commit = learn(self.commit, commit, self.durable);
@@ -122,7 +124,8 @@ impl State {
         requires room { length reply.entries ≤ self.old.spare }
         requires role { self.old.node.role ≡ Secondary }
         requires base { continues (last_point self.old.node) reply ≡ true }
-        ensures { self.new.node ≡ rows.with_fetched self.old.node reply.entries }
+        ensures node { self.new.node ≡ rows.with_fetched self.old.node reply.entries }
+        ensures places { self.new.places ≡ self.old.places }
     {
         self.ledger.recall_sound();
         note_all(&mut self.unjournaled, reply.entries.as_slice());

@@ -1,5 +1,5 @@
 // What a message comes to, made ready before anything is stored: only here may memory run out.
-ghost use Rattle.std.specs.Prelude.{◌≡◌, ◌<◌, nat_lt, true, IfOk, OnErr};
+ghost use Rattle.std.specs.Prelude.{◌≡◌, ◌<◌, nat_lt, true, IfOk, OnErr, OnOk};
 ghost use Rattle.set_model.specs.Deliver as delivered;
 ghost use Rattle.set_model.specs.Fetching.{fetch_told};
 ghost use Rattle.set_model.specs.Roles.{is_primary, is_secondary};
@@ -76,8 +76,14 @@ impl State {
         match &message.body {
             Body::Fetch { base } => self.prepare_fetch(next, message, *base, own),
             Body::FetchReply(reply) => self.prepare_entries(message, reply),
-            Body::Heartbeat(beat) => self.prepare_beat(next, message, beat, own),
-            Body::HeartbeatReply(beat) => self.prepare_answer(message, beat, own),
+            Body::Heartbeat(beat) => {
+                self.make_place()?;
+                self.prepare_beat(next, message, beat, own)
+            }
+            Body::HeartbeatReply(beat) => {
+                self.make_place()?;
+                self.prepare_answer(message, beat, own)
+            }
             Body::CommonAsk { commit } => self.prepare_common_asked(next, message, *commit, own),
             Body::CommonReply {
                 after,
@@ -115,6 +121,14 @@ impl State {
 }
 
 impl State {
+    /// Makes a place for what is heard of a member.
+    fn make_place(&mut self) -> Mem<()>
+        ensures node { self.new.node ≡ self.old.node }
+        ensures place { OnOk result (0 < self.new.places) }
+    {
+        self.known.make_room()
+    }
+
     /// What the node is once it has the term of a message.
     pub(crate) fn in_term(&self, term: u64) -> InTerm
         ensures { IsInTerm result term self.now.node }

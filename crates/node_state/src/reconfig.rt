@@ -109,6 +109,7 @@ impl State {
         requires role { self.old.node.role ≢ Candidate }
         ensures node { self.new.node ≡ installed (stored self.old.node item.now) config }
         ensures spare { self.new.spare ≡ self.old.spare }
+        ensures places { self.new.places ≡ self.old.places }
     {
         self.records = self.records.with(item);
         self.config = config;

@@ -67,7 +67,7 @@ impl State {
         ensures err { OnErr result (self.new.node ≡ self.old.node) }
     {
         let last = self.ledger.last();
-        let Some(source) = self.known.source(&self.config, self.number, last)? else {
+        let Some(source) = self.known.source(&self.config, self.number, last) else {
             return Ok(self.refused(Refusal::NoSource));
         };
         let reply = Reply::SentTo {

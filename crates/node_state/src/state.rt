@@ -106,13 +106,14 @@ impl Model for State {
         commit = s.commit;
         config = s.config;
         progress = s.progress;
-        known = s.known;
+        known = s.known.heard;
         tally = s.tally;
         dry_tally = s.dry_run;
         lost = s.lost;
         rollback = s.rollback;
       });
       spare = min s.ledger.spare s.unjournaled.spare;
+      places = s.known.spare;
     } };
 
     ghost invariant = { λ s. IsCoherent (seen_node s.ledger.node (record {
@@ -124,7 +125,7 @@ impl Model for State {
       commit = s.commit;
       config = s.config;
       progress = s.progress;
-      known = s.known;
+      known = s.known.heard;
       tally = s.tally;
       dry_tally = s.dry_run;
       lost = s.lost;
@@ -150,7 +151,7 @@ impl State {
             commit: OpTime::ZERO,
             config: config.copy()?,
             progress: Progress::new(alloc),
-            known: KnownTable::new(alloc)?,
+            known: KnownTable::new(alloc),
             tally: None,
             dry_run: None,
             lost: LostList::new(alloc),

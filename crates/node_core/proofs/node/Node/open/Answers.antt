@@ -1,10 +1,13 @@
-use Rattle.std.proofs.Common.{[], inl, inr, refl, subst, sym, true, Ok}
+use Rattle.std.proofs.Common.{◌≡◌, [], ap, inl, inr, refl, subst, sym, true, Err, Ok}
 use Rattle.checkpoint_store.specs.Files.{empty_disk}
 use Rattle.node_journal.specs.Files.{OpensInForm}
 use Rattle.set_model.specs.Node.{opening_node}
+use Rattle.record_file.specs.declared.error.FileError.TheVariants.{Disk}
+use Rattle.node_core.specs.Acting.{RunsWithoutOrders}
 use Rattle.node_core.specs.Opening.{unopened_node}
 use Rattle.node_core.specs.Stands.{StandsSince}
 use Rattle.node_core.proofs.ActingLemmas.{rests_stand}
+use Rattle.node_core.proofs.PuttingLemmas.{runs_as, runs_checkpoints, runs_journal, runs_then}
 use Rattle.node_core.proofs.OpeningLemmas.{both_begun, empty_journal, journal_begun, none_begun, opens_rested, unopened_empty}
 use Rattle.node_core.proofs.node.Node.open.Goals as goal
 
@@ -69,3 +72,19 @@ returns-in-Err-open-clause-calls g c =
 
 pub returns-clause-calls : goal.returns-clause-calls
 returns-clause-calls g c = (c.in-Ok-open.ensures.calls [] (empty_journal (g.D.Disk.state c.args.journal) c.requires.journal), c.in-Ok-open-2.ensures.calls)
+
+pub returns-in-Err-clause-runs : goal.returns-in-Err-clause-runs
+returns-in-Err-clause-runs g c =
+    let j = g.D.Disk.state c.args.journal in
+    let j' = g.D.Disk.state c.in-Err.journal in
+    let k = g.D.Disk.state c.args.checkpoint in
+    runs_as j j' k k (λ fault. ap Err fault) (runs_journal j j' k c.in-Err.ensures.keeps)
+
+pub returns-in-Err-open-clause-runs : goal.returns-in-Err-open-clause-runs
+returns-in-Err-open-clause-runs g c =
+    let j = g.D.Disk.state c.args.journal in
+    let j' = g.D.Disk.state c.in-Ok-open.journal.0 in
+    let k = g.D.Disk.state c.args.checkpoint in
+    let k' = g.D.Disk.state c.in-Err-open.checkpoint in
+    subst (λ (disk : g.row.D.Denot). RunsWithoutOrders (c.in-Err-open.error ≡ Disk) j (g.D.Disk.state disk) k k') (sym c.close.ensures.disk)
+    (runs_then j j' j' k k k' (λ fault. inr (ap Err fault)) (runs_journal j j' k c.in-Ok-open.ensures.keeps) (runs_checkpoints j' k k' c.in-Err-open.ensures.keeps))

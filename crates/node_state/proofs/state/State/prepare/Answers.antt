@@ -4,14 +4,23 @@ use Rattle.set_model.specs.Deliver.{told}
 use Rattle.node_state.specs.Ahead.{IsPreparedFor}
 use Rattle.node_state.specs.declared.turn.MessageContinuation.{MessageContinuation}
 use Rattle.node_state.proofs.BodyLemmas.{common_of}
+use Rattle.node_state.proofs.TakenLemmas.{told_same}
 use Rattle.node_state.proofs.state.State.prepare.Goals as goal
 
 pub prepare_common_told-requires-clause-common : goal.prepare_common_told-requires-clause-common
 prepare_common_told-requires-clause-common g c κs within =
     common_of c.args.self.now.node c.args.message.now c.in-CommonReply.after c.in-CommonReply.optimes c.in-CommonReply.visible c.requires.message c.in-CommonReply.is
 
-pub returns-in-Heartbeat-clause-told : goal.returns-in-Heartbeat-clause-told
-returns-in-Heartbeat-clause-told g c =
+pub returns-in_ok-make_place-in-Heartbeat-clause-told : goal.returns-in_ok-make_place-in-Heartbeat-clause-told
+returns-in_ok-make_place-in-Heartbeat-clause-told g c =
     subst
-    (λ (b : Body). IfOk c.prepare_beat.result (λ (t : MessageContinuation). IsPreparedFor t (nat_lt c.args.self.now.node.term c.args.message.now.term) c.args.message.now.term (told c.args.next c.args.message.now.from c.args.message.now.term b) c.args.self.now.node c.args.self.now.node))
-    (sym c.in-Heartbeat.is) c.prepare_beat.ensures.told
+    (λ (b : Body). IfOk c.prepare_beat.result (λ (t : MessageContinuation). IsPreparedFor t (nat_lt c.args.self.now.node.term c.args.message.now.term) c.args.message.now.term (told c.args.next c.args.message.now.from c.args.message.now.term b) c.args.self.now.node c.make_place.new.self.node))
+    (sym c.in-Heartbeat.is)
+    (told_same c.prepare_beat.result c.args.message.now.term _ c.args.self.now.node c.make_place.new.self.node c.make_place.ensures.node c.prepare_beat.ensures.told)
+
+pub returns-in_ok-make_place-in-HeartbeatReply-clause-told : goal.returns-in_ok-make_place-in-HeartbeatReply-clause-told
+returns-in_ok-make_place-in-HeartbeatReply-clause-told g c =
+    subst
+    (λ (b : Body). IfOk c.prepare_answer.result (λ (t : MessageContinuation). IsPreparedFor t (nat_lt c.args.self.now.node.term c.args.message.now.term) c.args.message.now.term (told c.args.next c.args.message.now.from c.args.message.now.term b) c.args.self.now.node c.make_place-in-HeartbeatReply.new.self.node))
+    (sym c.in-HeartbeatReply.is)
+    (told_same c.prepare_answer.result c.args.message.now.term _ c.args.self.now.node c.make_place-in-HeartbeatReply.new.self.node c.make_place-in-HeartbeatReply.ensures.node c.prepare_answer.ensures.told)

@@ -28,8 +28,8 @@ returns-clause-ready c =
     let from = c.args.message.now.from in
     let raised = nat_lt node.term term in
     subst (λ (t : MessageContinuation). IsReadyMessage t (view_in_term raised term c.args.self.now)) (sym c.in_ok-told.ensures)
-    (ready_is raised node term c.args.beat.now
-    (record { from = from; visible = c.args.beat.now.visible; primary = c.args.beat.now.primary; commit = c.args.beat.now.commit; answer = Some c.in_ok-answer.answer }) _ c.requires.from refl c.requires.config (installs_as raised term node c.args.beat.now c.args.own.role c.requires.own.role_is))
+    (ready_is raised c.args.self.now term c.args.beat.now
+    (record { from = from; visible = c.args.beat.now.visible; primary = c.args.beat.now.primary; commit = c.args.beat.now.commit; answer = Some c.in_ok-answer.answer }) _ c.requires.place refl c.requires.config (installs_as raised term node c.args.beat.now c.args.own.role c.requires.own.role_is))
 
 pub returns-then-is_after-clause-told : goal.returns-then-is_after-clause-told
 returns-then-is_after-clause-told c =

@@ -18,8 +18,7 @@ returns-clause-told c =
 pub returns-clause-ready : goal.returns-clause-ready
 returns-clause-ready c =
     let term = c.args.message.now.term in
-    let from = c.args.message.now.from in
     let raised = nat_lt c.args.self.now.node.term term in
-    ready_fetched raised c.args.self.now.node c.make_room.new.self term from c.in_ok-reply.reply c.args.reply.now c.make_room.ensures.node c.in_ok-reply.ensures
-    refl c.requires.from c.requires.fetched
+    ready_fetched raised c.args.self.now.node c.make_room.new.self term c.in_ok-reply.reply c.args.reply.now c.make_room.ensures.node c.in_ok-reply.ensures
+    refl c.in_ok-make_room.ensures.place c.requires.fetched
     (subst (λ (list : List Entry). length list ≤ c.make_room.new.self.spare) c.as_slice.ensures.entries c.in_ok-make_room.ensures.room)

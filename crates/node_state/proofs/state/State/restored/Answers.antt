@@ -1,5 +1,5 @@
 use Rattle.std.proofs.Common.{◌∙◌, ap, ◌+◌, None}
-use Rattle.node_ledger.specs.Ledger.{Ledger, restored}
+use Rattle.node_ledger.specs.Ledger.{restored}
 use Rattle.node_state.proofs.RestartLemmas.{restorable, restored-coherent}
 use Rattle.node_state.proofs.state.State.restored.Goals as goal
 
@@ -15,11 +15,11 @@ pub restore-requires-clause-reached : goal.restore-requires-clause-reached
 restore-requires-clause-reached g c κs shared =
     (restorable c.args.found c.args.coming_up.records.list c.args.stable c.entries_up_to-entries.result c.requires.kept c.requires.read c.entries_up_to-entries.ensures).reached
 
-pub invariant_of-result-2 : goal.invariant_of-result-2
-invariant_of-result-2 g c =
+pub invariant_of-result : goal.invariant_of-result
+invariant_of-result g c =
     restored-coherent c.args.coming_up.first.now c.args.coming_up.number c.args.coming_up.records.list c.args.stable c.args.coming_up.rollback c.args.coming_up.clock c.args.found
     _ _ _ c.requires.number c.requires.first c.requires.kept c.requires.read
-    (ap (λ (l : Ledger). l.node) c.ledger.view_is ∙ c.in_ok-ledger.ensures
+    (c.in_ok-ledger.ensures
     ∙ ap (λ entries. restored c.args.found.vote.term c.args.coming_up.clock entries c.args.stable) c.entries_up_to-entries.ensures)
     (λ i. record {
       number = c.args.coming_up.number;
@@ -30,7 +30,7 @@ invariant_of-result-2 g c =
       commit = c.args.stable;
       config = c.in_ok-config.ensures i;
       progress = c.new.ensures i;
-      known = c.in_ok-new.ensures i;
+      known = c.new-2.ensures i;
       tally = None;
       dry_tally = None;
       lost = c.new-3.ensures i;
