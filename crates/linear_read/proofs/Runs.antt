@@ -155,8 +155,8 @@ module _ (sizes : Sizes) (events : List Event) where
 
   written_at : (place : ℕ) → WorldHas (WasWritten sizes events place) (world_at sizes events place)
   written_at zero = record {
-    each = λ number node there. subst (Holds (WasWritten sizes events 0)) (sym (get_from (first_config sizes.members) 0 sizes.nodes number node there))
-        (opening_has (WasWritten sizes events 0) (first_config sizes.members) (0 + number));
+    each = λ number node there. subst (Holds (WasWritten sizes events 0)) (sym (get_from (first_config sizes.voters sizes.members) 0 sizes.nodes number node there))
+        (opening_has (WasWritten sizes events 0) (first_config sizes.voters sizes.members) (0 + number));
     messages = λ message there. absurd there;
   }
   written_at (suc place) = go (written_at place) (slice_get events place) refl

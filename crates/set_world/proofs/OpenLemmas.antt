@@ -1,9 +1,9 @@
 -- The set as it begins: its configuration's members, and its nodes, one after another.
-use Rattle.std.proofs.Common.{◌≡◌, ◌∙◌, ◌+◌, ◌≤◌, slice_get, None, Some, ap, sym, subst, refl, arith, ℕ, zero, suc, true, List, [], ◌∷◌, ◌++◌}
+use Rattle.std.proofs.Common.{◌≡◌, ◌∙◌, ◌+◌, ◌≤◌, slice_get, None, Some, ap, sym, subst, refl, arith, ℕ, zero, suc, List, [], ◌∷◌, ◌++◌}
 use Rattle.member_config.specs.declared.config.Config.{Config}
 use Rattle.member_config.specs.declared.config.Member.{Member}
 use Rattle.std.specs.Prelude.{All}
-use Rattle.member_config.specs.Config.{first_config, members_from}
+use Rattle.member_config.specs.Config.{first_config, first_member, members_from}
 use Rattle.member_config.specs.Rule.{rule}
 use Rattle.set_model.specs.Node.{Node, opening_node}
 use Rattle.set_model.specs.Run.{Sizes, AreSizes}
@@ -13,17 +13,15 @@ use Rattle.safety_laws.specs.Laws.{InEveryRun}
 use Rattle.set_world.specs.Pool.{Pool}
 use Rattle.set_world.specs.World.{IsStanding, nodes_in}
 
-abbrev voter : ℕ → Member
-voter number = record { number = number; votes = true; priority = 1 }
+members_last : (voters first count : ℕ) → members_from voters first (suc count) ≡ members_from voters first count ++ first_member voters (first + count) ∷ []
+members_last voters first zero = ap (λ n. first_member voters n ∷ []) (let same : first ≡ first + 0 = omega arith in same)
+members_last voters first (suc count) = ap (λ l. first_member voters first ∷ l)
+    (members_last voters (first + 1) count ∙ ap (λ n. members_from voters (first + 1) count ++ first_member voters n ∷ []) (let same : first + 1 + count ≡ first + suc count = omega arith in same))
 
-members_last : (first count : ℕ) → members_from first (suc count) ≡ members_from first count ++ voter (first + count) ∷ []
-members_last first zero = ap (λ n. voter n ∷ []) (let same : first ≡ first + 0 = omega arith in same)
-members_last first (suc count) = ap (λ l. voter first ∷ l) (members_last (first + 1) count ∙ ap (λ n. members_from (first + 1) count ++ voter n ∷ []) (let same : first + 1 + count ≡ first + suc count = omega arith in same))
-
-pub members_more : (count : ℕ) (old new : List Member) → old ≡ members_from 0 count → new ≡ old ++ record { number = count; votes = true; priority = 1 } ∷ [] → new ≡ members_from 0 (count + 1)
-members_more count old new is more =
-    more ∙ ap (λ l. l ++ voter count ∷ []) is ∙ ap (λ n. members_from 0 count ++ voter n ∷ []) (let same : count ≡ 0 + count = omega arith in same) ∙ sym (members_last 0 count)
-    ∙ ap (λ n. members_from 0 n) (let same : suc count ≡ count + 1 = omega arith in same)
+pub members_more : (voters count : ℕ) (old new : List Member) → old ≡ members_from voters 0 count → new ≡ old ++ first_member voters count ∷ [] → new ≡ members_from voters 0 (count + 1)
+members_more voters count old new is more =
+    more ∙ ap (λ l. l ++ first_member voters count ∷ []) is ∙ ap (λ n. members_from voters 0 count ++ first_member voters n ∷ []) (let same : count ≡ 0 + count = omega arith in same)
+    ∙ sym (members_last voters 0 count) ∙ ap (λ n. members_from voters 0 n) (let same : suc count ≡ count + 1 = omega arith in same)
 
 nodes_last : (config : Config) (first count : ℕ) → nodes_from config first (suc count) ≡ nodes_from config first count ++ opening_node config (first + count) ∷ []
 nodes_last config first zero = ap (λ n. opening_node config n ∷ []) (let same : first ≡ first + 0 = omega arith in same)
@@ -42,7 +40,7 @@ nodes_more config count old new node is more opened =
     ∙ ap (λ n. nodes_from config 0 n) (let same : suc count ≡ count + 1 = omega arith in same)
 
 -- the set as it begins stands
-pub begins : (sizes : Sizes) (nodes : List Node) (pool : Pool) → AreSizes sizes → nodes ≡ nodes_from (first_config sizes.members) 0 sizes.nodes → pool.nodes ≡ sizes.nodes → pool.messages ≡ []
+pub begins : (sizes : Sizes) (nodes : List Node) (pool : Pool) → AreSizes sizes → nodes ≡ nodes_from (first_config sizes.voters sizes.members) 0 sizes.nodes → pool.nodes ≡ sizes.nodes → pool.messages ≡ []
     → IsStanding sizes [] nodes pool
 begins sizes nodes pool are opened size none = record {
   reached = record {
@@ -55,13 +53,13 @@ begins sizes nodes pool are opened size none = record {
 }
 
 -- no rule is broken by the configuration that a set begins with
-pub first_rule : InEveryRun ConfigsAreLawful → (sizes : Sizes) → AreSizes sizes → rule (first_config sizes.members) ≡ None
-first_rule law sizes are = ((law sizes [] are tt).nodes 0 0 (opening_node (first_config sizes.members) 0) (there sizes.nodes some)).first.rules
+pub first_rule : InEveryRun ConfigsAreLawful → (sizes : Sizes) → AreSizes sizes → rule (first_config sizes.voters sizes.members) ≡ None
+first_rule law sizes are = ((law sizes [] are tt).nodes 0 0 (opening_node (first_config sizes.voters sizes.members) 0) (there sizes.nodes some)).first.rules
   where
     some : 1 ≤ sizes.nodes
-    some = let one : 1 ≤ sizes.members = are.one in let within : sizes.members ≤ sizes.nodes = are.within in omega (arith, one, within)
+    some = let one : 1 ≤ sizes.voters = are.one in let voting : sizes.voters ≤ sizes.members = are.voting in let within : sizes.members ≤ sizes.nodes = are.within in omega (arith, one, voting, within)
 
-    there : (count : ℕ) → 1 ≤ count → slice_get (nodes_from (first_config sizes.members) 0 count) 0 ≡ Some (opening_node (first_config sizes.members) 0)
+    there : (count : ℕ) → 1 ≤ count → slice_get (nodes_from (first_config sizes.voters sizes.members) 0 count) 0 ≡ Some (opening_node (first_config sizes.voters sizes.members) 0)
     there zero none = absurd (omega (arith, none))
     there (suc count) more = refl
 

@@ -111,7 +111,7 @@ zeros_at (number ∷ numbers) zeros (suc k) = zeros_at numbers (λ j d within. z
 pub pointed_first : (sizes : Sizes) (numbers : List ℕ) → length numbers ≡ sizes.nodes → All (λ number. number ≡ 0) numbers → ArePointed sizes [] numbers
 pointed_first sizes numbers size zeros = record {
   size = size;
-  each = λ number. zeros_at numbers zeros number ∙ sym (none_from (first_config sizes.members) 0 sizes.nodes number);
+  each = λ number. zeros_at numbers zeros number ∙ sym (none_from (first_config sizes.voters sizes.members) 0 sizes.nodes number);
 }
 
 -- the numbers after a step

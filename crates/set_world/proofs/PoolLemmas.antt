@@ -1,12 +1,12 @@
 -- The newest message from one node to another, with one message more.
-use Rattle.std.proofs.Common.{◌≡◌, ◌∙◌, ◌<◌, ◌≤◌, ◌+◌, ◌*◌, ◌==◌, inl, inr, ap, sym, subst, refl, arith, append_assoc, eqb-true, ℕ, zero, suc, Bool, true, false, cond, filter, length, Option, None, Some, List, [], ◌∷◌, ◌++◌, slice_get, slice_set, slice_index_or}
-use Rattle.std.proofs.lemmas.Bool.{and_parts, cases_Bool, cases_eq}
-use Rattle.std.proofs.lemmas.List.{length-set, get_or-set_same, get_or-set_other}
+use Rattle.std.proofs.Common.{◌≡◌, ◌∙◌, ◌<◌, ◌≤◌, ◌+◌, ◌&&◌, ap, sym, subst, refl, arith, append_assoc, ℕ, zero, suc, Bool, true, false, cond, filter, length, Option, None, Some, List, [], ◌∷◌, ◌++◌, slice_get}
+use Rattle.std.specs.Map.{lookup}
 use Rattle.repl_msg.specs.declared.message.Message.{Message}
 use Rattle.set_model.specs.World.{is_between, last_message, latest_between}
-use Rattle.std.specs.Prelude.{All}
-use Rattle.std.proofs.lemmas.List.Elements.{All-tail}
-use Rattle.set_world.specs.Pool.{Pool, IsNewest, IsIndexed, IsBetweenNodes, AddsSoFar, slot_of}
+use Rattle.std.specs.Prelude.{All, nat_eq, slice_index_or}
+use Rattle.std.proofs.lemmas.List.Elements.{All-append, All-tail}
+use Rattle.std.proofs.lemmas.Option.{slice_get-get_or}
+use Rattle.set_world.specs.Pool.{Pool, IsNewest, IsIndexed, IsBetweenNodes, AddsSoFar, place_in}
 
 filter-append : {A : Type 0} (test : A → Bool) (xs ys : List A) → filter test (xs ++ ys) ≡ filter test xs ++ filter test ys
 filter-append test [] ys = refl
@@ -49,14 +49,11 @@ longer : (messages : List Message) (message : Message) → length (messages ++ m
 longer [] message = refl
 longer (first ∷ messages) message = let rest : length (messages ++ message ∷ []) ≡ length messages + 1 = longer messages message in omega (arith, rest)
 
-pub newest_here : (messages : List Message) (message : Message) (from to : ℕ) → message.from ≡ from → message.to ≡ to → IsNewest (messages ++ message ∷ []) from to (Some (length messages))
-newest_here messages message from to sender receiver = (
+pub newest_here : (messages : List Message) (message : Message) (from to : ℕ) → is_between from to message ≡ true → IsNewest (messages ++ message ∷ []) from to (Some (length messages))
+newest_here messages message from to between = (
   let long : length (messages ++ message ∷ []) ≡ length messages + 1 = longer messages message in omega (arith, long),
   latest_more messages message from to between ∙ sym (get_last messages message),
 )
-  where
-    between : is_between from to message ≡ true
-    between = grind (arith, sender, receiver)
 
 pub newest_there : (messages : List Message) (message : Message) (from to : ℕ) (found : Option ℕ) → is_between from to message ≡ false → IsNewest messages from to found → IsNewest (messages ++ message ∷ []) from to found
 newest_there messages message from to None other is = latest_same messages message from to other ∙ is
@@ -65,45 +62,48 @@ newest_there messages message from to (Some place) other is = (
   latest_same messages message from to other ∙ is.1 ∙ sym (get_front messages message place is.0),
 )
 
--- the table, once it names a message more
-pub indexed_more : (nodes : ℕ) (messages : List Message) (newest : List (Option ℕ)) (message : Message) → IsIndexed nodes messages newest → message.from < nodes → message.to < nodes
-    → IsIndexed nodes (messages ++ message ∷ []) (slice_set newest (slot_of message.from message.to) (Some (length messages)))
-indexed_more nodes messages newest message is sender receiver = record {
-  few = is.few;
-  size = length-set newest (slot_of message.from message.to) (Some (length messages)) ∙ is.size;
-  each = λ from to known known_too. elim (cases_eq (slot_of from to) (slot_of message.from message.to)) [
-    | inl same ↦ at_slot from to known known_too same
-    | inr other ↦ elsewhere from to known known_too other
-  ];
+-- the message that stands at the place is it
+pub newest_is : (messages : List Message) (from to place : ℕ) (message : Message) → IsNewest messages from to (Some place) → message ≡ slice_index_or messages place message → latest_between messages from to ≡ Some message
+newest_is messages from to place message is stands = is.1 ∙ slice_get-get_or messages place message is.0 ∙ ap Some (sym stands)
+
+-- ---- the places of all pairs
+
+abbrev Places : Type 0
+Places = List ((ℕ × ℕ) × ℕ)
+
+abbrev is_pair : ℕ × ℕ → ℕ × ℕ → Bool
+is_pair one other = nat_eq one.0 other.0 && nat_eq one.1 other.1
+
+pub indexed_none : (nodes : ℕ) → IsIndexed nodes [] []
+indexed_none nodes = record { between = λ k d within. absurd (omega (arith, within)); each = λ from to. refl }
+
+-- in another order they are the same
+pub indexed_same : (nodes : ℕ) (messages : List Message) (old new : Places) → IsIndexed nodes messages old → ((pair : ℕ × ℕ) → lookup (is_pair pair) new ≡ lookup (is_pair pair) old) → IsIndexed nodes messages new
+indexed_same nodes messages old new is same = record {
+  between = is.between;
+  each = λ from to. subst (IsNewest messages from to) (sym (same (from, to))) (is.each from to);
+}
+
+-- a place that is found is the newest message's
+pub newest_at : (nodes : ℕ) (messages : List Message) (newest : Places) (from to : ℕ) (found : Option ℕ) → IsIndexed nodes messages newest → found ≡ place_in newest from to → IsNewest messages from to found
+newest_at nodes messages newest from to found is there = subst (IsNewest messages from to) (sym there) (is.each from to)
+
+-- once a message more has its place
+pub indexed_more : (nodes : ℕ) (messages : List Message) (old new : Places) (message : Message) → IsIndexed nodes messages old → IsBetweenNodes nodes message
+    → ((pair : ℕ × ℕ) → lookup (is_pair pair) new ≡ cond (is_pair (message.from, message.to) pair) (Some (length messages)) (lookup (is_pair pair) old))
+    → IsIndexed nodes (messages ++ message ∷ []) new
+indexed_more nodes messages old new message is between differ = record {
+  between = All-append (IsBetweenNodes nodes) messages (message ∷ []) is.between (alone between);
+  each = λ from to. subst (IsNewest (messages ++ message ∷ []) from to) (sym (differ (from, to))) (go from to (is_between from to message) refl);
 }
   where
-    few : nodes ≤ 50
-    few = is.few
+    alone : IsBetweenNodes nodes message → All (IsBetweenNodes nodes) (message ∷ [])
+    alone is zero d within = is
+    alone is (suc k) d within = absurd (omega (arith, within))
 
-    within : slot_of message.from message.to < length newest
-    within = let size : length newest ≡ nodes * 64 = is.size in omega (arith, size, sender, receiver, few)
-
-    at_slot : (from to : ℕ) → from < nodes → to < nodes → slot_of from to ≡ slot_of message.from message.to
-        → IsNewest (messages ++ message ∷ []) from to (slice_index_or (slice_set newest (slot_of message.from message.to) (Some (length messages))) (slot_of from to) None)
-    at_slot from to known known_too same = subst (λ found. IsNewest (messages ++ message ∷ []) from to found)
-        (sym (ap (λ k. slice_index_or (slice_set newest (slot_of message.from message.to) (Some (length messages))) k None) same ∙ get_or-set_same newest (slot_of message.from message.to) (Some (length messages)) None within))
-        (newest_here messages message from to (omega (arith, same, few, receiver, known_too)) (omega (arith, same, few, receiver, known_too)))
-
-    elsewhere : (from to : ℕ) → from < nodes → to < nodes → (slot_of from to ≡ slot_of message.from message.to → ⊥)
-        → IsNewest (messages ++ message ∷ []) from to (slice_index_or (slice_set newest (slot_of message.from message.to) (Some (length messages))) (slot_of from to) None)
-    elsewhere from to known known_too other = subst (λ found. IsNewest (messages ++ message ∷ []) from to found)
-        (sym (get_or-set_other newest (slot_of message.from message.to) (slot_of from to) (Some (length messages)) None other))
-        (newest_there messages message from to (slice_index_or newest (slot_of from to) None) apart (is.each from to known known_too))
-      where
-        apart : is_between from to message ≡ false
-        apart = elim (cases_Bool (is_between from to message)) [
-          | inl between ↦
-              let both : (message.from == from ≡ true) × (message.to == to ≡ true) = and_parts (message.from == from) (message.to == to) between in
-              let one : message.from ≡ from = eqb-true message.from from both.0 in
-              let two : message.to ≡ to = eqb-true message.to to both.1 in
-              absurd (other (omega (arith, one, two)))
-          | inr none ↦ none
-        ]
+    go : (from to : ℕ) (b : Bool) → is_between from to message ≡ b → IsNewest (messages ++ message ∷ []) from to (cond b (Some (length messages)) (place_in old from to))
+    go from to true here = newest_here messages message from to here
+    go from to false other = newest_there messages message from to (place_in old from to) other (is.each from to)
 
 -- ---- several messages
 

@@ -41,8 +41,8 @@ module _ (sizes : Sizes) (history : List Event) (nodes : List Node) (messages : 
   pub as_many : length nodes ≡ sizes.nodes
   as_many = sym (ap (λ (w : World). length w.nodes) (last_world sizes history nodes messages reached)) ∙ numbers.count (length history)
 
-  pub few_nodes : length nodes ≤ 7
-  few_nodes = let most : sizes.nodes ≤ 7 = reached.sizes_are.most in let same : length nodes ≡ sizes.nodes = as_many in omega (arith, most, same)
+  pub few_nodes : length nodes ≤ 50
+  few_nodes = let most : sizes.nodes ≤ 50 = reached.sizes_are.most in let same : length nodes ≡ sizes.nodes = as_many in omega (arith, most, same)
 
   pub bounded : (number : ℕ) (node : Node) → slice_get nodes number ≡ Some node → IsBounded node
   bounded number node there =
@@ -147,12 +147,13 @@ module _ {D : Type 0} (sizes : Sizes) (history : List Event) (nodes : List (Node
   may_act taking = record {
     size = size ∙ stands.size ∙ sym count;
     some =
-        let one : 1 ≤ sizes.members = stands.reached.sizes_are.one in
+        let one : 1 ≤ sizes.voters = stands.reached.sizes_are.one in
+        let voting : sizes.voters ≤ sizes.members = stands.reached.sizes_are.voting in
         let within : sizes.members ≤ sizes.nodes = stands.reached.sizes_are.within in
         let same : length nodes ≡ sizes.nodes = count in
-        omega (arith, one, within, same);
+        omega (arith, one, voting, within, same);
     few =
-        let few : length (nodes_in nodes) ≤ 7 = few_nodes sizes history (nodes_in nodes) pool.messages reached_now law in
+        let few : length (nodes_in nodes) ≤ 50 = few_nodes sizes history (nodes_in nodes) pool.messages reached_now law in
         let same : length (nodes_in nodes) ≡ length nodes = nodes_long nodes in
         omega (arith, few, same);
     bounds = bounded sizes history (nodes_in nodes) pool.messages reached_now law;
@@ -248,7 +249,7 @@ stands_still state Disks sizes history later items nodes new old pool what stand
 pub receivers : {D : Type 0} (sizes : Sizes) (history : List Event) (items : List (Node × D × D)) (pool : Pool) → IsStanding sizes history (nodes_in items) pool → InEveryRun NumbersStaySmall
     → (0 < pool.nodes) × ((message : Message) → Contains pool.messages message → message.to < pool.nodes)
 receivers sizes history items pool stands law = (
-  (let one : 1 ≤ sizes.members = stands.reached.sizes_are.one in let within : sizes.members ≤ sizes.nodes = stands.reached.sizes_are.within in let size = stands.size in omega (arith, one, within, size)),
+  (let one : 1 ≤ sizes.voters = stands.reached.sizes_are.one in let voting : sizes.voters ≤ sizes.members = stands.reached.sizes_are.voting in let within : sizes.members ≤ sizes.nodes = stands.reached.sizes_are.within in let size = stands.size in omega (arith, one, voting, within, size)),
   λ message sent.
       let less : message.to < length (nodes_in items) = between sizes history (nodes_in items) pool.messages stands.reached law message sent in
       let same : length (nodes_in items) ≡ sizes.nodes = as_many sizes history (nodes_in items) pool.messages stands.reached law in

@@ -1,5 +1,6 @@
 -- All messages that were sent, with where the newest from one node to another stands.
-use Rattle.std.specs.Prelude.{◌≡◌, ◌<◌, ◌≤◌, ◌+◌, ◌*◌, ◌++◌, ℕ, List, All, length, Option, None, Some, slice_get, slice_index_or}
+use Rattle.std.specs.Prelude.{◌≡◌, ◌<◌, ◌≤◌, ◌&&◌, ◌++◌, ℕ, nat_eq, List, All, length, Option, None, Some, slice_get}
+use Rattle.std.specs.Map.{lookup}
 use Rattle.repl_msg.specs.declared.message.Message.{Message}
 use Rattle.set_model.specs.World.{latest_between}
 
@@ -9,9 +10,9 @@ pub record Pool : Type 0 where
   pub messages : List Message
   pub spare : ℕ
 
--- where the newest message from one node to another stands in a table: no set has 64 nodes
-abbrev pub slot_of : ℕ → ℕ → ℕ
-slot_of from to = from * 64 + to
+-- where the newest message from one node to another stands, by the entries of a map
+abbrev pub place_in : List ((ℕ × ℕ) × ℕ) → ℕ → ℕ → Option ℕ
+place_in newest from to = lookup (λ pair. nat_eq from pair.0 && nat_eq to pair.1) newest
 
 -- the newest message from one node to another is the one at this place; or there is none
 abbrev pub IsNewest : List Message → ℕ → ℕ → Option ℕ → Type 0
@@ -19,16 +20,15 @@ IsNewest messages from to None = latest_between messages from to ≡ None
 IsNewest messages from to (Some place) =
     (place < length messages) × (latest_between messages from to ≡ slice_get messages place)
 
-pub record IsIndexed (nodes : ℕ) (messages : List Message) (newest : List (Option ℕ)) : Type 0 where
-  pub few : nodes ≤ 50
-  pub size : length newest ≡ nodes * 64
-  pub each : (from to : ℕ) → from < nodes → to < nodes
-      → IsNewest messages from to (slice_index_or newest (slot_of from to) None)
-
 -- it is between nodes of a set of so many
 pub record IsBetweenNodes (nodes : ℕ) (message : Message) : Type 0 where
   pub sender : message.from < nodes
   pub receiver : message.to < nodes
+
+-- all messages are, and the newest from one node to another is found
+pub record IsIndexed (nodes : ℕ) (messages : List Message) (newest : List ((ℕ × ℕ) × ℕ)) : Type 0 where
+  pub between : All (IsBetweenNodes nodes) messages
+  pub each : (from to : ℕ) → IsNewest messages from to (place_in newest from to)
 
 -- messages that are being added: some are, and these are left
 pub record AddsSoFar (old : Pool) (sent : List Message) (now : Pool) (left : List Message) : Type 0 where

@@ -52,7 +52,6 @@ pub(crate) fn actor(command: &Command) -> Option<u32>
 
 /// The message that a command delivers; none, where no such message was sent.
 pub(crate) fn delivered<'a>(pool: &'a Pool, command: &Command) -> Option<&'a Message>
-    requires command { is_for pool.now.nodes command.now ≡ true }
     ensures some { IfSome result (λ message. (world : World) → world.messages ≡ pool.now.messages
         → is_here command.now ≡ false → task world command.now ≡ takes message.now) }
     ensures sent { IfSome result (λ message. Contains pool.now.messages message.now) }

@@ -1,7 +1,7 @@
 // The nodes of a set, opened on its first disks and closed again.
 ghost use Rattle.std.specs.Prelude.{◌≡◌, ◌<◌, ◌≤◌, ◌+◌, ◌*◌, ◌++◌, ◌∷◌, [], All, vec_len, vec_capacity, Err, IfErr, IfOk, None, Ok, OnErr, OnOk};
 ghost use Rattle.rs_disk.specs.File.{IsEmpty};
-ghost use Rattle.member_config.specs.Config.{first_config as begins_with};
+ghost use Rattle.member_config.specs.Config.{first_config as begins_with, first_member};
 ghost use Rattle.member_config.specs.Rule.{rule};
 ghost use Rattle.set_model.specs.Node.{opening_node};
 ghost use Rattle.set_model.specs.World.{nodes_from};
@@ -52,7 +52,7 @@ pub(crate) fn open_nodes<D: Disk>(
     config: &Config,
     disks: &mut Vec<D>,
 ) -> Result<Vec<Node<D>>, FileError>
-    requires few { count ≤ 7 }
+    requires few { count ≤ 50 }
     requires config { rule config.now ≡ None }
     requires enough { 2 * count ≤ vec_len disks.old }
     requires empty { All (λ (disk : D). IsEmpty (D.state disk).file) disks.old.items }
@@ -124,18 +124,14 @@ fn keep<D: Disk>(nodes: &mut Vec<Node<D>>, node: Node<D>)
     }
 }
 
-/// The configuration that a set with so many members begins with.
-pub(crate) fn first_config(alloc: Global, members: u32) -> Mem<Config>
-    requires { members ≤ 7 }
-    ensures { IfOk result (λ config. config ≡ begins_with members) }
+/// The configuration that a set with so many members begins with, of whom so many vote.
+pub(crate) fn first_config(alloc: Global, voters: u32, members: u32) -> Mem<Config>
+    requires { members ≤ 50 }
+    ensures { IfOk result (λ config. config ≡ begins_with voters members) }
 {
     let mut list = MemberList::new(alloc);
     for number in 0..members {
-        list.push(Member {
-            number,
-            votes: true,
-            priority: 1,
-        })?;
+        list.push(first_member(voters, number))?;
     }
     Ok(Config {
         term: 0,
@@ -143,4 +139,16 @@ pub(crate) fn first_config(alloc: Global, members: u32) -> Mem<Config>
         members: list,
         chaining: true,
     })
+}
+
+/// A member as a set begins where so many vote: those vote, with priority 1, and no other can be elected.
+fn first_member(voters: u32, number: u32) -> Member
+    ensures { result ≡ first_member voters number }
+{
+    let votes = number < voters;
+    Member {
+        number,
+        votes,
+        priority: if votes { 1 } else { 0 },
+    }
 }

@@ -1,26 +1,26 @@
-ghost use Rattle.std.specs.Prelude.{◌≡◌, ◌<◌, ◌≤◌, ◌+◌, ◌++◌, ◌∷◌, [], All, Contains, length, None, IfOk, IfNone, IfSome, OnOk, Some, slice_get};
+ghost use Rattle.std.specs.Prelude.{◌≡◌, ◌<◌, ◌≤◌, ◌+◌, ◌++◌, ◌∷◌, [], All, Contains, length, None, IfNone, IfSome, OnOk, Some, slice_get};
 ghost use Rattle.set_model.specs.World.{latest_between};
 ghost use Rattle.set_world.specs.Pool.{IsBetweenNodes};
 
 use bson_doc::Mem;
 use repl_msg::Message;
 use std::alloc::Global;
+use std::collections::HashMap;
 use std::marker::Model;
-
-/// How far apart two senders stand in the table: no set has so many nodes.
-const STRIDE: usize = 64;
 
 /// All messages that were sent. The newest from one node to another is found without going over them.
 #[derive(Drop)]
 pub(crate) struct Pool {
     nodes: u32,
     messages: Vec<Message>,
-    newest: Vec<Option<usize>>,
+    /// Where the newest from one node to another stands, if there is one.
+    newest: HashMap<(u32, u32), usize>,
 }
 
 impl Model for Pool {
-    ghost use Rattle.std.specs.Prelude.{◌-◌, vec_len, vec_capacity};
+    ghost use Rattle.std.specs.Prelude.{◌-◌, min, vec_len, vec_capacity};
     ghost use Rattle.std.specs.Coded.{codes};
+    ghost use Rattle.std.specs.HashMap.{spare};
     ghost use Rattle.repl_msg.specs.contracts.message.Message as message;
     ghost use Rattle.set_world.specs.Pool.{Pool as Seen};
 
@@ -33,24 +33,23 @@ impl Model for Pool {
     ghost view = { λ p. record {
       nodes = p.nodes;
       messages = p.messages.items;
-      spare = vec_capacity p.messages - vec_len p.messages;
+      spare = min (vec_capacity p.messages - vec_len p.messages) (spare p.newest);
     } };
 
-    ghost invariant = { λ p. IsIndexed p.nodes p.messages.items p.newest.items };
+    ghost invariant = { λ p. IsIndexed p.nodes p.messages.items p.newest.entries };
 }
 
 impl Pool {
     /// No message, between so many nodes.
-    pub(crate) fn new(alloc: Global, nodes: u32) -> Mem<Self>
-        requires { nodes ≤ 50 }
-        ensures nodes { IfOk result (λ pool. pool.nodes ≡ nodes) }
-        ensures messages { IfOk result (λ pool. pool.messages ≡ []) }
+    pub(crate) fn new(alloc: Global, nodes: u32) -> Self
+        ensures nodes { result.nodes ≡ nodes }
+        ensures messages { result.messages ≡ [] }
     {
-        Ok(Pool {
+        Pool {
             nodes,
             messages: Vec::new(alloc),
-            newest: nothing(alloc, nodes as usize * STRIDE)?,
-        })
+            newest: HashMap::new(alloc),
+        }
     }
 
     pub(crate) fn len(&self) -> usize
@@ -65,7 +64,8 @@ impl Pool {
         ensures messages { self.new.messages ≡ self.old.messages }
         ensures room { OnOk result (more ≤ self.new.spare) }
     {
-        self.messages.reserve(more)
+        self.messages.reserve(more)?;
+        self.newest.reserve(more)
     }
 
     /// The message of this number.
@@ -80,16 +80,13 @@ impl Pool {
     }
 
     /// The newest message from one node to another.
-    #[tactic(auto, using(crate::proofs::NodesLemmas::among))]
     pub(crate) fn latest(&self, from: u32, to: u32) -> Option<&Message>
-        requires sender { from < self.now.nodes }
-        requires receiver { to < self.now.nodes }
         ensures some { IfSome result (λ message.
             latest_between self.now.messages from to ≡ Some message.now) }
         ensures none { IfNone result (latest_between self.now.messages from to ≡ None) }
         ensures sent { IfSome result (λ message. Contains self.now.messages message.now) }
     {
-        let place = self.newest[from as usize * STRIDE + to as usize]?;
+        let place = self.newest.get(&(from, to)).copied()?;
         Some(&self.messages[place])
     }
 
@@ -113,20 +110,14 @@ impl Pool {
         ensures spare { self.old.spare ≤ self.new.spare + 1 }
     {
         let place = self.messages.len();
-        let slot = message.from as usize * STRIDE + message.to as usize;
+        let pair = (message.from, message.to);
         match self.messages.push(message) {
             Ok(()) => {}
             Err(_) => unreachable!(),
         }
-        self.newest[slot] = Some(place);
+        match self.newest.insert(pair, place) {
+            Ok(_) => {}
+            Err(_) => unreachable!(),
+        }
     }
-}
-
-fn nothing(alloc: Global, count: usize) -> Mem<Vec<Option<usize>>>
-    ensures len { IfOk result (λ table. length table.items ≡ count) }
-    ensures none { IfOk result (λ table. All (λ place. place ≡ None) table.items) }
-{
-    let mut table = Vec::new(alloc);
-    table.resize(count, None)?;
-    Ok(table)
 }

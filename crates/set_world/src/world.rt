@@ -39,6 +39,7 @@ const MOST_SENT: usize = 7;
 pub struct World<D: Disk> {
     alloc: Global,
     size: u32,
+    voters: u32,
     members: u32,
     nodes: Vec<Node<D>>,
     pool: Pool,
@@ -69,7 +70,7 @@ impl<D: Disk> Model for World<D> {
     ghost use Rattle.set_world.specs.World.{CanTakeBack, IsStanding};
 
     ghost view = { λ w. record {
-      sizes = record { nodes = w.size; members = w.members };
+      sizes = record { nodes = w.size; voters = w.voters; members = w.members };
       history = w.history.items;
       disks = disks_in w.nodes.items ++ w.idle.items;
       opened = disks_in w.first_nodes.value.items ++ w.first_idle.value.items;
@@ -78,12 +79,17 @@ impl<D: Disk> Model for World<D> {
 
     ghost invariant = { λ w. IsStanding (record {
       nodes = w.size;
+      voters = w.voters;
       members = w.members;
     }) w.history.items (nodes_in w.nodes.items) w.pool
         × CanTakeBack (vec_len w.nodes) w.idle × EachNodeStands D.state w.nodes.items
-        × ArePointed (record { nodes = w.size; members = w.members }) w.history.items w.points
+        × ArePointed (record {
+          nodes = w.size;
+          voters = w.voters;
+          members = w.members;
+        }) w.history.items w.points
         × DisksWent D.state (record {
-          sizes = record { nodes = w.size; members = w.members };
+          sizes = record { nodes = w.size; voters = w.voters; members = w.members };
           history = w.history.items;
           disks = disks_in w.nodes.items ++ w.idle.items;
           opened = disks_in w.first_nodes.value.items ++ w.first_idle.value.items;
@@ -92,8 +98,9 @@ impl<D: Disk> Model for World<D> {
 }
 
 impl<D: Disk> World<D> {
-    /// A set of so many nodes, of which the first are members, on 100 empty disks. Its nodes are opened in
-    /// order of number, each on the next two disks: its journal, and then its checkpoints.
+    /// A set of up to 50 nodes on 100 empty disks. The first ones vote, up to seven, and with the next ones
+    /// are members. Its nodes are opened in order of number, each on the next two disks: its journal, and
+    /// then its checkpoints.
     ///
     /// # Errors
     /// `Disk` where a disk of one of the nodes failed, and `Memory` where memory ran out. Either hands back
@@ -103,13 +110,15 @@ impl<D: Disk> World<D> {
     pub fn open(
         alloc: Global,
         nodes: u32,
+        voters: u32,
         members: u32,
         disks: Vec<D>,
     ) -> Result<World<D>, (Vec<D>, FileError)>
-        requires sizes { AreSizes (record { nodes = nodes; members = members }) }
+        requires sizes { AreSizes (record { nodes = nodes; voters = voters; members = members }) }
         requires disks { vec_len disks ≡ 100 }
         requires empty { All (λ (disk : D). IsEmpty (D.state disk).file) disks.items }
-        ensures sizes { IfOk result (λ world. world.sizes ≡ record { nodes = nodes; members = members }) }
+        ensures sizes { IfOk result (λ world.
+            world.sizes ≡ record { nodes = nodes; voters = voters; members = members }) }
         ensures history { IfOk result (λ world. world.history ≡ []) }
         ensures opened { IfOk result (λ world. Opens D.state nodes (Ok tt) disks.items world.disks) }
         ensures first { IfOk result (λ world. world.opened ≡ world.disks) }
@@ -117,14 +126,11 @@ impl<D: Disk> World<D> {
         ensures refused { IfErr result (λ refused.
             Opens D.state nodes (Err refused.1) disks.items refused.0.items) }
         ensures handed_back { IfErr result (λ refused.
-            AllBegin D.state (begins_with members) nodes refused.0.items) }
+            AllBegin D.state (begins_with voters members) nodes refused.0.items) }
     {
         configs_are_lawful();
-        let pool = match Pool::new(alloc, nodes) {
-            Ok(pool) => pool,
-            Err(_) => return Err((disks, FileError::Memory)),
-        };
-        let config = match first_config(alloc, members) {
+        let pool = Pool::new(alloc, nodes);
+        let config = match first_config(alloc, voters, members) {
             Ok(config) => config,
             Err(_) => return Err((disks, FileError::Memory)),
         };
@@ -140,6 +146,7 @@ impl<D: Disk> World<D> {
                 Ok(World {
                     alloc,
                     size: nodes,
+                    voters,
                     members,
                     nodes: opened,
                     pool,
@@ -241,6 +248,7 @@ impl<D: Disk> World<D> {
         let World {
             alloc: _alloc,
             size: _size,
+            voters: _voters,
             members: _members,
             nodes,
             pool: _pool,

@@ -18,7 +18,7 @@ first_of turning = turning.begun ∷ []
 
 -- of a fixed part
 abbrev pub sizes_in : {D : Type 0} → List (Set D) → Sizes
-sizes_in [] = record { nodes = 0; members = 0 }
+sizes_in [] = record { nodes = 0; voters = 0; members = 0 }
 sizes_in (first ∷ more) = first.sizes
 
 -- the most entries that a node has had committed in any world of the events' run

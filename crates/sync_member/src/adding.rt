@@ -1,8 +1,9 @@
 // A set is closed, and gets a new member.
-ghost use Rattle.std.specs.Prelude.{◌≡◌, ◌≢◌, ◌≤◌, ◌+◌, ◌*◌, All, Err, IfErr, IfOk, IsErrOf, drop, length, true};
+ghost use Rattle.std.specs.Prelude.{◌≡◌, ◌≢◌, ◌<◌, ◌≤◌, ◌+◌, ◌*◌, All, Err, IfErr, IfOk, IsErrOf, drop, length, true};
 ghost use Rattle.rs_disk.specs.File.{IsEmpty};
 ghost use Rattle.rs_io.specs.Fault.{HasCause};
 ghost use Rattle.sync_member.specs.Adding.{AddsMember, AsksInVain};
+ghost use Rattle.sync_pin.specs.Asking.{MOST};
 
 use crate::placing::make_at;
 use rs_disk::Disk;
@@ -30,7 +31,7 @@ pub fn add_member<K: Sink, D: Disk, R: Threads + Wait + Sync>(
     sink: &mut K,
 ) -> (Result<(), SyncStop>, Result<(Vec<Event>, Vec<D>), World<D>>)
     requires whole { world.whole ≡ true }
-    requires room { 2 * world.sizes.nodes + 2 ≤ length world.disks }
+    requires room { world.sizes.nodes < MOST → 2 * world.sizes.nodes + 2 ≤ length world.disks }
     requires spare { All (λ (disk : D). IsEmpty (D.state disk).file)
         (drop (2 * world.sizes.nodes) world.disks) }
     ensures adds { IfOk result.1 (λ parts. AddsMember D.state node world (K.held sink.old) (K.held sink.new)

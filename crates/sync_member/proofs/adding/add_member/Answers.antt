@@ -9,7 +9,7 @@ make_at-made-requires-clause-room g c =
     let size : c.size-size.result ≡ c.args.world.sizes.nodes = c.size-size.ensures in
     let same : length c.close-events.result.1.items ≡ length c.pin.new.set.disks = ap length c.close-events.ensures.disks in
     let room : 2 * c.args.world.sizes.nodes + 2 ≤ length c.pin.new.set.disks = room_still g.D.Disk.state c.numbers_stay_small.ensures c.args.world c.pin.new.set
-    (went_by g.D.Disk.state c.args.world c.pin.new.set c.pin.ensures.stays) (c.pin.ensures.whole c.requires.whole (λ is. cc (is, c.in-Ok.is))) c.recall_run.ensures.sizes c.recall_run.ensures.run c.requires.room in
+    (went_by g.D.Disk.state c.args.world c.pin.new.set c.pin.ensures.stays) (c.pin.ensures.whole c.requires.whole (λ is. cc (is, c.in-Ok.is))) c.recall_run.ensures.sizes c.recall_run.ensures.run (c.requires.room c.in-Ok.ensures.pins.0.1) in
     omega (arith, many, size, same, room)
 
 pub make_at-made-requires-clause-spare : goal.make_at-made-requires-clause-spare
