@@ -1,5 +1,5 @@
 // A script by chance.
-ghost use Rattle.std.specs.Prelude.{◌≡◌, ◌≤◌, ◌++◌, IfOk, OnOk, string_bytes};
+ghost use Rattle.std.specs.Prelude.{◌≡◌, ◌≤◌, ◌*◌, ◌++◌, IfOk, OnOk, string_bytes};
 ghost use Rattle.chance_script.specs.Generated.{generated, set_text};
 
 use crate::happening::draw;
@@ -13,10 +13,11 @@ use std::fmt::Write;
 /// that set (`script_laws`).
 ///
 /// A seed always gives the same script, by PCG32 as the crate `rand_pcg` has it. There are at most 5,000
-/// events and 1 to 7 nodes.
+/// events and 1 to 50 nodes, and their product is at most 50,000.
 pub fn generate(alloc: Global, seed: u64, events: u32, nodes: u32) -> Mem<Vec<u8>>
     requires few { events ≤ 5000 }
-    requires sizes { 1 ≤ nodes × nodes ≤ 7 }
+    requires sizes { 1 ≤ nodes × nodes ≤ 50 }
+    requires product { events * nodes ≤ 50000 }
     ensures { IfOk result (λ bytes. bytes.items ≡ generated seed events nodes) }
 {
     let mut out = String::new(alloc);

@@ -1,9 +1,10 @@
 -- The set of a script that is read has lawful sizes, and each command is one of it.
-use Rattle.std.proofs.Common.{◌≡◌, ℕ, ◌+◌, Bool, true, false, ◌&&◌, List, [], ◌∷◌, ◌++◌, length, Option, None, Some, Result, Ok, Err, refl, sym, subst, arith, ◌∙◌}
+use Rattle.std.proofs.Common.{◌≡◌, ◌≤◌, ◌<◌, ℕ, ◌+◌, Bool, true, false, ◌&&◌, if◌then◌else◌, nat_le, le-leb, leb-true, ltb-true, ltb-false, List, [], ◌∷◌, ◌++◌, length, Option, None, Some, Result, Ok, Err, refl, sym, subst, arith, ◌∙◌}
 use Rattle.std.specs.Prelude.{nat_lt, codes}
 use Rattle.std.specs.Str.{bytes_eq}
 use Rattle.std.specs.List.{list_all}
 use Rattle.std.specs.Str.Lines.{lines}
+use Rattle.std.proofs.lemmas.Bool.{and_from, and_parts}
 use Rattle.std.proofs.lemmas.List.Folds.{list_all-append}
 use Rattle.set_model.specs.declared.command.Command.{Command}
 use Rattle.set_model.specs.Limits.{is_for}
@@ -20,7 +21,7 @@ use Rattle.script_words.specs.declared.shape.Shape.TheVariants.{Words}
 use Rattle.script_words.specs.declared.verb.Keyword.{Keyword}
 use Rattle.script_words.specs.declared.verb.Keyword.TheVariants as keywords
 use Rattle.script_words.specs.Words.{Left, has_shape, word_at, number_at, optional_at}
-use Rattle.script_words.specs.Set.{set_line, sizes_at}
+use Rattle.script_words.specs.Set.{members_or, most_voters, set_line, sizes_at}
 use Rattle.fault_script.specs.Lines.{text_of, is_passed_over}
 use Rattle.script_words.specs.Commands.{keyword_at, words_at}
 use Rattle.fault_script.specs.Script.{Thread, in_last, start, with_part, with_block, begin_block, begin_thread, end_block, add_command, with_keyword, with_command, with_set, with_text, with_line, whole, and_then, script_from, script, is_part_for, sizes_of}
@@ -36,7 +37,7 @@ threads_in None = []
 threads_in (Some threads) = threads
 
 abbrev line_sizes : SetLine → Sizes
-line_sizes set = record { nodes = set.nodes; members = set.members }
+line_sizes set = record { nodes = set.nodes; voters = set.voters; members = set.members }
 
 -- behind the `set` line all commands are the set's, and before it there is none
 abbrev FitBehind : Option SetLine → List Part → Option (List Thread) → Type 0
@@ -115,25 +116,58 @@ keyword_fit set number reading (keywords.Command verb) left fit = command_fit se
 
 -- ---- the `set` line
 
-itself : (nodes : ℕ) → IsIn 1 7 nodes → IsIn 1 nodes nodes
-itself nodes within = grind arith
+in_range : (least most number : ℕ) → least ≤ number → number ≤ most → IsIn least most number
+in_range least most number above below = and_from (nat_le least number) (nat_le number most) (le-leb least number above) (le-leb number most below)
 
-sized : (nodes members : ℕ) → IsIn 1 7 nodes → IsIn 1 nodes members → AreSizes (record { nodes = nodes; members = members })
-sized nodes members some few = record { one = grind arith; within = grind arith; most = grind arith }
+range_of : (least most number : ℕ) → IsIn least most number → (least ≤ number) × (number ≤ most)
+range_of least most number within =
+    let both : (nat_le least number ≡ true) × (nat_le number most ≡ true) = and_parts (nat_le least number) (nat_le number most) within in
+    (leb-true least number both.0, leb-true number most both.1)
+
+-- as many voters as may
+most_few : (nodes : ℕ) → (most_voters nodes ≤ 7) × (most_voters nodes ≤ nodes) × (1 ≤ nodes → 1 ≤ most_voters nodes)
+most_few nodes = go (nat_lt nodes 7) refl
+  where
+    go : (b : Bool) → nat_lt nodes 7 ≡ b → ((if b then nodes else 7) ≤ 7) × ((if b then nodes else 7) ≤ nodes) × (1 ≤ nodes → 1 ≤ (if b then nodes else 7))
+    go true is = let less : nodes < 7 = ltb-true nodes 7 is in (omega (arith, less), omega arith, λ some. some)
+    go false is = let many : 7 ≤ nodes = ltb-false nodes 7 is in (omega arith, many, λ some. omega arith)
+
+most_within : (nodes : ℕ) → IsIn 1 50 nodes → IsIn 1 (most_voters nodes) (most_voters nodes)
+most_within nodes within = in_range 1 (most_voters nodes) (most_voters nodes) ((most_few nodes).2 (range_of 1 50 nodes within).0) (omega arith)
+
+some_voters : (nodes voters : ℕ) → IsIn 1 (most_voters nodes) voters → (1 ≤ voters) × (voters ≤ 7) × (voters ≤ nodes)
+some_voters nodes voters within =
+    let range = range_of 1 (most_voters nodes) voters within in
+    let few = most_few nodes in
+    (range.0, omega (arith, range.1, few.0), omega (arith, range.1, few.1))
+
+-- the members that a line without them has
+default_within : (left : Left) (nodes voters : ℕ) → voters ≤ nodes → IsIn voters nodes (members_or left nodes voters)
+default_within None nodes voters within = in_range voters nodes nodes within (omega arith)
+default_within (Some left) nodes voters within = in_range voters nodes voters (omega arith) within
+
+sized : (nodes voters members : ℕ) → IsIn 1 50 nodes → IsIn 1 (most_voters nodes) voters → IsIn voters nodes members → AreSizes (record { nodes = nodes; voters = voters; members = members })
+sized nodes voters members some few within =
+    let votes = some_voters nodes voters few in
+    let range = range_of voters nodes members within in
+    record { one = votes.0; few = votes.1; voting = range.0; within = range.1; most = (range_of 1 50 nodes some).1 }
 
 sizes_sized : (left : Left) → Gets (sizes_at left) (λ set. AreSizes (line_sizes set))
 unfolding sizes_at
 sizes_sized left =
-    bind_gets (number_at 1 7 left) _ (λ x. IsIn 1 7 x.0) (λ set. AreSizes (line_sizes set)) (number_within 1 7 left) (λ nodes some.
-    bind_gets (optional_at nodes.0 1 nodes.0 nodes.1) _ (λ x. IsIn 1 nodes.0 x.0) (λ set. AreSizes (line_sizes set)) (optional_within nodes.0 1 nodes.0 nodes.1 (itself nodes.0 some)) (λ members few.
-    ended_gets members.1 _ (λ set. AreSizes (line_sizes set)) (sized nodes.0 members.0 some few)))
+    bind_gets (number_at 1 50 left) _ (λ x. IsIn 1 50 x.0) (λ set. AreSizes (line_sizes set)) (number_within 1 50 left) (λ nodes some.
+    bind_gets (optional_at (most_voters nodes.0) 1 (most_voters nodes.0) nodes.1) _ (λ x. IsIn 1 (most_voters nodes.0) x.0) (λ set. AreSizes (line_sizes set))
+    (optional_within (most_voters nodes.0) 1 (most_voters nodes.0) nodes.1 (most_within nodes.0 some)) (λ voters few.
+    bind_gets (optional_at (members_or nodes.1 nodes.0 voters.0) voters.0 nodes.0 voters.1) _ (λ x. IsIn voters.0 nodes.0 x.0) (λ set. AreSizes (line_sizes set))
+    (optional_within (members_or nodes.1 nodes.0 voters.0) voters.0 nodes.0 voters.1 (default_within nodes.1 nodes.0 voters.0 (some_voters nodes.0 voters.0 few).2)) (λ members within.
+    ended_gets members.1 _ (λ set. AreSizes (line_sizes set)) (sized nodes.0 voters.0 members.0 some few within))))
 
 set_sized : (text : List ℕ) → Gets (set_line text) (λ set. AreSizes (line_sizes set))
 unfolding set_line
 set_sized text =
     bind_any (word_at (Some text)) _ (λ set. AreSizes (line_sizes set)) (λ first.
     tested (bytes_eq first.0 (codes "set")) _ NoSetLine (λ set. AreSizes (line_sizes set)) (λ named.
-    tested (has_shape (Words 1 2) first.1) _ WordCount (λ set. AreSizes (line_sizes set)) (λ shaped. sizes_sized first.1)))
+    tested (has_shape (Words 1 3) first.1) _ WordCount (λ set. AreSizes (line_sizes set)) (λ shaped. sizes_sized first.1)))
 
 -- ---- any line
 

@@ -9,7 +9,7 @@
 -- many words as its form below has; words in brackets may be left out from the right. A DOC, the ID at the
 -- end of a line, and a JSON go on to the line's end, with spaces of their own, and have at least one byte.
 --
---     set NODES [MEMBERS]            the first line that says something, and no other
+--     set NODES [VOTERS [MEMBERS]]   the first line that says something, and no other
 --     insert N COLL DOC              replace N COLL ID DOC       update N COLL ID DOC      delete N COLL ID
 --     retry N SID NUMBER insert COLL DOC          (or `replace`, `update`, `delete` with their words)
 --     begin N W insert COLL DOC                   (or these, too)
@@ -23,13 +23,15 @@
 --     note N                         par                         thread                    end
 --
 -- A number is one or more decimal digits. N is `n` and the number of a node of the set, and two nodes on a
--- line differ; W is `w` and a number up to 999; M is `m` and a number of 64 bits. NODES is from 1 to 7, and
--- MEMBERS from 1 to NODES, or NODES where it isn't there. COLL is an ASCII letter and up to 63 letters,
--- digits, `_` and `.`. TARGET is W or TERM/SECONDS/INCREMENT, of 64, 32 and 32 bits. CONCERN is `majority` or
--- 1 to 50; LEVEL is `local` or `majority`; DISK is `journal` or `checkpoint`; WORKERS is 1 to 16, by default
--- 4; PICK is of 64 bits, at `crash` by default 0; CALL is 1 to 1000; SECONDS is below 2^31. ID is a value and
--- DOC a document in the notation of documents; an ID that a DOC follows has one space behind it. JSON is a
--- configuration. SID is a session, below 2^32, and NUMBER that of a write in it, from 1 on and below 2^31.
+-- line differ; W is `w` and a number up to 999; M is `m` and a number of 64 bits. NODES is from 1 to 50,
+-- VOTERS from 1 to the lesser of 7 and NODES, and MEMBERS from VOTERS to NODES: without MEMBERS there are
+-- just the voters, and with NODES alone all are members and as many vote as may. COLL is an ASCII letter
+-- and up to 63 letters, digits, `_` and `.`. TARGET is W or TERM/SECONDS/INCREMENT, of 64, 32 and 32 bits.
+-- CONCERN is `majority` or 1 to 50; LEVEL is `local` or `majority`; DISK is `journal` or `checkpoint`;
+-- WORKERS is 1 to 16, by default 4; PICK is of 64 bits, at `crash` by default 0; CALL is 1 to 1000; SECONDS
+-- is below 2^31. ID is a value and DOC a document in the notation of documents; an ID that a DOC follows
+-- has one space behind it. JSON is a configuration. SID is a session, below 2^32, and NUMBER that of a
+-- write in it, from 1 on and below 2^31.
 --
 -- `par` begins a block and `end` ends it. In between each `thread` begins one of at most 16 threads, and the
 -- commands behind it are that thread's.
@@ -146,7 +148,7 @@ abbrev pub whole : ℕ → Reading → Option SetLine → Option (List Thread) �
 whole number reading None block = faulty number NoSetLine
 whole number reading (Some set) (Some threads) = faulty number OpenPar
 whole number reading (Some set) None =
-    Ok (record { nodes = set.nodes; voters = set.members; members = set.members; parts = reading.parts })
+    Ok (record { nodes = set.nodes; voters = set.voters; members = set.members; parts = reading.parts })
 
 -- the later lines, where this one has no fault
 abbrev pub and_then : {A : Type 0} → ℕ → Result Reading ScriptRule → (Reading → Result A ScriptFault)
@@ -186,7 +188,7 @@ lines_in parts = flat_map lines_of parts
 
 -- the sizes of a script's set
 abbrev pub sizes_of : Script → Sizes
-sizes_of read = record { nodes = read.nodes; members = read.members }
+sizes_of read = record { nodes = read.nodes; voters = read.voters; members = read.members }
 
 -- ---- why nothing was read
 

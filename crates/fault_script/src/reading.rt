@@ -166,7 +166,7 @@ impl Reading {
         }
         Ok(Script {
             nodes: set.nodes,
-            voters: set.members,
+            voters: set.voters,
             members: set.members,
             parts: self.parts.shrunk(),
         })

@@ -11,6 +11,7 @@ use Rattle.script_words.specs.declared.rule.ScriptRule.{ScriptRule}
 use Rattle.script_words.specs.declared.rule.ScriptRule.TheVariants.{BadNumber, BadWord, NotUtf8, UnknownCommand}
 use Rattle.script_words.specs.Commands.{command_at}
 use Rattle.script_words.specs.Values.{text_at}
+use Rattle.script_words.specs.Set.{most_voters}
 use Rattle.script_words.specs.Words.{Left, Read, ended, number_at, number_of, word_at}
 
 -- ---- lines
@@ -36,14 +37,14 @@ behind_first name first = if bytes_eq first.0 name then Ok first.1 else Err Unkn
 
 -- ---- the header
 
--- `trace`, then 1 to 7 nodes. Of these, up to all have a vote, and just these are members.
+-- `trace`, then 1 to 50 nodes. Of these up to seven have a vote, and these and up to all others are members.
 unfoldable pub header_at : List ℕ → Result (ℕ × ℕ × ℕ) ScriptRule
 header_at text = do
   first ← word_at (Some text)
   left ← behind_first (codes "trace") first
-  nodes ← number_at 1 7 left
-  voters ← number_at 1 nodes.0 nodes.1
-  members ← number_at voters.0 voters.0 voters.1
+  nodes ← number_at 1 50 left
+  voters ← number_at 1 (most_voters nodes.0) nodes.1
+  members ← number_at voters.0 nodes.0 voters.1
   ended members.1 (nodes.0, voters.0, members.0)
 
 -- the sizes of the header that a line is

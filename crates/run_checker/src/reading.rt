@@ -7,7 +7,7 @@ ghost use Rattle.run_checker.specs.Reading.{behind_first, event_at, event_in, fa
 use crate::lines::{next_line, text_of};
 use crate::sizes::Sizes;
 use fault_script::{CommandError, ScriptRule, parse_command};
-use script_words::{Left, MAX_NODES, Read, number, number_of, text, word};
+use script_words::{Left, MAX_NODES, Read, most_voters, number, number_of, text, word};
 use set_model::Event;
 use std::alloc::Global;
 
@@ -39,8 +39,8 @@ fn header(text: &str) -> Result<Sizes, ScriptRule>
     let (first, left) = word(Some(text))?;
     let left = behind_first("trace", first, left)?;
     let (nodes, left) = number(left, 1, MAX_NODES)?;
-    let (voters, left) = number(left, 1, nodes)?;
-    let (members, left) = number(left, voters, voters)?;
+    let (voters, left) = number(left, 1, most_voters(nodes))?;
+    let (members, left) = number(left, voters, nodes)?;
     match left {
         None => Ok((nodes, voters, members)),
         Some(_) => Err(ScriptRule::WordCount),

@@ -56,11 +56,11 @@ pub record IsName (node : ℕ) : Type 0 where
   pub inside : list_all is_inside (name_of node) ≡ true
   pub short : length (name_of node) ≤ 20
 
-pub is_name : (nodes node : ℕ) → node < nodes → nodes ≤ 7 → IsName node
+pub is_name : (nodes node : ℕ) → node < nodes → nodes ≤ 50 → IsName node
 is_name nodes node within few = record { inside = name_inside node (omega arith); short = omega (arith, (is_written node (omega arith)).short) }
 
 -- a word and a node
-pub alone : (nodes node : ℕ) (word : List ℕ) (verb : Verb) (command : Command) → IsFirstWord word verb → node < nodes → nodes ≤ 7
+pub alone : (nodes node : ℕ) (word : List ℕ) (verb : Verb) (command : Command) → IsFirstWord word verb → node < nodes → nodes ≤ 50
     → ((left : Left) → word_count left ≡ 1 → has_shape (shape_of verb) left ≡ true) → words_at nodes verb (Some (name_of node)) ≡ Ok command → AreCommands nodes 1 (ask word node [])
 alone nodes node word verb command first within few shaped asked =
     let name = is_name nodes node within few in
@@ -68,7 +68,7 @@ alone nodes node word verb command first within few shaped asked =
     one_command nodes (word ++ 32 ∷ name_of node) (ask word node []) one (simp append_assoc)
 
 -- a word, a node and a last word
-pub with_word : (nodes node : ℕ) (word behind : List ℕ) (verb : Verb) (command : Command) → IsFirstWord word verb → node < nodes → nodes ≤ 7 → list_all is_inside behind ≡ true → length behind ≤ 100
+pub with_word : (nodes node : ℕ) (word behind : List ℕ) (verb : Verb) (command : Command) → IsFirstWord word verb → node < nodes → nodes ≤ 50 → list_all is_inside behind ≡ true → length behind ≤ 100
     → ((left : Left) → word_count left ≡ 2 → has_shape (shape_of verb) left ≡ true) → words_at nodes verb (Some (name_of node ++ 32 ∷ behind)) ≡ Ok command → AreCommands nodes 1 (ask word node (32 ∷ behind))
 with_word nodes node word behind verb command first within few inside short shaped asked =
     let name = is_name nodes node within few in
@@ -79,34 +79,34 @@ with_word nodes node word behind verb command first within few inside short shap
 
 -- ---- words with one node
 
-one_node : (nodes node : ℕ) (word : List ℕ) (verb : NodeVerb) (command : Command) → IsFirstWord word (verbs.Node verb) → node < nodes → nodes ≤ 7
+one_node : (nodes node : ℕ) (word : List ℕ) (verb : NodeVerb) (command : Command) → IsFirstWord word (verbs.Node verb) → node < nodes → nodes ≤ 50
     → ((left : Left) → word_count left ≡ 1 → has_shape (shape_of (verbs.Node verb)) left ≡ true) → of_node nodes verb node None ≡ Ok command → AreCommands nodes 1 (ask word node [])
 one_node nodes node word verb command first within few shaped asked =
     alone nodes node word (verbs.Node verb) command first within few shaped (rw (last_node nodes node within few) asked)
 
-pub flushes : (nodes node : ℕ) → node < nodes → nodes ≤ 7 → AreCommands nodes 1 (ask (codes "flush") node [])
+pub flushes : (nodes node : ℕ) → node < nodes → nodes ≤ 50 → AreCommands nodes 1 (ask (codes "flush") node [])
 flushes nodes node within few = one_node nodes node (codes "flush") asks.Flush (commands.Flush node) (record { inside = refl; short = omega arith; said = λ rest. refl; named = refl }) within few (λ left one. rw one refl) refl
 
-pub fetches : (nodes node : ℕ) → node < nodes → nodes ≤ 7 → AreCommands nodes 1 (ask (codes "fetch") node [])
+pub fetches : (nodes node : ℕ) → node < nodes → nodes ≤ 50 → AreCommands nodes 1 (ask (codes "fetch") node [])
 fetches nodes node within few = one_node nodes node (codes "fetch") asks.Fetch (commands.Fetch node) (record { inside = refl; short = omega arith; said = λ rest. refl; named = refl }) within few (λ left one. rw one refl) refl
 
-pub campaigns : (nodes node : ℕ) → node < nodes → nodes ≤ 7 → AreCommands nodes 1 (ask (codes "campaign") node [])
+pub campaigns : (nodes node : ℕ) → node < nodes → nodes ≤ 50 → AreCommands nodes 1 (ask (codes "campaign") node [])
 campaigns nodes node within few = one_node nodes node (codes "campaign") asks.Campaign (commands.Campaign node) (record { inside = refl; short = omega arith; said = λ rest. refl; named = refl }) within few (λ left one. rw one refl) refl
 
-pub drains : (nodes node : ℕ) → node < nodes → nodes ≤ 7 → AreCommands nodes 1 (ask (codes "drain") node [])
+pub drains : (nodes node : ℕ) → node < nodes → nodes ≤ 50 → AreCommands nodes 1 (ask (codes "drain") node [])
 drains nodes node within few = one_node nodes node (codes "drain") asks.Drain (commands.Drain node) (record { inside = refl; short = omega arith; said = λ rest. refl; named = refl }) within few (λ left one. rw one refl) refl
 
-pub checkpoints : (nodes node : ℕ) → node < nodes → nodes ≤ 7 → AreCommands nodes 1 (ask (codes "checkpoint") node [])
+pub checkpoints : (nodes node : ℕ) → node < nodes → nodes ≤ 50 → AreCommands nodes 1 (ask (codes "checkpoint") node [])
 checkpoints nodes node within few = one_node nodes node (codes "checkpoint") asks.Checkpoint (commands.Checkpoint node) (record { inside = refl; short = omega arith; said = λ rest. refl; named = refl }) within few (λ left one. rw one refl) refl
 
-pub crashes : (nodes node : ℕ) → node < nodes → nodes ≤ 7 → AreCommands nodes 1 (ask (codes "crash") node [])
+pub crashes : (nodes node : ℕ) → node < nodes → nodes ≤ 50 → AreCommands nodes 1 (ask (codes "crash") node [])
 unfolding crash_at pick_at
 crashes nodes node within few = one_node nodes node (codes "crash") asks.Crash (commands.Crash node 0) (record { inside = refl; short = omega arith; said = λ rest. refl; named = refl }) within few (λ left one. rw one refl) refl
 
-pub restarts : (nodes node : ℕ) → node < nodes → nodes ≤ 7 → AreCommands nodes 1 (ask (codes "restart") node [])
+pub restarts : (nodes node : ℕ) → node < nodes → nodes ≤ 50 → AreCommands nodes 1 (ask (codes "restart") node [])
 restarts nodes node within few = one_node nodes node (codes "restart") asks.Restart (commands.Restart node) (record { inside = refl; short = omega arith; said = λ rest. refl; named = refl }) within few (λ left one. rw one refl) refl
 
-pub steps_down : (nodes node : ℕ) → node < nodes → nodes ≤ 7 → AreCommands nodes 1 (ask (codes "stepdown") node [])
+pub steps_down : (nodes node : ℕ) → node < nodes → nodes ≤ 50 → AreCommands nodes 1 (ask (codes "stepdown") node [])
 steps_down nodes node within few = one_node nodes node (codes "stepdown") asks.StepDown (commands.StepDown node) (record { inside = refl; short = omega arith; said = λ rest. refl; named = refl }) within few (λ left one. rw one refl) refl
 
 -- ---- words with a node and a number
@@ -115,13 +115,13 @@ four_workers : number_at 1 16 (Some (codes "4")) ≡ Ok (4, None)
 unfolding number_at word_at
 four_workers = refl
 
-pub applies : (nodes node : ℕ) → node < nodes → nodes ≤ 7 → AreCommands nodes 1 (ask (codes "apply") node (codes " 4"))
+pub applies : (nodes node : ℕ) → node < nodes → nodes ≤ 50 → AreCommands nodes 1 (ask (codes "apply") node (codes " 4"))
 unfolding apply_at
 applies nodes node within few =
     with_word nodes node (codes "apply") (codes "4") (verbs.Node asks.Apply) (commands.Apply node 4) (record { inside = refl; short = omega arith; said = λ rest. refl; named = refl }) within few refl (omega arith) (λ left two. rw two refl)
     (rw (node_is nodes node (codes "4") within few, four_workers) refl)
 
-pub clocks : (nodes node seconds : ℕ) → node < nodes → nodes ≤ 7 → seconds < 1000 → AreCommands nodes 1 (ask (codes "clock") node (codes " " ++ decimal seconds))
+pub clocks : (nodes node seconds : ℕ) → node < nodes → nodes ≤ 50 → seconds < 1000 → AreCommands nodes 1 (ask (codes "clock") node (codes " " ++ decimal seconds))
 unfolding clock_at
 clocks nodes node seconds within few low =
     let written = is_written seconds (omega arith) in
@@ -130,31 +130,31 @@ clocks nodes node seconds within few low =
 
 -- ---- words with two nodes
 
-two_nodes : (nodes node other : ℕ) (word : List ℕ) (verb : NodeVerb) (command : Command) → IsFirstWord word (verbs.Node verb) → node < nodes → other < nodes → nodes ≤ 7
+two_nodes : (nodes node other : ℕ) (word : List ℕ) (verb : NodeVerb) (command : Command) → IsFirstWord word (verbs.Node verb) → node < nodes → other < nodes → nodes ≤ 50
     → ((left : Left) → word_count left ≡ 2 → has_shape (shape_of (verbs.Node verb)) left ≡ true) → of_node nodes verb node (Some (name_of other)) ≡ Ok command → AreCommands nodes 1 (ask_with word node other)
 two_nodes nodes node other word verb command first within second few shaped asked =
     let name = is_name nodes other second few in
     with_word nodes node word (name_of other) (verbs.Node verb) command first within few name.inside (omega (arith, name.short)) shaped (rw (node_is nodes node (name_of other) within few) asked)
 
-pub hears : (nodes node other : ℕ) → node < nodes → other < nodes → nodes ≤ 7 → (other ≡ node → ⊥) → AreCommands nodes 1 (ask_with (codes "heartbeat") node other)
+pub hears : (nodes node other : ℕ) → node < nodes → other < nodes → nodes ≤ 50 → (other ≡ node → ⊥) → AreCommands nodes 1 (ask_with (codes "heartbeat") node other)
 unfolding heartbeat_at
 hears nodes node other within second few apart =
     two_nodes nodes node other (codes "heartbeat") asks.Heartbeat (commands.Heartbeat node other) (record { inside = refl; short = omega arith; said = λ rest. refl; named = refl }) within second few (λ left two. rw two refl)
     (rw (other_last_node nodes node other second few apart) refl)
 
-pub reports : (nodes node other : ℕ) → node < nodes → other < nodes → nodes ≤ 7 → (other ≡ node → ⊥) → AreCommands nodes 1 (ask_with (codes "report") node other)
+pub reports : (nodes node other : ℕ) → node < nodes → other < nodes → nodes ≤ 50 → (other ≡ node → ⊥) → AreCommands nodes 1 (ask_with (codes "report") node other)
 unfolding report_at
 reports nodes node other within second few apart =
     two_nodes nodes node other (codes "report") asks.Report (commands.Report node other) (record { inside = refl; short = omega arith; said = λ rest. refl; named = refl }) within second few (λ left two. rw two refl)
     (rw (other_last_node nodes node other second few apart) refl)
 
-pub compares : (nodes node other : ℕ) → node < nodes → other < nodes → nodes ≤ 7 → (other ≡ node → ⊥) → AreCommands nodes 1 (ask_with (codes "common") node other)
+pub compares : (nodes node other : ℕ) → node < nodes → other < nodes → nodes ≤ 50 → (other ≡ node → ⊥) → AreCommands nodes 1 (ask_with (codes "common") node other)
 unfolding common_at
 compares nodes node other within second few apart =
     two_nodes nodes node other (codes "common") asks.Common (commands.Common node other) (record { inside = refl; short = omega arith; said = λ rest. refl; named = refl }) within second few (λ left two. rw two refl)
     (rw (other_last_node nodes node other second few apart) refl)
 
-pub delivers : (nodes node other : ℕ) → node < nodes → other < nodes → nodes ≤ 7 → (other ≡ node → ⊥) → AreCommands nodes 1 (ask_with (codes "deliver") node other)
+pub delivers : (nodes node other : ℕ) → node < nodes → other < nodes → nodes ≤ 50 → (other ≡ node → ⊥) → AreCommands nodes 1 (ask_with (codes "deliver") node other)
 unfolding deliver_latest
 delivers nodes node other within second few apart =
     let name = is_name nodes other second few in

@@ -72,13 +72,13 @@ command_read number reading set line one few known closed = rw (text_is number l
 
 -- such lines behind the `set` line
 pub commands_read : (set : SetLine) (later : List (List ℕ)) (number : ℕ) (reading : Reading) → AllByRecursion (IsCommand set.nodes) later → number + length later ≤ 200001 → reading.set ≡ Some set → reading.block ≡ None
-    → (read : Script) × (script_from number reading later ≡ Ok read) × (read.nodes ≡ set.nodes) × (read.members ≡ set.members)
+    → (read : Script) × (script_from number reading later ≡ Ok read) × (read.nodes ≡ set.nodes) × (read.voters ≡ set.voters) × (read.members ≡ set.members)
 commands_read set [] number reading all few known closed =
-    (record { nodes = set.nodes; voters = set.members; members = set.members; parts = reading.parts }, rw (known, closed) refl, refl, refl)
+    (record { nodes = set.nodes; voters = set.voters; members = set.members; parts = reading.parts }, rw (known, closed) refl, refl, refl, refl)
 commands_read set (line ∷ later) number reading all few known closed =
     let one = command_read number reading set line all.0 (omega arith) known closed in
     let rest = commands_read set later (number + 1) (with_part reading (parts.Line number all.0.command)) all.1 (omega arith) known refl in
-    (rest.0, rw one rest.1, rest.2, rest.3)
+    (rest.0, rw one rest.1, rest.2, rest.3, rest.4)
 
 -- ---- texts of several lines
 

@@ -132,19 +132,19 @@ name_of node = 110 ∷ decimal node
 pub name_inside : (node : ℕ) → node < 10 ^ 19 → list_all is_inside (name_of node) ≡ true
 name_inside node few = (is_written node few).inside
 
-pub node_is : (nodes node : ℕ) (rest : List ℕ) → node < nodes → nodes ≤ 7 → node_at nodes (Some (name_of node ++ 32 ∷ rest)) ≡ Ok (node, Some rest)
+pub node_is : (nodes node : ℕ) (rest : List ℕ) → node < nodes → nodes ≤ 50 → node_at nodes (Some (name_of node ++ 32 ∷ rest)) ≡ Ok (node, Some rest)
 unfolding node_at
 node_is nodes node rest within few =
     let small : nat_lt node nodes ≡ true = grind arith in
     rw (word_is (name_of node) rest (name_inside node (omega arith)), number_is BadNode BadNode 0 4294967295 node (omega arith) (omega arith) (omega arith), small) refl
 
-pub last_node : (nodes node : ℕ) → node < nodes → nodes ≤ 7 → node_at nodes (Some (name_of node)) ≡ Ok (node, None)
+pub last_node : (nodes node : ℕ) → node < nodes → nodes ≤ 50 → node_at nodes (Some (name_of node)) ≡ Ok (node, None)
 unfolding node_at
 last_node nodes node within few =
     let small : nat_lt node nodes ≡ true = grind arith in
     rw (last_word (name_of node) (name_inside node (omega arith)), number_is BadNode BadNode 0 4294967295 node (omega arith) (omega arith) (omega arith), small) refl
 
-pub other_last_node : (nodes node other : ℕ) → other < nodes → nodes ≤ 7 → (other ≡ node → ⊥) → other_node_at nodes node (Some (name_of other)) ≡ Ok (other, None)
+pub other_last_node : (nodes node other : ℕ) → other < nodes → nodes ≤ 50 → (other ≡ node → ⊥) → other_node_at nodes node (Some (name_of other)) ≡ Ok (other, None)
 unfolding other_node_at
 other_last_node nodes node other within few apart =
     let different : (other == node) ≡ false = grind arith in

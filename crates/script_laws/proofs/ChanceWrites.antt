@@ -26,7 +26,7 @@ unfolding collection_at
 in_t text = rw (word_is (codes "t") text refl) refl
 
 -- a write to the collection `t`
-a_write : (nodes node : ℕ) (word text : List ℕ) (kind : WriteKind) (op : WriteOp) → IsFirstWord word (verbs.Node (asks.Write kind)) → node < nodes → nodes ≤ 7
+a_write : (nodes node : ℕ) (word text : List ℕ) (kind : WriteKind) (op : WriteOp) → IsFirstWord word (verbs.Node (asks.Write kind)) → node < nodes → nodes ≤ 50
     → list_all is_text text ≡ true → length text ≤ 500 → has_text (Some text) ≡ true → write_at kind (Some (116 ∷ 32 ∷ text)) ≡ Ok op → AreCommands nodes 1 (ask word node (32 ∷ 116 ∷ 32 ∷ text))
 a_write nodes node word text kind op first within few plain short some read =
     let name = is_name nodes node within few in
@@ -49,7 +49,7 @@ some_text (c ∷ text) some = (refl, refl)
 
 -- ---- the three writes
 
-pub inserts : (nodes node id : ℕ) → node < nodes → nodes ≤ 7 → id < 2 ^ 31 → AreCommands nodes 1 (ask (codes "insert") node (codes " t {_id: " ++ decimal id ++ codes ", n: 0}"))
+pub inserts : (nodes node id : ℕ) → node < nodes → nodes ≤ 50 → id < 2 ^ 31 → AreCommands nodes 1 (ask (codes "insert") node (codes " t {_id: " ++ decimal id ++ codes ", n: 0}"))
 unfolding insert_at
 inserts nodes node id within few low =
     let number = number_text id low in
@@ -59,7 +59,7 @@ inserts nodes node id within few low =
     a_write nodes node (codes "insert") text Insert (ops.Insert (codes "t") (inserted id)) (record { inside = refl; short = omega arith; said = λ rest. refl; named = refl }) within few plain
     (omega (arith, number.1, length-append (decimal id) (codes ", n: 0}"))) refl read
 
-pub deletes : (nodes node id : ℕ) → node < nodes → nodes ≤ 7 → id < 2 ^ 31 → AreCommands nodes 1 (ask (codes "delete") node (codes " t " ++ decimal id))
+pub deletes : (nodes node id : ℕ) → node < nodes → nodes ≤ 50 → id < 2 ^ 31 → AreCommands nodes 1 (ask (codes "delete") node (codes " t " ++ decimal id))
 unfolding delete_at
 deletes nodes node id within few low =
     let number = number_text id low in
@@ -68,7 +68,7 @@ deletes nodes node id within few low =
     a_write nodes node (codes "delete") (decimal id) Delete (ops.Delete (codes "t") (value_of (int32 (pos id)))) (record { inside = refl; short = omega arith; said = λ rest. refl; named = refl }) within few number.0
     (omega (arith, number.1)) some.0 read
 
-pub updates : (nodes node id : ℕ) → node < nodes → nodes ≤ 7 → id < 2 ^ 31 → AreCommands nodes 1 (ask (codes "update") node (codes " t " ++ decimal id ++ codes " {$inc: {n: 1}}"))
+pub updates : (nodes node id : ℕ) → node < nodes → nodes ≤ 50 → id < 2 ^ 31 → AreCommands nodes 1 (ask (codes "update") node (codes " t " ++ decimal id ++ codes " {$inc: {n: 1}}"))
 unfolding update_at
 updates nodes node id within few low =
     let number = number_text id low in

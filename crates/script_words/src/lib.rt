@@ -15,7 +15,7 @@ mod writes;
 
 pub use commands::{command, command_verb, keyword};
 pub use rule::{LineError, ScriptRule, TextRule};
-pub use set::{MAX_NODES, SetLine, set_line};
+pub use set::{MAX_NODES, SetLine, most_voters, set_line};
 pub use shape::Shape;
 pub use values::text;
 pub use verb::{Keyword, NodeVerb, Verb, WriteKind};

@@ -1,26 +1,31 @@
 // The line that names the sizes of the set.
 ghost use Rattle.std.specs.Prelude.{◌≡◌};
 ghost use Rattle.std.specs.Option.{option_copied};
-ghost use Rattle.script_words.specs.Set.{sizes_at, set_line};
+ghost use Rattle.script_words.specs.Set.{members_or, most_voters, sizes_at, set_line};
 
 use crate::rule::ScriptRule;
 use crate::shape::Shape;
 use crate::words::{Left, has_shape, number, optional, word};
 
 /// How many nodes a set may have.
-pub const MAX_NODES: u32 = 7;
+pub const MAX_NODES: u32 = 50;
+
+/// How many members may vote.
+const MAX_VOTERS: u32 = 7;
 
 /// The sizes that a `set` line names.
 #[derive(Clone, Copy, Debug, PartialEq, Eq)]
 pub struct SetLine {
     /// How many nodes the set has.
     pub nodes: u32,
-    /// How many of them, the first ones, are members.
+    /// How many of them, the first ones, vote.
+    pub voters: u32,
+    /// How many, with the voters, are members.
     pub members: u32,
 }
 
-/// The sizes that a `set` line names: `set NODES MEMBERS`, where `MEMBERS` may be left out and
-/// then is `NODES`.
+/// The sizes that a `set` line names: `set NODES VOTERS MEMBERS`. Without `MEMBERS` just the voters are
+/// members. With `NODES` alone all nodes are, and as many of them vote as may.
 #[tactic(auto, unfolding(crate::specs::Set::set_line))]
 pub fn set_line(text: &str) -> Result<SetLine, ScriptRule>
     ensures { result ≡ set_line text.now }
@@ -29,21 +34,48 @@ pub fn set_line(text: &str) -> Result<SetLine, ScriptRule>
     if first != "set" {
         return Err(ScriptRule::NoSetLine);
     }
-    if !has_shape(left, Shape::Words { least: 1, most: 2 }) {
+    if !has_shape(left, Shape::Words { least: 1, most: 3 }) {
         return Err(ScriptRule::WordCount);
     }
     sizes(left)
 }
 
-/// `NODES`, and `MEMBERS` or nothing
+/// `NODES`, then `VOTERS` or nothing, and behind it `MEMBERS` or nothing
 #[tactic(auto, unfolding(crate::specs::Set::sizes_at))]
 fn sizes(left: Left<'_>) -> Result<SetLine, ScriptRule>
     ensures { result ≡ sizes_at (option_copied left.entry) }
 {
     let (nodes, left) = number(left, 1, MAX_NODES)?;
-    let (members, left) = optional(left, nodes, 1, nodes)?;
-    match left {
-        None => Ok(SetLine { nodes, members }),
+    let most = most_voters(nodes);
+    let (voters, rest) = optional(left, most, 1, most)?;
+    let (members, rest) = optional(rest, members_or(left, nodes, voters), voters, nodes)?;
+    match rest {
+        None => Ok(SetLine {
+            nodes,
+            voters,
+            members,
+        }),
         Some(_) => Err(ScriptRule::WordCount),
+    }
+}
+
+/// How many members there are where the line doesn't say: all nodes, or where it names the voters just these.
+fn members_or(left: Left<'_>, nodes: u32, voters: u32) -> u32
+    ensures { result ≡ members_or (option_copied left.entry) nodes voters }
+{
+    match left {
+        None => nodes,
+        Some(_) => voters,
+    }
+}
+
+/// How many of so many nodes may vote.
+pub fn most_voters(nodes: u32) -> u32
+    ensures { result ≡ most_voters nodes }
+{
+    if nodes < MAX_VOTERS {
+        nodes
+    } else {
+        MAX_VOTERS
     }
 }

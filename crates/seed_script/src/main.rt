@@ -1,11 +1,14 @@
 //! Prints the script that `replset chaos SEED EVENTS NODES` plays: `seed_script SEED EVENTS NODES`.
 #![tactic(auto)]
 
-ghost use Rattle.std.specs.Prelude.{◌≤◌, IfSome};
+ghost use Rattle.std.specs.Prelude.{◌≤◌, ◌*◌, IfSome};
 
 use std::env;
 use std::io::Write;
 use std::process::ExitCode;
+
+/// Events times nodes are at most so many.
+const MOST_PRODUCT: u32 = 50_000;
 
 /// The status of a run that finds no memory.
 const NO_MEMORY: u8 = 1;
@@ -53,15 +56,19 @@ struct Wanted {
 
 /// What the words ask for, within the bounds of a script.
 fn read(words: &[String]) -> Option<Wanted>
-    ensures bounds { IfSome result (λ wanted. wanted.events ≤ 5000 × 1 ≤ wanted.nodes × wanted.nodes ≤ 7) }
+    ensures bounds { IfSome result (λ wanted. wanted.events ≤ 5000 × 1 ≤ wanted.nodes × wanted.nodes ≤ 50
+        × wanted.events * wanted.nodes ≤ 50000) }
 {
     let [seed, events, nodes] = words else {
         return None;
     };
-    Some(Wanted {
-        seed: number(seed, 0, u64::MAX)?,
-        events: number(events, 0, 5_000)? as u32,
-        nodes: number(nodes, 1, 7)? as u32,
+    let seed = number(seed, 0, u64::MAX)?;
+    let events = number(events, 0, 5_000)? as u32;
+    let nodes = number(nodes, 1, 50)? as u32;
+    (events.saturating_mul(nodes) <= MOST_PRODUCT).then_some(Wanted {
+        seed,
+        events,
+        nodes,
     })
 }
 
