@@ -15,7 +15,7 @@ use transcript::write_reply;
 
 fn main(rt: HostRuntime) -> Result<()> {
     let alloc = rt.alloc();
-    let Ok(mut world) = World::open(alloc, 1, 1, empty_disks(alloc)?) else {
+    let Ok(mut world) = World::open(alloc, 1, 1, 1, empty_disks(alloc)?) else {
         bail!("the set can't be opened");
     };
     let campaign = Command::Campaign { node: 0 };

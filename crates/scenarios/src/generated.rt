@@ -1,5 +1,5 @@
-//! The summary of a generated script. What it has to be was found with a generator and a simulator of their
-//! own, in Python.
+//! The summaries of generated scripts. What they have to be was found with a generator and a simulator of
+//! their own, in Python.
 
 /// The words that ask for it.
 pub const WORDS: [&str; 4] = ["chaos", "7", "5000", "5"];
@@ -20,3 +20,6 @@ n4 last 261/998/60 commit 0/0/0
 
 /// How many replies of its transcript tell of a write.
 pub const WRITTEN: usize = 77;
+
+/// The words that ask for it in a set of fifty nodes; what it has to be is long, and stands among the data.
+pub const OF_FIFTY_NODES: [&str; 4] = ["chaos", "3", "1000", "50"];

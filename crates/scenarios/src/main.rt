@@ -110,7 +110,9 @@ fn limits<R: Threads + Wait + Sync>(rt: &HostRuntime, threads: &R) -> Result<boo
     let three = comes_in_batches(threads, alloc, batches::THREE, batches::THREE_ENDS)?;
     let one = comes_in_batches(threads, alloc, batches::ONE, batches::ONE_ENDS)?;
     let batches = tell(rt, "more than a batch", three && one)?;
-    let generated = tell(rt, "a generated script", sums_up(threads, alloc)?)?;
+    let fifty = text(rt, "fifty_nodes", "summary")?;
+    let generated = sums_up(threads, alloc, &fifty)?;
+    let generated = tell(rt, "a generated script", generated)?;
     let large = blocks::run_side_by_side(threads, alloc)?;
     let large = tell(rt, "large blocks", large)?;
     let limits = tell(
@@ -250,9 +252,7 @@ fn comes_in_batches<R: Threads + Wait + Sync>(
 
 /// Whether a generated script comes to its summary, each time that it is asked for, and its transcript tells
 /// of as many writes.
-fn sums_up<R: Threads + Wait + Sync>(rt: &R, alloc: Global) -> Result<bool> {
-    let first = printed(rt, alloc, &generated::WORDS)?;
-    let again = printed(rt, alloc, &generated::WORDS)?;
+fn sums_up<R: Threads + Wait + Sync>(rt: &R, alloc: Global, of_fifty: &str) -> Result<bool> {
     let script = fault_script::generate(alloc, 7, 5000, 5)?;
     let lines = transcript(rt, alloc, script)?;
     let written: Result<Vec<&[u8]>, _> = lines
@@ -260,10 +260,21 @@ fn sums_up<R: Threads + Wait + Sync>(rt: &R, alloc: Global) -> Result<bool> {
         .filter(|line| memchr::memmem::find(line, b": written ").is_some())
         .collect(alloc);
     Ok(
-        first.as_slice() == generated::SUMMARY.as_bytes()
-            && again == first
-            && written?.len() == generated::WRITTEN,
+        written?.len() == generated::WRITTEN
+            && puts_twice(rt, alloc, &generated::WORDS, generated::SUMMARY)?
+            && puts_twice(rt, alloc, &generated::OF_FIFTY_NODES, of_fifty)?,
     )
+}
+
+/// Whether the words put a summary, and the same again.
+fn puts_twice<R: Threads + Wait + Sync>(
+    rt: &R,
+    alloc: Global,
+    words: &[&str],
+    summary: &str,
+) -> Result<bool> {
+    let first = printed(rt, alloc, words)?;
+    Ok(first.as_slice() == summary.as_bytes() && printed(rt, alloc, words)? == first)
 }
 
 /// The number of the first line in which the texts differ.

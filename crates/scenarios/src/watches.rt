@@ -49,7 +49,13 @@ pub const LOST: [IntoFailingSink; 2] = [
 ];
 
 /// Those beside which words stand that ask for new members.
-pub const SYNCED: [&str; 4] = ["acknowledged", "stream_failover", "sync_failover", "synced"];
+pub const SYNCED: [&str; 5] = [
+    "acknowledged",
+    "fifty_nodes",
+    "stream_failover",
+    "sync_failover",
+    "synced",
+];
 
 /// The one of them whose new member is run on failing disks.
 pub const FAILED: &str = "synced";

@@ -29,14 +29,14 @@ use Rattle.set_program.proofs.OpenLemmas.{unarmed_at}
 
 -- ---- the two disks
 
-get_behind : {A : Type 0} (n m : ℕ) (xs : List A) → slice_get (drop n xs) m ≡ slice_get xs (n + m)
-get_behind zero m xs = ap (λ k. slice_get xs k) (let same : m ≡ zero + m = omega arith in same)
-get_behind (suc n) m [] = refl
-get_behind (suc n) m (x ∷ xs) = get_behind n m xs ∙ ap (λ k. slice_get (x ∷ xs) k) (let same : suc (n + m) ≡ suc n + m = omega arith in same)
+get_behind : {A : Type 0} (n m k : ℕ) (xs : List A) → n + m ≡ k → slice_get (drop n xs) m ≡ slice_get xs k
+get_behind zero m k xs is = ap (λ j. slice_get xs j) (let same : m ≡ k = omega (arith, is) in same)
+get_behind (suc n) m k [] is = refl
+get_behind (suc n) m zero (x ∷ xs) is = absurd (let false : zero ≡ suc zero = omega (arith, is) in cc false)
+get_behind (suc n) m (suc k) (x ∷ xs) is = get_behind n m k xs (let same : n + m ≡ k = omega (arith, is) in same)
 
 same_behind : {A : Type 0} (xs ys : List A) (n m k : ℕ) → n + m ≡ k → drop n xs ≡ drop n ys → slice_get xs k ≡ slice_get ys k
-same_behind xs ys n m k is same =
-    subst (λ place. slice_get xs place ≡ slice_get ys place) is (sym (get_behind n m xs) ∙ ap (λ l. slice_get l m) same ∙ get_behind n m ys)
+same_behind xs ys n m k is same = sym (get_behind n m k xs is) ∙ ap (λ l. slice_get l m) same ∙ get_behind n m k ys is
 
 -- the disks of the member, as they were handed in and as they are left
 record MemberDisks {D : Type 0} (state : D → State) (nodes : ℕ) (handed left : List D) (made : Result (Unit {0}) SyncStop) : Type 0 where

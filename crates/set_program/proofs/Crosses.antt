@@ -193,7 +193,7 @@ pub lines_sync : IsSync lines.the_row
 lines_sync = search (command_field_sync, heap.crosses, sendable) depth 60 fits 20000
 
 known_send : IsSend known_table.the_row
-known_send = search (sendable, heap.crosses) depth 40 fits 20000
+known_send = search (sendable, heap.crosses, maps.crosses) depth 40 fits 20000
 
 tally_send : IsSend tally.the_row
 tally_send = search (sendable, heap.crosses) depth 40 fits 20000
@@ -226,7 +226,7 @@ down_send : IsSend down_state.the_row
 down_send = search (sendable, heap.crosses, records_send, entry_list_send) depth 60 fits 20000
 
 pool_send : IsSend pool.the_row
-pool_send = search (sendable, heap.crosses, message_send) depth 40 fits 20000
+pool_send = search (sendable, heap.crosses, maps.crosses, message_send) depth 40 fits 20000
 
 points_send : IsSend points.the_row
 points_send = search (sendable, heap.crosses) depth 40 fits 20000
@@ -256,12 +256,15 @@ module _ (d : _) (disk : _) (send : IsSend d) where
             (
               search,
               (
-                (heap.Vec-send (node.the_row d disk) node_send).owned y.0.nodes vss.1.1.1.0,
+                search,
                 (
-                  pool_send.owned y.0.pool vss.1.1.1.1.0,
+                  (heap.Vec-send (node.the_row d disk) node_send).owned y.0.nodes vss.1.1.1.1.0,
                   (
-                    (heap.Vec-send event.the_row event_send).owned y.0.history vss.1.1.1.1.1.0,
-                    (points_send.owned y.0.points vss.1.1.1.1.1.1.0, ((heap.Vec-send d send).owned y.0.idle vss.1.1.1.1.1.1.1.0, (search, (search, (search, tt))))),
+                    pool_send.owned y.0.pool vss.1.1.1.1.1.0,
+                    (
+                      (heap.Vec-send event.the_row event_send).owned y.0.history vss.1.1.1.1.1.1.0,
+                      (points_send.owned y.0.points vss.1.1.1.1.1.1.1.0, ((heap.Vec-send d send).owned y.0.idle vss.1.1.1.1.1.1.1.1.0, (search, (search, (search, tt))))),
+                    ),
                   ),
                 ),
               ),

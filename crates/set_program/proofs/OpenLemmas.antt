@@ -53,13 +53,13 @@ set_leaves {D} state task read handed old new result sizes same opens goes = (
 -- ---- it couldn't be opened
 
 refuses : {D : Type 0} (state : D → State) (task : Task) (read : Script) (handed : List D) (error : FileError) (events : Vec Event Global) (disks : Vec D Global)
-    → Opens state read.nodes (Err error) handed disks.items → AllBegin state (first_config read.members) read.nodes disks.items
+    → Opens state read.nodes (Err error) handed disks.items → AllBegin state (first_config read.voters read.members) read.nodes disks.items
     → OpensScript state task read handed (status_of_stop (of_file error)) (Parts events disks)
 refuses state task read handed Disk events disks opens stand = inl (refl, opens, stand)
 refuses state task read handed NoBytes events disks opens stand = inl (refl, opens, stand)
 
 pub refused_leaves : {D : Type 0} (state : D → State) (task : Task) (read : Script) (handed : List D) (error : FileError) (stop : Stop) (events : Vec Event Global) (disks : Vec D Global)
-    → stop ≡ of_file error → Opens state read.nodes (Err error) handed disks.items → AllBegin state (first_config read.members) read.nodes disks.items
+    → stop ≡ of_file error → Opens state read.nodes (Err error) handed disks.items → AllBegin state (first_config read.voters read.members) read.nodes disks.items
     → OpensScript state task read handed (status_of_stop stop) (Parts events disks)
 refused_leaves state task read handed error stop events disks is opens stand =
     subst (λ (s : Stop). OpensScript state task read handed (status_of_stop s) (Parts events disks)) (sym is) (refuses state task read handed error events disks opens stand)

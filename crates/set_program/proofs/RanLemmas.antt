@@ -240,7 +240,7 @@ module _ {D : Type 0} (state : D → State) (handed : List D) (many : length han
   ran_of : (opened : List D) (set : Set D) → AreSizes set.sizes → Opens state set.sizes.nodes (Ok tt) handed opened → RanTo state opened set → (number : ℕ) → number < set.sizes.nodes
       → OfNode state handed set.disks number (NodeRan number (opening set.sizes).world set.history)
   ran_of opened set sizes opens ran number less =
-      node_ran state handed opened set opens ran number (let most : set.sizes.nodes ≤ 7 = sizes.most in omega (arith, less, most, many))
+      node_ran state handed opened set opens ran number (let most : set.sizes.nodes ≤ 50 = sizes.most in omega (arith, less, most, many))
 
   -- a set whose events were played on disks that were opened
   module _ (opened : List D) (set : Set D) (sizes : AreSizes set.sizes) (opens : Opens state set.sizes.nodes (Ok tt) handed opened) (ran : RanTo state opened set) where

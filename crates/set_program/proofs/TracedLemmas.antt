@@ -82,7 +82,7 @@ all_put events replies count first now same is put =
 -- ---- the whole trace
 
 -- the sizes of a script's set, as a header tells them
-pub sizes_told : (script : Script) (sizes : Sizes) → sizes ≡ sizes_of script → (script.nodes, script.members, script.members) ≡ trace_sizes sizes
+pub sizes_told : (script : Script) (sizes : Sizes) → sizes ≡ sizes_of script → (script.nodes, script.voters, script.members) ≡ trace_sizes sizes
 sizes_told script sizes is = ap trace_sizes (sym is)
 
 -- each event has a reply

@@ -57,5 +57,5 @@ OpensScript {D} state task read handed status (World set) =
     × DisksEnd state task read.parts opened set (status ≡ 1)
 OpensScript {D} state task read handed status (Parts events disks) =
     (IsOneOf (1 ∷ 7 ∷ []) status × Opens state read.nodes (Err (opening_error status)) handed disks.items
-    × AllBegin state (first_config read.members) read.nodes disks.items)
+    × AllBegin state (first_config read.voters read.members) read.nodes disks.items)
     ⊎ ((status ≢ 7) × (events.items ≢ []))

@@ -8,8 +8,8 @@
 --     chaos SEED EVENTS NODES    a generated script is run, and its summary put
 --
 -- SEED, EVENTS and NODES are one to twenty decimal digits: a number of 64 bits, one up to 5,000, and one from
--- 1 to 7.
-use Rattle.std.specs.Prelude.{ℕ, Bool, true, false, ⊤, ◌≤◌, ◌&&◌, nat_le, nat_lt, List, [], ◌∷◌, length, Option, None, Some, option_map, codes, if◌then◌else◌}
+-- 1 to 50. EVENTS times NODES is at most 50,000.
+use Rattle.std.specs.Prelude.{ℕ, Bool, true, false, ⊤, ◌≤◌, ◌*◌, ◌&&◌, nat_le, nat_lt, List, [], ◌∷◌, length, Option, None, Some, option_map, codes, if◌then◌else◌}
 use Rattle.std.specs.Char.{is_ascii_digit}
 use Rattle.std.specs.List.{list_all}
 use Rattle.std.specs.Str.{bytes_eq}
@@ -31,14 +31,16 @@ number_word least most word =
     else None
 
 abbrev pub with_numbers : Option ℕ → Option ℕ → Option ℕ → Option Task
-with_numbers (Some seed) (Some events) (Some nodes) = Some (Chaos seed events nodes)
+with_numbers (Some seed) (Some events) (Some nodes) =
+    if nat_le (events * nodes) 50000 then Some (Chaos seed events nodes) else None
 with_numbers (Some seed) (Some events) None = None
 with_numbers (Some seed) None nodes = None
 with_numbers None events nodes = None
 
 abbrev pub chaos_of : (seed events nodes : List ℕ) → Option Task
 chaos_of seed events nodes =
-    with_numbers (number_word 0 18446744073709551615 seed) (number_word 0 5000 events) (number_word 1 7 nodes)
+    with_numbers (number_word 0 18446744073709551615 seed) (number_word 0 5000 events)
+    (number_word 1 50 nodes)
 
 -- ---- each word, by those behind it
 
@@ -89,14 +91,14 @@ task_of (name ∷ words) = word_task name words
 
 -- ---- tasks
 
--- what is generated has at most 5,000 events, in a set of 1 to 7 nodes
+-- what is generated has at most 5,000 events, in a set of 1 to 50 nodes, and their product is at most 50,000
 abbrev pub IsBounded : Task → Type 0
 IsBounded Run = ⊤
 IsBounded Trace = ⊤
 IsBounded (ReadsLinear linear) = ⊤
 IsBounded (Watches watch) = ⊤
 IsBounded (Sync node) = ⊤
-IsBounded (Chaos seed events nodes) = (events ≤ 5000) × (1 ≤ nodes) × (nodes ≤ 7)
+IsBounded (Chaos seed events nodes) = (events ≤ 5000) × (1 ≤ nodes) × (nodes ≤ 50) × (events * nodes ≤ 50000)
 
 -- the script of a task is the source's
 abbrev pub is_of_source : Task → Bool

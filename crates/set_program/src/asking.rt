@@ -1,5 +1,5 @@
 // The script that the words ask for.
-ghost use Rattle.std.specs.Prelude.{◌≡◌, ◌≢◌, ◌≤◌, length, true, IfOk, IsErrOf, OnOk, Err, Ok};
+ghost use Rattle.std.specs.Prelude.{◌≡◌, ◌≢◌, ◌≤◌, ◌*◌, length, true, IfOk, IsErrOf, OnOk, Err, Ok};
 ghost use Rattle.std.specs.List.{list_all};
 ghost use Rattle.rs_io.specs.Fault.{HasCause, CountRose};
 ghost use Rattle.set_model.specs.Run.{AreSizes};
@@ -113,7 +113,8 @@ fn source_script<S: Source, K: Sink>(
 /// The script of a seed.
 fn generated_script(alloc: Global, seed: u64, events: u32, nodes: u32) -> Mem<Script>
     requires few { events ≤ 5000 }
-    requires sizes { 1 ≤ nodes × nodes ≤ 7 }
+    requires sizes { 1 ≤ nodes × nodes ≤ 50 }
+    requires product { events * nodes ≤ 50000 }
     ensures reads { IfOk result (λ read. script (generated seed events nodes) ≡ Ok read) }
     ensures sizes { IfOk result (λ read. AreSizes (sizes_of read)) }
     ensures fits { IfOk result (λ read. list_all (can_be_run read.nodes) read.parts ≡ true) }

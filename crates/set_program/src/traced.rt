@@ -41,7 +41,7 @@ pub fn play_traced<K: Sink, D: Disk + Send, G: Gate + Sync, R: Threads + Wait + 
     ensures cause { HasCause (K.faults sink.old) (K.faults sink.new) (IsErrOf result.0 Stop.WriteFault) }
     ensures steady { K.steady sink.old → K.steady sink.new × (result.0 ≢ Err Stop.WriteFault) }
 {
-    let sizes = (script.nodes, script.members, script.members);
+    let sizes = (script.nodes, script.voters, script.members);
     let mut replies = Vec::new(alloc);
     match step_parts(rt, gate, script.parts, world, &mut replies) {
         (Ok(()), world) => (put_trace(alloc, sizes, &replies, &world, sink), world),

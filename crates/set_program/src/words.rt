@@ -9,6 +9,10 @@ use change_words::{Watch, node_of, read_watch};
 use linear_words::{Linear, read_linear};
 use std::alloc::Global;
 
+/// The events of a generated script times the nodes of its set are at most so many, so that its lines are
+/// fewer than a script may have.
+const MOST_PRODUCT: u32 = 50_000;
+
 /// What is to be done.
 #[derive(Drop)]
 pub enum Task {
@@ -113,10 +117,13 @@ fn chaos_task(words: &[String]) -> Option<Task>
 fn chaos(seed: &str, events: &str, nodes: &str) -> Option<Task>
     ensures { result ≡ chaos_of seed.now events.now nodes.now }
 {
-    Some(Task::Chaos {
-        seed: number(seed, 0, u64::MAX)?,
-        events: number(events, 0, 5_000)? as u32,
-        nodes: number(nodes, 1, 7)? as u32,
+    let seed = number(seed, 0, u64::MAX)?;
+    let events = number(events, 0, 5_000)? as u32;
+    let nodes = number(nodes, 1, 50)? as u32;
+    (events.saturating_mul(nodes) <= MOST_PRODUCT).then_some(Task::Chaos {
+        seed,
+        events,
+        nodes,
     })
 }
 
