@@ -41,25 +41,35 @@ fn the_first_command_is_set(rt: HostRuntime) -> Result<(), Fail> {
 /// First lines, each with what is told of it, or nothing.
 const FIRST_LINES: &str = r#"set 1|
 set 7|
+set 50|
 set 007 01|
 set 7 7|
 set 3 1|
+set 3 2 2|
+set 3 2 3|
+set 50 7 50|
+set 50 1 1|
 log n0|NoSetLine
  set 1|NoSetLine
 Set 1|NoSetLine
 set|WordCount
-set 3 2 1|WordCount
+set 3 2 3 3|WordCount
 set 1 |BadWord
 set  1|BadWord
 set n3|BadWord
 set -1|BadWord
 set 3 x|BadWord
 set 0|BadNumber
-set 8|BadNumber
+set 51|BadNumber
 set 4294967297|BadNumber
 set 3 0|BadNumber
 set 3 4|BadNumber
-set 8 x|BadNumber"#;
+set 50 8|BadNumber
+set 3 2 1|BadNumber
+set 3 2 4|BadNumber
+set 3 0 3|BadNumber
+set 3 2 x|BadWord
+set 51 x|BadNumber"#;
 
 #[test]
 fn the_first_line_names_the_sizes(rt: HostRuntime) -> Result<(), Fail> {

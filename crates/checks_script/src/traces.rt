@@ -100,11 +100,15 @@ const HEADERS: &str = r"trace 1 1 1$|1 1 1
 trace 7 3 3$trace|7 3 3
 trace 07 007 7$|7 7 7
 trace 1 1 1|
-trace 8 7 7$|
+trace 8 7 7$|8 7 7
+trace 50 7 50$|50 7 50
+trace 51 7 7$|
+trace 8 8 8$|
 trace 0 0 0$|
 trace 3 0 0$|
 trace 3 4 4$|
-trace 3 2 3$|
+trace 3 2 3$|3 2 3
+trace 3 2 4$|
 trace 3 3 2$|
 trace 3 3$|
 trace 3 3 3 $|

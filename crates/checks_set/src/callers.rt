@@ -81,7 +81,7 @@ fn two_callers<R: Threads + Wait + Sync>(
     rt: &R,
     alloc: Global,
 ) -> Result<(Option<u32>, Option<u32>, Vec<Event>), Fail> {
-    let (set, mut pass) = shared(alloc, 1, 1)?;
+    let (set, mut pass) = shared(alloc, 1, 1, 1)?;
     let other = set.split(&mut pass);
     let (first, second) = join(
         rt,

@@ -22,7 +22,7 @@ const SCRIPTS: [(&str, u8, &str); 6] = [
         "4: won 1\n6: primary 1 noop 1/0/1\n",
     ),
     ("", 3, "line 1: NoSetLine\n"),
-    ("set 8\n", 3, "line 1: BadNumber\n"),
+    ("set 51\n", 3, "line 1: BadNumber\n"),
     (
         "set 1\ninsert n0 t {a: 1, a: 2}\n",
         3,
@@ -41,7 +41,7 @@ fn scripts_are_answered(rt: HostRuntime) -> Result<(), Fail> {
 }
 
 /// Words that ask for nothing: too few, too many, other ones, and numbers that are too long or out of range.
-const WRONG_WORDS: [&[&str]; 11] = [
+const WRONG_WORDS: [&[&str]; 13] = [
     &[],
     &["run", "x"],
     &["trace", "x"],
@@ -51,7 +51,9 @@ const WRONG_WORDS: [&[&str]; 11] = [
     &["chaos", "18446744073709551616", "0", "1"],
     &["chaos", "000000000000000000001", "0", "1"],
     &["chaos", "1", "5001", "1"],
-    &["chaos", "1", "0", "8"],
+    &["chaos", "1", "0", "51"],
+    &["chaos", "1", "1001", "50"],
+    &["chaos", "1", "5000", "11"],
     &["chaos", "1", "0", "0"],
 ];
 
@@ -70,7 +72,7 @@ fn wrong_words_are_refused(rt: HostRuntime) -> Result<(), Fail> {
 }
 
 /// Generated scripts without events, by their words, and what is put.
-const SUMMARIES: [(&[&str], &str); 2] = [
+const SUMMARIES: [(&[&str], &str); 3] = [
     (
         &["chaos", "1", "0", "1"],
         "events 0\nwritten 0\nwon 0\nrolled back 0\nrefused 0\nn0 last 0/0/0 commit 0/0/0\n",
@@ -79,6 +81,13 @@ const SUMMARIES: [(&[&str], &str); 2] = [
         &["chaos", "1", "0", "3"],
         "events 0\nwritten 0\nwon 0\nrolled back 0\nrefused 0\nn0 last 0/0/0 commit 0/0/0\n\
          n1 last 0/0/0 commit 0/0/0\nn2 last 0/0/0 commit 0/0/0\n",
+    ),
+    (
+        &["chaos", "1", "0", "8"],
+        "events 0\nwritten 0\nwon 0\nrolled back 0\nrefused 0\nn0 last 0/0/0 commit 0/0/0\n\
+         n1 last 0/0/0 commit 0/0/0\nn2 last 0/0/0 commit 0/0/0\nn3 last 0/0/0 commit 0/0/0\n\
+         n4 last 0/0/0 commit 0/0/0\nn5 last 0/0/0 commit 0/0/0\nn6 last 0/0/0 commit 0/0/0\n\
+         n7 last 0/0/0 commit 0/0/0\n",
     ),
 ];
 

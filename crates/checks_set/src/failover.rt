@@ -1,5 +1,7 @@
 // A stream that asks all nodes in turn behind each line of a script, over a failover.
-ghost use Rattle.std.specs.Prelude.{◌≡◌};
+ghost use Rattle.std.specs.Prelude.{◌≡◌, true};
+ghost use Rattle.std.specs.List.{list_all};
+ghost use Rattle.fault_script.specs.Script.{is_part_for};
 
 use crate::streams::set_of;
 use bson_doc::{Doc, Text};
@@ -40,21 +42,36 @@ fn ask_each<R: Threads + Wait + Sync>(
     Ok(())
 }
 
+// Does each line, and asks every node behind it.
+fn follow<R: Threads + Wait + Sync>(
+    rt: &R,
+    world: &mut World<MemDisk>,
+    stream: &mut ChangeStream,
+    joined: &mut Vec<Entry>,
+    parts: &[Part],
+) -> Result<(), Fail>
+    requires fits { list_all (is_part_for world.old.sizes.nodes) parts.now ≡ true }
+{
+    for part in parts {
+        if let Part::Line(line, command) = part {
+            world.step(rt, *line, command)?;
+            ask_each(rt, world, stream, joined)?;
+        }
+    }
+    Ok(())
+}
+
 // The set behind the script, and all that the stream gave.
 fn followed<R: Threads + Wait + Sync>(
     rt: &R,
     alloc: Global,
 ) -> Result<(World<MemDisk>, Vec<Entry>), Fail> {
     let script = parse(alloc, FAILOVER.as_bytes())?;
-    let mut world = set_of(alloc, script.nodes, script.members)?;
+    let mut world = set_of(alloc, script.nodes, script.voters, script.members)?;
     let mut stream = open(OpTime::ZERO);
     let mut joined = Vec::new(alloc);
-    for part in script.parts.as_slice() {
-        if let Part::Line(line, command) = part {
-            world.step(rt, *line, command)?;
-            ask_each(rt, &mut world, &mut stream, &mut joined)?;
-        }
-    }
+    let parts = script.parts.as_slice();
+    follow(rt, &mut world, &mut stream, &mut joined, parts)?;
     Ok((world, joined))
 }
 

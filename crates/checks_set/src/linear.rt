@@ -23,7 +23,7 @@ fn read_after<R: Threads + Wait + Sync>(
     script: &str,
 ) -> Result<LinearAnswer, Fail> {
     let script = parse(alloc, script.as_bytes())?;
-    let mut world = set_of(alloc, script.nodes, script.members)?;
+    let mut world = set_of(alloc, script.nodes, script.voters, script.members)?;
     step_lines(rt, &mut world, script.parts.as_slice())?;
     let nodes = world.size();
     if nodes == 0 {

@@ -10,8 +10,8 @@ use bson_doc::Value;
 use fault_script::{Part, parse};
 use linear_read::{LinearAnswer, linear_read};
 use rs_disk::MemDisk;
-use set_model::Refusal;
-use set_world::StepError;
+use set_model::{AckConcern, Command, Refusal, Reply, Target};
+use set_world::{StepError, Stepper};
 use shared_set::{Caller, Pass, SharedSet};
 use std::alloc::Global;
 use std::sync::Wait;
@@ -24,8 +24,11 @@ const MEETINGS: u32 = 100;
 // The first of three nodes becomes primary.
 const ELECTED: &str = "set 3\ncampaign n0\ndeliver m0\ndeliver m2\ndrain n0\n";
 
-// It writes a document.
-const WRITTEN: &str = "set 3\ninsert n0 t {_id: 1}\n";
+// A writer of it writes a document.
+const WRITTEN: &str = "set 3\nbegin n0 w1 insert t {_id: 1}\ncommit n0 w1\n";
+
+// A read that waits is tried again so often: it does so only while others are in its way.
+const TRIES: u32 = 1000;
 
 // Plays a script without blocks on a set of three nodes.
 fn play<R: Threads + Wait + Sync>(
@@ -47,6 +50,18 @@ fn play<R: Threads + Wait + Sync>(
 }
 
 // What a linear read of the document at the first node answers.
+fn answer<R: Threads + Wait + Sync, S: Stepper>(
+    rt: &R,
+    alloc: Global,
+    set: &mut S,
+) -> Result<LinearAnswer, StepError>
+    requires nodes { (S.sizes set.old).nodes ≡ 3 }
+    ensures sizes { S.sizes set.new ≡ S.sizes set.old }
+{
+    linear_read(alloc, rt, set, 0, 3, "t", &Value::Int32(1))
+}
+
+// The same, of one who has a pass.
 fn read<R: Threads + Wait + Sync>(
     rt: &R,
     alloc: Global,
@@ -57,7 +72,7 @@ fn read<R: Threads + Wait + Sync>(
     requires nodes { (sizes_of set.now).nodes ≡ 3 }
 {
     let mut caller = Caller { set, pass };
-    let answer = linear_read(alloc, rt, &mut caller, 0, 3, "t", &Value::Int32(1));
+    let answer = answer(rt, alloc, &mut caller);
     let Caller {
         set: _set,
         pass: _pass,
@@ -65,13 +80,21 @@ fn read<R: Threads + Wait + Sync>(
     answer
 }
 
-// Whether a read is answered as one may be beside others: each may take what another fetched.
-fn may_be(answer: &Result<LinearAnswer, StepError>) -> bool {
+// Whether too few have a read's note: beside others it may be so, since each may take what another fetched.
+fn waits(answer: &Result<LinearAnswer, StepError>) -> bool {
     match answer {
-        Ok(LinearAnswer::Found(_) | LinearAnswer::Missing) => true,
         Ok(LinearAnswer::Refused(why)) => matches!(why, Refusal::Waiting { .. }),
-        Err(_) => false,
+        _ => false,
     }
+}
+
+fn is_found(answer: &Result<LinearAnswer, StepError>) -> bool {
+    matches!(answer, Ok(LinearAnswer::Found(_)))
+}
+
+// Whether a read is answered as one may be beside others.
+fn may_be(answer: &Result<LinearAnswer, StepError>) -> bool {
+    matches!(answer, Ok(LinearAnswer::Found(_) | LinearAnswer::Missing)) || waits(answer)
 }
 
 // A reader: whether its read is answered as it may be.
@@ -108,7 +131,38 @@ fn are_stepped<R: Threads + Wait + Sync>(
     true
 }
 
-// The writer: whether it writes, and its read behind that doesn't miss what it wrote.
+// Whether a read shows the document, once others let it end: one that misses it shows that it isn't there.
+fn is_shown<R: Threads + Wait + Sync, S: Stepper>(rt: &R, alloc: Global, set: &mut S) -> bool
+    requires nodes { (S.sizes set.old).nodes ≡ 3 }
+    ensures sizes { S.sizes set.new ≡ S.sizes set.old }
+{
+    for _ in 0..TRIES {
+        let answer = answer(rt, alloc, set);
+        if !waits(&answer) {
+            return is_found(&answer);
+        }
+    }
+    false
+}
+
+// Whether a majority acknowledges what the writer wrote.
+fn is_acked<R: Threads + Wait + Sync, S: Stepper>(rt: &R, set: &mut S) -> bool
+    requires nodes { (S.sizes set.old).nodes ≡ 3 }
+    ensures sizes { S.sizes set.new ≡ S.sizes set.old }
+{
+    let ack = Command::Ack {
+        node: 0,
+        target: Target::Writer(1),
+        concern: AckConcern::Majority,
+    };
+    match set.step(rt, 0, &ack) {
+        Ok(Reply::Acked(_)) => true,
+        _ => false,
+    }
+}
+
+// The writer: whether it writes and a read brings that to the others, a majority then acknowledges it, and a
+// read that begins behind this answer shows it.
 fn writes<R: Threads + Wait + Sync>(
     rt: &R,
     alloc: Global,
@@ -124,8 +178,18 @@ fn writes<R: Threads + Wait + Sync>(
     if script.nodes != 3 || !are_stepped(rt, set, &mut pass, script.parts.as_slice()) {
         return false;
     }
-    let answer = read(rt, alloc, set, &mut pass);
-    may_be(&answer) && !matches!(answer, Ok(LinearAnswer::Missing))
+    let mut caller = Caller {
+        set,
+        pass: &mut pass,
+    };
+    let holds = is_shown(rt, alloc, &mut caller)
+        && is_acked(rt, &mut caller)
+        && is_shown(rt, alloc, &mut caller);
+    let Caller {
+        set: _set,
+        pass: _pass,
+    } = caller;
+    holds
 }
 
 // Two readers: whether the reads of both are answered as they may be.
@@ -154,7 +218,7 @@ fn two_read<R: Threads + Wait + Sync>(
 
 // Whether all are answered as they may be, and a read behind them shows the document.
 fn meet<R: Threads + Wait + Sync>(rt: &R, alloc: Global) -> Result<bool, Fail> {
-    let (set, mut pass) = shared(alloc, 3, 3)?;
+    let (set, mut pass) = shared(alloc, 3, 3, 3)?;
     let one = set.split(&mut pass);
     let two = set.split(&mut pass);
     let three = set.split(&mut pass);
@@ -169,12 +233,11 @@ fn meet<R: Threads + Wait + Sync>(rt: &R, alloc: Global) -> Result<bool, Fail> {
                 × ((sizes_of set).nodes ≡ 3) }
         { two_read(rt, alloc, &set, two, three) },
     );
-    let last = read(rt, alloc, &set, &mut pass)?;
-    Ok(first && second && matches!(last, LinearAnswer::Found(_)))
+    Ok(first && second && is_found(&read(rt, alloc, &set, &mut pass)))
 }
 
 #[test]
-fn a_read_behind_others_shows_what_was_written(rt: HostRuntime) -> Result<(), Fail> {
+fn a_read_behind_an_acknowledgement_shows_what_was_written(rt: HostRuntime) -> Result<(), Fail> {
     for _ in 0..MEETINGS {
         assert!(rt; meet(&rt, rt.alloc())?);
     }

@@ -21,13 +21,13 @@ use std::thread::Threads;
 pub type Shared = (SharedSet<MemDisk>, Pass<MemDisk>);
 
 // A set of so many nodes on empty disks, which is shared.
-pub fn shared(alloc: Global, nodes: u32, members: u32) -> Result<Shared, Fail>
-    requires sizes { AreSizes (record { nodes = nodes; members = members }) }
+pub fn shared(alloc: Global, nodes: u32, voters: u32, members: u32) -> Result<Shared, Fail>
+    requires sizes { AreSizes (record { nodes = nodes; voters = voters; members = members }) }
     ensures pass { IfOk result (λ shared. IsPass shared.0 shared.1 × IsFree shared.1) }
     ensures parts { IfOk result (λ shared. (view shared.1).parts ≡ 65536) }
     ensures nodes { IfOk result (λ shared. (sizes_of shared.0).nodes ≡ nodes) }
 {
-    let world = set_of(alloc, nodes, members)?;
+    let world = set_of(alloc, nodes, voters, members)?;
     let Ok(shared) = SharedSet::new(alloc, world) else {
         return Err(Fail::new("the set can't be shared"));
     };
@@ -60,7 +60,7 @@ fn commits_after<R: Threads + Wait + Sync>(
     script: &str,
 ) -> Result<(u64, u64), Fail> {
     let script = parse(alloc, script.as_bytes())?;
-    let (set, mut pass) = shared(alloc, script.nodes, script.members)?;
+    let (set, mut pass) = shared(alloc, script.nodes, script.voters, script.members)?;
     step_lines(rt, &set, &mut pass, script.parts.as_slice())?;
     if script.nodes < 2 {
         return Err(Fail::new("the set has one node"));
@@ -107,7 +107,7 @@ fn told_of_block<R: Threads + Wait + Sync>(
     held: &Held,
 ) -> Result<Vec<(u32, u32, Reply)>, Fail> {
     let script = parse(alloc, block(alloc, LINES)?.as_bytes())?;
-    let (set, mut pass) = shared(alloc, script.nodes, script.members)?;
+    let (set, mut pass) = shared(alloc, script.nodes, script.voters, script.members)?;
     run_only_block(rt, alloc, &set, &mut pass, script.parts.as_slice(), held)
 }
 

@@ -16,11 +16,12 @@ use std::test::Fail;
 use std::thread::Threads;
 
 // A set of so many nodes on empty disks.
-pub fn set_of(alloc: Global, nodes: u32, members: u32) -> Result<World<MemDisk>, Fail>
-    requires sizes { AreSizes (record { nodes = nodes; members = members }) }
-    ensures sizes { IfOk result (λ world. world.sizes ≡ record { nodes = nodes; members = members }) }
+pub fn set_of(alloc: Global, nodes: u32, voters: u32, members: u32) -> Result<World<MemDisk>, Fail>
+    requires sizes { AreSizes (record { nodes = nodes; voters = voters; members = members }) }
+    ensures sizes { IfOk result (λ world.
+        world.sizes ≡ record { nodes = nodes; voters = voters; members = members }) }
 {
-    let Ok(world) = World::open(alloc, nodes, members, empty_disks(alloc)?) else {
+    let Ok(world) = World::open(alloc, nodes, voters, members, empty_disks(alloc)?) else {
         return Err(Fail::new("the set can't be opened"));
     };
     Ok(world)
@@ -54,7 +55,7 @@ fn committed<R: Threads + Sync>(rt: &R, alloc: Global) -> Result<World<MemDisk>,
     ensures nodes { IfOk result (λ world. world.sizes.nodes ≡ 3) }
 {
     let script = parse(alloc, COMMITTED.as_bytes())?;
-    let mut world = set_of(alloc, script.nodes, script.members)?;
+    let mut world = set_of(alloc, script.nodes, script.voters, script.members)?;
     step_lines(rt, &mut world, script.parts.as_slice())?;
     if world.size() != 3 {
         return Err(Fail::new("the set has other nodes"));
