@@ -305,6 +305,8 @@ CASES = {
     "majority_reads": Case(majority_reads, 40, 80),
     "crashes": Case(crashes, 12, 24),
     "chaos": Case(chaos, 2_500, 5_000, words=lambda n: ["chaos", "7", str(n), "5"]),
+    "chaos_of_7_nodes": Case(chaos, 500, 1_000, words=lambda n: ["chaos", "7", str(n), "7"]),
+    "chaos_of_50_nodes": Case(chaos, 500, 1_000, words=lambda n: ["chaos", "7", str(n), "50"]),
 }
 
 # Blocks: so many lists of so many inserts each.

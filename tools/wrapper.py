@@ -60,12 +60,15 @@ MEANING = {
 }
 
 # The least and the greatest value of a number in the usage line, and the form of other words.
-BOUNDS = {"SEED": (0, 2**64 - 1), "EVENTS": (0, 5_000), "NODES": (1, 7)}
+BOUNDS = {"SEED": (0, 2**64 - 1), "EVENTS": (0, 5_000), "NODES": (1, 50)}
 FORMS = {"COLL": "[A-Za-z][A-Za-z0-9_.]{0,63}", "TOKEN": "start|[0-9a-f]{32}", "NODE": "n[0-9]{1,2}", "NODE...": "n[0-9]{1,2}"}
 FORMS["ID"] = "(?s)[^-].*"
 
 # How many words a name with dots may stand for.
 MOST_WORDS = 50
+
+# EVENTS times NODES.
+MOST_PRODUCT = 50_000
 
 NOTHING_PROVED = (
     "nothing was proved on this machine: this program is built from its sources without proofs; "
@@ -87,13 +90,19 @@ def is_fit(name, word):
     return name not in BOUNDS or (re.fullmatch("[0-9]{1,20}", word) is not None and least <= int(word) <= most)
 
 
+def is_short(told):
+    """Whether a generated script that these words ask for has no more lines than a script may have."""
+    return int(told.get("EVENTS", 0)) * int(told.get("NODES", 0)) <= MOST_PRODUCT
+
+
 def is_asked_by(row, words):
     """Whether these words fit a row of the usage line: the same first word, and one word for each name. A name with
     dots stands for several."""
     _, first, *names = row.split()
     if row.endswith("..."):
         names += names[-1:] * min(len(words) - 1 - len(names), MOST_WORDS - 1)
-    return words[:1] == [first] and len(words) == len(names) + 1 and all(map(is_fit, names, words[1:]))
+    fits = len(words) == len(names) + 1 and all(map(is_fit, names, words[1:]))
+    return words[:1] == [first] and fits and is_short(dict(zip(names, words[1:])))
 
 
 def are_words(words):

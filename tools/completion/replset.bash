@@ -9,9 +9,6 @@ _replset() {
         mapfile -t COMPREPLY < <(compgen -W "run chaos sync linear watch trace $options" -- "$word")
     elif [[ ${COMP_WORDS[at]} == --install ]] && ((COMP_CWORD == 2)); then
         mapfile -t COMPREPLY < <(compgen -d -- "$word")
-    elif [[ ${COMP_WORDS[at]} == chaos ]] && ((COMP_CWORD == at + 3)); then
-        # The number of nodes.
-        mapfile -t COMPREPLY < <(compgen -W "1 2 3 4 5 6 7" -- "$word")
     fi
 }
 

@@ -4,6 +4,7 @@ A script has some parts of random steps, each a sequence that may well succeed (
 majority gets), with lines left out, said twice or put between. After each part the program is run, so that the next
 one knows who is primary and how many messages there are. The last part settles the set: one primary, whom all follow.
 """
+import json
 import re
 
 from script_members import Members
@@ -27,21 +28,22 @@ BAD_WRITES = [
 
 
 class Author(Members, Sessions):
-    def __init__(self, dice, player, nodes, disk_faults):
+    def __init__(self, dice, player, sizes, disk_faults):
         self.dice = dice
         self.player = player
-        self.nodes = nodes
+        self.nodes, voters, members = sizes
         self.disk_faults = disk_faults
         self.noise = dice.choice([0, 0.02, 0.05, 0.12])
         self.primary = 0
-        self.members = list(range(nodes))
+        self.members = list(range(members))
+        self.silent = set(range(voters, members))  # those without a vote
         self.version = 1
         self.sent = 0
         self.left_open = []
         self.asked = []
         self.seen = 0
         self.optimes = ["1/0/1"]
-        self.lasts = ["0/0/0"] * nodes
+        self.lasts = ["0/0/0"] * self.nodes
         self.weights = [step[1] * dice.choice([0.4, 1, 1, 2]) for step in STEPS]
 
     # What the answers tell.
@@ -70,7 +72,9 @@ class Author(Members, Sessions):
         if re.match("(written|committed) ", answer):
             self.optimes = self.optimes[-5:] + [answer.split(" ")[1]]
         if answer.startswith("config "):
-            self.members = [int(k) for k in re.findall(r'"_id":(\d+)', line)]
+            members = json.loads(line.split(" ", 2)[2])["members"]
+            self.members = [member["_id"] for member in members]
+            self.silent = {member["_id"] for member in members if not member.get("votes", 1)}
 
     def say(self, *lines):
         self.player.lines += lines
@@ -369,11 +373,21 @@ STEPS = [
 ]
 
 
+def sizes_by(dice):
+    """How many nodes, voters and members a set has."""
+    if dice.random() < 0.6:
+        nodes = dice.choice([3, 3, 5, 5, 7])
+        return nodes, nodes, nodes
+    nodes = dice.choice([3, 4, 5, 7, 9])
+    voters = dice.randint(1, min(5, nodes))
+    return nodes, voters, dice.randint(voters, nodes)
+
+
 def play(program, dice):
     """A player that has played one whole random script."""
-    nodes = dice.choice([3, 3, 5, 5, 7])
-    player = Player(program, nodes)
-    author = Author(dice, player, nodes, disk_faults=dice.random() < 0.35)
+    sizes = sizes_by(dice)
+    player = Player(program, sizes)
+    author = Author(dice, player, sizes, disk_faults=dice.random() < 0.35)
     try:
         author.elect()
         for _ in range(dice.randint(3, 7)):

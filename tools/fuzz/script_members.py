@@ -7,22 +7,37 @@ class Members:
     def reconfigure(self):
         p = self.leader()
         self.replicate()
-        members = list(self.members)
+        members, silent = list(self.members), set(self.silent)
         outside = [k for k in range(self.nodes) if k not in members]
-        if outside and self.dice.random() < 0.6:
+        if self.dice.random() < 0.3:
+            self.change_vote(members, silent, p)
+        elif outside and self.dice.random() < 0.6:
             members.append(self.dice.choice(outside))
+            if self.dice.random() < 0.4:
+                silent.add(members[-1])
         elif len(members) > 2:
             members.remove(self.dice.choice([k for k in members if k != p]))
         if self.dice.random() < 0.1:
             members = self.dice.choice([members[1:], members + [9], members + members[:1], [p], members + outside])
-        self.configure(p, members, self.version + self.dice.choice([0, 1, 1, 1, 1, 1, 2]))
+        self.configure(p, members, self.version + self.dice.choice([0, 1, 1, 1, 1, 1, 2]), silent)
         for k in self.dice.sample(range(self.nodes), self.dice.choice([self.nodes // 2, self.nodes])):
             if k != p:
                 self.inform(k, p)
 
-    def configure(self, p, members, version):
-        texts = [f'{{"_id":{k}}}' for k in members]
-        if len(members) > 2 and members[-1] != p and self.dice.random() < 0.2:
+    def change_vote(self, members, silent, p):
+        """A member gets its vote, or loses it."""
+        voters = [k for k in members if k != p and k not in silent]
+        others = [k for k in members if k in silent]
+        if others and (not voters or self.dice.random() < 0.7):
+            silent.remove(self.dice.choice(others))
+        elif voters:
+            silent.add(self.dice.choice(voters))
+
+    def configure(self, p, members, version, silent=None):
+        silent = self.silent if silent is None else silent
+        voteless = '"votes":0' if self.dice.random() < 0.05 else '"votes":0,"priority":0'
+        texts = [f'{{"_id":{k},{voteless}}}' if k in silent else f'{{"_id":{k}}}' for k in members]
+        if len(members) > 2 and members[-1] not in silent and members[-1] != p and self.dice.random() < 0.2:
             texts[-1] = f'{{"_id":{members[-1]},"priority":0}}'
         settings = self.dice.choice(["", "", "", ',"settings":{"chainingAllowed":false}'])
         self.put(f'reconfig n{p} {{"version":{version},"members":[{",".join(texts)}]{settings}}}')
@@ -77,9 +92,10 @@ class Members:
                 self.follow(k, p)
 
     def bare_majority(self, members, p, first):
-        """Just as many members beside p as make a majority with it, of these first."""
-        rest = [k for k in first if k in members and k != p] + [k for k in members if k not in first and k != p]
-        return rest[: len(members) // 2]
+        """Just as many voters beside p as make a majority with it, of these first."""
+        voters = [k for k in members if k not in self.silent]
+        rest = [k for k in first if k in voters and k != p] + [k for k in voters if k not in first and k != p]
+        return rest[: len(voters) // 2]
 
     def change(self, members, p, near):
         """One comes in or leaves, mostly so that those who are near become the members."""

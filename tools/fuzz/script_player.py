@@ -9,10 +9,11 @@ class Fault(Exception):
 class Player:
     """Has the lines of a script, and the answers of the program by the number of their line."""
 
-    def __init__(self, program, nodes):
+    def __init__(self, program, sizes):
         self.program = program
-        self.nodes = nodes
-        self.lines = [f"set {nodes}"]
+        self.nodes = sizes[0]
+        told = sizes[:1] if len(set(sizes)) == 1 else sizes
+        self.lines = ["set " + " ".join(str(size) for size in told)]
         self.transcript = ""
         self.answers = {}
 

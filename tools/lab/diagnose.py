@@ -98,7 +98,7 @@ def _command(line: str) -> Cause:
         return Cause(0, f"'{word}' is a macro of short scripts: play it by 'lab run', or 'lab expand' it")
     near = difflib.get_close_matches(word.lower(), COMMANDS, 1)
     if word in COMMANDS:
-        return Cause(0, "the first command must be 'set NODES [MEMBERS]'")
+        return Cause(0, "the first command must be 'set NODES [VOTERS [MEMBERS]]'")
     return Cause(0, f"did you mean '{near[0]}'?" if near else f"there is no command '{word}'")
 
 

@@ -85,7 +85,7 @@ class Macros:
             reply = self.player.ask(f"campaign n{node}")
             if reply.refused:
                 raise CannotGoOn(f"n{node} isn't elected: its campaign is {reply.text}")
-            asked = self.player.other_members(node) if reply.text.startswith("candidate") else []
+            asked = self.player.other_voters(node) if reply.text.startswith("candidate") else []
             lost = self._gather(node, [voter for voter in (voters or asked) if voter in asked])
             if lost is None or reply.text.startswith("won"):
                 self.player.ask(f"drain n{node}")

@@ -6,7 +6,7 @@ import re
 from dataclasses import dataclass, field
 from typing import Dict, List, Optional, Tuple
 
-from .script import acting_node, words_of
+from .script import SetSize, acting_node, words_of
 from .state import read_state
 
 _ASKED = re.compile(r"(?:candidate|dryrun) \d+ sent m(\d+) (\d+)$")
@@ -29,13 +29,21 @@ class Message:
     deliveries: List[int] = field(default_factory=list)
 
 
+@dataclass(frozen=True)
+class Members:
+    """The members of a configuration, and those of them that vote, by their numbers."""
+
+    numbers: Tuple[int, ...] = ()
+    voters: Tuple[int, ...] = ()
+
+
 class Mail:
     """The messages so far, with what is needed to know to whom a candidate's go: who the voters of each configuration are."""
 
-    def __init__(self, members: int):
+    def __init__(self, size: SetSize):
         self.messages: List[Message] = []
         self._newest: Dict[Tuple[int, int], Message] = {}
-        self._voters: Dict[str, List[int]] = {"0/1": list(range(members))}
+        self._members = {"0/1": Members(tuple(range(size.members)), tuple(range(size.voters)))}
         self._config: Dict[int, str] = {}
 
     def notice_state(self, node: int, reply: str) -> None:
@@ -44,9 +52,9 @@ class Mail:
         if not state.down:
             self._config[node] = state.config
 
-    def members_of(self, config: str) -> List[int]:
+    def members_of(self, config: str) -> Members:
         """The members of a configuration, named by term and version, as far as the run has told."""
-        return self._voters.get(config, [])
+        return self._members.get(config, Members())
 
     def receive(self, line: str) -> Optional[Message]:
         """The message that a `deliver` line hands over, if there is one."""
@@ -89,17 +97,17 @@ class Mail:
         made, drained = _CONFIG.match(reply), _DRAINED.match(reply)
         if made:
             config = f"{made[1]}/{made[2]}"
-            self._voters[config] = _voters_of(line.split(" ", 2)[2])
+            self._members[config] = _members_of(line.split(" ", 2)[2])
         elif drained:
             was = self._config.get(node, "0/1")
             config = f"{drained[1]}/{was.split('/')[1]}"
-            self._voters.setdefault(config, self._voters.get(was, []))
+            self._members.setdefault(config, self.members_of(was))
         else:
             return
         self._config[node] = config
 
     def _others(self, node: int) -> List[int]:
-        return [voter for voter in self._voters.get(self._config.get(node, "0/1"), []) if voter != node]
+        return [voter for voter in self.members_of(self._config.get(node, "0/1")).voters if voter != node]
 
     def _send(self, sender: int, receiver: int, kind: str, line: int, answers: Optional[int] = None) -> None:
         message = Message(len(self.messages), sender, receiver, kind, line, answers)
@@ -107,7 +115,7 @@ class Mail:
         self._newest[sender, receiver] = message
 
 
-def _voters_of(text: str) -> List[int]:
-    """The voters of a configuration that was accepted, by their numbers."""
-    members = json.loads(text)["members"]
-    return sorted(member["_id"] for member in members if member.get("votes", 1))
+def _members_of(text: str) -> Members:
+    """The members of a configuration that was accepted, in order of number."""
+    votes = {member["_id"]: member.get("votes", 1) for member in json.loads(text)["members"]}
+    return Members(tuple(sorted(votes)), tuple(number for number in sorted(votes) if votes[number]))

@@ -105,7 +105,7 @@ def observe(lines: Sequence[str], first: int = 1, last: int = MOST_LINES) -> Run
     first = _before_block(lines, first)
     probed = _Probed(lines, size.nodes, first, last)
     states = {node: opening_state() for node in range(size.nodes)}
-    run = Run(list(lines), size, Mail(size.members), [], dict(states), states)
+    run = Run(list(lines), size, Mail(size), [], dict(states), states)
     latest: Dict[int, Step] = {}
     for reply in probed.play().replies:
         number, asked = probed.source[reply.line - 1]

@@ -3,6 +3,7 @@ from __future__ import annotations
 
 from typing import Dict, List, Optional
 
+from .mail import Mail, Members
 from .observe import observe
 from .program import last_replies, play
 from .script import SetSize, acting_node, is_silent, set_size, words_of
@@ -63,7 +64,7 @@ class Player:
         return self._played
 
     def size(self) -> SetSize:
-        """How many nodes and members the set has."""
+        """How many nodes the set has, and how many of them vote and are members."""
         return set_size(self.lines)
 
     def states(self) -> Dict[int, State]:
@@ -74,16 +75,20 @@ class Player:
         transcript = last_replies([*self.lines, *asked], first)
         return {node: read_state(transcript.text(first + node)) for node in nodes}
 
-    def members(self, config: str) -> List[int]:
-        """The members of a configuration, named by term and version."""
+    def members(self, node: int) -> Members:
+        """The members of the configuration that a node has."""
+        config = read_state(self.look(f"state n{node}").text).config
         if config.endswith("/1"):
-            return list(range(self.size().members))
+            return Mail(self.size()).members_of("0/1")
         return observe(self.lines, len(self.lines) + 1).mail.members_of(config)
 
     def other_members(self, node: int) -> List[int]:
-        """The members of a node's configuration but itself: these it asks for votes."""
-        state = read_state(self.look(f"state n{node}").text)
-        return [other for other in self.members(state.config) if other != node]
+        """The members of a node's configuration but itself."""
+        return [other for other in self.members(node).numbers if other != node]
+
+    def other_voters(self, node: int) -> List[int]:
+        """The voters of a node's configuration but itself: these it asks for votes."""
+        return [other for other in self.members(node).voters if other != node]
 
     def newest_write(self, node: int) -> Optional[str]:
         """The optime of the newest write that the node was answered with."""

@@ -18,6 +18,8 @@ KINDS = {
     "apply": "disk", "flush": "disk", "checkpoint": "disk", "reconfig": "member",
     "crash": "crash", "restart": "crash", "diskfail": "crash", "clock": "crash",
 }
+#: So many members of a set vote at most.
+MOST_VOTERS = 7
 COMMANDS = ("set", *KINDS, "deliver", "par", "thread", "end")
 
 
@@ -26,6 +28,7 @@ class SetSize:
     """What the first line of a script says."""
 
     nodes: int
+    voters: int
     members: int
 
 
@@ -70,7 +73,7 @@ def acting_node(line: str) -> Optional[int]:
 
 
 def set_size(lines: Sequence[str]) -> SetSize:
-    """How many nodes and members the script's set has."""
+    """How many nodes the script's set has, and how many of them vote and are members."""
     for number, line in enumerate(lines, 1):
         if is_silent(line):
             continue
@@ -78,5 +81,7 @@ def set_size(lines: Sequence[str]) -> SetSize:
         counts = [int(word) for word in words[1:] if word.isdecimal()]
         if words[0] != "set" or not counts or len(counts) != len(words) - 1:
             raise LabError(SCRIPT, f"this is no script: its first command, at line {number}, isn't 'set NODES'")
-        return SetSize(counts[0], counts[-1])
+        if len(counts) == 1:
+            return SetSize(counts[0], min(counts[0], MOST_VOTERS), counts[0])
+        return SetSize(counts[0], counts[1], counts[-1])
     raise LabError(SCRIPT, "this is no script: it has no command; a script begins with 'set NODES'")

@@ -70,7 +70,8 @@ class BadInput(LabTest):
             (["picture", script, "-o", "run.png"], 2, ".html"), (["picture", script, "-o", "no/where.svg"], 4, "can't be written"),
             (["picture", script, "--lines", "9-3"], 2, "no lines"), (["shrink", script], 2, "--keep"),
             (["shrink", script, "--keep", "("], 2, "no regular expression"), (["sweep", "--seeds", "x"], 2, "no seeds"),
-            (["sweep", "--nodes", "9"], 2, "--nodes"), (["test", "not_there"], 4, "can't be read"), (["dance"], 2, "dance"),
+            (["sweep", "--nodes", "51"], 2, "--nodes"),
+            (["sweep", "--events", "5000", "--nodes", "50"], 2, "multiplied"), (["test", "not_there"], 4, "can't be read"), (["dance"], 2, "dance"),
             ([], 2, "WORD"), (["shell", "--nodes", "0"], 2, "--nodes"), (["shell", "not_there"], 4, "can't be read"),
         ]
         for words, status, told in cases:

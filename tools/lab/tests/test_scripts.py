@@ -42,6 +42,15 @@ class Expand(LabTest):
             "ack n0 1/0/2 majority",
         ])
 
+    def test_members_without_a_vote_take_the_log_and_are_not_asked(self) -> None:
+        told = self.told("expand", self.file(["set 4 2 3", "elect n0", "insert n0 t {_id: 1}", "spread n0"]))
+        elected, spread = told.split("# spread n0\n")
+        self.assertEqual(elected.splitlines(), [
+            "set 4 2 3", "# elect n0", "campaign n0", "deliver n0 n1", "deliver n1 n0", "drain n0", "insert n0 t {_id: 1}",
+        ])
+        self.assertIn("report n2 n0", spread)
+        self.assertNotIn("n3", spread)
+
     def test_what_is_expanded_is_a_script_without_refusals(self) -> None:
         plain = self.told("expand", self.file([*COMMITTED, "partition n0 | n1 n2", "update n0 orders 1 {$set: {n: 1}}",
                                                "elect n1", "spread n1", "heal", "pull n0 n1", "await n1 last"]))

@@ -79,7 +79,8 @@ class Chance(LabTest):
         if done.returncode == 5:
             self.skipTest("seed_script isn't built")
         self.assertEqual(done.stdout, (crate / "stdout").read_text())
-        self.assertEqual(self.lab("seed", "1", "2", "8").returncode, 2)
+        self.assertEqual(self.lab("seed", "1", "2", "51").returncode, 2)
+        self.assertEqual(self.lab("seed", "1", "1001", "50").returncode, 2)
 
 
 if __name__ == "__main__":

@@ -191,8 +191,8 @@ def _with_history(shell: Shell) -> Optional[Callable[[], None]]:
 
 def main(arguments: argparse.Namespace) -> int:
     """Answers lines until there are no more."""
-    if not 1 <= arguments.nodes <= 7:
-        raise LabError(WORDS, "--nodes is from 1 to 7")
+    if not 1 <= arguments.nodes <= 50:
+        raise LabError(WORDS, "--nodes is from 1 to 50")
     shell = Shell(print)
     shell.open(read_lines(arguments.file) if arguments.file else [f"set {arguments.nodes}"])
     asked = sys.stdin.isatty()

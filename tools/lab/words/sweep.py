@@ -49,7 +49,7 @@ def add_arguments(parser: argparse.ArgumentParser) -> None:
     """The word's arguments."""
     parser.add_argument("--seeds", metavar="FROM-TO", type=_seed_range, default=(1, 1000), help="the seeds (1-1000)")
     parser.add_argument("--events", metavar="N", type=int, default=500, help="events of a script, up to 5000 (500)")
-    parser.add_argument("--nodes", metavar="N", type=int, default=3, help="nodes of the set, 1 to 7 (3)")
+    parser.add_argument("--nodes", metavar="N", type=int, default=3, help="nodes of the set, 1 to 50 (3)")
     parser.add_argument("-j", dest="jobs", metavar="N", type=int, default=os.cpu_count() or 1,
                         help="how many are played at a time (as many as there are processors)")
 
@@ -95,8 +95,9 @@ def _bars(summaries: List[Summary], name: str) -> Iterable[str]:
 def main(arguments: argparse.Namespace) -> int:
     """Plays the seeds, and tells what they came to."""
     first, last = arguments.seeds
-    if not 0 <= arguments.events <= 5000 or not 1 <= arguments.nodes <= 7:
-        raise LabError(WORDS, "--events is at most 5000, and --nodes from 1 to 7")
+    few = 0 <= arguments.events <= 5000 and 1 <= arguments.nodes <= 50
+    if not few or arguments.events * arguments.nodes > 50000:
+        raise LabError(WORDS, "--events is at most 5000, --nodes from 1 to 50, and both multiplied at most 50000")
     progress = Progress(last - first + 1, "seeds")
     summaries: List[Summary] = []
     try:
