@@ -280,7 +280,7 @@ CASES = {
     "sessions": Case(sessions, 50_000, 20_000),
     "pairs": Case(pairs, 60_000, 10_000),
     "watched": Case(flushed, 95_000, 20_000, words=lambda n: ["watch", "items", "start", "n0"]),
-    "synced": Case(flushed, 190_000, 20_000, words=lambda n: ["sync", "n0"]),
+    "synced": Case(flushed, 95_000, 20_000, words=lambda n: ["sync", "n0"]),
     "updates": Case(updates, 50_000, 5_000),
     "mixed": Case(mixed, 90_000, 3_500),
     "writers": Case(writers, 40_000, 40_000),
