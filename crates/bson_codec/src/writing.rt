@@ -1,6 +1,7 @@
 // The bytes of a document, appended to others. A length is filled in once its document is written.
 ghost use Rattle.std.specs.Prelude.{◌≡◌, ◌++◌, ◌∷◌, [], ◌<◌, ◌≤◌, ◌+◌, ◌-◌, ◌^◌, OnOk, length, take, drop, true, vec_capacity};
 ghost use Rattle.std.specs.Fmt.{decimal};
+ghost use Rattle.std.specs.Int.{w32, cast_unsigned};
 ghost use Rattle.bson_doc.specs.View.{tree_of};
 ghost use Rattle.bson_doc.specs.Tree.{array, text as a_text};
 ghost use Rattle.bson_doc.specs.Length.{value_length, document_length, items_length};
@@ -13,22 +14,54 @@ use crate::numbers::{put_i32, put_i64, put_u32, put_u64, set_u32};
 use bson_doc::{Doc, Items, Mem, Value};
 use std::alloc::Global;
 
+// A name with more is copied by a call.
+const FEW_LETTERS: usize = 8;
+
+/// Most names are a few letters, and find room: they are put in their places one by one.
 fn put_name(out: &mut Vec<u8>, kind: u8, name: &str) -> Mem<()>
     ensures laid { OnOk result (out.new.items ≡ out.old.items ++ kind ∷ (name.now ++ 0 ∷ [])) }
     ensures longer { OnOk result (vec_capacity out.old ≤ vec_capacity out.new) }
 {
+    let letters = name.as_bytes();
+    let room = out.capacity().saturating_sub(out.len());
+    if letters.len() > FEW_LETTERS || room < letters.len() + 2 {
+        return put_long_name(out, kind, letters);
+    }
+    out.push_reserved(kind);
+    for letter in letters {
+        out.push_reserved(*letter);
+    }
+    out.push_reserved(0);
+    Ok(())
+}
+
+#[inline(never)]
+fn put_long_name(out: &mut Vec<u8>, kind: u8, letters: &[u8]) -> Mem<()>
+    ensures laid { OnOk result (out.new.items ≡ out.old.items ++ kind ∷ (letters.now ++ 0 ∷ [])) }
+    ensures longer { OnOk result (vec_capacity out.old ≤ vec_capacity out.new) }
+{
     out.push(kind)?;
-    out.extend_from_slice(name.as_bytes())?;
+    out.extend_from_slice(letters)?;
     Ok(out.push(0)?)
 }
 
-/// An item's name: its place in decimal.
+/// A field whose value is a number of four bytes, as most are.
+fn put_int32(out: &mut Vec<u8>, name: &str, number: i32) -> Mem<()>
+    ensures laid { OnOk result (out.new.items ≡ out.old.items
+        ++ element 16 name.now (number_bytes 4 (cast_unsigned w32 number))) }
+    ensures longer { OnOk result (vec_capacity out.old ≤ vec_capacity out.new) }
+{
+    put_name(out, 16, name)?;
+    put_i32(out, number)
+}
+
+/// An item's name: its place in decimal. With two callers, what copies a name stays out of `put_name`.
 fn put_place(alloc: Global, out: &mut Vec<u8>, kind: u8, place: usize) -> Mem<()>
     ensures laid { OnOk result (out.new.items ≡ out.old.items ++ kind ∷ (decimal place ++ 0 ∷ [])) }
     ensures longer { OnOk result (vec_capacity out.old ≤ vec_capacity out.new) }
 {
     let name = place.to_string(alloc)?;
-    put_name(out, kind, name.as_str())
+    put_long_name(out, kind, name.as_str().as_bytes())
 }
 
 fn put_text(out: &mut Vec<u8>, text: &str) -> Mem<()>
@@ -90,6 +123,20 @@ fn write_value(alloc: Global, value: &Value, out: &mut Vec<u8>) -> Mem<()>
 }
 
 #[cycle(write)]
+fn write_field(alloc: Global, name: &str, value: &Value, out: &mut Vec<u8>) -> Mem<()>
+    requires { value_length (tree_of value.now) < 2 ^ 31 }
+    ensures laid { OnOk result (out.new.items ≡ out.old.items
+        ++ element (type_byte (tree_of value.now)) name.now (value_bytes (tree_of value.now))) }
+    ensures longer { OnOk result (vec_capacity out.old ≤ vec_capacity out.new) }
+{
+    if let Value::Int32(number) = value {
+        return put_int32(out, name, *number);
+    }
+    put_name(out, value.kind(), name)?;
+    write_value(alloc, value, out)
+}
+
+#[cycle(write)]
 fn write_items(alloc: Global, items: &Items, out: &mut Vec<u8>) -> Mem<()>
     requires { 5 + items_length 0 items.now < 2 ^ 31 }
     ensures laid { OnOk result (out.new.items ≡ out.old.items ++ value_bytes (array items.now)) }
@@ -120,8 +167,7 @@ pub fn write(alloc: Global, document: &Doc, out: &mut Vec<u8>) -> Mem<()>
         let Some((name, value)) = document.at(place) else {
             unreachable!()
         };
-        put_name(out, value.kind(), name)?;
-        write_value(alloc, value, out)?;
+        write_field(alloc, name, value, out)?;
     }
     close(out, start)
 }
@@ -134,8 +180,7 @@ pub fn put_field(alloc: Global, out: &mut Vec<u8>, name: &str, value: &Value) ->
         ++ element (type_byte (tree_of value.now)) name.now (value_bytes (tree_of value.now))) }
     ensures longer { OnOk result (vec_capacity out.old ≤ vec_capacity out.new) }
 {
-    put_name(out, value.kind(), name)?;
-    write_value(alloc, value, out)
+    write_field(alloc, name, value, out)
 }
 
 /// Appends a field whose value is a string.

@@ -6,13 +6,16 @@ use Rattle.bson_codec.specs.Spelling.{fields_bytes, items_bytes}
 use Rattle.bson_codec.proofs.writing.+write.Given as goal
 
 abbrev pub decreases-write : goal.decreases-write
-decreases-write l = 2 * fields_size l.document.now
+decreases-write l = 3 * fields_size l.document.now
 
 abbrev pub decreases-write_items : goal.decreases-write_items
-decreases-write_items l = 2 * trees_size l.items.now
+decreases-write_items l = 3 * trees_size l.items.now
 
 abbrev pub decreases-write_value : goal.decreases-write_value
-decreases-write_value l = 2 * tree_size (tree_of l.value.now) + 1
+decreases-write_value l = 3 * tree_size (tree_of l.value.now) + 1
+
+abbrev pub decreases-write_field : goal.decreases-write_field
+decreases-write_field l = 3 * tree_size (tree_of l.value.now) + 2
 
 abbrev pub invariant-write-loop-place : goal.invariant-write-loop-place
 invariant-write-loop-place l =
