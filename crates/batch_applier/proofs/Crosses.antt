@@ -10,6 +10,8 @@ use Rattle.bson_doc.proofs.text.Text.TheSendSync.{the_send as text_send, the_syn
 use Rattle.bson_doc.proofs.text.Bytes.TheSendSync.{the_send as bytes_send, the_sync as bytes_sync}
 use Rattle.bson_doc.proofs.key.IdKey.TheSendSync.{the_send as key_send}
 use Rattle.version_store.specs.contracts.history.History as history
+use Rattle.version_store.specs.contracts.row.Row as row
+use Rattle.version_store.specs.contracts.tree.Tree as tree
 use Rattle.version_store.specs.contracts.collection.Collection as collection
 use Rattle.version_store.specs.contracts.shard.Shard as shard
 use Rattle.oplog_entry.specs.contracts.entry.Entry as entry
@@ -28,8 +30,14 @@ doc_sync = search (sendable, documents.crosses, heap.crosses, text_sync, bytes_s
 history_send : IsSend history.the_row
 history_send = search (sendable, heap.crosses, doc_send) depth 40 fits 20000
 
+row_send : IsSend row.the_row
+row_send = search (sendable, heap.crosses, key_send, history_send) depth 40 fits 20000
+
+tree_send : IsSend tree.the_row
+tree_send = search (sendable, heap.crosses, maps.crosses, key_send, history_send) depth 40 fits 20000
+
 collection_send : IsSend collection.the_row
-collection_send = search (sendable, heap.crosses, maps.crosses, key_send, history_send) depth 40 fits 20000
+collection_send = search (sendable, heap.crosses, row_send, tree_send) depth 40 fits 20000
 
 shard_send : IsSend shard.the_row
 shard_send = search (sendable, heap.crosses, maps.crosses, collection_send) depth 40 fits 20000

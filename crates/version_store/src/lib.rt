@@ -7,11 +7,13 @@ mod cut;
 mod history;
 mod laws;
 mod place;
+mod row;
 mod runs;
 mod shard;
 mod shown;
 mod slots;
 mod store;
+mod tree;
 
 pub use laws::{a_prune_is_not_seen, going_back_shows_the_earlier};
 pub use place::shard_of;

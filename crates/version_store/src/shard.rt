@@ -162,8 +162,8 @@ impl Shard {
         );
     }
 
-    /// Adds the documents that a read at an optime shows, a run for each collection in order of its keys, and
-    /// how long each run is.
+    /// Adds the documents that a read at an optime shows, in runs that are each of one collection and in the
+    /// order of its keys, and how long each run is.
     pub(crate) fn add_shown<'a>(
         &'a self,
         at: OpTime,
@@ -175,9 +175,7 @@ impl Shard {
         ensures own { HasItsOwn self.now }
     {
         for (name, collection) in &self.collections {
-            let before = gathered.len();
-            collection.add_shown(name, at, gathered)?;
-            lengths.push(gathered.len().saturating_sub(before))?;
+            collection.add_shown(name, at, gathered, lengths)?;
         }
         Ok(())
     }
