@@ -14,6 +14,12 @@ use rs_optime::{Mem, OpTime};
 use std::alloc::Global;
 use version_store::Shown;
 
+// Room for so many bytes is made for each document.
+const USUAL: usize = 64;
+
+// A name with more is copied by a call.
+const FEW_LETTERS: usize = 8;
+
 fn put_optime(out: &mut Vec<u8>, at: OpTime) -> Mem<()>
     ensures laid { OnOk result (out.new.items ≡ out.old.items ++ optime_bytes at) }
     ensures fits { IsOptime at }
@@ -27,7 +33,19 @@ fn put_sized(out: &mut Vec<u8>, bytes: &[u8]) -> Mem<()>
     ensures { OnOk result (out.new.items ≡ out.old.items ++ sized bytes.now) }
 {
     put_u32(out, bytes.len() as u32)?;
-    out.extend_from_slice(bytes)
+    if bytes.len() > FEW_LETTERS {
+        return out.extend_from_slice(bytes);
+    }
+    put_few(out, bytes)
+}
+
+fn put_few(out: &mut Vec<u8>, bytes: &[u8]) -> Mem<()>
+    ensures { OnOk result (out.new.items ≡ out.old.items ++ bytes.now) }
+{
+    for byte in bytes {
+        out.push(*byte)?;
+    }
+    Ok(())
 }
 
 // Appends a document behind its collection's name, with room for its length until it has been written.
@@ -81,7 +99,7 @@ pub(crate) fn documents_bytes(alloc: Global, documents: &[Shown<'_>]) -> Mem<Vec
     requires few { length documents.now ≤ PIECE }
     ensures { IfOk result (λ bytes. IsSpelled (holds (map placed documents.now)) bytes.items) }
 {
-    let mut out = Vec::new(alloc);
+    let mut out = Vec::with_capacity(alloc, documents.len() * USUAL)?;
     out.push(2)?;
     put_u32(&mut out, documents.len() as u32)?;
     put_each(&mut out, documents)?;
