@@ -37,12 +37,17 @@ write_kind word =
 -- what a node is asked for by a word
 abbrev pub other_verb : List ℕ → Option NodeVerb
 other_verb word =
-    if bytes_eq word (codes "retry") then Some asks.Retry
+    if bytes_eq word (codes "heartbeat") then Some asks.Heartbeat
+    else if bytes_eq word (codes "fetch") then Some asks.Fetch
+    else if bytes_eq word (codes "apply") then Some asks.Apply
+    else if bytes_eq word (codes "flush") then Some asks.Flush
+    else if bytes_eq word (codes "report") then Some asks.Report
+    else if bytes_eq word (codes "ack") then Some asks.Ack
+    else if bytes_eq word (codes "retry") then Some asks.Retry
     else if bytes_eq word (codes "note") then Some asks.Note
     else if bytes_eq word (codes "begin") then Some asks.Begin
     else if bytes_eq word (codes "commit") then Some asks.Commit
     else if bytes_eq word (codes "abort") then Some asks.Abort
-    else if bytes_eq word (codes "ack") then Some asks.Ack
     else if bytes_eq word (codes "read") then Some asks.Read
     else if bytes_eq word (codes "dump") then Some asks.Dump
     else if bytes_eq word (codes "log") then Some asks.Log
@@ -52,12 +57,7 @@ other_verb word =
     else if bytes_eq word (codes "dryrun") then Some asks.DryRun
     else if bytes_eq word (codes "drain") then Some asks.Drain
     else if bytes_eq word (codes "stepdown") then Some asks.StepDown
-    else if bytes_eq word (codes "heartbeat") then Some asks.Heartbeat
-    else if bytes_eq word (codes "report") then Some asks.Report
     else if bytes_eq word (codes "common") then Some asks.Common
-    else if bytes_eq word (codes "fetch") then Some asks.Fetch
-    else if bytes_eq word (codes "apply") then Some asks.Apply
-    else if bytes_eq word (codes "flush") then Some asks.Flush
     else if bytes_eq word (codes "checkpoint") then Some asks.Checkpoint
     else if bytes_eq word (codes "reconfig") then Some asks.Reconfig
     else if bytes_eq word (codes "crash") then Some asks.Crash

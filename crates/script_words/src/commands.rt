@@ -148,7 +148,8 @@ fn of_words(nodes: u32, verb: NodeVerb, node: u32, left: Left<'_>) -> Result<Com
     }
 }
 
-/// The command, where nothing is left.
+/// The command, where nothing is left. It is inlined, so that the command is moved once less.
+#[inline(always)]
 fn ended(left: Left<'_>, command: Command) -> Result<Command, ScriptRule>
     ensures { result ≡ ended (option_copied left.entry) command }
 {

@@ -127,17 +127,23 @@ impl NodeVerb {
     }
 }
 
-/// What a node is asked for by a word that names no write.
+/// What a node is asked for by a word that names no write. They are compared in turn, so those of which
+/// scripts have most come first.
 fn other_verb(word: &str) -> Option<NodeVerb>
     ensures { result ≡ other_verb word.now }
 {
     match word {
+        "heartbeat" => Some(NodeVerb::Heartbeat),
+        "fetch" => Some(NodeVerb::Fetch),
+        "apply" => Some(NodeVerb::Apply),
+        "flush" => Some(NodeVerb::Flush),
+        "report" => Some(NodeVerb::Report),
+        "ack" => Some(NodeVerb::Ack),
         "retry" => Some(NodeVerb::Retry),
         "note" => Some(NodeVerb::Note),
         "begin" => Some(NodeVerb::Begin),
         "commit" => Some(NodeVerb::Commit),
         "abort" => Some(NodeVerb::Abort),
-        "ack" => Some(NodeVerb::Ack),
         "read" => Some(NodeVerb::Read),
         "dump" => Some(NodeVerb::Dump),
         "log" => Some(NodeVerb::Log),
@@ -147,12 +153,7 @@ fn other_verb(word: &str) -> Option<NodeVerb>
         "dryrun" => Some(NodeVerb::DryRun),
         "drain" => Some(NodeVerb::Drain),
         "stepdown" => Some(NodeVerb::StepDown),
-        "heartbeat" => Some(NodeVerb::Heartbeat),
-        "report" => Some(NodeVerb::Report),
         "common" => Some(NodeVerb::Common),
-        "fetch" => Some(NodeVerb::Fetch),
-        "apply" => Some(NodeVerb::Apply),
-        "flush" => Some(NodeVerb::Flush),
         "checkpoint" => Some(NodeVerb::Checkpoint),
         "reconfig" => Some(NodeVerb::Reconfig),
         "crash" => Some(NodeVerb::Crash),
