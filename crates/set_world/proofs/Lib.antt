@@ -2,6 +2,7 @@ pub mod ActingLemmas
 mod BeginLemmas
 pub mod DiskLemmas
 pub mod DisksOpenLemmas
+pub mod EmptyLemmas
 pub mod FaultLemmas
 pub mod NodesLemmas
 mod OpenLemmas

@@ -7,6 +7,7 @@
 
 mod acting;
 mod command;
+mod disks;
 mod error;
 mod opening;
 mod points;
@@ -14,6 +15,7 @@ mod pool;
 mod stepper;
 mod world;
 
+pub use disks::empty_disks;
 pub use error::StepError;
 pub use stepper::Stepper;
 pub use world::World;

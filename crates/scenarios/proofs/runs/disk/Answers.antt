@@ -1,4 +1,4 @@
-use Rattle.set_program.proofs.EmptyLemmas.{armed_is_empty}
+use Rattle.set_world.proofs.EmptyLemmas.{armed_is_empty}
 use Rattle.scenarios.proofs.runs.disk.Goals as goal
 
 pub returns : goal.returns

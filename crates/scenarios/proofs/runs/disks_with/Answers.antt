@@ -1,5 +1,5 @@
 use Rattle.std.proofs.Common.{arith}
-use Rattle.set_program.proofs.EmptyLemmas.{empty_more}
+use Rattle.set_world.proofs.EmptyLemmas.{empty_more}
 use Rattle.scenarios.proofs.runs.disks_with.Goals as goal
 
 pub loop-place-preserved : goal.loop-place-preserved

@@ -3,7 +3,7 @@ use Rattle.std.specs.Prelude.{All}
 use Rattle.rs_disk.specs.File.{IsEmpty}
 use Rattle.rs_disk.specs.Memory.{state_of}
 use Rattle.rs_disk.specs.declared.memory.MemDisk.{MemDisk}
-use Rattle.set_program.proofs.disks.empty_disks.Given as goal
+use Rattle.set_world.proofs.disks.empty_disks.Given as goal
 
 -- so many empty disks are made
 abbrev pub invariant-loop-place : goal.invariant-loop-place

@@ -1,6 +1,6 @@
 use Rattle.std.proofs.Common.{arith}
-use Rattle.set_program.proofs.EmptyLemmas.{empty_more, fresh_is_empty}
-use Rattle.set_program.proofs.disks.empty_disks.Goals as goal
+use Rattle.set_world.proofs.EmptyLemmas.{empty_more, fresh_is_empty}
+use Rattle.set_world.proofs.disks.empty_disks.Goals as goal
 
 pub loop-place-preserved : goal.loop-place-preserved
 loop-place-preserved c = (
