@@ -1,0 +1,2 @@
+pub mod InsertLemmas
+pub mod ShelfLemmas

@@ -1,0 +1,287 @@
+ghost use Rattle.std.specs.Prelude.{◌≡◌, ◌<◌, ◌≤◌, List, length, take, drop, insert, All, IfOk, OnOk};
+ghost use Rattle.std.specs.List.{list_any};
+ghost use Rattle.std.specs.Option.{option_copied};
+ghost use Rattle.std.specs.FinMap as maps;
+ghost use Rattle.doc_fold.specs.Map.{documents_of};
+ghost use Rattle.oplog_entry.specs.Docs.{applied};
+ghost use Rattle.oplog_entry.specs.Lawful.{IsLawful};
+ghost use Rattle.oplog_entry.specs.Step.{document_after as op_left};
+ghost use Rattle.oplog_entry.specs.declared.entry.Entry.{Entry};
+ghost use Rattle.doc_shelf.specs.Shelf.{Shelf as Shown, IsOfFront, empty_shelf, shelf_of, stood_before, is_touched, touches, with_applied};
+
+use crate::documents::{copy_at, document_at, put_at};
+use bson_doc::{Doc, IdKey, Mem, Text};
+use doc_fold::{apply_entry, document_after};
+use oplog_entry::{Entry, Op};
+use std::alloc::Global;
+use std::collections::BTreeMap;
+use std::marker::Model;
+
+/// The documents that the first entries of a log leave, with what is needed to take each entry back: what
+/// stood at its place, and none where it touches no document.
+#[derive(Drop)]
+pub struct Shelf {
+    alloc: Global,
+    documents: BTreeMap<(Text, IdKey), Doc>,
+    before: Vec<Option<((Text, IdKey), Option<Doc>)>>,
+}
+
+impl Model for Shelf {
+    ghost use Rattle.doc_fold.specs.Map.{documents_of};
+    ghost use Rattle.doc_shelf.specs.Code.{shelf_code};
+    ghost use Rattle.doc_shelf.specs.Shelf.{Shelf as Seen};
+
+    ghost Value = { Seen };
+
+    ghost coded = { shelf_code };
+
+    ghost view = { λ s. record { documents = documents_of s.documents.entries; before = s.before.items } };
+}
+
+/// Whether an entry before which this stood touches the document at a place.
+fn touches(before: &Option<((Text, IdKey), Option<Doc>)>, place: &(Text, IdKey)) -> bool
+    ensures { result ≡ touches before.now place.now }
+{
+    match before {
+        Some((other, _)) => other.cmp(place).is_eq(),
+        None => false,
+    }
+}
+
+/// Whether one of the entries before which this stood touches the document at a place.
+fn is_among(stood: &[Option<((Text, IdKey), Option<Doc>)>], place: &(Text, IdKey)) -> bool
+    ensures { result ≡ list_any (λ before. touches before place.now) stood.now }
+{
+    stood.iter().any(|before| touches(before, place))
+}
+
+impl Shelf {
+    /// No entry is applied.
+    pub fn new(alloc: Global) -> Self
+        ensures { result ≡ empty_shelf }
+    {
+        Shelf {
+            alloc,
+            documents: BTreeMap::new(alloc),
+            before: Vec::new(alloc),
+        }
+    }
+
+    /// How many entries of the log are applied.
+    pub fn count(&self) -> usize
+        ensures { result ≡ length self.now.before }
+    {
+        self.before.len()
+    }
+
+    /// Goes to the documents of the first `count` entries of a log. Each entry between the two counts costs
+    /// a look-up or two. After out of memory no entry is applied.
+    pub fn go_to(&mut self, entries: &[Entry], count: usize) -> Mem<()>
+        requires front { IsOfFront entries.now self.old }
+        requires lawful { All IsLawful entries.now }
+        requires within { count ≤ length entries.now }
+        ensures shelf { OnOk result (self.new ≡ shelf_of (take count entries.now)) }
+        ensures front { IsOfFront entries.now self.new }
+    {
+        self.back_to(entries, count);
+        match self.forth_to(entries, count) {
+            Ok(()) => Ok(()),
+            Err(error) => {
+                self.clear();
+                Err(error)
+            }
+        }
+    }
+
+    /// Goes back to the first `count` entries of a log, where more are applied. Where memory runs out, no
+    /// entry is applied.
+    pub fn back_to(&mut self, entries: &[Entry], count: usize)
+        requires front { IsOfFront entries.now self.old }
+        ensures front { IsOfFront entries.now self.new }
+        ensures count { length self.new.before ≤ count }
+        ensures never_more { length self.new.before ≤ length self.old.before }
+    {
+        let _ = entries;
+        while self.count() > count {
+            self.back();
+        }
+    }
+
+    /// An entry is put into the log at a place. Where no applied entry behind it touches the same document,
+    /// none of these is taken back. Where memory runs out, no entry is applied.
+    pub fn insert(&mut self, entries: &[Entry], place: usize, entry: &Entry)
+        requires front { IsOfFront entries.now self.old }
+        requires within { place ≤ length entries.now }
+        requires lawful { IsLawful entry.now }
+        ensures { IsOfFront (insert entries.now place entry.now) self.new }
+    {
+        if self.count() <= place {
+            return;
+        }
+        let Ok(()) = self.insert_applied(entries, place, entry) else {
+            self.clear();
+            return;
+        };
+    }
+
+    /// An entry is put into the log at a place in front of applied ones.
+    fn insert_applied(&mut self, entries: &[Entry], place: usize, entry: &Entry) -> Mem<()>
+        requires front { IsOfFront entries.now self.old }
+        requires applied { place ≤ length self.old.before }
+        requires lawful { IsLawful entry.now }
+        ensures { OnOk result (IsOfFront (insert entries.now place entry.now) self.new) }
+    {
+        let stood = self.standing(entry)?;
+        if self.is_touched(place, &stood) {
+            self.back_to(entries, place);
+            return Ok(());
+        }
+        self.put_in(place, entry, stood)?;
+        Ok(())
+    }
+
+    /// No entry is applied any more.
+    fn clear(&mut self)
+        ensures { self.new ≡ empty_shelf }
+    {
+        *self = Shelf::new(self.alloc);
+    }
+
+    /// Whether one of the applied entries from a place on touches the document of another entry.
+    fn is_touched(&self, place: usize, stood: &Option<((Text, IdKey), Option<Doc>)>) -> bool
+        requires { place ≤ length self.now.before }
+        ensures { result ≡ is_touched stood.now (drop place self.now.before) }
+    {
+        match stood {
+            Some((own, _)) => is_among(self.stood_from(place), own),
+            None => false,
+        }
+    }
+
+    /// What stood before the applied entries from a place on.
+    fn stood_from(&self, place: usize) -> &[Option<((Text, IdKey), Option<Doc>)>]
+        requires { place ≤ length self.now.before }
+        ensures { result.now ≡ drop place self.now.before }
+    {
+        &self.before[place..]
+    }
+
+    /// Applies an entry before which this stands as the one at a place.
+    fn put_in(
+        &mut self,
+        place: usize,
+        entry: &Entry,
+        stood: Option<((Text, IdKey), Option<Doc>)>,
+    ) -> Mem<()>
+        requires within { place ≤ length self.old.before }
+        requires lawful { IsLawful entry.now }
+        ensures documents { OnOk result (self.new.documents ≡ applied self.old.documents entry.now) }
+        ensures before { OnOk result (self.new.before ≡ insert self.old.before place stood) }
+    {
+        apply_entry(self.alloc, &mut self.documents, entry)?;
+        self.before.insert(place, stood)?;
+        Ok(())
+    }
+
+    /// Applies entries up to the first `count` of a log.
+    fn forth_to(&mut self, entries: &[Entry], count: usize) -> Mem<()>
+        requires front { IsOfFront entries.now self.old }
+        requires before { length self.old.before ≤ count }
+        requires lawful { All IsLawful entries.now }
+        requires within { count ≤ length entries.now }
+        ensures shelf { OnOk result (self.new ≡ shelf_of (take count entries.now)) }
+        ensures front { OnOk result (IsOfFront entries.now self.new) }
+    {
+        let mut place = self.count();
+        while place < count {
+            self.forth(&entries[place])?;
+            place += 1;
+        }
+        Ok(())
+    }
+
+    /// Applies one entry more.
+    fn forth(&mut self, entry: &Entry) -> Mem<()>
+        requires { IsLawful entry.now }
+        ensures { OnOk result (self.new ≡ with_applied self.old entry.now) }
+    {
+        let Some(place) = entry.key()? else {
+            self.before.push(None)?;
+            return Ok(());
+        };
+        let after = self.left_at(&place, entry)?;
+        let own = (place.0.copy()?, place.1.copy()?);
+        let stood = put_at(&mut self.documents, own, after)?;
+        self.before.push(Some((place, stood)))?;
+        Ok(())
+    }
+
+    /// What an entry leaves at its place. Only an op that changes fields asks what stands there.
+    fn left_at(&self, place: &(Text, IdKey), entry: &Entry) -> Mem<Option<Doc>>
+        ensures { IfOk result (λ after. after
+            ≡ op_left entry.now.op (maps.get self.now.documents place.now)) }
+    {
+        let op = entry.op.or(&Op::Noop);
+        match op {
+            Op::Insert { .. } | Op::Replace { .. } | Op::Delete { .. } => {
+                document_after(self.alloc, op, None)
+            }
+            Op::Fields { .. } | Op::Noop | Op::Note => {
+                document_after(self.alloc, op, self.get(place))
+            }
+        }
+    }
+
+    /// What stands at the place of an entry.
+    fn standing(&self, entry: &Entry) -> Mem<Option<((Text, IdKey), Option<Doc>)>>
+        requires { IsLawful entry.now }
+        ensures { IfOk result (λ stood. stood ≡ stood_before self.now.documents entry.now) }
+    {
+        let Some(place) = entry.key()? else {
+            return Ok(None);
+        };
+        let document = copy_at(&self.documents, &place)?;
+        Ok(Some((place, document)))
+    }
+
+    /// Takes the last entry back. Where memory runs out, no entry is applied.
+    fn back(&mut self)
+        requires { 0 < length self.old.before }
+        ensures { (log : List Entry) → IsOfFront log self.old
+            → IsOfFront log self.new × (length self.new.before < length self.old.before) }
+    {
+        let Ok(()) = self.take_back() else {
+            self.clear();
+            return;
+        };
+    }
+
+    /// Takes the last entry back.
+    fn take_back(&mut self) -> Mem<()>
+        ensures { (shelf : Shown) (entry : Entry) → self.old ≡ with_applied shelf entry
+            → OnOk result (self.new ≡ shelf) }
+    {
+        let Some(last) = self.before.pop() else {
+            return Ok(());
+        };
+        let Some((place, document)) = last else {
+            return Ok(());
+        };
+        put_at(&mut self.documents, place, document)?;
+        Ok(())
+    }
+
+    /// The document at a place.
+    pub fn get(&self, place: &(Text, IdKey)) -> Option<&Doc>
+        ensures { option_copied result ≡ maps.get self.now.documents place.now }
+    {
+        document_at(&self.documents, place)
+    }
+
+    /// All documents, in order of collection and key.
+    pub fn documents(&self) -> &BTreeMap<(Text, IdKey), Doc>
+        ensures { documents_of result.now.entries ≡ self.now.documents }
+    {
+        &self.documents
+    }
+}
