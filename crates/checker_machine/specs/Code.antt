@@ -1,0 +1,20 @@
+-- How a proof tells apart the tables of a node.
+use Rattle.std.specs.Ordering.{nat_cmp}
+use Rattle.std.specs.Coded.{Coded, coded_ℕ}
+use Rattle.std.specs.FinMap as maps
+use Rattle.std.specs.FinSet as sets
+use Rattle.rs_optime.specs.Order.{optime_cmp, optime_code}
+pub use Rattle.repl_msg.specs.Code.{known_code, tally_code}
+use Rattle.repl_msg.specs.declared.message.Report.{Report}
+use Rattle.repl_msg.specs.contracts.message.Report.{the_row as report_row}
+use Rattle.set_model.specs.declared.writer.Writer.{Writer}
+use Rattle.set_model.specs.contracts.writer.Writer.{the_row as writer_row}
+
+abbrev pub writers_code : Coded (maps.FinMap nat_cmp Writer)
+writers_code = maps.code coded_ℕ writer_row.coded
+
+abbrev pub slots_code : Coded (sets.FinSet optime_cmp)
+slots_code = sets.code optime_code
+
+abbrev pub progress_code : Coded (maps.FinMap nat_cmp Report)
+progress_code = maps.code coded_ℕ report_row.coded

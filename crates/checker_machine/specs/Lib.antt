@@ -1,0 +1,17 @@
+pub mod Acting
+pub mod Admits
+pub mod Code
+pub mod Done
+pub mod Flushing
+pub mod Forgets
+pub mod Hearing
+pub mod Holding
+pub mod Journal
+pub mod Lending
+pub mod Newest
+pub mod Plain
+pub mod Reached
+pub mod Records
+pub mod SessionTable
+pub mod Slots
+pub mod Sound

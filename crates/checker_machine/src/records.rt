@@ -1,0 +1,37 @@
+// The records that a node stored. They exist in proofs alone and take no memory.
+ghost use Rattle.std.specs.Prelude.{◌≡◌, List};
+ghost use Rattle.std.specs.Borrow.{ftrue};
+ghost use Rattle.std.specs.Coded.{coded_list};
+ghost use Rattle.repl_msg.specs.declared.record.Record.{Record};
+ghost use Rattle.repl_msg.specs.contracts.record.Record.{the_row as record_row};
+
+use set_model::Store;
+use std::marker::Model;
+
+/// The records that a node stored, oldest first.
+#[derive(Drop)]
+pub struct Records {
+    pub ghost list: { List Record } by { coded_list record_row.coded },
+}
+
+impl Model for Records {
+    ghost also_owns = { λ _. ftrue };
+}
+
+impl Records {
+    ghost use Rattle.checker_machine.specs.Records.{no_records, with_stored};
+
+    /// No record.
+    pub fn none() -> Records
+        ensures { result ≡ no_records }
+    {
+        Records {}
+    }
+
+    /// The records once this is stored too. Documents that are stored are no record.
+    pub fn with(&self, _item: &Store) -> Records
+        ensures { result ≡ with_stored self.now _item.now }
+    {
+        Records {}
+    }
+}
