@@ -1,2 +1,7 @@
+pub mod CheckedLemmas
+mod HeaderLemmas
 mod LinesCut
+mod PassingLemmas
+mod PutLemmas
+mod TellingLemmas
 pub mod TraceLemmas

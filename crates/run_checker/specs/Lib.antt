@@ -1,3 +1,5 @@
+pub mod Checking
 pub mod Commands
 pub mod Reading
 pub mod Trace
+pub mod Verdicts

@@ -1,7 +1,8 @@
 -- How a trace is read: which lines are a header, and which an event.
 --
 -- Words are what stands between single spaces, as in a script, and a number is one or more decimal digits. A
--- line ends at its line feed alone. A header has one; the last line of a trace may go without.
+-- line ends at its line feed alone. A header and a reply have one; an event's line at the end of the bytes is
+-- read without one, and then has no reply.
 use Rattle.std.specs.Prelude.{ℕ, Bool, ◌==◌, List, Option, None, Some, codes, Result, Ok, Err, if◌then◌else◌}
 use Rattle.std.specs.List.{before_first, after_first, list_any}
 use Rattle.std.specs.Str.{bytes_eq, is_utf8}

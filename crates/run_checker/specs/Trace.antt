@@ -6,9 +6,10 @@
 --
 -- LINE is the number of the event's line. FAILED is the number of the store that failed in it, or `-`. KEPT
 -- is 1 where a restart found what was being stored as a disk failed, and else 0.
-use Rattle.std.specs.Prelude.{ℕ, Bool, true, false, List, ◌++◌, Option, None, Some, codes}
+use Rattle.std.specs.Prelude.{◌≡◌, ◌<◌, ◌^◌, ℕ, Bool, true, false, List, ◌++◌, Option, None, Some, IfSome, codes}
 use Rattle.std.specs.Fmt.{decimal}
 use Rattle.std.specs.List.{flat_map, zip}
+use Rattle.std.specs.Str.{is_utf8}
 use Rattle.set_model.specs.declared.command.Event.{Event}
 use Rattle.set_model.specs.declared.reply.Reply.{Reply}
 use Rattle.transcript.specs.Replies.{line_text}
@@ -28,10 +29,20 @@ abbrev pub kept_word : Bool → List ℕ
 kept_word true = codes "1"
 kept_word false = codes "0"
 
-abbrev pub event_text : Event → List ℕ
-event_text event =
+-- the words of an event's line
+abbrev pub event_words : Event → List ℕ
+event_words event =
     codes "event " ++ decimal event.line ++ codes " " ++ failed_word event.failed ++ codes " "
-    ++ kept_word event.kept ++ codes " " ++ command_text event.command ++ codes "\n"
+    ++ kept_word event.kept ++ codes " " ++ command_text event.command
+
+abbrev pub event_text : Event → List ℕ
+event_text event = event_words event ++ codes "\n"
+
+-- its numbers are below 2^32, and its words are UTF-8
+pub record IsPlain (event : Event) : Type 0 where
+  pub line : event.line < 2 ^ 32
+  pub failed : IfSome event.failed (λ store. store < 2 ^ 32)
+  pub utf8 : is_utf8 (event_words event) ≡ true
 
 -- an event, and what it was answered
 abbrev pub entry_text : Event × Reply → List ℕ

@@ -1,16 +1,20 @@
-//! Traces: a run, printed so that it can be played again. What a run came to is written as one, and a trace's
-//! lines are read.
+//! Traces: a run, printed so that it can be played again. What a run came to is written as one, a trace's
+//! lines are read, and bytes are checked whether they are one.
 #![tactic(auto)]
 
+mod checking;
 mod commands;
 mod lines;
 mod reading;
 mod sizes;
+mod verdict;
 mod words;
 mod writing;
 
 pub use bson_doc::Mem;
+pub use checking::{CheckError, check};
 pub use lines::next_line;
 pub use reading::{read_event, read_header};
 pub use sizes::Sizes;
+pub use verdict::{write_count, write_no_trace};
 pub use writing::{set_entry, set_header, write_trace};

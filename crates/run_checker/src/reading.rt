@@ -1,7 +1,8 @@
 // The lines of a trace, as they are read.
-ghost use Rattle.std.specs.Prelude.{◌≡◌, MatchOption, None, Some};
+ghost use Rattle.std.specs.Prelude.{◌≡◌, true, IfOk, MatchOption, None, Some};
 ghost use Rattle.std.specs.Option.{option_copied};
 ghost use Rattle.script_words.specs.Gives.{Gives, Reads};
+ghost use Rattle.set_model.specs.Limits.{is_for};
 ghost use Rattle.run_checker.specs.Reading.{behind_first, event_at, event_in, failed_at, failed_of, header_at, header_in, header_of};
 
 use crate::lines::{next_line, text_of};
@@ -61,7 +62,8 @@ fn behind_first<'a>(name: &str, first: &str, left: Left<'a>) -> Result<Left<'a>,
 /// The event that a line of a trace is, in a set of so many nodes, or the first rule that the line breaks.
 #[tactic(auto, unfolding(crate::specs::Reading::event_in))]
 pub fn read_event(alloc: Global, nodes: u32, line: &[u8]) -> Result<Event, CommandError>
-    ensures { Gives (λ event. event) result (event_in nodes line.now) }
+    ensures read { Gives (λ event. event) result (event_in nodes line.now) }
+    ensures fits { IfOk result (λ event. is_for nodes event.command ≡ true) }
 {
     event(alloc, nodes, text_of(line)?)
 }
@@ -69,7 +71,8 @@ pub fn read_event(alloc: Global, nodes: u32, line: &[u8]) -> Result<Event, Comma
 /// `event LINE FAILED KEPT COMMAND`
 #[tactic(auto, unfolding(crate::specs::Reading::event_at))]
 fn event(alloc: Global, nodes: u32, line: &str) -> Result<Event, CommandError>
-    ensures { Gives (λ event. event) result (event_at nodes line.now) }
+    ensures read { Gives (λ event. event) result (event_at nodes line.now) }
+    ensures fits { IfOk result (λ event. is_for nodes event.command ≡ true) }
 {
     let (first, left) = word(Some(line))?;
     let left = behind_first("event", first, left)?;

@@ -1,6 +1,6 @@
 // A trace, as it is written.
-ghost use Rattle.std.specs.Prelude.{◌≡◌, ◌++◌, OnErr, OnOk, length, string_bytes};
-ghost use Rattle.run_checker.specs.Trace.{entries_text, entry_text, event_text, failed_word, header_text, kept_word, trace_text};
+ghost use Rattle.std.specs.Prelude.{◌≡◌, ◌<◌, ◌^◌, ◌++◌, IfSome, OnErr, OnOk, length, string_bytes};
+ghost use Rattle.run_checker.specs.Trace.{IsPlain, entries_text, entry_text, event_text, failed_word, header_text, kept_word, trace_text};
 
 use crate::commands::write_command;
 use crate::sizes::Sizes;
@@ -33,10 +33,34 @@ pub fn set_header(sizes: Sizes, text: &mut String) -> Mem<()>
 
 /// Writes an event with its reply, as `set_header` does the header.
 pub fn set_entry(event: &Event, reply: &Reply, text: &mut String) -> Mem<()>
-    ensures { OnOk result (string_bytes text.new ≡ entry_text (event.now, reply.now)) }
+    ensures text { OnOk result (string_bytes text.new ≡ entry_text (event.now, reply.now)) }
+    ensures plain { OnOk result (IsPlain event.now) }
 {
     text.clear();
-    write_entry(event, reply, text)
+    write_entry(event, reply, text)?;
+    recall_plain(event, reply, text.as_str());
+    Ok(())
+}
+
+/// An event whose entry was written is plain: a fact for proofs, which costs nothing.
+fn recall_plain(event: &Event, reply: &Reply, entry: &str)
+    requires { entry.now ≡ entry_text (event.now, reply.now) }
+    ensures { IsPlain event.now }
+{
+    recall_numbers(event.line, event.failed);
+    let _ = reply;
+    let _ = entry;
+}
+
+/// The numbers of an event are below 2^32, as their types say: a fact for proofs, which costs nothing.
+fn recall_numbers(line: u32, failed: Option<u32>)
+    ensures line { line < 2 ^ 32 }
+    ensures failed { IfSome failed (λ store. store < 2 ^ 32) }
+{
+    if let Some(store) = failed {
+        let _ = store;
+    }
+    let _ = line;
 }
 
 fn write_entries(events: &[Event], replies: &[Reply], out: &mut String) -> Mem<()>
