@@ -1,0 +1,14 @@
+pub mod WordsAgain
+pub mod NamesAgain
+pub mod ValuesAgain
+pub mod WritesAgain
+pub mod CommandsAgain
+pub mod ConfigsAgain
+pub mod DocumentsAgain
+pub mod InLine
+pub mod LinesAgain
+pub mod CommandInLine
+pub mod ValuesSaid
+pub mod CommandsSaid
+pub mod ScriptSaid
+pub mod TraceAgain
