@@ -59,7 +59,7 @@ const WRONG_WORDS: [&[&str]; 13] = [
 
 /// What is put where the words ask for nothing.
 const USAGE: &str = "usage: replset run | replset chaos SEED EVENTS NODES | replset sync NODE \
-    | replset linear NODE COLL ID | replset watch COLL TOKEN NODE... | replset trace\n";
+    | replset linear NODE COLL ID | replset watch COLL TOKEN NODE... | replset trace | replset check\n";
 
 #[test]
 fn wrong_words_are_refused(rt: HostRuntime) -> Result<(), Fail> {

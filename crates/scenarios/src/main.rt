@@ -4,6 +4,7 @@
 
 mod batches;
 mod blocks;
+mod checked;
 mod failing_disks;
 mod generated;
 mod lost_replies;
@@ -81,7 +82,24 @@ fn traced<R: Threads + Wait + Sync>(rt: &HostRuntime, threads: &R) -> Result<boo
         let what = format!(in rt.alloc(); "the trace of {name}")?;
         as_written = tell(rt, &what, holds)? && as_written;
     }
-    Ok(as_written)
+    let table = text(rt, "checked", "table")?;
+    let checked = checked::are_as_said(threads, rt.alloc(), &table)?;
+    let checked = tell(rt, "inputs that are checked", checked)?;
+    let traces = tell(
+        rt,
+        "the traces of all scripts, checked",
+        all_are_traces(rt, threads)?,
+    )?;
+    Ok(as_written && checked && traces)
+}
+
+fn all_are_traces<R: Threads + Wait + Sync>(rt: &HostRuntime, threads: &R) -> Result<bool> {
+    for name in names(rt)? {
+        if !checked::is_a_trace(threads, rt.alloc(), read(rt, &name, "replset")?)? {
+            return Ok(false);
+        }
+    }
+    Ok(true)
 }
 
 /// What words ask for behind scripts: changes, linear reads or new members.

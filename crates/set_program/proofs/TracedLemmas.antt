@@ -1,6 +1,7 @@
 -- A run whose trace is put.
 use Rattle.std.proofs.Common.{ℕ, ◌≡◌, ◌+◌, ◌≤◌, ◌<◌, List, [], ◌++◌, length, take, get_or, Result, Ok, Err, refl, ap, sym, subst, arith, ◌∙◌, inl, inr}
-use Rattle.std.specs.Prelude.{Option, map, min}
+use Rattle.std.specs.Prelude.{OnOk, Option, map, min}
+use Rattle.std.specs.List.{AllByRecursion}
 use Rattle.std.specs.Io.KnownBytes.{Appends}
 use Rattle.std.proofs.Math.Seq.{take-append-add}
 use Rattle.std.proofs.lemmas.List.{append-nil, get_or-map, length-map}
@@ -12,12 +13,13 @@ use Rattle.set_model.specs.Run.{Sizes, run}
 use Rattle.fault_script.specs.declared.script.Part.{Part}
 use Rattle.fault_script.specs.declared.script.Script.{Script}
 use Rattle.fault_script.specs.Script.{sizes_of}
-use Rattle.run_checker.specs.Trace.{entries_text, entry_text, header_text}
+use Rattle.run_checker.specs.Checking.{IsTrace}
+use Rattle.run_checker.specs.Trace.{IsPlain, entries_text, entry_text, header_text}
 use Rattle.run_checker.proofs.TraceLemmas.{entries_all, entries_front, entries_more, take_front}
 use Rattle.set_world.specs.World.{Set}
 use Rattle.set_program.specs.declared.stop.Stop.{Stop}
 use Rattle.set_program.specs.declared.stop.Stop.TheVariants.{Memory, Usage, Script as NoScript, ReadFault, WriteFault, TooLong, DiskFault, CopyFault, Refused}
-use Rattle.set_program.specs.Headline.{EndsWithTrace, answers, trace_sizes}
+use Rattle.set_program.specs.Headline.{EndsWithTrace, answers, trace_put, trace_sizes}
 use Rattle.set_program.specs.Parts.{AllStepped}
 use Rattle.set_program.specs.Plays.{PutsEntries, PutsText, PutsTrace}
 use Rattle.set_program.proofs.PartOrders.{all_in_part}
@@ -29,9 +31,10 @@ use Rattle.set_program.proofs.StepLemmas.{replies-count}
 abbrev pub bare : List (ℕ × Reply) → List Reply
 bare replies = map (λ (reply : ℕ × Reply). reply.1) replies
 
--- this text was put
-pub record PutText {K : Type 0} (held : K → Option (List ℕ)) (faults : K → ℕ) (steady : K → Type 0) (old new : K) (text : List ℕ) : Type 0 where
-  pub put : Appends (held old) (held new) text
+-- these events were put, with these replies
+pub record PutEvents {K : Type 0} (held : K → Option (List ℕ)) (faults : K → ℕ) (steady : K → Type 0) (old new : K) (events : List Event) (replies : List Reply) : Type 0 where
+  pub put : Appends (held old) (held new) (entries_text events replies)
+  pub plain : AllByRecursion IsPlain events
   pub later : faults old ≤ faults new
   pub steady_still : steady old → steady new
 
@@ -140,15 +143,15 @@ module _ {D : Type 0} (held now : Option (List ℕ)) (set : Set D) (sizes : ℕ 
 
 -- how a run ends whose trace is put
 pub traced_ends : {D : Type 0} (state : D → State) (parts : List Part) (old new : Set D) (after : List (ℕ × Reply)) → AllStepped state parts old new after
-    → (held now : Option (List ℕ)) (result : Result (Unit {0}) Stop) → PutsTrace held now new result → EndsWithTrace parts held now result new
-traced_ends state parts old new after stepped held now (Ok done) put = (stepped.follows, put)
-traced_ends state parts old new after stepped held now (Err Memory) (inl kept) = inl (all_in_part parts new.history stepped.follows, kept)
-traced_ends state parts old new after stepped held now (Err Memory) (inr put) = inr (stepped.follows, put)
-traced_ends state parts old new after stepped held now (Err WriteFault) put = (stepped.follows, put)
-traced_ends state parts old new after stepped held now (Err Usage) never = absurd never
-traced_ends state parts old new after stepped held now (Err NoScript) never = absurd never
-traced_ends state parts old new after stepped held now (Err ReadFault) never = absurd never
-traced_ends state parts old new after stepped held now (Err TooLong) never = absurd never
-traced_ends state parts old new after stepped held now (Err CopyFault) never = absurd never
-traced_ends state parts old new after stepped held now (Err DiskFault) never = absurd never
-traced_ends state parts old new after stepped held now (Err Refused) never = absurd never
+    → (held now : Option (List ℕ)) (result : Result (Unit {0}) Stop) → PutsTrace held now new result → OnOk result (IsTrace (trace_sizes new.sizes) new.history (trace_put new)) → EndsWithTrace parts held now result new
+traced_ends state parts old new after stepped held now (Ok done) put trace = (stepped.follows, (put, trace))
+traced_ends state parts old new after stepped held now (Err Memory) (inl kept) trace = inl (all_in_part parts new.history stepped.follows, kept)
+traced_ends state parts old new after stepped held now (Err Memory) (inr put) trace = inr (stepped.follows, put)
+traced_ends state parts old new after stepped held now (Err WriteFault) put trace = (stepped.follows, put)
+traced_ends state parts old new after stepped held now (Err Usage) never trace = absurd never
+traced_ends state parts old new after stepped held now (Err NoScript) never trace = absurd never
+traced_ends state parts old new after stepped held now (Err ReadFault) never trace = absurd never
+traced_ends state parts old new after stepped held now (Err TooLong) never trace = absurd never
+traced_ends state parts old new after stepped held now (Err CopyFault) never trace = absurd never
+traced_ends state parts old new after stepped held now (Err DiskFault) never trace = absurd never
+traced_ends state parts old new after stepped held now (Err Refused) never trace = absurd never

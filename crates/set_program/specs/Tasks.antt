@@ -6,6 +6,7 @@
 --     watch COLL TOKEN NODE..    the same as `run`, and then changes are put that nodes have behind a token
 --     sync NODE                  the same as `run`, and then a new member is made of what a node committed
 --     chaos SEED EVENTS NODES    a generated script is run, and its summary put
+--     check                      nothing is run: it is put whether the source's bytes are a trace
 --
 -- SEED, EVENTS and NODES are one to twenty decimal digits: a number of 64 bits, one up to 5,000, and one from
 -- 1 to 50. EVENTS times NODES is at most 50,000.
@@ -88,6 +89,12 @@ word_task name words =
 abbrev pub task_of : List (List ℕ) → Option Task
 task_of [] = None
 task_of (name ∷ words) = word_task name words
+
+-- the source's bytes are checked, and nothing is run
+abbrev pub is_check : List (List ℕ) → Bool
+is_check [] = false
+is_check (name ∷ []) = bytes_eq name (codes "check")
+is_check (name ∷ more ∷ others) = false
 
 -- ---- tasks
 

@@ -10,6 +10,7 @@ ghost use Rattle.set_program.specs.Asking.{Reads, ReadsSource};
 ghost use Rattle.set_program.specs.Headline.{AsksSource, status_of};
 ghost use Rattle.set_program.specs.Parts.{can_be_run};
 ghost use Rattle.set_program.specs.Plays.{PutsText};
+ghost use Rattle.trace_laws.specs.Said.{AreSaid};
 
 use crate::stop::Stop;
 use crate::words::{Task, read_task};
@@ -24,7 +25,7 @@ use transcript::write_fault;
 const MAX_SCRIPT: usize = 8_388_608;
 
 const USAGE: &str = "usage: replset run | replset chaos SEED EVENTS NODES | replset sync NODE \
-    | replset linear NODE COLL ID | replset watch COLL TOKEN NODE... | replset trace\n";
+    | replset linear NODE COLL ID | replset watch COLL TOKEN NODE... | replset trace | replset check\n";
 
 /// The task that the words ask for, and the script that is to be run. Where there is none, it is said why.
 pub fn read_script<S: Source, K: Sink>(
@@ -37,6 +38,7 @@ pub fn read_script<S: Source, K: Sink>(
         (K.held sink.new) result }
     ensures sizes { IfOk result (λ asked. AreSizes (sizes_of asked.1)) }
     ensures fits { IfOk result (λ asked. list_all (can_be_run asked.1.nodes) asked.1.parts ≡ true) }
+    ensures said { IfOk result (λ asked. AreSaid asked.1.nodes (lines_in asked.1.parts)) }
     ensures few { IfOk result (λ asked. length (lines_in asked.1.parts) ≤ 200000) }
     ensures unread { ¬ AsksSource words.now → source.new ≡ source.old }
     ensures unput { OnOk result (sink.new ≡ sink.old) }
@@ -89,6 +91,7 @@ fn source_script<S: Source, K: Sink>(
         (K.held sink.new) result }
     ensures sizes { IfOk result (λ read. AreSizes (sizes_of read)) }
     ensures fits { IfOk result (λ read. list_all (can_be_run read.nodes) read.parts ≡ true) }
+    ensures said { IfOk result (λ read. AreSaid read.nodes (lines_in read.parts)) }
     ensures few { IfOk result (λ read. length (lines_in read.parts) ≤ 200000) }
     ensures unput { OnOk result (sink.new ≡ sink.old) }
     ensures read_fault { status_of result ≡ 4 → CountRose (S.faults source.old) (S.faults source.new) }
@@ -118,6 +121,7 @@ fn generated_script(alloc: Global, seed: u64, events: u32, nodes: u32) -> Mem<Sc
     ensures reads { IfOk result (λ read. script (generated seed events nodes) ≡ Ok read) }
     ensures sizes { IfOk result (λ read. AreSizes (sizes_of read)) }
     ensures fits { IfOk result (λ read. list_all (can_be_run read.nodes) read.parts ≡ true) }
+    ensures said { IfOk result (λ read. AreSaid read.nodes (lines_in read.parts)) }
     ensures few { IfOk result (λ read. length (lines_in read.parts) ≤ 200000) }
 {
     let bytes = generate(alloc, seed, events, nodes)?;

@@ -12,7 +12,7 @@ use set_world::World;
 /// How a call of the program ended: the status that it exits with, and what it leaves.
 #[derive(Drop)]
 pub struct Outcome<D: Disk> {
-    /// 0 to 9, as `run_set` says.
+    /// 0 to 10, as `run_set` says.
     pub status: u8,
     /// The set, or its disks.
     pub left: Left<D>,

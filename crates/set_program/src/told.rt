@@ -5,6 +5,7 @@ ghost use Rattle.rs_disk.specs.File.{IsEmpty};
 ghost use Rattle.rs_io.specs.Fault.{HasCause};
 ghost use Rattle.fault_script.specs.Script.{lines_in, sizes_of};
 ghost use Rattle.set_model.specs.Run.{run};
+ghost use Rattle.trace_laws.specs.Said.{AreSaid};
 ghost use Rattle.transcript.specs.Summaries.{summary_text};
 ghost use Rattle.set_program.specs.Headline.{EndsTask, EndsWithSummary, summary_put};
 ghost use Rattle.set_program.specs.Left.{IfParts, IfSet};
@@ -50,6 +51,7 @@ pub fn play_task<K: Sink, D: Disk + Send, G: Gate + Sync, R: Threads + Wait + Sy
     requires script { world.sizes ≡ sizes_of script }
     requires few { length (lines_in script.parts) ≤ 200000 }
     requires fits { AllPass (can_be_run world.sizes.nodes) script.parts }
+    requires said { AreSaid script.nodes (lines_in script.parts) }
     requires many { length world.disks ≡ 100 }
     requires spare { All (λ (disk : D). IsEmpty (D.state disk).file)
         (drop (2 * world.sizes.nodes) world.disks) }

@@ -1,10 +1,11 @@
 // A script, played for the trace of its run.
-ghost use Rattle.std.specs.Prelude.{◌≡◌, ◌≢◌, ◌≤◌, [], length, Err, IsErrOf};
-ghost use Rattle.std.specs.List.{AllPass};
+ghost use Rattle.std.specs.Prelude.{◌≡◌, ◌≢◌, ◌≤◌, [], length, Err, IsErrOf, OnOk};
+ghost use Rattle.std.specs.List.{AllByRecursion, AllPass};
 ghost use Rattle.rs_io.specs.Fault.{HasCause};
 ghost use Rattle.fault_script.specs.Script.{lines_in, sizes_of};
-ghost use Rattle.run_checker.specs.Trace.{entry_text, header_text};
+ghost use Rattle.run_checker.specs.Trace.{IsPlain, entry_text, header_text};
 ghost use Rattle.set_model.specs.Run.{run};
+ghost use Rattle.trace_laws.specs.Said.{AreSaid};
 ghost use Rattle.set_program.specs.Headline.{EndsWithTrace, trace_sizes};
 ghost use Rattle.set_program.specs.Parts.{can_be_run, DisksGo};
 ghost use Rattle.set_program.specs.Plays.{PutsEntries, PutsText, PutsTrace};
@@ -35,6 +36,7 @@ pub fn play_traced<K: Sink, D: Disk + Send, G: Gate + Sync, R: Threads + Wait + 
     requires script { world.sizes ≡ sizes_of script }
     requires few { length (lines_in script.parts) ≤ 200000 }
     requires fits { AllPass (can_be_run world.sizes.nodes) script.parts }
+    requires said { AreSaid script.nodes (lines_in script.parts) }
     ensures ends { EndsWithTrace script.parts (K.held sink.old) (K.held sink.new) result.0 result.1 }
     ensures sizes { result.1.sizes ≡ world.sizes }
     ensures disks { DisksGo D.state script.parts world.disks result.1 (result.0 ≡ Err Stop.Memory) }
@@ -44,7 +46,10 @@ pub fn play_traced<K: Sink, D: Disk + Send, G: Gate + Sync, R: Threads + Wait + 
     let sizes = (script.nodes, script.voters, script.members);
     let mut replies = Vec::new(alloc);
     match step_parts(rt, gate, script.parts, world, &mut replies) {
-        (Ok(()), world) => (put_trace(alloc, sizes, &replies, &world, sink), world),
+        (Ok(()), world) => {
+            world.recall_run();
+            (put_trace(alloc, sizes, &replies, &world, sink), world)
+        }
         (Err(_), world) => (Err(Stop::Memory), world),
     }
 }
@@ -61,6 +66,7 @@ fn put_trace<K: Sink, D: Disk>(
     requires sizes { sizes ≡ trace_sizes world.now.sizes }
     requires told { replies.now ≡ (run world.now.sizes world.now.history).replies }
     ensures puts { PutsTrace (K.held sink.old) (K.held sink.new) world.now result }
+    ensures plain { OnOk result (AllByRecursion IsPlain world.now.history) }
     ensures cause { HasCause (K.faults sink.old) (K.faults sink.new) (IsErrOf result Stop.WriteFault) }
     ensures steady { K.steady sink.old → K.steady sink.new × (result ≢ Err Stop.WriteFault) }
 {
@@ -88,6 +94,7 @@ fn put_entries<K: Sink>(
 ) -> Result<(), Stop>
     requires { length events.now ≡ length replies.now }
     ensures puts { PutsEntries (K.held sink.old) (K.held sink.new) events.now replies.now result }
+    ensures plain { OnOk result (AllByRecursion IsPlain events.now) }
     ensures cause { HasCause (K.faults sink.old) (K.faults sink.new) (IsErrOf result Stop.WriteFault) }
     ensures steady { K.steady sink.old → K.steady sink.new × (result ≢ Err Stop.WriteFault) }
 {
@@ -104,6 +111,7 @@ fn put_entry<K: Sink>(
     text: &mut String,
 ) -> Result<(), Stop>
     ensures puts { PutsText (K.held sink.old) (K.held sink.new) (entry_text (event.now, reply.now)) result }
+    ensures plain { OnOk result (IsPlain event.now) }
     ensures cause { HasCause (K.faults sink.old) (K.faults sink.new) (IsErrOf result Stop.WriteFault) }
     ensures steady { K.steady sink.old → K.steady sink.new × (result ≢ Err Stop.WriteFault) }
 {

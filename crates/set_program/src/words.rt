@@ -2,7 +2,7 @@
 ghost use Rattle.std.specs.Prelude.{◌≡◌, IfOk, IfSome, map, string_bytes};
 ghost use Rattle.std.specs.Char.{is_ascii_digit};
 ghost use Rattle.std.specs.List.{list_all};
-ghost use Rattle.set_program.specs.Tasks.{IsBounded, alone, chaos_of, chaos_task, linear_task, number_word, sync_task, task_of, watch_task, word_task};
+ghost use Rattle.set_program.specs.Tasks.{IsBounded, alone, chaos_of, chaos_task, is_check, linear_task, number_word, sync_task, task_of, watch_task, word_task};
 
 use bson_doc::Mem;
 use change_words::{Watch, node_of, read_watch};
@@ -28,6 +28,16 @@ pub enum Task {
     Watch(Watch),
     /// The script of the source is run, and then a new member is made of what this node has committed.
     Sync { node: u32 },
+}
+
+/// Whether the words ask for a check of the source's bytes.
+pub fn asks_check(words: &[String]) -> bool
+    ensures { result ≡ is_check (map string_bytes words.now) }
+{
+    match words {
+        [word] => word.as_str() == "check",
+        _ => false,
+    }
 }
 
 /// The task that some words ask for; none where they ask for nothing.

@@ -1,5 +1,6 @@
 use Rattle.std.proofs.lemmas.Result.{err_from_is_err_and}
 use Rattle.set_program.proofs.EndLemmas.{read_stops}
+use Rattle.trace_laws.proofs.ScriptSaid.{script_said}
 use Rattle.set_program.proofs.ThreadsLemmas.{script_can_run}
 use Rattle.set_program.proofs.asking.source_script.Goals as goal
 
@@ -10,3 +11,6 @@ returns-in_err-bytes-clause-reads g c =
 
 pub returns-in-Ok-clause-fits : goal.returns-in-Ok-clause-fits
 returns-in-Ok-clause-fits g c = script_can_run _ c.in-Ok.script c.in-Ok.ensures.ok c.in-Ok.ensures.fits
+
+pub returns-in-Ok-clause-said : goal.returns-in-Ok-clause-said
+returns-in-Ok-clause-said g c = script_said _ c.in-Ok.script c.in-Ok.ensures.ok

@@ -1,9 +1,81 @@
-use Rattle.std.proofs.Common.{◌≡◌, length, rules}
+use Rattle.std.proofs.Common.{◌≡◌, ◌∙◌, IsErrOf, inl, inr, length, refl, rules, subst, sym}
+use Rattle.std.specs.Prelude.{map, string_bytes}
+use Rattle.set_program.specs.declared.words.Task.TheVariants.{Chaos}
+use Rattle.trace_check.specs.declared.stop.CheckStop.TheVariants.{ReadFault, WriteFault}
+use Rattle.set_program.proofs.CheckLemmas.{check_completes, is_read_fault, is_write_fault, no_disk, no_task}
 use Rattle.set_program.proofs.CopiedLemmas.{copy_failed, none_copied}
 use Rattle.set_program.proofs.EndLemmas.{completes, completes_chaos}
 use Rattle.set_program.proofs.OpenLemmas.{disk_failed, none_failed}
 use Rattle.set_program.proofs.RanLemmas.{armed_left, causes_left, failures_left, orders_left}
 use Rattle.set_program.proofs.set.run_set.Goals as goal
+
+-- ---- a check
+
+pub returns-then-asks_check-clause-answer : goal.returns-then-asks_check-clause-answer
+returns-then-asks_check-clause-answer g c =
+    inl (sym c.asks_check.ensures ∙ c.if-asks_check.true, (search rules, refl, (c.check_source.result, c.check_status.ensures, c.check_source.ensures.ends)))
+
+pub returns-then-asks_check-clause-unread : goal.returns-then-asks_check-clause-unread
+returns-then-asks_check-clause-unread g c = λ source none. absurd (none (sym c.asks_check.ensures ∙ c.if-asks_check.true))
+
+pub returns-then-asks_check-clause-read_fault : goal.returns-then-asks_check-clause-read_fault
+returns-then-asks_check-clause-read_fault g c =
+    rw c.check_status.ensures
+    (λ four. c.check_source.ensures.read_cause.rose (subst (λ ended. IsErrOf ended ReadFault) (sym (is_read_fault c.check_source.result four)) refl))
+
+pub returns-then-asks_check-clause-write_fault : goal.returns-then-asks_check-clause-write_fault
+returns-then-asks_check-clause-write_fault g c =
+    rw c.check_status.ensures
+    (λ five. c.check_source.ensures.write_cause.rose (subst (λ ended. IsErrOf ended WriteFault) (sym (is_write_fault c.check_source.result five)) refl))
+
+pub returns-then-asks_check-clause-open_fault : goal.returns-then-asks_check-clause-open_fault
+returns-then-asks_check-clause-open_fault g c = rw c.check_status.ensures (λ seven. absurd ((no_disk c.check_source.result).0 seven))
+
+pub returns-then-asks_check-clause-copy_fault : goal.returns-then-asks_check-clause-copy_fault
+returns-then-asks_check-clause-copy_fault g c = rw c.check_status.ensures (λ eight. absurd ((no_disk c.check_source.result).1 eight))
+
+pub returns-then-asks_check-clause-steady_source : goal.returns-then-asks_check-clause-steady_source
+returns-then-asks_check-clause-steady_source g c =
+    rw c.check_status.ensures (λ steady four. (c.check_source.ensures.steady_source steady).1 (is_read_fault c.check_source.result four))
+
+pub returns-then-asks_check-clause-steady_sink : goal.returns-then-asks_check-clause-steady_sink
+returns-then-asks_check-clause-steady_sink g c =
+    rw c.check_status.ensures (λ steady five. (c.check_source.ensures.steady_sink steady).1 (is_write_fault c.check_source.result five))
+
+pub returns-then-asks_check-clause-steady_disks : goal.returns-then-asks_check-clause-steady_disks
+returns-then-asks_check-clause-steady_disks g c = rw c.check_status.ensures (λ unarmed. no_disk c.check_source.result)
+
+pub returns-then-asks_check-clause-disks : goal.returns-then-asks_check-clause-disks
+returns-then-asks_check-clause-disks g c = rw c.check_status.ensures (inl ((no_disk c.check_source.result).0, refl))
+
+pub returns-then-asks_check-clause-complete : goal.returns-then-asks_check-clause-complete
+returns-then-asks_check-clause-complete g c =
+    λ task asks of_source source sink. absurd (no_task (map string_bytes c.args.words.now) task (sym c.asks_check.ensures ∙ c.if-asks_check.true) asks)
+
+pub returns-then-asks_check-clause-complete_chaos : goal.returns-then-asks_check-clause-complete_chaos
+returns-then-asks_check-clause-complete_chaos g c =
+    λ seed events nodes asks sink. absurd (no_task (map string_bytes c.args.words.now) (Chaos seed events nodes) (sym c.asks_check.ensures ∙ c.if-asks_check.true) asks)
+
+pub returns-then-asks_check-clause-complete_check : goal.returns-then-asks_check-clause-complete_check
+returns-then-asks_check-clause-complete_check g c =
+    rw c.check_status.ensures
+    (λ checks. check_completes (g.S.Source.left c.args.source.now) (g.S.Source.left c.check_source.new.source) (g.K.Sink.held c.args.sink.now) (g.K.Sink.held c.check_source.new.sink) c.check_source.result
+    (g.S.Source.steady c.args.source.now) (g.K.Sink.steady c.args.sink.now)
+    (g.S.Source.faults c.args.source.now) (g.S.Source.faults c.check_source.new.source) (g.K.Sink.faults c.args.sink.now) (g.K.Sink.faults c.check_source.new.sink)
+    c.check_source.ensures.ends c.check_source.ensures.read_cause.rose c.check_source.ensures.write_cause.rose
+    (λ steady. (c.check_source.ensures.steady_source steady).1) (λ steady. (c.check_source.ensures.steady_sink steady).1))
+
+-- ---- a script
+
+pub returns-clause-answer : goal.returns-clause-answer
+returns-clause-answer g c =
+    inr (λ checks. absurd (cc (c.asks_check.ensures, c.if-asks_check.false, checks)), (c.run-ended.result.0, c.status.ensures, c.run-ended.ensures.ends))
+
+pub returns-clause-unread : goal.returns-clause-unread
+returns-clause-unread g c = λ source none. c.run-ended.ensures.unread source
+
+pub returns-clause-complete_check : goal.returns-clause-complete_check
+returns-clause-complete_check g c = λ checks source sink. absurd (cc (c.asks_check.ensures, c.if-asks_check.false, checks))
 
 pub returns-clause-open_fault : goal.returns-clause-open_fault
 returns-clause-open_fault g c =
