@@ -53,6 +53,14 @@ def writers(n):
     return OPENING + lines + [f"commit n0 w{w}" for w in range(1000)]
 
 
+def inserts_traced(n):
+    """The trace of inserts."""
+    lines = ["trace 1 1 1", "event 2 - 0 campaign n0", "2: won 1", "event 3 - 0 drain n0", "3: primary 1 noop 1/0/1"]
+    for k in range(n):
+        lines += [f"event {k + 4} - 0 insert n0 items {{_id: {k}}}", f"{k + 4}: written 1/0/{k + 2}"]
+    return lines
+
+
 def parse(n):
     """Lines of 40 bytes of which the last is faulty, so that all are read and nothing is run."""
     lines = [f"insert n0 items {{_id: {1_000_000 + k}, n: 12345}}" for k in range(n - 2)]
@@ -281,6 +289,7 @@ CASES = {
     "pairs": Case(pairs, 60_000, 10_000),
     "watched": Case(flushed, 95_000, 20_000, words=lambda n: ["watch", "items", "start", "n0"]),
     "synced": Case(flushed, 95_000, 20_000, words=lambda n: ["sync", "n0"]),
+    "checked": Case(inserts_traced, 95_000, 20_000, words=lambda n: ["check"]),
     "updates": Case(updates, 50_000, 5_000),
     "mixed": Case(mixed, 90_000, 3_500),
     "writers": Case(writers, 40_000, 40_000),

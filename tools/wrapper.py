@@ -6,6 +6,7 @@ usage: replset run < SCRIPT
        replset linear NODE COLL ID < SCRIPT
        replset watch COLL TOKEN NODE... < SCRIPT
        replset trace < SCRIPT
+       replset check < TRACE
 
        replset --prove [WORD ..]    proves and builds the program first, then runs it on the words, where there are any
        replset --unproved WORD ..   runs the program that is built without proofs, even where a proved one stands
@@ -16,16 +17,17 @@ Where no proved program of these sources stands, one is built without proofs. Th
 and where a source changed, and standard error says that nothing was proved. `.ci/run`, the gate, proves and builds all.
 Standard output has what the program writes, and nothing else but what --help, --version and --install tell.
 
-status: 0 the script was run
+status: 0 the script was run, or the trace is that of a run
         1 out of memory
         2 the words are none of the above
         3 the input is no script; the line that is at fault is written
         4 the input could not be read
         5 the output could not be written
-        6 the script has more than 8,388,608 bytes
+        6 the script has more than 8,388,608 bytes, or the trace more than 67,108,864
         7 a disk failed while the set was opened
         8 a disk of a new member failed
         9 what was to come behind the script was refused; the last line tells why
+        10 the input is no trace; the line that shows it is written
         69 there is no toolchain to build the program
         70 the program could not be built, proved or installed
 """
@@ -49,12 +51,12 @@ INPUT = 3
 WRONG_WORDS = 2
 OUTPUT_FAILED = 5
 
-# The program itself writes a line with the statuses 2 and 3.
+# The program itself writes a line with the statuses 2, 3, 9 and 10.
 MEANING = {
     1: "out of memory; what was written is the beginning of the output",
     4: "the input could not be read",
     OUTPUT_FAILED: "the output could not be written; what was written is the beginning of it",
-    6: "the script has more than 8,388,608 bytes",
+    6: "the script has more than 8,388,608 bytes, or the trace more than 67,108,864",
     7: "a disk failed while the set was opened",
     8: "a disk of the new member failed",
 }

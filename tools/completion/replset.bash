@@ -6,7 +6,7 @@ _replset() {
         at=2 options=
     fi
     if ((COMP_CWORD == at)); then
-        mapfile -t COMPREPLY < <(compgen -W "run chaos sync linear watch trace $options" -- "$word")
+        mapfile -t COMPREPLY < <(compgen -W "run chaos sync linear watch trace check $options" -- "$word")
     elif [[ ${COMP_WORDS[at]} == --install ]] && ((COMP_CWORD == 2)); then
         mapfile -t COMPREPLY < <(compgen -d -- "$word")
     fi
