@@ -44,7 +44,7 @@ pub(crate) fn count_at(doc: &Doc, place: usize, name: &str) -> Option<u64>
 }
 
 /// The number of an int64 from 0 to 4,294,967,295.
-pub(crate) fn short_at(doc: &Doc, place: usize, name: &str) -> Option<u32>
+pub(crate) fn narrow_at(doc: &Doc, place: usize, name: &str) -> Option<u32>
     ensures value { MatchOption result
         ((n : ℕ) (rest : Fields) → n < 2 ^ 32
         → fields_from place doc.now ≢ field name.now (int64 (pos n)) rest)

@@ -15,7 +15,7 @@ ghost use Rattle.entry_bytes.specs.Parts.{stamped};
 use crate::EntryError;
 use crate::direct_reading::direct;
 use crate::ops::{may_have, op_of};
-use crate::places::{count_at, document_at, int32_at, short_at, text_at, timestamp_at};
+use crate::places::{count_at, document_at, int32_at, narrow_at, text_at, timestamp_at};
 use bson_codec::{ENTRY, decode};
 use bson_doc::{Doc, Text};
 use oplog_entry::{Entry, Session, SharedOp};
@@ -54,8 +54,8 @@ fn session_at(document: &Doc, place: usize) -> Option<Option<Session>>
         return None;
     }
     Some(Some(Session {
-        id: short_at(document, place, "lsid")?,
-        number: short_at(document, place + 1, "txnNumber")?,
+        id: narrow_at(document, place, "lsid")?,
+        number: narrow_at(document, place + 1, "txnNumber")?,
     }))
 }
 
