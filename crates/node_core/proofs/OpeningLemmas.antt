@@ -5,13 +5,13 @@ use Rattle.rs_disk.specs.Moments.{EachMoment, starts, weakens}
 use Rattle.rs_disk.specs.State.{State}
 use Rattle.record_file.specs.Files.{first_steps}
 use Rattle.record_file.specs.declared.error.FileError.TheVariants.{Memory}
-use Rattle.repl_msg.specs.Kept.{kept}
+use Rattle.repl_msg.specs.Kept.{NEWEST_FORM, kept}
 use Rattle.repl_msg.specs.declared.record.Kept.{Kept}
 use Rattle.repl_msg.specs.declared.record.Record.{Record}
 use Rattle.repl_msg.specs.declared.record.Record.TheVariants as records
 use Rattle.member_config.specs.declared.config.Config.{Config}
 use Rattle.node_journal.specs.Files.{HasJournal, IsAtRest as JournalAtRest, IsOneOfRenewed, IsThemOrRenewed, MayHave, OpensInForm}
-use Rattle.node_journal.specs.Renewed.{FORM, renewed}
+use Rattle.node_journal.specs.Renewed.{renewed}
 use Rattle.node_journal.proofs.ApartLemmas.{one_journal}
 use Rattle.checkpoint_store.specs.Checkpoint.{no_stable}
 use Rattle.checkpoint_store.specs.Files.{HasCheckpoint, IsAtRest as CheckpointsAtRest, IsOneOf as IsOneCheckpoint}
@@ -68,7 +68,7 @@ module _ (config : Config) (number : ℕ) (j j' c c' : State) (first : IsEmpty j
 
       by_form : (image : List ℕ) → IsThemOrRenewed [] image → HasRecordsOf unopened image
       by_form image (inl without) = inl without
-      by_form image (inr with_it) = inr (records.Form FORM, refl, with_it)
+      by_form image (inr with_it) = inr (records.Form NEWEST_FORM, refl, with_it)
 
       by_records : (image : List ℕ) → IsOneOfRenewed j image → HasRecordsOf unopened image
       by_records image (items, may, them) =
@@ -90,7 +90,7 @@ stands_now node j j' c c' since = record { records = since.records.now; document
 -- with its form too
 pub still_unopened : (config : Config) (number : ℕ) (j c : State) → Stands (opening_node config number) j c → Stands (unopened_node config number) j c
 still_unopened config number j c stands = record {
-  records = λ image left. ⊎_elim (λ has. inr (records.Form FORM, refl, has)) (λ more. absurd (not_none (stores.Record more.0) more.1)) (stands.records image left);
+  records = λ image left. ⊎_elim (λ has. inr (records.Form NEWEST_FORM, refl, has)) (λ more. absurd (not_none (stores.Record more.0) more.1)) (stands.records image left);
   documents = λ image left. ⊎_elim inl (λ other. absurd (not_none (stores.Checkpoint other.0) other.1)) (stands.documents image left);
 }
 

@@ -4,11 +4,11 @@ use Rattle.rs_disk.specs.State.{State}
 use Rattle.record_file.specs.Files.{OpensBy}
 use Rattle.record_file.specs.declared.error.FileError.{FileError}
 use Rattle.member_config.specs.declared.config.Config.{Config}
+use Rattle.repl_msg.specs.Kept.{NEWEST_FORM}
 use Rattle.repl_msg.specs.declared.record.Record.TheVariants as records
 use Rattle.set_model.specs.declared.store.Store.TheVariants as stores
 use Rattle.set_model.specs.Node.{Node, opening_node}
 use Rattle.node_journal.specs.Files.{OpensInForm}
-use Rattle.node_journal.specs.Renewed.{FORM}
 
 -- The journal is opened first, by such calls, and then the checkpoints. Both openings made their calls; or
 -- the first one ended in the error, and the other disk is as it was; or it made its calls, and that of the
@@ -31,4 +31,7 @@ ReopensInTurn result j j' c c' = InTurn (λ ended old new. OpensBy ended old new
 -- a node as the set begins, before its opening has ended: whether its journal has its form is in doubt
 abbrev pub unopened_node : Config → ℕ → Node
 unopened_node first number =
-    record (opening_node first number) { records = []; doubt = Some (stores.Record (records.Form FORM)) }
+    record (opening_node first number) {
+      records = [];
+      doubt = Some (stores.Record (records.Form NEWEST_FORM));
+    }

@@ -8,12 +8,12 @@ use Rattle.rs_disk.specs.Images.{read_is_image}
 use Rattle.rs_disk.specs.Moments.{EachMoment, joins, weakens}
 use Rattle.rs_disk.specs.State.{State}
 use Rattle.record_file.specs.declared.error.FileError.{FileError}
-use Rattle.repl_msg.specs.Kept.{kept, nothing_kept, with_record}
+use Rattle.repl_msg.specs.Kept.{NEWEST_FORM, kept, nothing_kept, with_record}
 use Rattle.repl_msg.specs.declared.record.Kept.{Kept}
 use Rattle.repl_msg.specs.declared.record.Record.{Record}
 use Rattle.repl_msg.specs.declared.record.Record.TheVariants as records
 use Rattle.node_journal.specs.Files.{AddsForm, HasJournal, IsAtRest, IsBeforeOrAfter, IsJournalDisk, IsKeptOf, IsOneOf, IsOneOfRenewed, IsThemOrRenewed, OpensInForm}
-use Rattle.node_journal.specs.Renewed.{FORM, is_first, renewed}
+use Rattle.node_journal.specs.Renewed.{is_first, renewed}
 use Rattle.node_journal.proofs.ApartLemmas.{one_journal}
 use Rattle.node_journal.proofs.JournalLemmas.{rest_leaves}
 
@@ -36,31 +36,31 @@ is_of_first items read is first = of_first (kept items).form (ap (λ (k : Kept).
 pub is_of_another : (items : List Record) (read : Kept) → read ≡ kept items → read.form ≢ 1 → is_first items ≡ false
 is_of_another items read is other = of_another (kept items).form (λ first. other (ap (λ (k : Kept). k.form) is ∙ first))
 
-pub is_renewed : (items : List Record) (read : Kept) → read ≡ kept items → read.form ≡ 1 → renewed items ≡ items ++ records.Form FORM ∷ []
+pub is_renewed : (items : List Record) (read : Kept) → read ≡ kept items → read.form ≡ 1 → renewed items ≡ items ++ records.Form NEWEST_FORM ∷ []
 is_renewed items read is first =
-    ap (λ (b : Bool). if b then items ++ records.Form FORM ∷ [] else items) (is_of_first items read is first)
+    ap (λ (b : Bool). if b then items ++ records.Form NEWEST_FORM ∷ [] else items) (is_of_first items read is first)
 
 pub not_renewed : (items : List Record) (read : Kept) → read ≡ kept items → read.form ≢ 1 → renewed items ≡ items
 not_renewed items read is other =
-    ap (λ (b : Bool). if b then items ++ records.Form FORM ∷ [] else items) (is_of_another items read is other)
+    ap (λ (b : Bool). if b then items ++ records.Form NEWEST_FORM ∷ [] else items) (is_of_another items read is other)
 
-pub kept_renewed : (items : List Record) (read : Kept) → read ≡ kept items → read.form ≡ 1 → with_record read (records.Form FORM) ≡ kept (renewed items)
+pub kept_renewed : (items : List Record) (read : Kept) → read ≡ kept items → read.form ≡ 1 → with_record read (records.Form NEWEST_FORM) ≡ kept (renewed items)
 kept_renewed items read is first =
-    ap (λ (k : Kept). with_record k (records.Form FORM)) is ∙ sym (fold-append with_record nothing_kept items (records.Form FORM ∷ []))
+    ap (λ (k : Kept). with_record k (records.Form NEWEST_FORM)) is ∙ sym (fold-append with_record nothing_kept items (records.Form NEWEST_FORM ∷ []))
     ∙ ap kept (sym (is_renewed items read is first))
 
 pub rests_as_they_are : (state : State) (items : List Record) (read : Kept) → read ≡ kept items → read.form ≢ 1 → IsAtRest state items → IsAtRest state (renewed items)
 rests_as_they_are state items read is other rest = subst (IsAtRest state) (sym (not_renewed items read is other)) rest
 
-pub rests_renewed : (state : State) (items : List Record) (read : Kept) → read ≡ kept items → read.form ≡ 1 → IsAtRest state (items ++ records.Form FORM ∷ []) → IsAtRest state (renewed items)
+pub rests_renewed : (state : State) (items : List Record) (read : Kept) → read ≡ kept items → read.form ≡ 1 → IsAtRest state (items ++ records.Form NEWEST_FORM ∷ []) → IsAtRest state (renewed items)
 rests_renewed state items read is first rest = subst (IsAtRest state) (sym (is_renewed items read is first)) rest
 
 pub adds_form : (items : List Record) (read : Kept) (old new : State) → read ≡ kept items → read.form ≡ 1
-    → EachMoment (IsBeforeOrAfter items (records.Form FORM)) old new → EachMoment (IsThemOrRenewed items) old new
+    → EachMoment (IsBeforeOrAfter items (records.Form NEWEST_FORM)) old new → EachMoment (IsThemOrRenewed items) old new
 adds_form items read old new is first moments =
-    weakens (IsBeforeOrAfter items (records.Form FORM)) (IsThemOrRenewed items) either old new moments
+    weakens (IsBeforeOrAfter items (records.Form NEWEST_FORM)) (IsThemOrRenewed items) either old new moments
   where
-    either : (image : List ℕ) → IsBeforeOrAfter items (records.Form FORM) image → IsThemOrRenewed items image
+    either : (image : List ℕ) → IsBeforeOrAfter items (records.Form NEWEST_FORM) image → IsThemOrRenewed items image
     either image (inl before) = inl before
     either image (inr after) = inr (subst (λ (l : List Record). HasJournal image l) (sym (is_renewed items read is first)) after)
 
@@ -69,12 +69,12 @@ pub same_but_form : (items : List Record) → kept (renewed items) ≡ record (k
 same_but_form items = by_test ((kept items).form == 1)
   where
     in_form : Bool → List Record
-    in_form first = if first then items ++ records.Form FORM ∷ [] else items
+    in_form first = if first then items ++ records.Form NEWEST_FORM ∷ [] else items
 
     by_test : (first : Bool) → kept (in_form first) ≡ record (kept items) { form = (kept (in_form first)).form; count = (kept (in_form first)).count }
     by_test false = refl
     by_test true =
-        let more : kept (items ++ records.Form FORM ∷ []) ≡ with_record (kept items) (records.Form FORM) = fold-append with_record nothing_kept items (records.Form FORM ∷ []) in
+        let more : kept (items ++ records.Form NEWEST_FORM ∷ []) ≡ with_record (kept items) (records.Form NEWEST_FORM) = fold-append with_record nothing_kept items (records.Form NEWEST_FORM ∷ []) in
         more ∙ ap (λ (k : Kept). record (kept items) { form = k.form; count = k.count }) (sym more)
 
 -- ---- an opening

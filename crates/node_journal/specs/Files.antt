@@ -7,12 +7,12 @@ use Rattle.rs_disk.specs.Steps.{Step}
 use Rattle.record_file.specs.Files.{EndsBy, IsAtRest as FileIsAtRest, OpensBy, append_steps}
 use Rattle.record_file.specs.Records.{HasRecords, body}
 use Rattle.record_file.specs.declared.error.FileError.{FileError}
-use Rattle.repl_msg.specs.Kept.{kept}
+use Rattle.repl_msg.specs.Kept.{NEWEST_FORM, kept}
 use Rattle.repl_msg.specs.declared.record.Kept.{Kept}
 use Rattle.repl_msg.specs.declared.record.Record.{Record}
 use Rattle.repl_msg.specs.declared.record.Record.TheVariants as records
 use Rattle.node_journal.specs.Layout.{record_bytes}
-use Rattle.node_journal.specs.Renewed.{FORM, renewed}
+use Rattle.node_journal.specs.Renewed.{renewed}
 use Rattle.node_journal.specs.Spelled.{AreSpelled}
 
 -- the file's records are the bytes of these
@@ -76,7 +76,7 @@ HasOnly state records = LeavesOnly (λ image. HasJournal image records) state.fi
 -- the calls that add the newest form to a file
 abbrev pub form_steps : State → List Step
 form_steps state =
-    append_steps (length (contents state.file)) (body (record_bytes (records.Form FORM)) ++ 0 ∷ [])
+    append_steps (length (contents state.file)) (body (record_bytes (records.Form NEWEST_FORM)) ++ 0 ∷ [])
 
 -- those calls, where the form is due, and none where it isn't
 abbrev pub AddsForm : {T : Type 0} → (due : Bool) → Result T FileError → State → State → Type 0

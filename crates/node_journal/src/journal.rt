@@ -12,17 +12,14 @@ ghost use Rattle.node_journal.specs.Layout.{record_bytes};
 ghost use Rattle.node_journal.specs.Renewed.{is_first, renewed};
 ghost use Rattle.node_journal.specs.Room.{IsShort};
 
-use crate::fold::{FIRST_FORM, kept_of, with_form};
+use crate::fold::{kept_of, with_form};
 use crate::writing::lay;
 use record_file::{FileError, RecordFile};
-use repl_msg::{Kept, Record};
+use repl_msg::{FIRST_FORM, Kept, NEWEST_FORM, Record};
 use rs_disk::Disk;
 use rs_optime::Mem;
 use std::alloc::Global;
 use std::marker::Model;
-
-// The newest form of a journal.
-const FORM: u32 = 2;
 
 /// The journal of a node on one disk. Contracts see it as its disk, and how many bytes its buffers can take.
 #[derive(Drop)]
@@ -120,8 +117,8 @@ impl<D: Disk> Journal<D> {
             return Ok(read);
         }
         self.recall_count_fits();
-        self.add(&Record::Form(FORM))?;
-        Ok(with_form(read, FORM))
+        self.add(&Record::Form(NEWEST_FORM))?;
+        Ok(with_form(read, NEWEST_FORM))
     }
 
     /// Reads anew what the journal on its disk keeps, also where it has failed.

@@ -27,7 +27,7 @@ use election_core::{DryRun, Tally};
 use member_config::Config;
 use node_ledger::{Ledger, Records};
 use oplog_store::Unjournaled;
-use repl_msg::{Message, Record};
+use repl_msg::{Message, NEWEST_FORM, Record};
 use rs_optime::OpTime;
 use set_model::{Command, LostList, Refusal, Reply, Store};
 use std::alloc::Global;
@@ -157,8 +157,8 @@ impl State {
             lost: LostList::new(alloc),
             rollback: 0,
             unjournaled: Unjournaled::new(alloc),
-            // a journal that is opened empty is of the second form
-            records: Records::none().with(&Store::Record(Record::Form(2))),
+            // a journal that is opened empty is of the newest form
+            records: Records::none().with(&Store::Record(Record::Form(NEWEST_FORM))),
         })
     }
 
