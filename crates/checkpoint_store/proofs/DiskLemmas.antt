@@ -13,6 +13,7 @@ use Rattle.record_file.specs.Files.{EndsBy, adding_steps}
 use Rattle.record_file.proofs.ItemLemmas.{same_head, same_tail}
 use Rattle.record_file.specs.Files as files
 use Rattle.record_file.specs.declared.error.FileError.{FileError}
+use Rattle.record_file.proofs.LayerLemmas as layers
 use Rattle.record_file.proofs.ParseLemmas.{one_list}
 use Rattle.rs_optime.specs.declared.optime.OpTime.{OpTime}
 use Rattle.oplog_entry.specs.Docs.{Documents}
@@ -39,25 +40,20 @@ open_left state is = record { leaves = λ image left. list_has image is.records 
 
 -- ---- an opening
 
-one_of : (state : State) → IsCheckpointDisk state → (image : List ℕ) → files.IsOneOf state image → IsOneOf state image
-one_of state is image (pieces, has, (before, left, had)) =
-    let found = is.leaves before left in
-    let same : pieces ≡ map record_bytes found.1.records = one_list before pieces (map record_bytes found.1.records) had found.1.list.has in (
-      found.0,
-      record {
-        records = found.1.records;
-        list = record { each = found.1.list.each; has = subst (λ (l : List (List ℕ)). HasRecords image l) same has };
-        last = found.1.last;
-      },
-      (before, left, found.1),
-    )
+moves : (one other : List ℕ) (pieces : List (List ℕ)) (stable : Stable) → HasRecords one pieces → HasRecords other pieces → HasCheckpoint one stable → HasCheckpoint other stable
+moves one other pieces stable has there found =
+    let same : pieces ≡ map record_bytes found.records = one_list one pieces (map record_bytes found.records) has found.list.has in
+    record {
+      records = found.records;
+      list = record { each = found.list.each; has = subst (λ (l : List (List ℕ)). HasRecords other l) same there };
+      last = found.last;
+    }
 
 pub opens : (old new : State) → IsCheckpointDisk old → EachMoment (files.IsOneOf old) old new → EachMoment (IsOneOf old) old new
-opens old new is moments = weakens (files.IsOneOf old) (IsOneOf old) (one_of old is) old new moments
+opens old new is moments = layers.opens HasCheckpoint moves old new is.leaves moments
 
 pub opened_left : (old new : State) → IsCheckpointDisk old → EachMoment (files.IsOneOf old) old new → IsCheckpointDisk new
-opened_left old new is moments =
-    record { leaves = λ image left. let one = one_of old is image (moments.now image left) in (one.0, one.1) }
+opened_left old new is moments = record { leaves = layers.opened_left HasCheckpoint moves old new is.leaves moments }
 
 -- the records that were read are those of the file
 pub found_records : (state : State) (pieces : List (List ℕ)) → IsCheckpointDisk state → HasRecords (contents state.file) pieces

@@ -1,9 +1,10 @@
 -- A disk with checkpoints, between two calls of a checkpoint store and within them.
 use Rattle.std.specs.Prelude.{◌≡◌, ◌⊎◌, ℕ, List, [], map, length, All, Result, Ok, Err}
 use Rattle.std.proofs.Common.{inl, refl, ap, arith}
-use Rattle.rs_disk.specs.File.{IsEmpty, IsImage, LeavesOnly}
+use Rattle.rs_disk.specs.File.{IsEmpty, LeavesOnly}
 use Rattle.rs_disk.specs.State.{State}
 use Rattle.record_file.specs.Files.{IsAtRest as FileIsAtRest}
+use Rattle.record_file.specs.Layers.{IsOneLeft, MayLeave}
 use Rattle.record_file.specs.Records.{HasRecords}
 use Rattle.record_file.specs.declared.error.FileError.{FileError}
 use Rattle.checkpoint_store.specs.Layout.{Record, record_bytes}
@@ -46,11 +47,11 @@ pub record IsOpen (state : State) : Type 0 where
 
 -- a crash may leave this as the last whole checkpoint
 abbrev pub MayHave : State → Stable → Type 0
-MayHave state stable = (image : List ℕ) × IsImage state.file image × HasCheckpoint image stable
+MayHave state stable = MayLeave HasCheckpoint state stable
 
 -- the bytes have a last whole checkpoint, and it is one that the disk might have had
 abbrev pub IsOneOf : State → List ℕ → Type 0
-IsOneOf state image = (stable : Stable) × HasCheckpoint image stable × MayHave state stable
+IsOneOf state image = IsOneLeft HasCheckpoint state image
 
 -- a disk that is empty or that a checkpoint store left: whatever a crash leaves of it has checkpoints
 pub record IsCheckpointDisk (state : State) : Type 0 where

@@ -1,5 +1,5 @@
 -- A journal's disk is a record file's, and what a crash leaves of the one it leaves of the other.
-use Rattle.std.proofs.Common.{⊎_elim, ◌≡◌, inl, inr, ℕ, List, [], ◌∷◌, ◌++◌, subst}
+use Rattle.std.proofs.Common.{⊎_elim, inl, inr, ℕ, List, [], ◌∷◌, ◌++◌, subst}
 use Rattle.std.specs.Prelude.{Result, Ok, Err, OnOk}
 use Rattle.rs_disk.specs.File.{File, IsImage, LeavesOnly, contents}
 use Rattle.rs_disk.specs.Images.{read_is_image, only_image}
@@ -8,6 +8,7 @@ use Rattle.rs_disk.specs.State.{State}
 use Rattle.record_file.specs.Records.{HasRecords, body}
 use Rattle.record_file.specs.declared.error.FileError.{FileError}
 use Rattle.record_file.specs.Files as files
+use Rattle.record_file.proofs.LayerLemmas as layers
 use Rattle.record_file.proofs.ParseLemmas.{one_list}
 use Rattle.repl_msg.specs.declared.record.Record.{Record}
 use Rattle.node_journal.specs.Layout.{record_bytes}
@@ -63,27 +64,20 @@ nothing_yet state records item rest =
 pub open_left : (state : State) → IsOpen state → IsJournalDisk state
 open_left state is = record { leaves = λ image left. (is.records, rest_leaves state is.records is.rests image left) }
 
--- an opening
-one_of : (state : State) → IsJournalDisk state → (image : List ℕ) → files.IsOneOf state image → IsOneOf state image
-one_of state is image (pieces, has, (before, left, had)) =
-    let found = is.leaves before left in
-    let same : found.1.pieces ≡ pieces = one_list before found.1.pieces pieces found.1.has had in (
-      found.0,
-      record { pieces = pieces; spelled = subst (λ (l : List (List ℕ)). AreSpelled found.0 l) same found.1.spelled; has = has },
-      (before, left, found.1),
-    )
-
-pub opens : (old new : State) → IsJournalDisk old → EachMoment (files.IsOneOf old) old new → EachMoment (IsOneOf old) old new
-opens old new is moments = weakens (files.IsOneOf old) (IsOneOf old) (one_of old is) old new moments
-
-pub opened_left : (old new : State) → IsJournalDisk old → EachMoment (files.IsOneOf old) old new → IsJournalDisk new
-opened_left old new is moments =
-    record { leaves = λ image left. let one = one_of old is image (moments.now image left) in (one.0, one.1) }
-
 -- the records that were read are those of the file
 pub pieces_are : (bytes : List ℕ) (pieces : List (List ℕ)) (records : List Record) → HasRecords bytes pieces → HasJournal bytes records → AreSpelled records pieces
 pieces_are bytes pieces records has journal =
     subst (λ (l : List (List ℕ)). AreSpelled records l) (one_list bytes journal.pieces pieces journal.has has) journal.spelled
+
+-- an opening
+moves : (one other : List ℕ) (pieces : List (List ℕ)) (records : List Record) → HasRecords one pieces → HasRecords other pieces → HasJournal one records → HasJournal other records
+moves one other pieces records has there journal = record { pieces = pieces; spelled = pieces_are one pieces records has journal; has = there }
+
+pub opens : (old new : State) → IsJournalDisk old → EachMoment (files.IsOneOf old) old new → EachMoment (IsOneOf old) old new
+opens old new is moments = layers.opens HasJournal moves old new is.leaves moments
+
+pub opened_left : (old new : State) → IsJournalDisk old → EachMoment (files.IsOneOf old) old new → IsJournalDisk new
+opened_left old new is moments = record { leaves = layers.opened_left HasJournal moves old new is.leaves moments }
 
 pub found_records : (state : State) (pieces : List (List ℕ)) → IsJournalDisk state → HasRecords (contents state.file) pieces → (records : List Record) × AreSpelled records pieces
 found_records state pieces is has =

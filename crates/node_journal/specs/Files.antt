@@ -1,10 +1,11 @@
 -- A disk with a journal, between two calls of the journal and within them.
 use Rattle.std.specs.Prelude.{◌⊎◌, ℕ, Bool, true, false, List, [], ◌∷◌, ◌++◌, ◌≡◌, length, Result, Ok, IsOk, IsErr}
 use Rattle.std.proofs.Common.{inl, refl, ap, arith}
-use Rattle.rs_disk.specs.File.{IsEmpty, IsImage, LeavesOnly, contents}
+use Rattle.rs_disk.specs.File.{IsEmpty, LeavesOnly, contents}
 use Rattle.rs_disk.specs.State.{State}
 use Rattle.rs_disk.specs.Steps.{Step}
 use Rattle.record_file.specs.Files.{EndsBy, IsAtRest as FileIsAtRest, OpensBy, append_steps}
+use Rattle.record_file.specs.Layers.{IsOneLeft, MayLeave}
 use Rattle.record_file.specs.Records.{HasRecords, body}
 use Rattle.record_file.specs.declared.error.FileError.{FileError}
 use Rattle.repl_msg.specs.Kept.{NEWEST_FORM, kept}
@@ -34,11 +35,11 @@ pub record IsOpen (state : State) : Type 0 where
 
 -- a crash may leave these records
 abbrev pub MayHave : State → List Record → Type 0
-MayHave state records = (image : List ℕ) × IsImage state.file image × HasJournal image records
+MayHave state records = MayLeave HasJournal state records
 
 -- the bytes have records, and they are such as the disk might have had
 abbrev pub IsOneOf : State → List ℕ → Type 0
-IsOneOf state image = (records : List Record) × HasJournal image records × MayHave state records
+IsOneOf state image = IsOneLeft HasJournal state image
 
 -- a disk that is empty or that a journal left: whatever a crash leaves of it has records
 pub record IsJournalDisk (state : State) : Type 0 where

@@ -1,9 +1,10 @@
 -- A disk with records, between two calls of a record file and within them.
 use Rattle.std.specs.Prelude.{◌≡◌, ◌⊎◌, ℕ, ◌+◌, ◌-◌, ◌<◌, ◌≤◌, min, List, [], ◌∷◌, ◌++◌, length, Result, Ok, Err}
 use Rattle.std.proofs.Common.{inl, refl, ap, arith}
-use Rattle.rs_disk.specs.File.{IsEmpty, IsImage, LeavesOnly, write, cut, settled, contents}
+use Rattle.rs_disk.specs.File.{IsEmpty, LeavesOnly, write, cut, settled, contents}
 use Rattle.rs_disk.specs.State.{State}
 use Rattle.rs_disk.specs.Steps.{Step, reads, changes, syncs, Makes, MakesFirst, FailsWithin}
+use Rattle.record_file.specs.Layers.{IsOneLeft, MayLeave}
 use Rattle.record_file.specs.Parsed.{IsParsed}
 use Rattle.record_file.specs.Records.{AreOpen, HasRecords, body}
 use Rattle.record_file.specs.declared.error.FileError.{FileError}
@@ -22,11 +23,11 @@ pub record IsOpen (state : State) : Type 0 where
 
 -- a crash may leave this list
 abbrev pub MayHave : State → List (List ℕ) → Type 0
-MayHave state records = (image : List ℕ) × IsImage state.file image × HasRecords image records
+MayHave state records = MayLeave HasRecords state records
 
 -- the bytes have a list, and it is one that the disk might have had
 abbrev pub IsOneOf : State → List ℕ → Type 0
-IsOneOf state image = (records : List (List ℕ)) × HasRecords image records × MayHave state records
+IsOneOf state image = IsOneLeft HasRecords state image
 
 -- A disk that is empty or that a record file left: whatever a crash leaves of it has a list. It reads as
 -- one of these.

@@ -5,5 +5,6 @@ pub use Rattle.rs_disk.specs.Steps
 pub mod Causes
 pub mod Records
 pub mod Parsed
+pub mod Layers
 pub mod Files
 pub mod Turn
