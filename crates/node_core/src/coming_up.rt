@@ -19,7 +19,7 @@ ghost use Rattle.node_core.specs.OnDisks.{IsOnDisks, DownOnDisks, UpOnDisks};
 ghost use Rattle.node_core.specs.Stands.{Stands};
 
 use crate::Done;
-use crate::disks::Disks;
+use crate::disks::{Disks, SHORT_RECORD};
 use crate::down::DownState;
 use bson_doc::Mem;
 use checkpoint_store::Stable;
@@ -121,7 +121,7 @@ fn open_both<D: Disk>(disks: &mut Disks<D>) -> Result<Found, FileError>
 {
     let kept = disks.journal.reopen()?;
     let stable = disks.checkpoints.reopen()?;
-    disks.journal.reserve(473)?;
+    disks.journal.reserve(SHORT_RECORD)?;
     Ok(Found { kept, stable })
 }
 

@@ -20,6 +20,9 @@ use repl_msg::Record;
 use rs_disk::Disk;
 use set_model::{DiskName, Store};
 
+/// How many bytes a record without entries may take in the journal.
+pub(crate) const SHORT_RECORD: u64 = 473;
+
 /// The journal and the checkpoints.
 #[derive(Drop)]
 pub(crate) struct Disks<D: Disk> {
@@ -118,6 +121,6 @@ impl<D: Disk> Disks<D> {
             (D.state self.old.checkpoints) (D.state self.new.checkpoints) }
         ensures room { OnOk result (SHORT + SHORT ≤ spare (D.state self.new.journal.0) self.new.journal.1) }
     {
-        self.journal.reserve(946)
+        self.journal.reserve(2 * SHORT_RECORD)
     }
 }

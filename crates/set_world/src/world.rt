@@ -324,7 +324,7 @@ impl<D: Disk> World<D> {
 
     /// What the events did to the disks since the set was opened: a fact for callers' proofs, which costs
     /// nothing.
-    pub fn went(&self)
+    pub fn recall_went(&self)
         ensures { DisksWent D.state self.now }
     {
         let _ = &self.nodes;
