@@ -89,24 +89,24 @@ impl State {
                 collection: ns,
                 document: doc,
                 ..
-            } => self.write_at_once(BorrowedWrite::Insert { ns, doc }, None),
+            } => self.write_at_once(BorrowedWrite::Insert { ns, doc }),
             Command::Replace {
                 collection: ns,
                 id,
                 document: doc,
                 ..
-            } => self.write_at_once(BorrowedWrite::Replace { ns, id, doc }, None),
+            } => self.write_at_once(BorrowedWrite::Replace { ns, id, doc }),
             Command::Update {
                 collection: ns,
                 id,
                 operators,
                 ..
-            } => self.write_at_once(BorrowedWrite::Update { ns, id, operators }, None),
+            } => self.write_at_once(BorrowedWrite::Update { ns, id, operators }),
             Command::Delete {
                 collection: ns,
                 id,
                 ..
-            } => self.write_at_once(BorrowedWrite::Delete { ns, id }, None),
+            } => self.write_at_once(BorrowedWrite::Delete { ns, id }),
             Command::Retry { session, op, .. } => self.retry(*session, op.borrowed()),
             Command::Note { .. } => self.note(),
             _ => unreachable!(),

@@ -5,10 +5,8 @@ ghost use Rattle.doc_update.specs.Borrowed.{shown};
 ghost use Rattle.oplog_entry.specs.Lawful.{IsSession};
 ghost use Rattle.set_model.specs.Holds.{holder};
 ghost use Rattle.set_model.specs.Limits.{IsSoundWrite, is_collection, collection_of};
-ghost use Rattle.set_model.specs.Outcome.{refused, replied};
-ghost use Rattle.set_model.specs.Write.{note, retry, write_in, written};
-ghost use Rattle.set_model.specs.Points.{if_primary};
-ghost use Rattle.set_model.specs.declared.reply.Refusal.TheVariants.{NotPrimary};
+ghost use Rattle.set_model.specs.Outcome.{replied};
+ghost use Rattle.set_model.specs.Write.{note, retry, write, write_in, written};
 ghost use Rattle.node_state.specs.Admits.{Admits, CanBeLogged};
 
 use crate::State;
@@ -57,23 +55,30 @@ impl State {
         }
     }
 
-    /// Writes an entry for a write that is taken, at once.
-    pub(crate) fn write_at_once(
-        &mut self,
-        borrowed: BorrowedWrite<'_>,
-        session: Option<Session>,
-    ) -> Mem<Reply>
+    /// Writes an entry for a write of no session, at once.
+    pub(crate) fn write_at_once(&mut self, borrowed: BorrowedWrite<'_>) -> Mem<Reply>
         requires seen { self.old.node.seen < 2 ^ 64 - 1 }
         requires name { is_collection (collection_of (shown borrowed)) ≡ true }
-        requires session { IfSome session IsSession }
         ensures ok { IfOk result (λ reply.
-            if_primary self.old.node.role (write_in self.old.node session (shown borrowed.entry))
-            (refused NotPrimary self.old.node) ≡ replied reply self.new.node) }
+            write self.old.node (shown borrowed.entry) ≡ replied reply self.new.node) }
         ensures err { OnErr result (self.new.node ≡ self.old.node) }
     {
         if self.ledger.role() != Role::Primary {
             return Ok(Reply::Refused(Refusal::NotPrimary));
         }
+        self.write_in(borrowed, None)
+    }
+
+    /// Writes an entry for a write that a primary takes, and that may be one of a session.
+    fn write_in(&mut self, borrowed: BorrowedWrite<'_>, session: Option<Session>) -> Mem<Reply>
+        requires seen { self.old.node.seen < 2 ^ 64 - 1 }
+        requires role { self.old.node.role ≡ Role.Primary }
+        requires name { is_collection (collection_of (shown borrowed)) ≡ true }
+        requires session { IfSome session IsSession }
+        ensures ok { IfOk result (λ reply.
+            write_in self.old.node session (shown borrowed.entry) ≡ replied reply self.new.node) }
+        ensures err { OnErr result (self.new.node ≡ self.old.node) }
+    {
         match self.admit(borrowed) {
             Ok(Ok(admission)) => self.write_admitted(admission, session),
             Ok(Err(why)) => Ok(Reply::Refused(why)),
@@ -101,7 +106,7 @@ impl State {
                 return Ok(Reply::Written(last.at));
             }
         }
-        self.write_at_once(borrowed, Some(session))
+        self.write_in(borrowed, Some(session))
     }
 
     /// Writes an entry that touches no document.
