@@ -35,6 +35,7 @@ fn put_name(out: &mut Vec<u8>, kind: u8, name: &str) -> Mem<()>
     Ok(())
 }
 
+/// A name that is copied by a call. It is never written into its callers, so that `put_name` stays short.
 #[inline(never)]
 fn put_long_name(out: &mut Vec<u8>, kind: u8, letters: &[u8]) -> Mem<()>
     ensures laid { OnOk result (out.new.items ≡ out.old.items ++ kind ∷ (letters.now ++ 0 ∷ [])) }
@@ -55,13 +56,13 @@ fn put_int32(out: &mut Vec<u8>, name: &str, number: i32) -> Mem<()>
     put_i32(out, number)
 }
 
-/// An item's name: its place in decimal. With two callers, what copies a name stays out of `put_name`.
+/// An item's name: its place in decimal.
 fn put_place(alloc: Global, out: &mut Vec<u8>, kind: u8, place: usize) -> Mem<()>
     ensures laid { OnOk result (out.new.items ≡ out.old.items ++ kind ∷ (decimal place ++ 0 ∷ [])) }
     ensures longer { OnOk result (vec_capacity out.old ≤ vec_capacity out.new) }
 {
     let name = place.to_string(alloc)?;
-    put_long_name(out, kind, name.as_str().as_bytes())
+    put_name(out, kind, name.as_str())
 }
 
 fn put_text(out: &mut Vec<u8>, text: &str) -> Mem<()>
@@ -122,8 +123,10 @@ fn write_value(alloc: Global, value: &Value, out: &mut Vec<u8>) -> Mem<()>
     }
 }
 
+/// Appends a field: its kind, its name and its value. Out of memory is the one error, and nothing is said of
+/// `out` then; so it is of `put_string` and `put_document`.
 #[cycle(write)]
-fn write_field(alloc: Global, name: &str, value: &Value, out: &mut Vec<u8>) -> Mem<()>
+pub fn put_field(alloc: Global, out: &mut Vec<u8>, name: &str, value: &Value) -> Mem<()>
     requires { value_length (tree_of value.now) < 2 ^ 31 }
     ensures laid { OnOk result (out.new.items ≡ out.old.items
         ++ element (type_byte (tree_of value.now)) name.now (value_bytes (tree_of value.now))) }
@@ -167,20 +170,9 @@ pub fn write(alloc: Global, document: &Doc, out: &mut Vec<u8>) -> Mem<()>
         let Some((name, value)) = document.at(place) else {
             unreachable!()
         };
-        write_field(alloc, name, value, out)?;
+        put_field(alloc, out, name, value)?;
     }
     close(out, start)
-}
-
-/// Appends a field: its kind, its name and its value. Out of memory is the one error, and nothing is said of
-/// `out` then; so it is of the next two.
-pub fn put_field(alloc: Global, out: &mut Vec<u8>, name: &str, value: &Value) -> Mem<()>
-    requires { value_length (tree_of value.now) < 2 ^ 31 }
-    ensures laid { OnOk result (out.new.items ≡ out.old.items
-        ++ element (type_byte (tree_of value.now)) name.now (value_bytes (tree_of value.now))) }
-    ensures longer { OnOk result (vec_capacity out.old ≤ vec_capacity out.new) }
-{
-    write_field(alloc, name, value, out)
 }
 
 /// Appends a field whose value is a string.

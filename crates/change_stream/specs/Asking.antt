@@ -8,7 +8,7 @@ use Rattle.set_model.specs.declared.command.Event.{Event}
 use Rattle.set_model.specs.declared.reply.Refusal.TheVariants.{NodeDown as IsDown}
 use Rattle.set_model.specs.declared.reply.Reply.{Reply}
 use Rattle.set_model.specs.declared.reply.Reply.TheVariants as reply
-use Rattle.set_model.specs.Run.{Sizes}
+use Rattle.set_model.specs.Run.{HISTORY_LIMIT, Sizes}
 use Rattle.set_world.specs.Stepper.{Learns, StepsOnce}
 use Rattle.change_stream.specs.declared.error.WatchError.{WatchError}
 use Rattle.change_stream.specs.declared.error.WatchError.TheVariants.{NodeDown, UnknownToken, HistoryFull, Memory}
@@ -62,7 +62,7 @@ module _ (alone : Bool) (sizes : Sizes) (old new : List Event) where
   abbrev pub Breaks : ℕ → WatchError → Type 0
   Breaks node NodeDown = IsRefused node
   Breaks node UnknownToken = ⊥
-  Breaks node HistoryFull = IsBrokenOff node × (length new ≡ 4294967295)
+  Breaks node HistoryFull = IsBrokenOff node × (length new ≡ HISTORY_LIMIT)
   Breaks node Memory = IsBrokenOff node
 
   -- the error that a call ends in; memory may also run out for the answer

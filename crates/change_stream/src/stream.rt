@@ -7,6 +7,7 @@ ghost use Rattle.change_stream.specs.declared.error.WatchError.{WatchError as AW
 ghost use Rattle.change_stream.specs.Asking.{Breaks, Does, Fails, Reads, Tells};
 ghost use Rattle.change_stream.specs.Calls.{token_behind};
 ghost use Rattle.change_stream.specs.Shown.{shown_log, shown_state};
+ghost use Rattle.set_model.specs.Run.{HISTORY_LIMIT};
 
 use crate::WatchError;
 use crate::answering::{next_entries, token_behind};
@@ -119,7 +120,7 @@ fn ask_state<R: Threads + Wait + Sync, S: Stepper>(
     ensures step { IfOk result (λ reply. Does S.is_alone (S.sizes set.old) (S.known set.old) (S.known set.new)
         (Command.State node) reply) }
     ensures err { OnErr result (Learns S.is_alone (S.known set.old) (S.known set.new)) }
-    ensures full { IsErrOf result AStepError.HistoryFull → length (S.known set.new) ≡ 4294967295 }
+    ensures full { IsErrOf result AStepError.HistoryFull → length (S.known set.new) ≡ HISTORY_LIMIT }
     ensures sizes { S.sizes set.new ≡ S.sizes set.old }
     ensures stays { S.stays set.old set.new }
     ensures whole { S.is_whole set.old → result ≢ Err AStepError.Memory → S.is_whole set.new }
@@ -139,7 +140,7 @@ fn ask_log<R: Threads + Wait + Sync, S: Stepper>(
     ensures step { IfOk result (λ reply. Does S.is_alone (S.sizes set.old) (S.known set.old) (S.known set.new)
         (Command.Log node) reply) }
     ensures err { OnErr result (Learns S.is_alone (S.known set.old) (S.known set.new)) }
-    ensures full { IsErrOf result AStepError.HistoryFull → length (S.known set.new) ≡ 4294967295 }
+    ensures full { IsErrOf result AStepError.HistoryFull → length (S.known set.new) ≡ HISTORY_LIMIT }
     ensures sizes { S.sizes set.new ≡ S.sizes set.old }
     ensures stays { S.stays set.old set.new }
     ensures whole { S.is_whole set.old → result ≢ Err AStepError.Memory → S.is_whole set.new }

@@ -4,10 +4,14 @@ use Rattle.std.specs.Str.{is_utf8}
 use Rattle.script_words.specs.declared.rule.ScriptRule.{ScriptRule}
 use Rattle.script_words.specs.declared.rule.ScriptRule.TheVariants.{TooManyLines, LineTooLong, NotUtf8}
 
+-- a script has at most so many lines
+abbrev pub MOST_LINES : ℕ
+MOST_LINES = 200000
+
 -- the text of a line with this number, or the first fault that needs no word of it
 unfoldable pub text_of : ℕ → List ℕ → Result (List ℕ) ScriptRule
 text_of number line =
-    if nat_lt 200000 number then Err TooManyLines
+    if nat_lt MOST_LINES number then Err TooManyLines
     else if nat_lt 1048576 (length line) then Err LineTooLong
     else if is_utf8 line then Ok line
     else Err NotUtf8

@@ -2,6 +2,7 @@
 ghost use Rattle.std.specs.Prelude.{◌≡◌, ◌≤◌, length, true, Ok, IfOk, OnOk, IfErr, MatchResult};
 ghost use Rattle.std.specs.List.{list_all};
 ghost use Rattle.fault_script.specs.Script.{is_part_for, lines_in, script, sizes_of, with_line, IsCause, StopsLine};
+ghost use Rattle.fault_script.specs.Lines.{MOST_LINES};
 ghost use Rattle.set_model.specs.Run.{AreSizes};
 
 use crate::fault::{ScriptError, ScriptFault};
@@ -18,7 +19,7 @@ pub fn parse(alloc: Global, bytes: &[u8]) -> Result<Script, ScriptError>
     ensures ok { IfOk result (λ read. script bytes.now ≡ Ok read) }
     ensures sizes { IfOk result (λ read. AreSizes (sizes_of read)) }
     ensures fits { IfOk result (λ read. list_all (is_part_for read.nodes) read.parts ≡ true) }
-    ensures few { IfOk result (λ read. length (lines_in read.parts) ≤ 200000) }
+    ensures few { IfOk result (λ read. length (lines_in read.parts) ≤ MOST_LINES) }
     ensures fault { IfErr result (IsCause bytes.now) }
 {
     let mut reading = Reading::new(alloc);
@@ -43,7 +44,7 @@ fn add_line(
     ensures read { MatchResult result
         (λ _. with_line number reading.old line.now ≡ Ok reading.new)
         (StopsLine number (with_line number reading.old line.now)) }
-    ensures few { OnOk result (number ≤ 200000) }
+    ensures few { OnOk result (number ≤ MOST_LINES) }
 {
     match reading.add_line(alloc, number, line) {
         Ok(()) => Ok(()),

@@ -1,7 +1,7 @@
 -- What a talk leaves of the set that it is held with, over what whoever steps the set tells of it.
 use Rattle.std.specs.Prelude.{◌≡◌, ◌≢◌, Bool, List, Result, Ok, Err, length}
 use Rattle.set_model.specs.declared.command.Event.{Event}
-use Rattle.set_model.specs.Run.{Sizes}
+use Rattle.set_model.specs.Run.{HISTORY_LIMIT, Sizes}
 use Rattle.set_world.specs.declared.error.StepError.{StepError}
 use Rattle.set_world.specs.declared.error.StepError.TheVariants.{Memory, HistoryFull}
 use Rattle.set_world.specs.Stepper.{IsDefined}
@@ -28,7 +28,7 @@ pub record Broken {S A : Type 0} (alone : Bool) (sizes : S → Sizes) (known : S
     (error : StepError) : Type 0 where
   pub leads : Leads sizes known stays old new
   pub broken : IsBrokenOff alone (sizes old) (known old) (known new) talk
-  pub full : error ≡ HistoryFull → length (known new) ≡ 4294967295
+  pub full : error ≡ HistoryFull → length (known new) ≡ HISTORY_LIMIT
   pub whole : error ≢ Memory → is_whole old → is_whole new
 
 abbrev pub Went : {S A : Type 0} → Bool → (S → Sizes) → (S → List Event) → (S → S → Type 0) → (S → Type 0)

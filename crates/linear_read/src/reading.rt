@@ -2,6 +2,7 @@ ghost use Rattle.std.specs.Prelude.{◌≡◌, ◌≢◌, ◌<◌, true, length,
 ghost use Rattle.set_model.specs.declared.command.Command.TheVariants.{Read as IsRead};
 ghost use Rattle.set_model.specs.declared.command.ReadLevel.TheVariants.{Local as AtLocal};
 ghost use Rattle.set_model.specs.Limits.{is_collection, is_for};
+ghost use Rattle.set_model.specs.Run.{HISTORY_LIMIT};
 ghost use Rattle.set_world.specs.declared.error.StepError.{StepError as AStepError};
 ghost use Rattle.set_world.specs.Stepper.{IsDefined};
 ghost use Rattle.linear_read.specs.Asking.{IsBrokenOff, IsHeld};
@@ -48,7 +49,7 @@ pub fn linear_read<R: Threads + Wait + Sync, S: Stepper>(
         (length (S.known set.old)) node coll.now id.now answer) }
     ensures err { OnErr result (IsBrokenOff S.is_alone (S.sizes set.old) (S.known set.old)
         (S.known set.new) (linear node nodes coll.now id.now)) }
-    ensures full { IsErrOf result AStepError.HistoryFull → length (S.known set.new) ≡ 4294967295 }
+    ensures full { IsErrOf result AStepError.HistoryFull → length (S.known set.new) ≡ HISTORY_LIMIT }
     ensures sizes { S.sizes set.new ≡ S.sizes set.old }
     ensures stays { S.stays set.old set.new }
     ensures whole { S.is_whole set.old → result ≢ Err AStepError.Memory → S.is_whole set.new }

@@ -10,7 +10,7 @@ use Rattle.set_model.specs.declared.command.Event.{Event}
 pub use Rattle.set_model.specs.Fetched.{Follows, AreWithinDocument}
 use Rattle.set_model.specs.Node.{Node}
 use Rattle.set_model.specs.Points.{last_point}
-use Rattle.set_model.specs.Run.{Sizes, run}
+use Rattle.set_model.specs.Run.{HISTORY_LIMIT, Sizes, run}
 use Rattle.set_model.specs.Safety.{IsAt}
 
 -- The entries of an answer continue its base: they are in order, none is too large, and none is of a later
@@ -29,6 +29,6 @@ pub record RepliesFollowAt (sizes : Sizes) (events : List Event) (message : Mess
 -- After at most 4,294,967,295 events this holds of every answer to a fetch that was sent.
 abbrev pub RepliesFollow : Sizes → List Event → Type 0
 RepliesFollow sizes events =
-    (message : Message) (fetched : FetchReply) → length events ≤ 4294967295
+    (message : Message) (fetched : FetchReply) → length events ≤ HISTORY_LIMIT
     → Contains (run sizes events).world.messages message → message.body ≡ bodies.FetchReply fetched
     → RepliesFollowAt sizes events message fetched

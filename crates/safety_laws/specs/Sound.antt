@@ -7,7 +7,7 @@ use Rattle.repl_msg.specs.Kept.{kept, with_entries}
 use Rattle.rs_optime.specs.declared.optime.OpTime.{OpTime}
 use Rattle.set_model.specs.Disk.{next_entries}
 use Rattle.set_model.specs.Node.{Node}
-use Rattle.set_model.specs.Run.{Sizes}
+use Rattle.set_model.specs.Run.{HISTORY_LIMIT, Sizes}
 use Rattle.set_model.specs.Safety.{IsAt}
 use Rattle.set_model.specs.declared.command.Event.{Event}
 use Rattle.set_model.specs.declared.writer.Writer.TheVariants.{Open}
@@ -28,5 +28,5 @@ pub record IsSoundNode (node : Node) : Type 0 where
 -- After at most 4,294,967,295 events each node that is up is sound.
 abbrev pub NodesAreSound : Sizes → List Event → Type 0
 NodesAreSound sizes events =
-    (number : ℕ) (node : Node) → length events ≤ 4294967295
+    (number : ℕ) (node : Node) → length events ≤ HISTORY_LIMIT
     → IsAt sizes events (length events) number node → IsSoundNode node

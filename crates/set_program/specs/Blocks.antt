@@ -8,7 +8,7 @@ use Rattle.set_model.specs.declared.command.Command.{Command}
 use Rattle.set_model.specs.declared.command.Event.{Event}
 use Rattle.set_model.specs.declared.reply.Reply.{Reply}
 use Rattle.set_model.specs.Limits.{IsRun}
-use Rattle.set_model.specs.Run.{Sizes}
+use Rattle.set_model.specs.Run.{HISTORY_LIMIT, Sizes}
 use Rattle.set_world.specs.declared.error.StepError.{StepError}
 use Rattle.set_world.specs.declared.error.StepError.TheVariants.{HistoryFull, Memory}
 use Rattle.fault_script.specs.Merge.{Interleaves, IsMerge}
@@ -78,7 +78,7 @@ pub record TellsBlock {F : Type 0} (sizes : Sizes) (lists : List (List (ℕ × C
 
 -- no history is longer, unless the one before was
 abbrev pub KeepsShort : {F : Type 0} → View Event F → View Event F → Type 0
-KeepsShort v w = length (seen v) ≤ 4294967295 → length (seen w) ≤ 4294967295
+KeepsShort v w = length (seen v) ≤ HISTORY_LIMIT → length (seen w) ≤ HISTORY_LIMIT
 
 -- a whole run goes on as one
 abbrev pub KeepsRun : {F : Type 0} → Sizes → View Event F → View Event F → Type 0
@@ -89,7 +89,7 @@ abbrev pub EndsBlock : {F : Type 0} → Sizes → List (List (ℕ × Command)) �
 EndsBlock sizes lists v w (Ok told) = TellsBlock sizes lists v w told.items
 EndsBlock sizes lists v w (Err Memory) = RanBlock AreOfSome lists v w
 EndsBlock sizes lists v w (Err HistoryFull) =
-    RanBlock AreOfSome lists v w × (length (seen w) ≡ 4294967295)
+    RanBlock AreOfSome lists v w × (length (seen w) ≡ HISTORY_LIMIT)
 
 -- ---- a list
 
@@ -122,7 +122,7 @@ abbrev pub EndsList : {F : Type 0} → Sizes → List (ℕ × Command) → View 
 EndsList sizes lines v w (Ok told) = TellsList sizes lines v w told.items
 EndsList sizes lines v w (Err Memory) = RanList (AreOfSome lines) v w
 EndsList sizes lines v w (Err HistoryFull) =
-    RanList (AreOfSome lines) v w × (length (seen w) ≡ 4294967295)
+    RanList (AreOfSome lines) v w × (length (seen w) ≡ HISTORY_LIMIT)
 
 -- ---- what both are told
 

@@ -4,6 +4,7 @@ ghost use Rattle.std.specs.List.{list_all};
 ghost use Rattle.rs_io.specs.Fault.{HasCause, CountRose};
 ghost use Rattle.set_model.specs.Run.{AreSizes};
 ghost use Rattle.fault_script.specs.Script.{lines_in, script, sizes_of};
+ghost use Rattle.fault_script.specs.Lines.{MOST_LINES};
 ghost use Rattle.transcript.specs.Faults.{fault_text};
 ghost use Rattle.chance_script.specs.Generated.{generated};
 ghost use Rattle.set_program.specs.Asking.{Reads, ReadsSource};
@@ -39,7 +40,7 @@ pub fn read_script<S: Source, K: Sink>(
     ensures sizes { IfOk result (λ asked. AreSizes (sizes_of asked.1)) }
     ensures fits { IfOk result (λ asked. list_all (can_be_run asked.1.nodes) asked.1.parts ≡ true) }
     ensures said { IfOk result (λ asked. AreSaid asked.1.nodes (lines_in asked.1.parts)) }
-    ensures few { IfOk result (λ asked. length (lines_in asked.1.parts) ≤ 200000) }
+    ensures few { IfOk result (λ asked. length (lines_in asked.1.parts) ≤ MOST_LINES) }
     ensures unread { ¬ AsksSource words.now → source.new ≡ source.old }
     ensures unput { OnOk result (sink.new ≡ sink.old) }
     ensures read_fault { status_of result ≡ 4 → CountRose (S.faults source.old) (S.faults source.new) }
@@ -92,7 +93,7 @@ fn source_script<S: Source, K: Sink>(
     ensures sizes { IfOk result (λ read. AreSizes (sizes_of read)) }
     ensures fits { IfOk result (λ read. list_all (can_be_run read.nodes) read.parts ≡ true) }
     ensures said { IfOk result (λ read. AreSaid read.nodes (lines_in read.parts)) }
-    ensures few { IfOk result (λ read. length (lines_in read.parts) ≤ 200000) }
+    ensures few { IfOk result (λ read. length (lines_in read.parts) ≤ MOST_LINES) }
     ensures unput { OnOk result (sink.new ≡ sink.old) }
     ensures read_fault { status_of result ≡ 4 → CountRose (S.faults source.old) (S.faults source.new) }
     ensures write_fault { status_of result ≡ 5 → CountRose (K.faults sink.old) (K.faults sink.new) }
@@ -122,7 +123,7 @@ fn generated_script(alloc: Global, seed: u64, events: u32, nodes: u32) -> Mem<Sc
     ensures sizes { IfOk result (λ read. AreSizes (sizes_of read)) }
     ensures fits { IfOk result (λ read. list_all (can_be_run read.nodes) read.parts ≡ true) }
     ensures said { IfOk result (λ read. AreSaid read.nodes (lines_in read.parts)) }
-    ensures few { IfOk result (λ read. length (lines_in read.parts) ≤ 200000) }
+    ensures few { IfOk result (λ read. length (lines_in read.parts) ≤ MOST_LINES) }
 {
     let bytes = generate(alloc, seed, events, nodes)?;
     generated_is_script(seed, events, nodes);

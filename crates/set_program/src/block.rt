@@ -3,6 +3,7 @@ ghost use Rattle.std.specs.Prelude.{◌≡◌, ◌<◌, ◌++◌, ◌∷◌, [],
 ghost use Rattle.std.specs.List.{list_all, AllPass};
 ghost use Rattle.std.specs.Thread.{IsSync};
 ghost use Rattle.set_model.specs.Limits.{is_for};
+ghost use Rattle.set_model.specs.Run.{HISTORY_LIMIT};
 ghost use Rattle.set_world.specs.declared.error.StepError.{StepError as AStepError};
 ghost use Rattle.turn_board.specs.Passes.{IsFree, view};
 ghost use Rattle.turn_board.specs.Views.{seen};
@@ -44,7 +45,7 @@ pub fn run_block<D: Disk + Send, G: Gate + Sync, R: Threads + Wait + Sync>(
     ensures told { IfOk result
         (λ told. TellsBlock (sizes_of set.now) lists.now (view pass.old) (view pass.new) told.items) }
     ensures err { OnErr result (RanBlock AreOfSome lists.now (view pass.old) (view pass.new)) }
-    ensures full { IsErrOf result AStepError.HistoryFull → length (seen (view pass.new)) ≡ 4294967295 }
+    ensures full { IsErrOf result AStepError.HistoryFull → length (seen (view pass.new)) ≡ HISTORY_LIMIT }
     ensures defined { KeepsRun (sizes_of set.now) (view pass.old) (view pass.new) }
     ensures short { KeepsShort (view pass.old) (view pass.new) }
 {

@@ -3,6 +3,7 @@ ghost use Rattle.std.specs.Prelude.{◌≡◌, ◌≢◌, ◌≤◌, [], length,
 ghost use Rattle.std.specs.List.{AllPass};
 ghost use Rattle.rs_io.specs.Fault.{HasCause};
 ghost use Rattle.fault_script.specs.Script.{lines_in, sizes_of};
+ghost use Rattle.fault_script.specs.Lines.{MOST_LINES};
 ghost use Rattle.set_world.specs.Went.{WentOn};
 ghost use Rattle.set_program.specs.Behind.{EndsBehind};
 ghost use Rattle.set_program.specs.declared.words.Task.TheVariants.{Linear as IsLinear};
@@ -35,7 +36,7 @@ pub fn play_linear<K: Sink, D: Disk + Send, G: Gate + Sync, R: Threads + Wait + 
     requires start { world.history ≡ [] }
     requires whole { world.whole ≡ true }
     requires script { world.sizes ≡ sizes_of script }
-    requires few { length (lines_in script.parts) ≤ 200000 }
+    requires few { length (lines_in script.parts) ≤ MOST_LINES }
     requires fits { AllPass (can_be_run world.sizes.nodes) script.parts }
     ensures ends { EndsBehind script.parts (K.held sink.old) (K.held sink.new)
         (ReadsLinearly linear result.1.sizes result.1.history (K.held sink.new)) result.0 result.1 }

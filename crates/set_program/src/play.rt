@@ -4,6 +4,7 @@ ghost use Rattle.std.specs.List.{AllPass};
 ghost use Rattle.rs_io.specs.Fault.{HasCause};
 ghost use Rattle.fault_script.specs.Script.{lines_of, lines_in};
 ghost use Rattle.fault_script.specs.declared.script.Part.TheVariants.{Line, Par};
+ghost use Rattle.fault_script.specs.Lines.{MOST_LINES};
 ghost use Rattle.set_model.specs.Limits.{is_for};
 ghost use Rattle.set_program.specs.Headline.{EndsRun};
 ghost use Rattle.set_program.specs.Parts.{can_be_run, DisksGo};
@@ -32,7 +33,7 @@ pub fn play<K: Sink, D: Disk + Send, G: Gate + Sync, R: Threads + Wait + Sync>(
     world: World<D>,
 ) -> (Result<(), Stop>, World<D>)
     requires start { world.history ≡ [] }
-    requires few { length (lines_in parts) ≤ 200000 }
+    requires few { length (lines_in parts) ≤ MOST_LINES }
     requires fits { AllPass (can_be_run world.sizes.nodes) parts }
     ensures ends { EndsRun parts (K.held sink.old) (K.held sink.new) result.0 result.1 }
     ensures sizes { result.1.sizes ≡ world.sizes }
@@ -75,7 +76,7 @@ fn play_line<K: Sink, D: Disk, R: Threads + Sync>(
     replies: &mut Vec<(u32, Reply)>,
     text: &mut String,
 ) -> Result<(), Stop>
-    requires few { length world.old.history < 200000 }
+    requires few { length world.old.history < MOST_LINES }
     requires fits { is_for world.old.sizes.nodes command ≡ true }
     ensures plays { PlaysPart (Line line command) (K.held sink.old) (K.held sink.new)
         world.old world.new result }
@@ -101,7 +102,7 @@ fn play_block<K: Sink, D: Disk + Send, G: Gate + Sync, R: Threads + Wait + Sync>
     replies: &mut Vec<(u32, Reply)>,
     text: &mut String,
 ) -> (Result<(), Stop>, World<D>)
-    requires few { length world.history + length (lines_of (Par lists.now)) ≤ 200000 }
+    requires few { length world.history + length (lines_of (Par lists.now)) ≤ MOST_LINES }
     requires fits { can_be_run world.sizes.nodes (Par lists.now) ≡ true }
     ensures plays { PlaysPart (Par lists.now) (K.held sink.old) (K.held sink.new) world result.1 result.0 }
     ensures sizes { result.1.sizes ≡ world.sizes }

@@ -3,6 +3,7 @@ ghost use Rattle.std.specs.Prelude.{◌≡◌, ◌+◌, ◌≤◌, ◌<◌, ◌+
 ghost use Rattle.std.specs.List.{AllPass};
 ghost use Rattle.fault_script.specs.Script.{lines_in, lines_of};
 ghost use Rattle.fault_script.specs.declared.script.Part.TheVariants.{Line, Par};
+ghost use Rattle.fault_script.specs.Lines.{MOST_LINES};
 ghost use Rattle.set_model.specs.Limits.{is_for};
 ghost use Rattle.set_program.specs.Parts.{can_be_run, unplaced, Steps, StepsAll};
 
@@ -28,7 +29,7 @@ pub fn step_parts<D: Disk + Send, G: Gate + Sync, R: Threads + Wait + Sync>(
 ) -> (Mem<()>, World<D>)
     requires start { world.history ≡ [] }
     requires empty { replies.old.items ≡ [] }
-    requires few { length (lines_in parts) ≤ 200000 }
+    requires few { length (lines_in parts) ≤ MOST_LINES }
     requires fits { AllPass (can_be_run world.sizes.nodes) parts }
     ensures { StepsAll D.state parts world result.1 replies.new.items result.0 }
 {
@@ -58,7 +59,7 @@ pub fn step_line<D: Disk, R: Threads + Sync>(
     world: &mut World<D>,
     replies: &mut Vec<(u32, Reply)>,
 ) -> Mem<()>
-    requires few { length world.old.history < 200000 }
+    requires few { length world.old.history < MOST_LINES }
     requires fits { is_for world.old.sizes.nodes command ≡ true }
     ensures { Steps D.state (Line line command)
         world.old world.new replies.old.items replies.new.items result }
@@ -82,7 +83,7 @@ pub fn step_block<D: Disk + Send, G: Gate + Sync, R: Threads + Wait + Sync>(
     world: World<D>,
     replies: &mut Vec<(u32, Reply)>,
 ) -> (Mem<()>, World<D>)
-    requires few { length world.history + length (lines_of (Par lists.now)) ≤ 200000 }
+    requires few { length world.history + length (lines_of (Par lists.now)) ≤ MOST_LINES }
     requires fits { can_be_run world.sizes.nodes (Par lists.now) ≡ true }
     ensures { Steps D.state (Par lists.now) world result.1 replies.old.items replies.new.items result.0 }
 {

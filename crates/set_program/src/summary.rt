@@ -4,6 +4,7 @@ ghost use Rattle.set_model.specs.Run.{run};
 ghost use Rattle.set_world.specs.World.{nodes_in};
 ghost use Rattle.transcript.specs.Summaries.{count_of, points_of, summary_of};
 ghost use Rattle.set_program.specs.Kinds.{is_of};
+ghost use Rattle.fault_script.specs.Lines.{MOST_LINES};
 
 use bson_doc::Mem;
 use node_core::Node;
@@ -38,7 +39,7 @@ impl Kind {
 
 /// The summary of a set's run, of which these are the replies.
 pub fn summary<D: Disk>(alloc: Global, replies: &[(u32, Reply)], world: &World<D>) -> Mem<Summary>
-    requires few { length replies.now ≤ 200000 }
+    requires few { length replies.now ≤ MOST_LINES }
     requires told { replies.now ≡ (run world.now.sizes world.now.history).replies }
     ensures { IfOk result (λ summary. summary ≡ summary_of (run world.now.sizes world.now.history)) }
 {
@@ -54,7 +55,7 @@ pub fn summary<D: Disk>(alloc: Global, replies: &[(u32, Reply)], world: &World<D
 
 /// How many replies are of a kind.
 fn count(replies: &[(u32, Reply)], kind: Kind) -> u32
-    requires { length replies.now ≤ 200000 }
+    requires { length replies.now ≤ MOST_LINES }
     ensures { result ≡ count_of (is_of kind) replies.now }
 {
     let mut count = 0;

@@ -4,6 +4,7 @@ ghost use Rattle.std.specs.List.{AllPass};
 ghost use Rattle.rs_disk.specs.File.{IsEmpty};
 ghost use Rattle.rs_io.specs.Fault.{HasCause};
 ghost use Rattle.fault_script.specs.Script.{lines_in, sizes_of};
+ghost use Rattle.fault_script.specs.Lines.{MOST_LINES};
 ghost use Rattle.set_program.specs.Behind.{EndsBehind};
 ghost use Rattle.set_program.specs.declared.words.Task.TheVariants.{Sync as IsSync};
 ghost use Rattle.set_program.specs.Left.{IfParts, IfSet};
@@ -40,7 +41,7 @@ pub fn play_synced<K: Sink, D: Disk + Send, G: Gate + Sync, R: Threads + Wait + 
     requires start { world.history ≡ [] }
     requires whole { world.whole ≡ true }
     requires script { world.sizes ≡ sizes_of script }
-    requires few { length (lines_in script.parts) ≤ 200000 }
+    requires few { length (lines_in script.parts) ≤ MOST_LINES }
     requires fits { AllPass (can_be_run world.sizes.nodes) script.parts }
     requires many { length world.disks ≡ 100 }
     requires spare { All (λ (disk : D). IsEmpty (D.state disk).file)

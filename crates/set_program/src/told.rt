@@ -4,6 +4,7 @@ ghost use Rattle.std.specs.List.{AllPass};
 ghost use Rattle.rs_disk.specs.File.{IsEmpty};
 ghost use Rattle.rs_io.specs.Fault.{HasCause};
 ghost use Rattle.fault_script.specs.Script.{lines_in, sizes_of};
+ghost use Rattle.fault_script.specs.Lines.{MOST_LINES};
 ghost use Rattle.set_model.specs.Run.{run};
 ghost use Rattle.trace_laws.specs.Said.{AreSaid};
 ghost use Rattle.transcript.specs.Summaries.{summary_text};
@@ -49,7 +50,7 @@ pub fn play_task<K: Sink, D: Disk + Send, G: Gate + Sync, R: Threads + Wait + Sy
     requires start { world.history ≡ [] }
     requires whole { world.whole ≡ true }
     requires script { world.sizes ≡ sizes_of script }
-    requires few { length (lines_in script.parts) ≤ 200000 }
+    requires few { length (lines_in script.parts) ≤ MOST_LINES }
     requires fits { AllPass (can_be_run world.sizes.nodes) script.parts }
     requires said { AreSaid script.nodes (lines_in script.parts) }
     requires many { length world.disks ≡ 100 }
@@ -100,7 +101,7 @@ fn play_told<K: Sink, D: Disk + Send, G: Gate + Sync, R: Threads + Wait + Sync>(
     world: World<D>,
 ) -> (Result<(), Stop>, World<D>)
     requires start { world.history ≡ [] }
-    requires few { length (lines_in parts) ≤ 200000 }
+    requires few { length (lines_in parts) ≤ MOST_LINES }
     requires fits { AllPass (can_be_run world.sizes.nodes) parts }
     ensures ends { EndsWithSummary parts (K.held sink.old) (K.held sink.new) result.0 result.1 }
     ensures sizes { result.1.sizes ≡ world.sizes }
@@ -122,7 +123,7 @@ fn put_summary<K: Sink, D: Disk>(
     world: &World<D>,
     sink: &mut K,
 ) -> Result<(), Stop>
-    requires few { length replies.now ≤ 200000 }
+    requires few { length replies.now ≤ MOST_LINES }
     requires told { replies.now ≡ (run world.now.sizes world.now.history).replies }
     ensures puts { PutsText (K.held sink.old) (K.held sink.new) (summary_put world.now) result }
     ensures cause { HasCause (K.faults sink.old) (K.faults sink.new) (IsErrOf result Stop.WriteFault) }

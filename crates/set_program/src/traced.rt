@@ -3,6 +3,7 @@ ghost use Rattle.std.specs.Prelude.{◌≡◌, ◌≢◌, ◌≤◌, [], length,
 ghost use Rattle.std.specs.List.{AllByRecursion, AllPass};
 ghost use Rattle.rs_io.specs.Fault.{HasCause};
 ghost use Rattle.fault_script.specs.Script.{lines_in, sizes_of};
+ghost use Rattle.fault_script.specs.Lines.{MOST_LINES};
 ghost use Rattle.run_checker.specs.Trace.{IsPlain, entry_text, header_text};
 ghost use Rattle.set_model.specs.Run.{run};
 ghost use Rattle.trace_laws.specs.Said.{AreSaid};
@@ -34,7 +35,7 @@ pub fn play_traced<K: Sink, D: Disk + Send, G: Gate + Sync, R: Threads + Wait + 
 ) -> (Result<(), Stop>, World<D>)
     requires start { world.history ≡ [] }
     requires script { world.sizes ≡ sizes_of script }
-    requires few { length (lines_in script.parts) ≤ 200000 }
+    requires few { length (lines_in script.parts) ≤ MOST_LINES }
     requires fits { AllPass (can_be_run world.sizes.nodes) script.parts }
     requires said { AreSaid script.nodes (lines_in script.parts) }
     ensures ends { EndsWithTrace script.parts (K.held sink.old) (K.held sink.new) result.0 result.1 }

@@ -5,7 +5,7 @@ use Rattle.set_model.specs.declared.command.Command.{Command}
 use Rattle.set_model.specs.declared.command.Event.{Event}
 use Rattle.set_model.specs.Limits.{IsRun, plan_reaches, settles_doubt}
 use Rattle.set_model.specs.Node.{Node}
-use Rattle.set_model.specs.Run.{Sizes, AreSizes, run}
+use Rattle.set_model.specs.Run.{HISTORY_LIMIT, Sizes, AreSizes, run}
 use Rattle.set_model.specs.World.{World, step, event_plan}
 use Rattle.repl_msg.specs.declared.message.Message.{Message}
 use Rattle.node_core.specs.declared.done.Done.{Done}
@@ -34,7 +34,7 @@ pub record IsReached (sizes : Sizes) (history : List Event) (nodes : List Node)
   pub sizes_are : AreSizes sizes
   pub defined : IsRun sizes history
   pub world : (run sizes history).world ≡ record { nodes = nodes; messages = messages }
-  pub short : length history ≤ 4294967295
+  pub short : length history ≤ HISTORY_LIMIT
 
 -- ---- one step
 

@@ -1,6 +1,7 @@
 ghost use Rattle.std.specs.Prelude.{◌≡◌, true, length, IfOk, IsErrOf, OnErr};
 ghost use Rattle.std.specs.Thread.{IsSync};
 ghost use Rattle.set_model.specs.Limits.{is_for};
+ghost use Rattle.set_model.specs.Run.{HISTORY_LIMIT};
 ghost use Rattle.set_world.specs.declared.error.StepError.{StepError as AStepError};
 ghost use Rattle.set_world.specs.Stepper.{IsDefined, Learns, StepsOnce};
 
@@ -47,7 +48,7 @@ pub trait Stepper {
         ensures step { IfOk result (λ reply.
             StepsOnce is_alone (sizes self.old) (known self.old) (known self.new) line command.now reply) }
         ensures err { OnErr result (Learns is_alone (known self.old) (known self.new)) }
-        ensures full { IsErrOf result AStepError.HistoryFull → length (known self.new) ≡ 4294967295 }
+        ensures full { IsErrOf result AStepError.HistoryFull → length (known self.new) ≡ HISTORY_LIMIT }
         ensures sizes { sizes self.new ≡ sizes self.old }
         ensures stays { stays self.old self.new }
         ensures whole { is_whole self.old → result ≢ Err AStepError.Memory → is_whole self.new }

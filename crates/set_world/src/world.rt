@@ -3,7 +3,7 @@ ghost use Rattle.rs_disk.specs.File.{IsEmpty};
 ghost use Rattle.member_config.specs.Config.{first_config as begins_with};
 ghost use Rattle.set_model.specs.Limits.{IsRun, is_for};
 ghost use Rattle.set_model.specs.Pointed.{pointed};
-ghost use Rattle.set_model.specs.Run.{AreSizes, run};
+ghost use Rattle.set_model.specs.Run.{HISTORY_LIMIT, AreSizes, run};
 ghost use Rattle.set_model.specs.World.{touched_node};
 ghost use Rattle.set_world.specs.declared.error.StepError.{StepError as AStepError};
 ghost use Rattle.set_world.specs.Disks.{AllBegin, AllStand, IsStep, NothingDone, Opens};
@@ -177,7 +177,7 @@ impl<D: Disk> World<D> {
     ) -> Result<Reply, StepError>
         requires command { is_for self.old.sizes.nodes command.now ≡ true }
         ensures step { IfOk result (λ reply. IsStep D.state self.old self.new line command.now reply) }
-        ensures full { IsErrOf result AStepError.HistoryFull ↔ length self.old.history ≡ 4294967295 }
+        ensures full { IsErrOf result AStepError.HistoryFull ↔ length self.old.history ≡ HISTORY_LIMIT }
         ensures untouched { IsErrOf result AStepError.HistoryFull → self.new ≡ self.old }
         ensures err { OnErr result (NothingDone D.state self.old self.new command.now) }
         ensures sizes { self.new.sizes ≡ self.old.sizes }
@@ -206,7 +206,7 @@ impl<D: Disk> World<D> {
     ) -> Result<Reply, StepError>
         requires command { is_for self.old.sizes.nodes command ≡ true }
         ensures step { IfOk result (λ reply. IsStep D.state self.old self.new line command reply) }
-        ensures full { IsErrOf result AStepError.HistoryFull ↔ length self.old.history ≡ 4294967295 }
+        ensures full { IsErrOf result AStepError.HistoryFull ↔ length self.old.history ≡ HISTORY_LIMIT }
         ensures untouched { IsErrOf result AStepError.HistoryFull → self.new ≡ self.old }
         ensures err { OnErr result (NothingDone D.state self.old self.new command) }
         ensures sizes { self.new.sizes ≡ self.old.sizes }
@@ -343,7 +343,7 @@ impl<D: Disk> World<D> {
         ensures sizes { AreSizes self.now.sizes }
         ensures run { IsRun self.now.sizes self.now.history }
         ensures count { length (run self.now.sizes self.now.history).world.nodes ≡ self.now.sizes.nodes }
-        ensures short { length self.now.history ≤ 4294967295 }
+        ensures short { length self.now.history ≤ HISTORY_LIMIT }
     {
         numbers_stay_small();
         let _ = &self.nodes;
@@ -352,14 +352,14 @@ impl<D: Disk> World<D> {
 
 // Takes the memory for one event more, and for the messages that it may send.
 fn make_room(history: &mut Vec<Event>, pool: &mut Pool) -> Result<(), StepError>
-    requires { length history.old.items ≤ 4294967295 }
+    requires { length history.old.items ≤ HISTORY_LIMIT }
     ensures items { history.new.items ≡ history.old.items }
     ensures nodes { pool.new.nodes ≡ pool.old.nodes }
     ensures messages { pool.new.messages ≡ pool.old.messages }
     ensures room { OnOk result (vec_len history.new < vec_capacity history.new) }
     ensures spare { OnOk result (7 ≤ pool.new.spare) }
-    ensures short { OnOk result (length history.old.items < 4294967295) }
-    ensures full { IsErrOf result AStepError.HistoryFull ↔ length history.old.items ≡ 4294967295 }
+    ensures short { OnOk result (length history.old.items < HISTORY_LIMIT) }
+    ensures full { IsErrOf result AStepError.HistoryFull ↔ length history.old.items ≡ HISTORY_LIMIT }
 {
     if history.len() >= MOST_EVENTS {
         return Err(StepError::HistoryFull);

@@ -6,7 +6,7 @@ use Rattle.set_model.specs.declared.command.Command.{Command}
 use Rattle.set_model.specs.declared.command.Event.{Event}
 use Rattle.set_model.specs.declared.reply.Reply.{Reply}
 use Rattle.rs_disk.specs.State.{State}
-use Rattle.set_model.specs.Run.{Sizes, run}
+use Rattle.set_model.specs.Run.{HISTORY_LIMIT, Sizes, run}
 use Rattle.set_model.specs.World.{step}
 use Rattle.set_model.specs.Pointed.{pointed}
 use Rattle.set_world.specs.declared.error.StepError.{StepError}
@@ -76,4 +76,4 @@ Went state old new line command (Ok (place, reply)) =
     (place ≡ length old.history) × IsStep state old new line command reply
 Went state old new line command (Err Memory) = new.history ≡ old.history
 Went state old new line command (Err HistoryFull) =
-    (new.history ≡ old.history) × (length old.history ≡ 4294967295)
+    (new.history ≡ old.history) × (length old.history ≡ HISTORY_LIMIT)

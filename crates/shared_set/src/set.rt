@@ -2,7 +2,7 @@
 ghost use Rattle.std.specs.Prelude.{◌≡◌, ◌<◌, ◌≤◌, ℕ, [], length, true, IfErr, IfOk, IsErrOf, OnErr};
 ghost use mathlib.Core.List.{IsPrefix};
 ghost use Rattle.set_model.specs.Limits.{IsRun, is_for};
-ghost use Rattle.set_model.specs.Run.{AreSizes};
+ghost use Rattle.set_model.specs.Run.{HISTORY_LIMIT, AreSizes};
 ghost use Rattle.set_world.specs.declared.error.StepError.{StepError as AStepError};
 ghost use Rattle.set_world.specs.Went.{WentOn};
 ghost use Rattle.turn_board.specs.History.{calls_by, names, times};
@@ -59,10 +59,10 @@ impl<D: Disk> SharedSet<D> {
             (λ done. Steps (sizes_of self.now) (view pass.old)
             (view pass.new) line command.now done.0 done.1) }
         ensures err { OnErr result (Waits (sizes_of self.now) (view pass.old) (view pass.new)) }
-        ensures full { IsErrOf result AStepError.HistoryFull → length (seen (view pass.new)) ≡ 4294967295 }
+        ensures full { IsErrOf result AStepError.HistoryFull → length (seen (view pass.new)) ≡ HISTORY_LIMIT }
         ensures sizes { AreSizes (sizes_of self.now) }
         ensures defined { IsRun (sizes_of self.now) (seen (view pass.new)) }
-        ensures short { length (seen (view pass.new)) ≤ 4294967295 }
+        ensures short { length (seen (view pass.new)) ≤ HISTORY_LIMIT }
     {
         let mut set = self.board.enter(rt, pass);
         set.recall_went();

@@ -1,6 +1,6 @@
 ghost use Rattle.std.specs.Prelude.{◌≡◌, ◌<◌, ◌≤◌, true, length, IfErr, IfOk};
 ghost use Rattle.set_model.specs.Limits.{IsRun, is_for};
-ghost use Rattle.set_model.specs.Run.{AreSizes, run};
+ghost use Rattle.set_model.specs.Run.{HISTORY_LIMIT, AreSizes, run};
 ghost use Rattle.set_model.specs.World.{touched_node};
 ghost use Rattle.set_world.specs.Went.{WentOn};
 ghost use Rattle.shared_set.specs.Calls.{Went};
@@ -104,7 +104,7 @@ impl<D: Disk> Turning<D> {
         ensures fixed { first_of self.new ≡ first_of self.old }
         ensures lawful { AreSizes self.new.set.sizes }
         ensures run { IsRun self.new.set.sizes self.new.set.history }
-        ensures short { length self.new.set.history ≤ 4294967295 }
+        ensures short { length self.new.set.history ≤ HISTORY_LIMIT }
     {
         let world = self.world.as_mut();
         world.recall_run();

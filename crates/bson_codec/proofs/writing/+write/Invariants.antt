@@ -14,8 +14,8 @@ decreases-write_items l = 3 * trees_size l.items.now
 abbrev pub decreases-write_value : goal.decreases-write_value
 decreases-write_value l = 3 * tree_size (tree_of l.value.now) + 1
 
-abbrev pub decreases-write_field : goal.decreases-write_field
-decreases-write_field l = 3 * tree_size (tree_of l.value.now) + 2
+abbrev pub decreases-put_field : goal.decreases-put_field
+decreases-put_field l = 3 * tree_size (tree_of l.value.now) + 2
 
 abbrev pub invariant-write-loop-place : goal.invariant-write-loop-place
 invariant-write-loop-place l =
