@@ -17,4 +17,4 @@ pub use error::{DecodeError, EncodeError};
 pub use laws::bytes_spell_one_document;
 pub use numbers::{u32_of, u64_of};
 pub use whole::decode;
-pub use writing::{close, put_document, put_field, put_size, put_string, write};
+pub use writing::{FEW_LETTERS, close, put_document, put_field, put_size, put_string, write};

@@ -14,8 +14,8 @@ use crate::numbers::{put_i32, put_i64, put_u32, put_u64, set_u32};
 use bson_doc::{Doc, Items, Mem, Value};
 use std::alloc::Global;
 
-// A name with more is copied by a call.
-const FEW_LETTERS: usize = 8;
+/// So few bytes are put one by one, which is faster than a copy by a call.
+pub const FEW_LETTERS: usize = 8;
 
 /// Most names are a few letters, and find room: they are put in their places one by one.
 fn put_name(out: &mut Vec<u8>, kind: u8, name: &str) -> Mem<()>

@@ -9,16 +9,13 @@ ghost use Rattle.checkpoint_store.specs.Shown.{CanBeSaved, EachCanBeSaved};
 ghost use Rattle.checkpoint_store.specs.Spelled.{PIECE, IsOptime, IsSaved, IsSpelled};
 
 use crate::numbers::{put_u32, put_u64};
-use bson_codec::{put_size, write};
+use bson_codec::{FEW_LETTERS, put_size, write};
 use rs_optime::{Mem, OpTime};
 use std::alloc::Global;
 use version_store::Shown;
 
 // Room for so many bytes is made for each document.
-const USUAL: usize = 64;
-
-// A name with more is copied by a call.
-const FEW_LETTERS: usize = 8;
+const USUAL_BYTES: usize = 64;
 
 fn put_optime(out: &mut Vec<u8>, at: OpTime) -> Mem<()>
     ensures laid { OnOk result (out.new.items ≡ out.old.items ++ optime_bytes at) }
@@ -99,7 +96,7 @@ pub(crate) fn documents_bytes(alloc: Global, documents: &[Shown<'_>]) -> Mem<Vec
     requires few { length documents.now ≤ PIECE }
     ensures { IfOk result (λ bytes. IsSpelled (holds (map placed documents.now)) bytes.items) }
 {
-    let mut out = Vec::with_capacity(alloc, documents.len() * USUAL)?;
+    let mut out = Vec::with_capacity(alloc, documents.len() * USUAL_BYTES)?;
     out.push(2)?;
     put_u32(&mut out, documents.len() as u32)?;
     put_each(&mut out, documents)?;
