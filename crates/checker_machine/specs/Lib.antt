@@ -11,7 +11,6 @@ pub mod Lending
 pub mod Newest
 pub mod Plain
 pub mod Reached
-pub mod Records
 pub mod SessionTable
 pub mod Slots
 pub mod Sound

@@ -2,20 +2,19 @@
 ghost use Rattle.std.specs.Prelude.{◌≡◌, ◌∷◌, [], OnOk, OnErr};
 ghost use Rattle.std.specs.Option.{option_copied};
 ghost use Rattle.oplog_store.specs.Log.{IsOplog};
-ghost use Rattle.repl_msg.specs.Kept.{kept};
+ghost use Rattle.repl_msg.specs.Kept.{NEWEST_FORM, kept};
 ghost use Rattle.repl_msg.specs.declared.record.Record.TheVariants.{Form};
 ghost use Rattle.set_model.specs.Disk.{has_more};
 ghost use Rattle.set_model.specs.Stores.{records_after};
 
 use crate::merging::merge;
 use crate::points::earlier;
-use crate::records::Records;
 use bson_doc::Mem;
 use member_config::Config;
 use oplog_store::Oplog;
-use repl_msg::Record;
+use repl_msg::{NEWEST_FORM, Record};
 use rs_optime::OpTime;
-use set_model::Store;
+use set_model::{Records, Store};
 use std::alloc::Global;
 use std::marker::Model;
 use vote_store::Vote;
@@ -49,10 +48,10 @@ impl Model for Journal {
 impl Journal {
     /// A journal that is opened empty: it is of the second form.
     pub(crate) fn new(alloc: Global) -> Self
-        ensures { result ≡ Form 2 ∷ [] }
+        ensures { result ≡ Form NEWEST_FORM ∷ [] }
     {
         Journal {
-            records: Records::none().with(&Store::Record(Record::Form(2))),
+            records: Records::none().with(&Store::Record(Record::Form(NEWEST_FORM))),
             vote: Vote {
                 term: 0,
                 candidate: None,

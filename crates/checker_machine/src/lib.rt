@@ -25,7 +25,6 @@ mod points;
 mod pool;
 mod reads;
 mod reconfig;
-mod records;
 mod reports;
 mod rollback;
 mod rows;

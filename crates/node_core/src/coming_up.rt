@@ -23,13 +23,12 @@ use crate::disks::{Disks, SHORT_RECORD};
 use crate::down::DownState;
 use bson_doc::Mem;
 use checkpoint_store::Stable;
-use node_ledger::Records;
 use node_state::{Coming, State};
 use record_file::FileError;
 use repl_msg::{Kept, Record};
 use rs_disk::Disk;
 use rs_optime::OpTime;
-use set_model::{Refusal, Reply, Store};
+use set_model::{Records, Refusal, Reply, Store};
 use std::alloc::{AllocError, Global};
 use std::thread::Threads;
 

@@ -10,10 +10,9 @@ ghost use Rattle.node_core.specs.Putting.{EndsFrom, IsStoreFailed, LeavesOnDisks
 
 use crate::Done;
 use crate::storing::Ended;
-use node_ledger::Records;
 use node_state::State;
 use rs_optime::OpTime;
-use set_model::{Refusal, Reply, Store};
+use set_model::{Records, Refusal, Reply, Store};
 use std::alloc::Global;
 
 /// What is left of a node that is down, beside its disks.

@@ -1,7 +1,6 @@
 pub mod Code
 pub mod Kept
 pub mod Ledger
-pub mod Records
 pub mod SessionLog
 pub mod Sound
 pub mod Versions

@@ -1,11 +1,10 @@
 //! What a node has written: its log, the slots that are open with their writers, and the documents with their
-//! versions, as far as the log is applied; and, in proofs alone, its records.
+//! versions, as far as the log is applied.
 #![tactic(auto)]
 
 mod documents;
 mod following;
 mod ledger;
-mod records;
 mod restoring;
 mod roles;
 mod session_log;
@@ -15,4 +14,3 @@ mod writer_map;
 mod writing;
 
 pub use ledger::Ledger;
-pub use records::Records;

@@ -54,7 +54,7 @@ use Rattle.node_core.specs.contracts.disks.Disks as disks
 use Rattle.node_core.specs.contracts.node.Node as node
 use Rattle.node_core.specs.contracts.down.DownState as down_state
 use Rattle.commit_point.proofs.progress.Progress.TheSendSync.{the_send as progress_send}
-use Rattle.node_ledger.proofs.records.Records.TheSendSync.{the_send as records_send}
+use Rattle.set_model.proofs.records.Records.TheSendSync.{the_send as records_send}
 use Rattle.node_ledger.specs.contracts.writer_map.Held as held
 use Rattle.bson_doc.specs.contracts.doc.Value as value
 use Rattle.node_journal.proofs.journal.Journal.TheSendSync.{the_send as journal_send}

@@ -1,5 +1,5 @@
 use Rattle.std.proofs.Common.{◌∙◌, ap}
-use Rattle.node_ledger.specs.declared.records.Records.{Records}
+use Rattle.set_model.specs.declared.records.Records.{Records}
 use Rattle.set_model.specs.Stores.{records_after}
 use Rattle.node_ledger.specs.Ledger.{Ledger}
 use Rattle.node_state.proofs.Inside.{rest_in}

@@ -1,5 +1,5 @@
 use Rattle.std.proofs.Common.{ap, sym, subst}
-use Rattle.node_ledger.specs.declared.records.Records.{Records}
+use Rattle.set_model.specs.declared.records.Records.{Records}
 use Rattle.node_state.specs.Coherent.{IsCoherent}
 use Rattle.node_state.specs.Seen.{seen_node}
 use Rattle.node_state.specs.StateView.{StateView}

@@ -1,5 +1,5 @@
 use Rattle.std.proofs.Common.{◌∙◌, ap, sym}
-use Rattle.node_ledger.specs.declared.records.Records.{Records}
+use Rattle.set_model.specs.declared.records.Records.{Records}
 use Rattle.set_model.specs.Stores.{records_after}
 use Rattle.node_state.specs.StateView.{StateView}
 use Rattle.node_state.proofs.ChangeLemmas.{coherent-configured}

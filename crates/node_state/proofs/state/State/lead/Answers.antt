@@ -1,6 +1,6 @@
 use Rattle.std.proofs.Common.{◌∙◌, ap, sym}
 use Rattle.member_config.specs.Config.{in_term}
-use Rattle.node_ledger.specs.declared.records.Records.{Records}
+use Rattle.set_model.specs.declared.records.Records.{Records}
 use Rattle.set_model.specs.Stores.{records_after}
 use Rattle.node_ledger.specs.Ledger.{Ledger}
 use Rattle.node_state.specs.StateView.{StateView}

@@ -26,11 +26,11 @@ use denote.Triple.Entry.{alive}
 use denote.Triple.Spec.{Meets, triple_of}
 use denote.Triple.Table.{entered}
 use denote.Triple.Walked.{says, Stays, stay_dropped, walk_of, ends_at, walk_Meets, Goes-dropped}
-use Rattle.node_ledger.specs.contracts.records.Records as Records
-use Rattle.node_ledger.specs.contracts.records.Records.same as F
-use Rattle.node_ledger.specs.contracts.records.Records.same.Key.{name as #self}
-use Rattle.node_ledger.proofs.records.Records.same.Statement as stated
-use Rattle.node_ledger.proofs.records.Records.same.Code as code
+use Rattle.set_model.specs.contracts.records.Records as Records
+use Rattle.set_model.specs.contracts.records.Records.same as F
+use Rattle.set_model.specs.contracts.records.Records.same.Key.{name as #self}
+use Rattle.set_model.proofs.records.Records.same.Statement as stated
+use Rattle.set_model.proofs.records.Records.same.Code as code
 
 abbrev function : Fn
 function = code.function

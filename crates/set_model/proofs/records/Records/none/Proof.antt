@@ -20,12 +20,12 @@ use denote.Triple.Entry.{on_entry, alive}
 use denote.Triple.Spec.{Meets, triple_of}
 use denote.Triple.Table.{entered}
 use denote.Triple.Walked.{says, Stays, walk_of, Walks, ends_at, walked, walk_Meets}
-use Rattle.node_ledger.specs.contracts.records.Records.none.Key.{name as key}
-use Rattle.node_ledger.specs.contracts.records.Records.none as f
-use Rattle.node_ledger.proofs.records.Records.none.Statement as stated
-use Rattle.node_ledger.proofs.records.Records.none.Code as code
-use Rattle.node_ledger.specs.contracts.records.Records as made
-use Rattle.node_ledger.specs.Records.{no_records}
+use Rattle.set_model.specs.contracts.records.Records.none.Key.{name as key}
+use Rattle.set_model.specs.contracts.records.Records.none as f
+use Rattle.set_model.proofs.records.Records.none.Statement as stated
+use Rattle.set_model.proofs.records.Records.none.Code as code
+use Rattle.set_model.specs.contracts.records.Records as made
+use Rattle.set_model.specs.Records.{no_records}
 
 abbrev stayed : Stays (f.ended).signature.params (f.ended).kept
 stayed = tt

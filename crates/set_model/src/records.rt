@@ -5,7 +5,7 @@ ghost use Rattle.std.specs.Coded.{coded_list};
 ghost use Rattle.repl_msg.specs.declared.record.Record.{Record};
 ghost use Rattle.repl_msg.specs.contracts.record.Record.{the_row as record_row};
 
-use set_model::Store;
+use crate::Store;
 use std::marker::Model;
 
 /// The records that a node stored, oldest first.
@@ -18,8 +18,11 @@ impl Model for Records {
     ghost also_owns = { λ _. ftrue };
 }
 
+// A struct with `also_owns` isn't `Send` by itself. This one owns nothing.
+unsafe impl Send for Records {}
+
 impl Records {
-    ghost use Rattle.checker_machine.specs.Records.{no_records, with_stored};
+    ghost use Rattle.set_model.specs.Records.{no_records, with_stored};
 
     /// No record.
     pub fn none() -> Records
@@ -31,6 +34,13 @@ impl Records {
     /// The records once this is stored too. Documents that are stored are no record.
     pub fn with(&self, _item: &Store) -> Records
         ensures { result ≡ with_stored self.now _item.now }
+    {
+        Records {}
+    }
+
+    /// The same records once more.
+    pub fn same(&self) -> Records
+        ensures { result ≡ self.now }
     {
         Records {}
     }

@@ -2,7 +2,7 @@
 use Rattle.std.specs.Prelude.{[]}
 use Rattle.set_model.specs.Stores.{records_after}
 use Rattle.set_model.specs.declared.store.Store.{Store}
-use Rattle.node_ledger.specs.declared.records.Records.{Records}
+use Rattle.set_model.specs.declared.records.Records.{Records}
 
 abbrev pub no_records : Records
 no_records = record { list = [] }

@@ -1,6 +1,6 @@
 -- Records own nothing, so they may go to another thread.
 use denote.Param.Send.{IsSend, owning_send}
-use Rattle.node_ledger.specs.contracts.records.Records.{the_row, the_type}
+use Rattle.set_model.specs.contracts.records.Records.{the_row, the_type}
 
 pub send : IsSend the_row
 send = owning_send the_type tt (λ d. tt) (λ k x w. tt)

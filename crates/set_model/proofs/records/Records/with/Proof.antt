@@ -26,13 +26,13 @@ use denote.Triple.Entry.{alive}
 use denote.Triple.Spec.{Meets, triple_of}
 use denote.Triple.Table.{entered}
 use denote.Triple.Walked.{says, Stays, stay_dropped, walk_of, ends_at, walk_Meets, Goes-dropped}
-use Rattle.checker_machine.specs.contracts.records.Records as Records
+use Rattle.set_model.specs.contracts.records.Records as Records
 use Rattle.set_model.specs.contracts.store.Store as Store
-use Rattle.checker_machine.specs.Records.{with_stored}
-use Rattle.checker_machine.specs.contracts.records.Records.with as F
-use Rattle.checker_machine.specs.contracts.records.Records.with.Key.{name as #self}
-use Rattle.checker_machine.proofs.records.Records.with.Statement as stated
-use Rattle.checker_machine.proofs.records.Records.with.Code as code
+use Rattle.set_model.specs.Records.{with_stored}
+use Rattle.set_model.specs.contracts.records.Records.with as F
+use Rattle.set_model.specs.contracts.records.Records.with.Key.{name as #self}
+use Rattle.set_model.proofs.records.Records.with.Statement as stated
+use Rattle.set_model.proofs.records.Records.with.Code as code
 
 abbrev function : Fn
 function = code.function
