@@ -5,12 +5,6 @@ use Rattle.repl_msg.specs.declared.message.Body.TheVariants as bodies
 use Rattle.set_model.specs.declared.command.Command.{Command}
 use Rattle.set_model.specs.declared.command.Command.TheVariants.{Campaign, Drain, Insert, Replace, Update, Delete, Read, Dump, Log, State, Rolled, DryRun, Heartbeat, Report, Common, Fetch, Deliver, DeliverLatest, Flush, Checkpoint, Reconfig, Restart, DiskFail, Clock}
 
--- a message arrives
-abbrev pub is_delivery : Command → Bool
-is_delivery (Deliver message) = true
-is_delivery (DeliverLatest from to) = true
-is_delivery _ = false
-
 -- it is a write that is done in one step
 abbrev pub is_write : Command → Bool
 is_write (Insert node collection document) = true

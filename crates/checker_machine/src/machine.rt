@@ -1,14 +1,13 @@
 // The machine: its nodes, and every message that was ever sent.
-ghost use Rattle.std.specs.Prelude.{◌≡◌, ◌≤◌, length, not, true, IfOk, IfSome, IsErrOf, OnOk, ◌&&◌, is_none};
+ghost use Rattle.std.specs.Prelude.{◌≡◌, ◌≤◌, length, not, true, IfOk, IsErrOf, OnOk, ◌&&◌};
 ghost use Rattle.std.specs.Option.{option_copied};
 ghost use Rattle.member_config.specs.Config.{first_config as begins_with, first_member};
 ghost use Rattle.set_model.specs.Limits as limits;
 ghost use Rattle.set_model.specs.Limits.{Fits};
 ghost use Rattle.set_model.specs.Run.{AreSizes};
 ghost use Rattle.set_model.specs.World as worlds;
-ghost use Rattle.set_model.specs.World.{World};
+ghost use Rattle.set_model.specs.World.{World, is_delivery};
 ghost use Rattle.checker_machine.specs.Acting.{Acts, IsOutOfDoubt};
-ghost use Rattle.checker_machine.specs.Plain.{is_delivery};
 ghost use Rattle.checker_machine.specs.Reached.{AreSound, CanBeTaken, IsReached, IsReadable};
 ghost use Rattle.checker_machine.specs.declared.machine.StepError.TheVariants as errors;
 
@@ -208,7 +207,7 @@ impl Machine {
         ensures answer { IfOk result (λ answer. Acts self.old event.now failed.new answer self.new) }
         ensures none { IsErrOf result errors.NoFit → IsOutOfDoubt self.old event.now }
     {
-        match actor(&event.command) {
+        match event.command.actor() {
             Some(number) => self.act_at(number, event, failed),
             None => self.deliver(event, failed),
         }
@@ -257,48 +256,6 @@ impl Machine {
             return Ok(Answer::alone(self.alloc, reply));
         };
         Ok(self.nodes[message.to as usize].deliver(next, message, failed)?)
-    }
-}
-
-/// The node whose own command this is; none, where a message is delivered.
-fn actor(command: &Command) -> Option<u32>
-    ensures some { IfSome result (λ number. (world : World)
-        → worlds.task world command.now ≡ worlds.acts number) }
-    ensures none { is_delivery command.now ≡ is_none result }
-{
-    match command {
-        Command::Deliver { .. } | Command::DeliverLatest { .. } => None,
-        Command::Campaign { node }
-        | Command::Drain { node }
-        | Command::Insert { node, .. }
-        | Command::Replace { node, .. }
-        | Command::Update { node, .. }
-        | Command::Delete { node, .. }
-        | Command::Retry { node, .. }
-        | Command::Note { node }
-        | Command::Begin { node, .. }
-        | Command::Commit { node, .. }
-        | Command::Abort { node, .. }
-        | Command::Ack { node, .. }
-        | Command::Read { node, .. }
-        | Command::Dump { node, .. }
-        | Command::Log { node }
-        | Command::State { node }
-        | Command::Rolled { node }
-        | Command::DryRun { node }
-        | Command::StepDown { node }
-        | Command::Heartbeat { node, .. }
-        | Command::Report { node, .. }
-        | Command::Common { node, .. }
-        | Command::Fetch { node }
-        | Command::Apply { node, .. }
-        | Command::Flush { node }
-        | Command::Checkpoint { node }
-        | Command::Reconfig { node, .. }
-        | Command::Crash { node, .. }
-        | Command::Restart { node }
-        | Command::DiskFail { node, .. }
-        | Command::Clock { node, .. } => Some(*node),
     }
 }
 

@@ -18,7 +18,8 @@ use Rattle.node_core.proofs.PuttingLemmas.{runs_as, runs_none, same_none}
 use Rattle.set_model.specs.Limits.{is_restart, passes_first, is_in_doubt}
 use Rattle.set_model.specs.Node.{Node}
 use Rattle.set_model.specs.Stores.{Plan, finished, done as comes_to, reaches, if_up}
-use Rattle.node_core.specs.Acting.{Acted, AreSame, ArmsBy, DisksLeft, Follows, RunsWithoutOrders, Took, Unchanged, is_here, orders_after}
+use Rattle.set_model.specs.World.{is_delivery}
+use Rattle.node_core.specs.Acting.{Acted, AreSame, ArmsBy, DisksLeft, Follows, RunsWithoutOrders, Took, Unchanged, orders_after}
 use Rattle.node_state.specs.Bounds.{is_own}
 use Rattle.node_core.specs.Down.{DownState, down_node, seen_node}
 use Rattle.node_core.specs.OnDisks.{IsOnDisks, UpOnDisks}
@@ -114,10 +115,10 @@ own_unchanged (Err error) command old new j j' c c' own undone =
     record { node = undone.node; stands = undone.stands; disks = left_own command j j' c c' own undone.disks }
 
 -- which commands those are
-pub own_here : (command : Command) → is_here command ≡ true → ((n pick : ℕ) → command ≡ Crash n pick → ⊥) → ((n : ℕ) → command ≡ Restart n → ⊥)
+pub own_here : (command : Command) → is_delivery command ≡ false → ((n pick : ℕ) → command ≡ Crash n pick → ⊥) → ((n : ℕ) → command ≡ Restart n → ⊥)
     → ((n : ℕ) (disk : DiskName) (call : ℕ) (pick : Option ℕ) → command ≡ DiskFail n disk call pick → ⊥) → is_own command ≡ true
-own_here (Deliver message) here crash restart fail = absurd (own_not here)
-own_here (DeliverLatest from to) here crash restart fail = absurd (own_not here)
+own_here (Deliver message) here crash restart fail = absurd (own_not (sym here))
+own_here (DeliverLatest from to) here crash restart fail = absurd (own_not (sym here))
 own_here (Crash n pick) here crash restart fail = absurd (crash n pick refl)
 own_here (Restart n) here crash restart fail = absurd (restart n refl)
 own_here (DiskFail n disk call pick) here crash restart fail = absurd (fail n disk call pick refl)

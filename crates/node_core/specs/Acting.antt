@@ -8,7 +8,7 @@ use Rattle.record_file.specs.declared.error.FileError.TheVariants.{Disk, Memory}
 use Rattle.node_journal.specs.Files.{IsOneOf as IsOneJournal}
 use Rattle.checkpoint_store.specs.Files.{IsOneOf as IsOneCheckpoint}
 use Rattle.set_model.specs.declared.command.Command.{Command}
-use Rattle.set_model.specs.declared.command.Command.TheVariants.{Deliver, DeliverLatest, Crash, Restart, DiskFail}
+use Rattle.set_model.specs.declared.command.Command.TheVariants.{Crash, Restart, DiskFail}
 use Rattle.set_model.specs.declared.command.DiskName.{DiskName}
 use Rattle.set_model.specs.declared.command.DiskName.TheVariants as disks
 use Rattle.set_model.specs.declared.reply.Reply.{Reply}
@@ -19,12 +19,6 @@ use Rattle.set_model.specs.Stores.{Plan, finished, storing, done, reaches}
 use Rattle.node_core.specs.Opening.{ReopensInTurn}
 use Rattle.node_core.specs.Stands.{Stands}
 use Rattle.node_core.specs.declared.done.Done.{Done}
-
--- a command of one node; the others deliver messages
-abbrev pub is_here : Command → Bool
-is_here (Deliver message) = false
-is_here (DeliverLatest from to) = false
-is_here _ = true
 
 -- what was answered is the plan, up to the store that failed, if one did
 pub record Follows (plan : Plan) (node : Node) (done : Done) : Type 0 where

@@ -15,8 +15,9 @@ ghost use Rattle.set_model.specs.Node.{opening_node};
 ghost use Rattle.set_model.specs.Points.{last_point};
 ghost use Rattle.set_model.specs.Reads.{local_documents};
 ghost use Rattle.set_model.specs.Rows.{row};
+ghost use Rattle.set_model.specs.World.{is_delivery};
 ghost use Rattle.node_ledger.specs.Ledger.{IsReadable};
-ghost use Rattle.node_core.specs.Acting.{Acted, AreReopened, AreSame, DisksLeft, RunsWithoutOrders, Took, Unchanged, is_here};
+ghost use Rattle.node_core.specs.Acting.{Acted, AreReopened, AreSame, DisksLeft, RunsWithoutOrders, Took, Unchanged};
 ghost use Rattle.node_state.specs.Bounds.{IsBounded, IsNumbered, is_own};
 ghost use Rattle.node_core.specs.Nodes.{HasFailed, answer_of, checkpoints_after, journal_after};
 ghost use Rattle.node_core.specs.Opening.{OpensInTurn, unopened_node};
@@ -165,7 +166,7 @@ impl<D: Disk> Node<D> {
     ) -> Mem<Done>
         requires bounds { IsBounded self.old.0 }
         requires next { IsNumbered next }
-        requires here { is_here command.now ≡ true }
+        requires here { is_delivery command.now ≡ false }
         requires within { is_within command.now ≡ true }
         ensures ok { IfOk result (λ done.
             Acted (row nodes next done.kept self.old.0 command.now) command.now self.old.0 self.new.0

@@ -14,8 +14,8 @@ use Rattle.set_model.specs.declared.reply.Refusal.TheVariants.{DiskFailed}
 use Rattle.set_model.specs.declared.reply.Reply.{Reply}
 use Rattle.set_model.specs.declared.reply.Reply.TheVariants.{Refused}
 use Rattle.set_model.specs.Run.{Run, after}
-use Rattle.set_model.specs.World.{World, Task, acts, takes, nothing, actor, step, task, touched_node}
-use Rattle.node_core.specs.Acting.{DisksActed, DisksLeft, RunsWithoutOrders, is_here, orders_after}
+use Rattle.set_model.specs.World.{World, Task, acts, takes, nothing, actor, is_delivery, step, task, touched_node}
+use Rattle.node_core.specs.Acting.{DisksActed, DisksLeft, RunsWithoutOrders, orders_after}
 use Rattle.node_core.proofs.PuttingLemmas.{left_runs, runs_none, runs_then}
 use Rattle.set_world.specs.Disks.{AtTouchedNode, DisksUndone, OneChanged}
 use Rattle.set_world.specs.Went.{AllUndone, DisksPlay, DisksRun, DisksStep}
@@ -120,7 +120,7 @@ module _ {D : Type 0} (state : D → State) (Changed : State → State → State
 
 -- ---- an event that touches no node
 
-no_message : (world : World) (command : Command) → task world command ≡ nothing → is_here command ≡ false
+no_message : (world : World) (command : Command) → task world command ≡ nothing → is_delivery command ≡ true
 no_message world (commands.Deliver message) none = refl
 no_message world (commands.DeliverLatest from to) none = refl
 no_message world command none = absurd (cc none)

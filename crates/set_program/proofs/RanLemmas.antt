@@ -25,7 +25,7 @@ use Rattle.set_world.specs.Disks.{WasUsed, Opens}
 use Rattle.set_world.specs.World.{Set}
 use Rattle.set_world.proofs.ActingLemmas.{plan_is, step_is}
 use Rattle.set_world.proofs.DisksOpenLemmas.{there_too}
-use Rattle.set_world.proofs.NodesLemmas.{named}
+use Rattle.set_model.proofs.LimitLemmas.{named}
 use Rattle.set_program.specs.Counts.{FailedAtLeast, FailuresCount, FaultsAreArmed, FaultsHaveCauses, OfNode, EitherFaultCounted, OrdersAre, OrdersCount, failures_at}
 use Rattle.set_program.specs.Disks.{DisksPlayed, DisksRan, IsUnarmed}
 use Rattle.set_program.specs.Headline.{BreaksIn, LeavesDisks}

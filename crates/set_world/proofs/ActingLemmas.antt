@@ -13,9 +13,9 @@ use Rattle.set_model.specs.Node.{Node}
 use Rattle.set_model.specs.Rows.{row}
 use Rattle.set_model.specs.Deliver.{deliver}
 use Rattle.set_model.specs.Stores.{Plan, done}
-use Rattle.set_model.specs.World.{World, Task, acts, takes, nothing, actor, task, plan_of, event_plan, with_outcome, by_plan, step}
+use Rattle.set_model.specs.World.{World, Task, acts, takes, nothing, actor, is_delivery, task, plan_of, event_plan, with_outcome, by_plan, step}
 use Rattle.node_core.specs.declared.done.Done.{Done}
-use Rattle.node_core.specs.Acting.{AreSame, DisksActed, DisksLeft, Follows, is_here}
+use Rattle.node_core.specs.Acting.{AreSame, DisksActed, DisksLeft, Follows}
 use Rattle.rs_disk.specs.State.{State}
 use Rattle.set_world.specs.Acting.{ChangesAt, NodeDisks, NodeActed, NodeTook, NodeUnchanged}
 use Rattle.set_world.specs.Disks.{AtTouchedNode}
@@ -117,7 +117,7 @@ taken_acts state next messages message command old new (Ok done) is long kept to
     acts_taken state messages message command old new done is kept (subst (λ n. ChangesAt message.to (NodeTook state n message done) old new) long took)
 
 pub taken_disks : {D : Type 0} (state : D → State) (next : ℕ) (messages : List Message) (message : Message) (command : Command) (old new : List (Node × D × D)) (result : Result Done AllocError)
-    → task (record { nodes = nodes_in old; messages = messages }) command ≡ takes message → is_here command ≡ false → IfOk result (λ done. ChangesAt message.to (NodeTook state next message done) old new)
+    → task (record { nodes = nodes_in old; messages = messages }) command ≡ takes message → is_delivery command ≡ true → IfOk result (λ done. ChangesAt message.to (NodeTook state next message done) old new)
     → IfOk result (λ done. AtTouchedNode (task (record { nodes = nodes_in old; messages = messages }) command) done.failed old new (λ n. ChangesAt n (NodeDisks state (DisksActed command done.reply (IsSome done.failed))) old new))
 taken_disks state next messages message command old new (Err why) is none took = tt
 taken_disks state next messages message command old new (Ok done) is none took =
@@ -137,7 +137,7 @@ own_undone state world number command old new (Err why) is undone =
     subst (λ t. AtTouchedNode t None old new (λ n. ChangesAt n (NodeUnchanged state (DisksLeft command)) old new)) (sym is) undone
 
 pub taken_undone : {D : Type 0} (state : D → State) (world : World) (message : Message) (command : Command) (old new : List (Node × D × D)) (result : Result Done AllocError)
-    → task world command ≡ takes message → is_here command ≡ false → OnErr result (ChangesAt message.to (NodeUnchanged state AreSame) old new)
+    → task world command ≡ takes message → is_delivery command ≡ true → OnErr result (ChangesAt message.to (NodeUnchanged state AreSame) old new)
     → OnErr result (AtTouchedNode (task world command) None old new (λ n. ChangesAt n (NodeUnchanged state (DisksLeft command)) old new))
 taken_undone state world message command old new (Ok done) is none undone = tt
 taken_undone state world message command old new (Err why) is none undone =

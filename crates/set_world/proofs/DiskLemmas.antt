@@ -1,5 +1,5 @@
 -- The disks of nodes, two for each, in order of number.
-use Rattle.std.proofs.Common.{◌≡◌, ◌∙◌, ◌<◌, ◌+◌, ◌*◌, inl, inr, ap, sym, subst, refl, arith, ℕ, zero, suc, Bool, false, Option, None, Some, Result, Ok, Err, length, List, [], ◌∷◌, ◌++◌, slice_get, slice_set, slice_index_or}
+use Rattle.std.proofs.Common.{◌≡◌, ◌∙◌, ◌<◌, ◌+◌, ◌*◌, inl, inr, ap, sym, subst, refl, arith, ℕ, zero, suc, Bool, true, false, Option, None, Some, Result, Ok, Err, length, List, [], ◌∷◌, ◌++◌, slice_get, slice_set, slice_index_or}
 use Rattle.std.specs.Prelude.{IfOk, OnErr, IsSome}
 use Rattle.std.specs.declared.alloc.AllocError.{AllocError}
 use Rattle.std.proofs.lemmas.Option.{slice_get-get_or, same_Some}
@@ -12,10 +12,10 @@ use Rattle.set_model.specs.declared.reply.Reply.{Reply}
 use Rattle.set_model.specs.declared.command.Event.{Event}
 use Rattle.set_model.specs.Node.{Node}
 use Rattle.set_model.specs.Run.{Sizes, run}
-use Rattle.set_model.specs.World.{World, Task, acts, takes, nothing, step, task}
+use Rattle.set_model.specs.World.{World, Task, acts, takes, nothing, is_delivery, step, task}
 use Rattle.repl_msg.specs.declared.message.Message.{Message}
 use Rattle.node_core.specs.declared.done.Done.{Done}
-use Rattle.node_core.specs.Acting.{AreSame, ArmsBy, DisksActed, DisksLeft, RunsWithoutOrders, is_here, orders_after}
+use Rattle.node_core.specs.Acting.{AreSame, ArmsBy, DisksActed, DisksLeft, RunsWithoutOrders, orders_after}
 use Rattle.set_world.specs.Acting.{ChangesAt, NodeDisks, NodeActed, NodeTook, NodeUnchanged, NodeStands, EachNodeStands}
 use Rattle.set_world.specs.Disks.{OneChanged, AtTouchedNode, IsStep, NothingDone, StandsAtNumber, AllStand}
 use Rattle.set_world.specs.World.{Set, disks_in, nodes_in, event_of}
@@ -142,22 +142,22 @@ all_stand {D} state sizes history items idle opened kept messages is each number
 
 -- ---- what a message does to disks is what its delivery does
 
-journal_quiet : (command : Command) (reply : Reply) (orders : Orders) → is_here command ≡ false → orders_after names.Journal command reply orders ≡ orders
+journal_quiet : (command : Command) (reply : Reply) (orders : Orders) → is_delivery command ≡ true → orders_after names.Journal command reply orders ≡ orders
 journal_quiet (commands.Deliver message) reply orders none = refl
 journal_quiet (commands.DeliverLatest from to) reply orders none = refl
 journal_quiet command reply orders none = absurd (cc none)
 
-checkpoint_quiet : (command : Command) (reply : Reply) (orders : Orders) → is_here command ≡ false → orders_after names.Checkpoint command reply orders ≡ orders
+checkpoint_quiet : (command : Command) (reply : Reply) (orders : Orders) → is_delivery command ≡ true → orders_after names.Checkpoint command reply orders ≡ orders
 checkpoint_quiet (commands.Deliver message) reply orders none = refl
 checkpoint_quiet (commands.DeliverLatest from to) reply orders none = refl
 checkpoint_quiet command reply orders none = absurd (cc none)
 
-quiet_arms : (command : Command) (j j' c c' : State) → is_here command ≡ false → ArmsBy command j j' c c'
+quiet_arms : (command : Command) (j j' c c' : State) → is_delivery command ≡ true → ArmsBy command j j' c c'
 quiet_arms (commands.Deliver message) j j' c c' none = tt
 quiet_arms (commands.DeliverLatest from to) j j' c c' none = tt
 quiet_arms command j j' c c' none = absurd (cc none)
 
-pub delivered_disks : (command : Command) (reply : Reply) (Fault : Type 0) (j j' c c' : State) → is_here command ≡ false → RunsWithoutOrders Fault j j' c c' → DisksActed command reply Fault j j' c c'
+pub delivered_disks : (command : Command) (reply : Reply) (Fault : Type 0) (j j' c c' : State) → is_delivery command ≡ true → RunsWithoutOrders Fault j j' c c' → DisksActed command reply Fault j j' c c'
 delivered_disks command reply Fault j j' c c' none runs = record {
   fails = runs.fails;
   arms = quiet_arms command j j' c c' none;
@@ -167,12 +167,12 @@ delivered_disks command reply Fault j j' c c' none runs = record {
   checkpoints_orders = runs.checkpoints_orders ∙ sym (checkpoint_quiet command reply c.orders none);
 }
 
-left_delivered : (command : Command) (j j' c c' : State) → is_here command ≡ false → AreSame j j' c c' → DisksLeft command j j' c c'
+left_delivered : (command : Command) (j j' c c' : State) → is_delivery command ≡ true → AreSame j j' c c' → DisksLeft command j j' c c'
 left_delivered (commands.Deliver message) j j' c c' none same = same
 left_delivered (commands.DeliverLatest from to) j j' c c' none same = same
 left_delivered command j j' c c' none same = absurd (cc none)
 
-pub undelivered : {D : Type 0} (state : D → State) (number : ℕ) (command : Command) (old new : List (Node × D × D)) → is_here command ≡ false → ChangesAt number (NodeUnchanged state AreSame) old new
+pub undelivered : {D : Type 0} (state : D → State) (number : ℕ) (command : Command) (old new : List (Node × D × D)) → is_delivery command ≡ true → ChangesAt number (NodeUnchanged state AreSame) old new
     → ChangesAt number (NodeUnchanged state (DisksLeft command)) old new
 undelivered state number command old new none one =
     changed_so (NodeUnchanged state AreSame) (NodeUnchanged state (DisksLeft command)) number old new
@@ -187,7 +187,7 @@ pub disks_of_acted : {D : Type 0} (state : D → State) (number size next : ℕ)
 disks_of_acted state number size next command old new done one =
     changed_so (NodeActed state size next command done) (NodeDisks state (DisksActed command done.reply (IsSome done.failed))) number old new (λ before after so. so.disks) one
 
-pub disks_of_took : {D : Type 0} (state : D → State) (number next : ℕ) (message : Message) (command : Command) (old new : List (Node × D × D)) (done : Done) → is_here command ≡ false → ChangesAt number (NodeTook state next message done) old new
+pub disks_of_took : {D : Type 0} (state : D → State) (number next : ℕ) (message : Message) (command : Command) (old new : List (Node × D × D)) (done : Done) → is_delivery command ≡ true → ChangesAt number (NodeTook state next message done) old new
     → ChangesAt number (NodeDisks state (DisksActed command done.reply (IsSome done.failed))) old new
 disks_of_took state number next message command old new done none one =
     changed_so (NodeTook state next message done) (NodeDisks state (DisksActed command done.reply (IsSome done.failed))) number old new

@@ -1,6 +1,5 @@
 -- The nodes of a set, read and written at a place.
-use Rattle.std.proofs.Common.{◌≡◌, ◌∙◌, ◌<◌, ◌≤◌, ◌++◌, append-nil, append_assoc, take, drop, ap, sym, refl, arith, ℕ, zero, suc, Bool, true, ◌&&◌, nat_lt, ltb-true, Some, length, List, [], ◌∷◌, slice_get, slice_set, slice_index_or}
-use Rattle.std.proofs.lemmas.Bool.{and_parts}
+use Rattle.std.proofs.Common.{◌≡◌, ◌∙◌, ◌<◌, ◌≤◌, ◌++◌, append-nil, append_assoc, take, drop, ap, sym, refl, arith, ℕ, zero, suc, Some, length, List, [], ◌∷◌, slice_get, slice_set, slice_index_or}
 use Rattle.std.specs.Prelude.{Contains}
 use Rattle.std.proofs.lemmas.Option.{same_Some}
 use Rattle.repl_msg.specs.declared.message.Message.{Message}
@@ -35,10 +34,6 @@ module _ {D : Type 0} where
   same_nodes [] k before after there same = refl
   same_nodes (first ∷ nodes) zero before after there same = ap (λ n. n ∷ nodes_in nodes) (same ∙ ap (λ (n : Node × D × D). n.0) (sym (same_Some first before there)))
   same_nodes (first ∷ nodes) (suc k) before after there same = ap (λ l. first.0 ∷ l) (same_nodes nodes k before after there same)
-
--- a command that names a node names one of the set
-pub named : (number size : ℕ) (others within : Bool) → ((nat_lt number size && others) && within) ≡ true → number < size
-named number size others within is = ltb-true number size (and_parts (nat_lt number size) others (and_parts (nat_lt number size && others) within is).0).0
 
 -- what stands at a place is among the rest
 pub among : (messages : List Message) (place : ℕ) (message : Message) → slice_get messages place ≡ Some message → Contains messages message

@@ -2,14 +2,14 @@ ghost use Rattle.std.specs.Prelude.{◌≡◌, ◌<◌, ◌^◌, ℕ, [], true, 
 ghost use Rattle.set_model.specs.Limits.{is_for, is_within};
 ghost use Rattle.set_model.specs.Node.{Node as Standing};
 ghost use Rattle.set_model.specs.Taking.{CanTake};
-ghost use Rattle.set_model.specs.World.{task};
+ghost use Rattle.set_model.specs.World.{is_delivery, task};
 ghost use Rattle.node_state.specs.Bounds.{IsBounded, IsNumbered};
-ghost use Rattle.node_core.specs.Acting.{AreSame, DisksActed, DisksLeft, is_here};
+ghost use Rattle.node_core.specs.Acting.{AreSame, DisksActed, DisksLeft};
 ghost use Rattle.set_world.specs.Acting.{NodeActed, NodeDisks, MayAct, EachNodeStands, ChangesAt, NodeTook, NodeUnchanged};
 ghost use Rattle.set_world.specs.Disks.{AtTouchedNode};
 ghost use Rattle.set_world.specs.World.{Acts, nodes_in};
 
-use crate::command::{actor, delivered};
+use crate::command::delivered;
 use crate::pool::Pool;
 use bson_doc::Mem;
 use node_core::{Done, Node};
@@ -45,7 +45,7 @@ pub(crate) fn act<D: Disk, R: Threads + Sync>(
     ensures len { length nodes.new ≡ length nodes.old }
 {
     let next = pool.len() as u64;
-    match actor(command) {
+    match command.actor() {
         Some(number) => act_on(nodes, number, rt, next, command),
         None => match delivered(pool, command) {
             Some(message) => take_at(nodes, rt, next, message),
@@ -67,7 +67,7 @@ fn act_on<D: Disk, R: Threads + Sync>(
     requires bounds { (n : ℕ) (node : Standing) → slice_get (nodes_in nodes.old) n ≡ Some node
         → IsBounded node }
     requires next { IsNumbered next }
-    requires here { is_here command.now ≡ true }
+    requires here { is_delivery command.now ≡ false }
     requires within { is_within command.now ≡ true }
     ensures ok { IfOk result (λ done.
         ChangesAt number (NodeActed D.state (length nodes.old) next command.now done) nodes.old nodes.new) }

@@ -10,7 +10,7 @@ ghost use Rattle.set_world.specs.Points.{IsRaised};
 ghost use Rattle.set_world.specs.World.{Acts, nodes_in};
 
 use crate::acting;
-use crate::command::{actor, delivered};
+use crate::command::delivered;
 use crate::pool::Pool;
 use bson_doc::Mem;
 use node_core::{Done, Node};
@@ -91,7 +91,7 @@ pub(crate) fn touched(pool: &Pool, command: &Command) -> u32
     ensures known { 0 < pool.now.nodes → ((message : Message) → Contains pool.now.messages message
         → message.to < pool.now.nodes) → result < pool.now.nodes }
 {
-    match actor(command) {
+    match command.actor() {
         Some(number) => number,
         None => match delivered(pool, command) {
             Some(message) => message.to,

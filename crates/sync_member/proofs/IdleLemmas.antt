@@ -17,7 +17,7 @@ use Rattle.safety_laws.specs.Bounds.{NumbersStaySmall}
 use Rattle.safety_laws.proofs.Frame.{task_sent}
 use Rattle.set_world.specs.Disks.{AtTouchedNode, OneChanged}
 use Rattle.set_world.specs.Went.{DisksPlay, DisksStep}
-use Rattle.set_world.proofs.NodesLemmas.{named}
+use Rattle.set_model.proofs.LimitLemmas.{named}
 
 -- ---- an event touches a node of the set
 

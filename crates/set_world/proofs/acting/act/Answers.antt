@@ -1,6 +1,6 @@
-use Rattle.std.proofs.Common.{◌≡◌, refl, false, length}
+use Rattle.std.proofs.Common.{◌≡◌, true, refl, length}
 use Rattle.set_model.specs.World.{World}
-use Rattle.node_core.specs.Acting.{is_here}
+use Rattle.set_model.specs.World.{is_delivery}
 use Rattle.set_world.specs.World.{nodes_in}
 use Rattle.set_world.proofs.ActingLemmas.{acts_nothing, nobody_disks, own_acts, own_disks, own_undone, taken_acts, taken_disks, taken_undone}
 use Rattle.set_world.proofs.DiskLemmas.{stand_acted, stand_took}
@@ -35,21 +35,21 @@ returns-in-Some-clause-stand g c =
 pub returns-in-Some-delivered-clause-ok : goal.returns-in-Some-delivered-clause-ok
 returns-in-Some-delivered-clause-ok g c =
     let world : World = record { nodes = nodes_in c.args.nodes.now; messages = c.args.pool.now.messages } in
-    let none : is_here c.args.command.now ≡ false = c.in-None.ensures.own in
+    let none : is_delivery c.args.command.now ≡ true = c.in-None.ensures.none in
     taken_acts g.D.Disk.state c.len-next.result c.args.pool.now.messages c.in-Some-delivered.message.now c.args.command.now c.args.nodes.now c.take_at.new.nodes c.take_at.result
     (c.in-Some-delivered.ensures.some world refl none) c.len-next.ensures c.take_at.ensures.unkept c.take_at.ensures.ok
 
 pub returns-in-Some-delivered-clause-disks : goal.returns-in-Some-delivered-clause-disks
 returns-in-Some-delivered-clause-disks g c =
     let world : World = record { nodes = nodes_in c.args.nodes.now; messages = c.args.pool.now.messages } in
-    let none : is_here c.args.command.now ≡ false = c.in-None.ensures.own in
+    let none : is_delivery c.args.command.now ≡ true = c.in-None.ensures.none in
     taken_disks g.D.Disk.state c.len-next.result c.args.pool.now.messages c.in-Some-delivered.message.now c.args.command.now c.args.nodes.now c.take_at.new.nodes c.take_at.result
     (c.in-Some-delivered.ensures.some world refl none) none c.take_at.ensures.ok
 
 pub returns-in-Some-delivered-clause-err : goal.returns-in-Some-delivered-clause-err
 returns-in-Some-delivered-clause-err g c =
     let world : World = record { nodes = nodes_in c.args.nodes.now; messages = c.args.pool.now.messages } in
-    let none : is_here c.args.command.now ≡ false = c.in-None.ensures.own in
+    let none : is_delivery c.args.command.now ≡ true = c.in-None.ensures.none in
     taken_undone g.D.Disk.state world c.in-Some-delivered.message.now c.args.command.now c.args.nodes.now c.take_at.new.nodes c.take_at.result (c.in-Some-delivered.ensures.some world refl none)
     none c.take_at.ensures.err
 
@@ -60,10 +60,10 @@ returns-in-Some-delivered-clause-stand g c =
 pub returns-in-None-delivered-clause-ok : goal.returns-in-None-delivered-clause-ok
 returns-in-None-delivered-clause-ok g c =
     let world : World = record { nodes = nodes_in c.args.nodes.now; messages = c.args.pool.now.messages } in
-    acts_nothing world c.args.command.now c.nothing.result (c.in-None-delivered.ensures.none world refl c.in-None.ensures.own)
+    acts_nothing world c.args.command.now c.nothing.result (c.in-None-delivered.ensures.none world refl c.in-None.ensures.none)
     c.nothing.ensures.reply c.nothing.ensures.sent c.nothing.ensures.failed c.nothing.ensures.kept
 
 pub returns-in-None-delivered-clause-disks : goal.returns-in-None-delivered-clause-disks
 returns-in-None-delivered-clause-disks g c =
     let world : World = record { nodes = nodes_in c.args.nodes.now; messages = c.args.pool.now.messages } in
-    nobody_disks world c.args.command.now c.nothing.result c.args.nodes.now _ (c.in-None-delivered.ensures.none world refl c.in-None.ensures.own) c.nothing.ensures.failed
+    nobody_disks world c.args.command.now c.nothing.result c.args.nodes.now _ (c.in-None-delivered.ensures.none world refl c.in-None.ensures.none) c.nothing.ensures.failed
