@@ -11,7 +11,7 @@ use Rattle.set_model.specs.Fetching.{reply_to}
 use Rattle.set_model.specs.Node.{Node}
 use Rattle.set_model.specs.Points.{visible_point}
 use Rattle.set_model.specs.Roles.{is_primary}
-use Rattle.node_state.proofs.FrontLemmas.{shown_reply}
+use Rattle.node_messages.proofs.FrontLemmas.{shown_reply}
 
 -- a reply by the visible optime is one by the visible log
 pub told_reply : (node : Node) (base visible : OpTime) (primary : Bool) (given : FetchReply) → AllPairs StandsBefore node.log → visible ≡ visible_point node → primary ≡ is_primary node.role

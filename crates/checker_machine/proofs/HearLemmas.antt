@@ -14,7 +14,7 @@ use Rattle.set_model.specs.Fetched.{Follows}
 use Rattle.set_model.specs.Node.{Node}
 use Rattle.set_model.specs.Taking.{CanTake}
 use Rattle.checker_machine.specs.Sound.{CanHear, GoOn}
-use Rattle.node_state.proofs.FetchedLemmas.{joined_oplog}
+use Rattle.node_messages.proofs.FetchedLemmas.{joined_oplog}
 
 pub can_hear : (node : Node) (message : Message) → CanTake node message → CanHear message
 can_hear node message can reply is = record { order = (can.fetched reply is).order; base = (can.fetched reply is).base }

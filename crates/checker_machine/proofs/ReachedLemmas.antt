@@ -12,7 +12,7 @@ use Rattle.safety_laws.specs.Laws.{InEveryRun}
 use Rattle.safety_laws.specs.Sound.{NodesAreSound}
 use Rattle.safety_laws.specs.Taking.{MessagesCanBeTaken}
 use Rattle.checker_machine.specs.Reached.{AreSound, CanBeTaken, IsReached}
-use Rattle.node_state.proofs.VoterLemmas.{few_members}
+use Rattle.node_commands.proofs.VoterLemmas.{few_members}
 
 -- the world behind all events
 pub whole_world : (sizes : Sizes) (events : List Event) → world_at sizes events (length events) ≡ (run sizes events).world

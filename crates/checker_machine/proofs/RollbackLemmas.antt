@@ -1,8 +1,8 @@
 -- What a rollback comes to, once its cut stands on the node's disk.
 use Rattle.std.proofs.Common.{◌≡◌, ℕ, List, [], true, Option, Ok, length, sym, subst}
 use Rattle.rs_optime.specs.declared.optime.OpTime.{OpTime}
-use Rattle.node_state.specs.Rolling.{point_or}
-use Rattle.node_state.proofs.RollLemmas.{no_reason}
+use Rattle.node_messages.specs.Rolling.{point_or}
+use Rattle.node_messages.proofs.RollLemmas.{no_reason}
 use Rattle.set_model.specs.declared.reply.Ignored.{Ignored}
 use Rattle.set_model.specs.declared.reply.Reply.TheVariants.{RolledBack}
 use Rattle.set_model.specs.Limits.{passes_first}

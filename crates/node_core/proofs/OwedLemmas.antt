@@ -12,7 +12,7 @@ use Rattle.set_model.specs.Node.{Node}
 use Rattle.node_ledger.specs.Sound.{IsSound}
 use Rattle.node_state.specs.Ready.{CanBeStored}
 use Rattle.node_state.specs.WellKept.{StoresWell}
-use Rattle.node_state.proofs.VoterLemmas.{few_members}
+use Rattle.node_commands.proofs.VoterLemmas.{few_members}
 use Rattle.node_core.specs.Putting.{CanBePut}
 use Rattle.node_core.specs.OnDisks.{IsWellKeptWith}
 use Rattle.node_core.proofs.SavableLemmas.{savable}

@@ -29,7 +29,7 @@ use Rattle.node_ledger.proofs.FollowLemmas.{small_up_to}
 use Rattle.node_ledger.proofs.OwnLemmas.{IsOwn, own_docs}
 use Rattle.node_ledger.specs.Sound.{IsSound}
 use Rattle.node_ledger.specs.Versions.{IsSmall}
-use Rattle.node_state.proofs.AdmitLemmas.{small_docs}
+use Rattle.node_commands.proofs.AdmitLemmas.{small_docs}
 
 -- ---- the name of its collection
 

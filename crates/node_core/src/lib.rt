@@ -8,6 +8,7 @@ mod coming_up;
 mod disks;
 mod done;
 mod down;
+mod going_on;
 mod node;
 mod storing;
 

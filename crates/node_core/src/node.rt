@@ -32,8 +32,9 @@ use crate::storing::{act_own, take_in};
 use bson_doc::Mem;
 use checkpoint_store::Checkpoints;
 use member_config::Config;
+use node_commands::{answer, is_plain};
 use node_journal::Journal;
-use node_state::{State, is_plain};
+use node_state::State;
 use record_file::FileError;
 use repl_msg::Message;
 use rs_disk::Disk;
@@ -233,7 +234,7 @@ impl<D: Disk> Node<D> {
             return Ok(self.act_down(command));
         }
         if is_plain(command) {
-            let reply = self.state.answer(command)?;
+            let reply = answer(&mut self.state, command)?;
             return Ok(self.answered(reply));
         }
         let ended = act_own(&mut self.state, &mut self.disks, rt, nodes, next, command)?;

@@ -14,7 +14,10 @@ ghost use Rattle.node_core.specs.OnDisks.{IsWellKeptWith, UpOnDisks};
 ghost use Rattle.set_model.specs.Taking.{CanTake};
 
 use crate::disks::Disks;
+use crate::going_on::go_on;
 use bson_doc::Mem;
+use node_commands::start;
+use node_messages::take;
 use node_state::{Continuation, State, Turn};
 use record_file::FileError;
 use repl_msg::Message;
@@ -57,7 +60,7 @@ pub(crate) fn carry_out<D: Disk>(state: &mut State, disks: &mut Disks<D>, turn: 
             recall_can_store(state, &item, &then);
             match disks.put(&item, state) {
                 Ok(()) => {
-                    let next = state.go_on(&item, then);
+                    let next = go_on(state, &item, then);
                     Ok(carry_on(state, disks, next))
                 }
                 Err(FileError::Memory) => Err(AllocError),
@@ -86,7 +89,7 @@ fn carry_on<D: Disk>(state: &mut State, disks: &mut Disks<D>, turn: Turn) -> End
             recall_can_store(state, &item, &then);
             match disks.put(&item, state) {
                 Ok(()) => {
-                    let last = state.go_on(&item, then);
+                    let last = go_on(state, &item, then);
                     said(last)
                 }
                 Err(FileError::Memory) => unreachable!(),
@@ -154,7 +157,7 @@ pub(crate) fn act_own<D: Disk, R: Threads + Sync>(
         (D.state disks.old.checkpoints) (D.state disks.new.checkpoints)) }
 {
     disks.reserve()?;
-    let turn = state.start(rt, nodes, next, command)?;
+    let turn = start(state, rt, nodes, next, command)?;
     carry_out(state, disks, turn)
 }
 
@@ -187,6 +190,6 @@ pub(crate) fn take_in<D: Disk, R: Threads + Sync>(
         (D.state disks.old.checkpoints) (D.state disks.new.checkpoints)) }
 {
     disks.reserve()?;
-    let turn = state.take(rt, next, message)?;
+    let turn = take(state, rt, next, message)?;
     carry_out(state, disks, turn)
 }

@@ -1,17 +1,8 @@
-pub mod Admits
-pub mod Ahead
 pub mod Bounds
 pub mod Coherent
-pub mod Flushing
-pub mod HeardBeats
-pub mod Listing
-pub mod Plain
-pub mod Reading
 pub mod Ready
-pub mod Rolling
 pub mod Seen
 pub mod StateView
 pub mod MessageContinuation
-pub mod Trying
 pub mod Turns
 pub mod WellKept

@@ -1,20 +1,22 @@
-// Terms and the votes in them: steps that several commands and messages share.
-ghost use Rattle.std.specs.Prelude.{◌≡◌, ◌^◌, ◌<◌, ◌≤◌, Some, IfSome, if◌then◌else◌};
+// Terms, the votes in them and configurations: steps that several commands and messages share.
+ghost use Rattle.std.specs.Prelude.{◌≡◌, ◌≢◌, ◌^◌, ◌<◌, ◌≤◌, None, Some, IfSome, if◌then◌else◌};
+ghost use Rattle.member_config.specs.Rule.{rule};
 ghost use Rattle.member_config.specs.Voters.{voters};
-ghost use Rattle.set_model.specs.Changes.{in_new_term, stepped_down};
-ghost use Rattle.set_model.specs.Stores.{stored, vote_record};
+ghost use Rattle.set_model.specs.Changes.{in_new_term, installed, stepped_down};
+ghost use Rattle.set_model.specs.Stores.{config_record, stored, vote_record};
 ghost use Rattle.set_model.specs.Votes.{is_elected, won};
 ghost use Rattle.set_model.specs.declared.role.Role.TheVariants.{Secondary, Candidate};
 
 use crate::State;
 use commit_point::Progress;
 use election_core::Tally;
+use member_config::Config;
 use repl_msg::Record;
 use set_model::{Role, Store};
 use vote_store::Vote;
 
 /// What keeps a vote, or none, in a term.
-pub(crate) fn vote_record(term: u64, candidate: Option<u32>) -> Store
+pub fn vote_record(term: u64, candidate: Option<u32>) -> Store
     ensures { result ≡ vote_record term candidate }
 {
     Store::Record(Record::Vote(Vote { term, candidate }))
@@ -22,7 +24,7 @@ pub(crate) fn vote_record(term: u64, candidate: Option<u32>) -> Store
 
 impl State {
     /// Makes the node a secondary in this term, with this vote. The record of both is in the journal.
-    pub(crate) fn enter_term(&mut self, item: &Store, term: u64, vote: Option<u32>)
+    pub fn enter_term(&mut self, item: &Store, term: u64, vote: Option<u32>)
         requires item { item.now ≡ vote_record term vote }
         requires above { self.old.node.term ≤ term }
         requires bound { term < 2 ^ 63 }
@@ -42,7 +44,7 @@ impl State {
     }
 
     /// The node is a secondary, and what it counted is forgotten.
-    pub(crate) fn be_secondary(&mut self)
+    pub fn be_secondary(&mut self)
         ensures node { self.new.node ≡ stepped_down self.old.node }
         ensures spare { self.new.spare ≡ self.old.spare }
     {
@@ -54,7 +56,7 @@ impl State {
     }
 
     /// The node has a vote in its term, whose record stands.
-    pub(crate) fn set_vote(&mut self, item: &Store, vote: u32)
+    pub fn set_vote(&mut self, item: &Store, vote: u32)
         requires item { item.now ≡ vote_record self.old.node.term (Some vote) }
         requires vote { vote < 50 }
         ensures node { self.new.node ≡ record (stored self.old.node item.now) { vote = Some vote } }
@@ -65,7 +67,7 @@ impl State {
     }
 
     /// Makes a secondary a candidate with these votes.
-    pub(crate) fn stand(&mut self, tally: Tally)
+    pub fn stand(&mut self, tally: Tally)
         requires role { self.old.node.role ≡ Secondary }
         requires counts { tally.voters ≡ voters self.old.node.config }
         ensures node { self.new.node ≡ record self.old.node { role = Candidate; tally = tally.yes } }
@@ -76,7 +78,7 @@ impl State {
     }
 
     /// A candidate that a majority voted for has won.
-    pub(crate) fn has_won(&mut self) -> bool
+    pub fn has_won(&mut self) -> bool
         requires role { self.old.node.role ≡ Candidate }
         ensures elected { result ≡ is_elected self.old.node }
         ensures node { self.new.node ≡ (if result then won self.old.node else self.old.node) }
@@ -98,5 +100,18 @@ impl State {
         };
         let count = tally.count();
         count.needed <= count.yes
+    }
+
+    /// Installs a configuration whose record is in the journal.
+    pub fn have_config(&mut self, item: &Store, config: Config)
+        requires item { item.now ≡ config_record config }
+        requires lawful { rule config ≡ None }
+        requires role { self.old.node.role ≢ Candidate }
+        ensures node { self.new.node ≡ installed (stored self.old.node item.now) config }
+        ensures spare { self.new.spare ≡ self.old.spare }
+        ensures places { self.new.places ≡ self.old.places }
+    {
+        self.records = self.records.with(item);
+        self.config = config;
     }
 }

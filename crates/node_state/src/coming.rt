@@ -109,6 +109,13 @@ impl State {
         self.ledger.recall_sound();
     }
 
+    /// A node in memory is up.
+    pub fn recall_up(&self)
+        ensures { self.now.node.up ≡ true }
+    {
+        let _ = &self.alloc;
+    }
+
     /// The node could come up again with its records and its checkpoint: a fact for callers' proofs,
     /// which costs nothing.
     pub fn recall_well_kept(&self)

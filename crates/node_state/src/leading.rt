@@ -10,7 +10,6 @@ ghost use Rattle.set_model.specs.Stores.{stored, config_record};
 ghost use Rattle.set_model.specs.declared.role.Role.TheVariants.{Draining, Primary};
 
 use crate::State;
-use crate::reconfig::in_term;
 use bson_doc::Mem;
 use commit_point::Progress;
 use member_config::Config;
@@ -18,16 +17,25 @@ use rs_optime::OpTime;
 use set_model::{Role, Store};
 use std::thread::Threads;
 
+/// The same members in a configuration of this term.
+pub fn in_term(config: &Config, term: u64) -> Mem<Config>
+    ensures { IfOk result (λ copy. copy ≡ in_term config.now term) }
+{
+    let mut copy = config.copy()?;
+    copy.term = term;
+    Ok(copy)
+}
+
 impl State {
     /// The node's configuration in its term.
-    pub(crate) fn config_in_term(&self) -> Mem<Config>
+    pub fn config_in_term(&self) -> Mem<Config>
         ensures { IfOk result (λ config. config ≡ in_term self.now.node.config self.now.node.term) }
     {
         in_term(&self.config, self.ledger.term())
     }
 
     /// Applies the whole log.
-    pub(crate) fn apply_all<R: Threads + Sync>(&mut self, rt: &R) -> Mem<()>
+    pub fn apply_all<R: Threads + Sync>(&mut self, rt: &R) -> Mem<()>
         requires role { is_primary self.old.node.role ≡ false }
         ensures ok { OnOk result
             (self.new.node ≡ record self.old.node { applied = last_point self.old.node }) }
@@ -41,7 +49,7 @@ impl State {
     }
 
     /// Makes room for so many entries.
-    pub(crate) fn reserve(&mut self, more: usize) -> Mem<()>
+    pub fn reserve(&mut self, more: usize) -> Mem<()>
         ensures node { self.new.node ≡ self.old.node }
         ensures ok { OnOk result (more ≤ self.new.spare) }
     {
@@ -50,7 +58,7 @@ impl State {
     }
 
     /// Makes the node primary, with its configuration in its own term, whose record is in the journal.
-    pub(crate) fn lead(&mut self, item: &Store, config: Config)
+    pub fn lead(&mut self, item: &Store, config: Config)
         requires item { item.now ≡ config_record config }
         requires config { config ≡ in_term self.old.node.config self.old.node.term }
         requires role { self.old.node.role ≡ Draining }
@@ -65,7 +73,7 @@ impl State {
     }
 
     /// A primary writes a no-op.
-    pub(crate) fn log_noop(&mut self) -> OpTime
+    pub fn log_noop(&mut self) -> OpTime
         requires role { self.old.node.role ≡ Primary }
         requires seen { self.old.node.seen < 2 ^ 64 - 1 }
         requires room { 0 < self.old.spare }
@@ -80,7 +88,7 @@ impl State {
     }
 
     /// A primary's commit point goes on to what a majority of the voters has reached.
-    pub(crate) fn evaluate(&mut self)
+    pub fn evaluate(&mut self)
         ensures node { self.new.node ≡ evaluated self.old.node }
         ensures spare { self.new.spare ≡ self.old.spare }
     {

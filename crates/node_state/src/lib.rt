@@ -2,39 +2,21 @@
 //! what it heard of others.
 //!
 //! What it does with a command or a message is a turn: it is finished, or it stores something and goes on
-//! once that is on disk.
-//!
-//! A file that does what one of set_model's definitions say has that one's name: `beats`, `deliver`, `disk`,
-//! `rollback`.
+//! once that is on disk. Here are the node, its turns, how it comes up, and the steps that commands and
+//! messages share.
 #![tactic(auto)]
 
-mod admitted;
-mod asking;
-mod beats;
 mod changes;
 mod coming;
-mod commands;
-mod concerns;
-mod deliver;
-mod disk;
-mod elections;
-mod fetching;
 mod leading;
-mod listing;
-mod preparing;
-mod reads;
-mod reconfig;
-mod reports;
-mod rollback;
+mod points;
 mod sending;
 mod state;
-mod tallies;
 mod turn;
-mod votes;
-mod write;
-mod writers;
 
+pub use changes::vote_record;
 pub use coming::Coming;
-pub use commands::is_plain;
+pub use leading::in_term;
+pub use points::earlier;
 pub use state::State;
 pub use turn::{Answer, Continuation, HeardBeat, MessageContinuation, NewConfig, Turn};

@@ -1,4 +1,4 @@
-ghost use Rattle.std.specs.Prelude.{◌≡◌, ◌<◌, [], None, true, false, length, IfOk, OnErr};
+ghost use Rattle.std.specs.Prelude.{◌≡◌, ◌<◌, [], None, length, IfOk};
 ghost use Rattle.std.specs.FinMap as maps;
 ghost use Rattle.bson_doc.specs.Place.{Place};
 ghost use Rattle.rs_optime.specs.declared.optime.OpTime.{OpTime};
@@ -7,59 +7,64 @@ ghost use Rattle.oplog_entry.specs.Visible.{log_up_to};
 ghost use Rattle.version_store.specs.Past.{latest_of};
 ghost use Rattle.version_store.specs.Store.{shown_at, versions_at};
 ghost use Rattle.member_config.specs.Rule.{rule};
-ghost use Rattle.set_model.specs.Deliver.{deliver};
-ghost use Rattle.set_model.specs.Limits.{is_within};
 ghost use Rattle.set_model.specs.Node.{opening_node};
 ghost use Rattle.set_model.specs.Points.{last_point};
 ghost use Rattle.set_model.specs.Reads.{local_documents};
-ghost use Rattle.set_model.specs.Rows.{row};
-ghost use Rattle.set_model.specs.Stores.{stored};
 ghost use Rattle.node_ledger.specs.Ledger.{IsReadable};
-ghost use Rattle.node_state.specs.Bounds.{IsBounded, IsNumbered, is_long, is_own, is_plain};
-ghost use Rattle.node_state.specs.Ready.{IsReady, IsReadyTurn};
-ghost use Rattle.set_model.specs.Taking.{CanTake};
-ghost use Rattle.node_state.specs.Turns.{Means, FinishesWith, rest_of};
+ghost use Rattle.node_state.specs.Turns.{FinishesWith};
 
-use crate::turn::{Continuation, Turn};
+use crate::turn::Turn;
 use bson_doc::Mem;
 use commit_point::Progress;
 use election_core::{DryRun, Tally};
 use member_config::Config;
 use node_ledger::Ledger;
 use oplog_store::Unjournaled;
-use repl_msg::{Message, NEWEST_FORM, Record};
+use repl_msg::{NEWEST_FORM, Record};
 use rs_optime::OpTime;
-use set_model::{Command, LostList, Records, Refusal, Reply, Store};
+use set_model::{LostList, Records, Refusal, Reply, Store};
 use std::alloc::Global;
 use std::marker::Model;
-use std::thread::Threads;
 use sync_source::KnownTable;
 use version_store::VersionStore;
 
 /// A node that is up, as far as it is in memory. What it is to store on its disks it tells by its turns.
+///
+/// Its fields are open to the crates of commands and messages. What holds of them together (`IsCoherent`) is proved
+/// wherever one of them changes.
 #[derive(Drop)]
 pub struct State {
-    pub(crate) alloc: Global,
-    pub(crate) number: u32,
+    pub alloc: Global,
+    /// Its number in the set, counted from 0.
+    pub number: u32,
     /// The configuration that the set began with.
-    pub(crate) first: Config,
-    pub(crate) ledger: Ledger,
-    pub(crate) vote: Option<u32>,
+    pub first: Config,
+    /// Its log, with the open slots, and the documents.
+    pub ledger: Ledger,
+    /// Whom it voted for in its term.
+    pub vote: Option<u32>,
     /// How far the log is durable.
-    pub(crate) durable: OpTime,
-    pub(crate) commit: OpTime,
-    pub(crate) config: Config,
-    pub(crate) progress: Progress,
-    pub(crate) known: KnownTable,
+    pub durable: OpTime,
+    /// The commit point, as far as it is known.
+    pub commit: OpTime,
+    /// The configuration that it goes by.
+    pub config: Config,
+    /// How far each member is durable, as a primary heard.
+    pub progress: Progress,
+    /// What was last heard of each member.
+    pub known: KnownTable,
     /// The votes for this candidate.
-    pub(crate) tally: Option<Tally>,
-    pub(crate) dry_run: Option<DryRun>,
+    pub tally: Option<Tally>,
+    /// Its dry run, and who would vote for it.
+    pub dry_run: Option<DryRun>,
     /// The documents that the last rollback touched, as they were.
-    pub(crate) lost: LostList,
-    pub(crate) rollback: u64,
+    pub lost: LostList,
+    /// How often it rolled back or came up again.
+    pub rollback: u64,
     /// The optimes of the entries that aren't in the records.
-    pub(crate) unjournaled: Unjournaled,
-    pub(crate) records: Records,
+    pub unjournaled: Unjournaled,
+    /// What it stored, for proofs alone.
+    pub records: Records,
 }
 
 impl Model for State {
@@ -173,128 +178,8 @@ impl State {
         self.ledger.store()
     }
 
-    /// Begins what a command asks of a node. `nodes` is how many nodes the set has, and `next` the number
-    /// that the next message gets. For a command that stores and sends nothing there is `answer`. Out of
-    /// memory is the one error, and leaves the node as it was. A command that may run out of memory as it
-    /// stores (`is_long`) has changed nothing by then.
-    #[tactic(auto, using(crate::proofs::TurnLemmas::while_up))]
-    pub fn start<R: Threads + Sync>(
-        &mut self,
-        rt: &R,
-        nodes: u32,
-        next: u64,
-        command: &Command,
-    ) -> Mem<Turn>
-        requires bounds { IsBounded self.old.node }
-        requires next { IsNumbered next }
-        requires own { is_own command.now ≡ true }
-        requires turn { is_plain command.now ≡ false }
-        requires within { is_within command.now ≡ true }
-        ensures turn { IfOk result (λ turn.
-            Means turn self.new.node (row nodes next false self.old.node command.now)) }
-        ensures ready { IfOk result (λ turn. IsReadyTurn turn self.new) }
-        ensures quiet { is_long command.now ≡ true → self.new.node ≡ self.old.node }
-        ensures err { OnErr result (self.new.node ≡ self.old.node) }
-    {
-        self.recall_up();
-        match command {
-            Command::Campaign { .. } => self.start_campaign(next),
-            Command::Drain { .. } => self.start_drain(rt),
-            Command::DryRun { .. } => self.dry_run(next),
-            Command::StepDown { .. } => Ok(self.step_down()),
-            Command::Heartbeat { to, .. } => self.heartbeat(next, *to),
-            Command::Report { to, .. } => self.report(next, *to),
-            Command::Common { to, .. } => self.common(next, *to),
-            Command::Fetch { .. } => self.fetch(next),
-            Command::Ack {
-                target,
-                concern,
-                ..
-            } => Ok(self.ack(*target, *concern)),
-            Command::Apply { workers, .. } => self.apply(rt, *workers),
-            Command::Flush { .. } => self.start_flush(),
-            Command::Checkpoint { .. } => Ok(self.start_checkpoint()),
-            Command::Reconfig { config, .. } => self.start_reconfig(nodes, config),
-            Command::Read { .. }
-            | Command::Dump { .. }
-            | Command::Log { .. }
-            | Command::State { .. }
-            | Command::Rolled { .. }
-            | Command::Clock { .. }
-            | Command::Begin { .. }
-            | Command::Commit { .. }
-            | Command::Abort { .. }
-            | Command::Retry { .. }
-            | Command::Note { .. }
-            | Command::Insert { .. }
-            | Command::Replace { .. }
-            | Command::Update { .. }
-            | Command::Delete { .. }
-            | Command::Deliver { .. }
-            | Command::DeliverLatest { .. }
-            | Command::Crash { .. }
-            | Command::Restart { .. }
-            | Command::DiskFail { .. } => unreachable!(),
-        }
-    }
-
-    /// Begins what the node does with a message that arrives; `next` is the number that the next message
-    /// gets. Out of memory is the one error, and leaves the node as it was.
-    pub fn take<R: Threads + Sync>(&mut self, rt: &R, next: u64, message: &Message) -> Mem<Turn>
-        requires bounds { IsBounded self.old.node }
-        requires next { IsNumbered next }
-        requires message { CanTake self.old.node message.now }
-        ensures turn { IfOk result (λ turn.
-            Means turn self.new.node (deliver next self.old.node message.now)) }
-        ensures ready { IfOk result (λ turn. IsReadyTurn turn self.new) }
-        ensures err { OnErr result (self.new.node ≡ self.old.node) }
-    {
-        self.take_message(rt, next, message)
-    }
-
-    /// Goes on once `item`, which a turn asked to store, is on the node's disk: `then` is what the turn gave
-    /// with it. It can't run out of memory.
-    pub fn go_on(&mut self, item: &Store, then: Continuation) -> Turn
-        requires ready { IsReady item.now then self.old }
-        ensures turn { Means result self.new.node (rest_of then (stored self.old.node item.now)) }
-        ensures ready { IsReadyTurn result self.new }
-    {
-        match then {
-            Continuation::Campaign { next, tally, sent } => self.go_on_campaign(
-                item, next, tally, sent,
-            ),
-            Continuation::Drain { config } => self.go_on_drain(item, config),
-            Continuation::Flush { count, point } => self.go_on_flush(item, count, point),
-            Continuation::Checkpoint { at } => self.go_on_checkpoint(item, at),
-            Continuation::Reconfig { config } => self.go_on_reconfig(item, config),
-            Continuation::VoteInTerm {
-                next,
-                from,
-                ask,
-                why,
-                sent,
-            } => self.go_on_vote_in_term(item, next, from, ask, why, sent),
-            Continuation::VoteGiven {
-                next,
-                from,
-                ask,
-                why,
-                sent,
-            } => self.go_on_vote_given(item, next, from, ask, why, sent),
-            Continuation::TookTerm { term, told } => self.go_on_term(item, term, told),
-            Continuation::Installed { config, hearing } => self.go_on_installed(
-                item, config, hearing,
-            ),
-            Continuation::Cut {
-                point,
-                removed,
-                lost,
-            } => self.go_on_cut(item, point, removed, lost),
-        }
-    }
-
     /// A turn that is finished, with this reply and no message.
-    pub(crate) fn answered(&self, reply: Reply) -> Turn
+    pub fn answered(&self, reply: Reply) -> Turn
         ensures { FinishesWith result reply [] }
     {
         Turn::Finished {
@@ -303,7 +188,8 @@ impl State {
         }
     }
 
-    pub(crate) fn refused(&self, why: Refusal) -> Turn
+    /// A turn that is finished: the command is refused.
+    pub fn refused(&self, why: Refusal) -> Turn
         ensures { FinishesWith result (Reply.Refused why) [] }
     {
         self.answered(Reply::Refused(why))

@@ -3,6 +3,7 @@
 //
 // All memory that the later steps need is taken beforehand and lies in here, since a node mustn't run out
 // between two stores.
+
 use election_core::Tally;
 use member_config::Config;
 use repl_msg::{FetchReply, Message, VoteAsk, VoteRefusal};

@@ -10,14 +10,14 @@ use Rattle.node_core.proofs.storing.carry_on.Goals as goal
 pub returns-in-Ok-clause-ends : goal.returns-in-Ok-clause-ends
 returns-in-Ok-clause-ends g c =
     let old = c.args.state.now.node in
-    let new = c.go_on-last.new.self.node in
+    let new = c.go_on-last.new.state.node in
     subst (λ (t : Turn). EndsFrom 1 (plan_of t old) new c.said.result) (sym c.in-Storing.is)
     (goes_on c.in-Storing.item c.in-Storing.then old new c.go_on-last.result c.go_on-last.ensures.turn 1 new c.said.result (c.said.ensures.ends 2 new))
 
 pub returns-in-Ok-clause-leaves : goal.returns-in-Ok-clause-leaves
 returns-in-Ok-clause-leaves g c =
     let old = c.args.state.now.node in
-    let new = c.go_on-last.new.self.node in
+    let new = c.go_on-last.new.state.node in
     let j = g.D.Disk.state c.put.new.self.journal.0 in
     let k = g.D.Disk.state c.put.new.self.checkpoints in
     leaves_whole c.said.result new c.put.new.self.count j k c.said.ensures.whole

@@ -14,13 +14,13 @@ carry_on-requires-clause-rests g c =
     let old = c.args.state.now.node in
     let j = g.D.Disk.state c.put.new.self.journal.0 in
     let k = g.D.Disk.state c.put.new.self.checkpoints in
-    rests_on c.in-Storing.item c.in-Storing.then old c.go_on-next.new.self.node c.go_on-next.result c.go_on-next.ensures.turn
+    rests_on c.in-Storing.item c.in-Storing.then old c.go_on-next.new.state.node c.go_on-next.result c.go_on-next.ensures.turn
     c.put.new.self.count j k c.in-Ok.ensures.puts.ok
 
 pub carry_on-requires-clause-room : goal.carry_on-requires-clause-room
 carry_on-requires-clause-room g c =
     let r = subst (λ (t : Turn). IsReadyTurn t c.args.state.now) c.in-Storing.is c.requires.ready in
-    room_on c.args.state.now c.go_on-next.result c.args.state.now.node c.go_on-next.new.self.node
+    room_on c.args.state.now c.go_on-next.result c.args.state.now.node c.go_on-next.new.state.node
     (spare (g.D.Disk.state c.args.disks.now.journal.0) c.args.disks.now.journal.1)
     (spare (g.D.Disk.state c.put.new.self.journal.0) c.put.new.self.journal.1)
     c.requires.room c.in-Storing.item c.in-Storing.then r.0 c.in-Ok.ensures.spare c.go_on-next.ensures.turn
@@ -30,7 +30,7 @@ returns-in-Ok-clause-ends g c =
     let old = c.args.state.now.node in
     let final = c.carry_on.new.state.node in
     subst (λ (t : Turn). EndsFrom 0 (plan_of t old) final c.carry_on.result) (sym c.in-Storing.is)
-    (goes_on c.in-Storing.item c.in-Storing.then old c.go_on-next.new.self.node c.go_on-next.result c.go_on-next.ensures.turn 0 final c.carry_on.result c.carry_on.ensures.ends)
+    (goes_on c.in-Storing.item c.in-Storing.then old c.go_on-next.new.state.node c.go_on-next.result c.go_on-next.ensures.turn 0 final c.carry_on.result c.carry_on.ensures.ends)
 
 pub returns-in-Ok-clause-runs : goal.returns-in-Ok-clause-runs
 returns-in-Ok-clause-runs g c =

@@ -8,7 +8,7 @@ use Rattle.set_model.specs.Outcome.{sending}
 use Rattle.set_model.specs.Points.{visible_log}
 use Rattle.set_model.specs.Rollback.{common_reply, optimes_of}
 use Rattle.set_model.specs.declared.reply.Reply.TheVariants.{Replied}
-use Rattle.node_state.proofs.TellLemmas.{behind_shown}
+use Rattle.node_messages.proofs.TellLemmas.{behind_shown}
 use Rattle.checker_machine.specs.Done.{Answers}
 use Rattle.checker_machine.proofs.node.Node.common_asked.Goals as goal
 

@@ -1,7 +1,7 @@
 use Rattle.std.proofs.Common.{◌<◌, ◌≤◌, List, length, nat_lt, subst}
 use Rattle.oplog_entry.specs.Visible.{log_behind, log_up_to}
 use Rattle.oplog_entry.specs.declared.entry.Entry.{Entry}
-use Rattle.node_state.proofs.TellLemmas.{refused_few, refused_many, told_behind}
+use Rattle.node_messages.proofs.TellLemmas.{refused_few, refused_many, told_behind}
 use Rattle.checker_machine.proofs.node.Node.common_refusal.Goals as goal
 
 pub returns-then-between-gt-MOST_OPTIMES : goal.returns-then-between-gt-MOST_OPTIMES

@@ -1,8 +1,8 @@
 use Rattle.std.proofs.Common.{◌≡◌, ◌∙◌, Bool, ap, arith, false, nat_lt, sym, true}
 use Rattle.std.proofs.lemmas.Bool.Decides.{nat_tests}
 use Rattle.set_model.specs.Points.{visible_point}
-use Rattle.node_state.specs.Ahead.{taking}
-use Rattle.node_state.proofs.ForeseenLemmas.{visible_raised}
+use Rattle.node_messages.specs.Ahead.{taking}
+use Rattle.node_messages.proofs.ForeseenLemmas.{visible_raised}
 use Rattle.checker_machine.proofs.node.Node.visible_in.Goals as goal
 
 pub returns-then-self-term : goal.returns-then-self-term

@@ -11,7 +11,7 @@ pub returns-then-is_plain-clause-ok : goal.returns-then-is_plain-clause-ok
 returns-then-is_plain-clause-ok g c =
     let s = c.self.inside in
     let plain : is_plain c.args.command.now ≡ true = search rules in
-    rw (← c.self.view_is) (took_plain c.args.nodes c.args.next s.state.node c.answer.new.self.node c.args.command.now c.in_ok-reply.reply plain c.in_ok-reply.ensures.ok
+    rw (← c.self.view_is) (took_plain c.args.nodes c.args.next s.state.node c.answer.new.state.node c.args.command.now c.in_ok-reply.reply plain c.in_ok-reply.ensures.ok
     s.up (down_state s.left) s.disks.count (g.D.Disk.state s.disks.journal.0) (g.D.Disk.state s.disks.checkpoints) c.answered.result
     c.if-not-self.false c.self.invariant c.answered.ensures.reply c.answered.ensures.sent c.answered.ensures.failed)
 
@@ -19,7 +19,7 @@ pub invariant_of-self-then-is_plain : goal.invariant_of-self-then-is_plain
 invariant_of-self-then-is_plain g c =
     let s = c.self.inside in
     let plain : is_plain c.args.command.now ≡ true = search rules in
-    plain_rests c.args.nodes c.args.next s.state.node c.answer.new.self.node c.args.command.now c.in_ok-reply.reply plain c.in_ok-reply.ensures.ok
+    plain_rests c.args.nodes c.args.next s.state.node c.answer.new.state.node c.args.command.now c.in_ok-reply.reply plain c.in_ok-reply.ensures.ok
     s.up (down_state s.left) s.disks.count (g.D.Disk.state s.disks.journal.0) (g.D.Disk.state s.disks.checkpoints) c.if-not-self.false c.self.invariant
 
 pub returns-in_err-reply-clause-err : goal.returns-in_err-reply-clause-err
@@ -27,7 +27,7 @@ returns-in_err-reply-clause-err g c =
     let s = c.self.inside in
     let j = g.D.Disk.state s.disks.journal.0 in
     let k = g.D.Disk.state s.disks.checkpoints in
-    rw (← c.self.view_is) (unchanged c.from_residual.result s.up s.state.node c.answer.new.self.node (down_state s.left) s.disks.count j j k k
+    rw (← c.self.view_is) (unchanged c.from_residual.result s.up s.state.node c.answer.new.state.node (down_state s.left) s.disks.count j j k k
     c.if-not-self.false c.in_err-reply.ensures.err (up_rests s.up s.state.node (down_state s.left) s.disks.count j k c.if-not-self.false c.self.invariant) (same_none j k))
 
 pub returns-in_err-ended-clause-err : goal.returns-in_err-ended-clause-err

@@ -1,0 +1,13 @@
+pub mod BeatLemmas
+pub mod BodyLemmas
+pub mod CommonLemmas
+pub mod CutLemmas
+pub mod FetchedLemmas
+pub mod ForeseenLemmas
+pub mod FrontLemmas
+pub mod HearLemmas
+pub mod JoinedLemmas
+pub mod RollLemmas
+pub mod TakenLemmas
+pub mod TellLemmas
+pub mod VoteLemmas

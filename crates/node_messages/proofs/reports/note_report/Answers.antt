@@ -1,0 +1,8 @@
+use Rattle.node_state.specs.Seen.{seen_node}
+use Rattle.node_messages.proofs.HearLemmas.{coherent-tables}
+use Rattle.node_state.proofs.Inside.{rest_in}
+use Rattle.node_messages.proofs.reports.note_report.Goals as goal
+
+pub invariant_of-state : goal.invariant_of-state
+invariant_of-state c =
+    coherent-tables (seen_node c.state.inside.ledger.node (rest_in c.state.inside)) c.note.new.self c.state.inside.known.heard c.state.inside.tally c.state.inside.unjournaled.optimes c.state.invariant

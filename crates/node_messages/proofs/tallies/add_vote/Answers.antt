@@ -1,0 +1,17 @@
+use Rattle.std.proofs.Common.{sym, subst}
+use Rattle.node_state.specs.Coherent.{IsCoherent}
+use Rattle.node_state.specs.Seen.{seen_node}
+use Rattle.node_state.specs.declared.state.State.TheInside.{Inside}
+use Rattle.node_state.proofs.Inside.{rest_in}
+use Rattle.node_state.proofs.TermLemmas.{coherent-counted}
+use Rattle.node_messages.proofs.VoteLemmas.{same_voters}
+use Rattle.node_messages.proofs.tallies.add_vote.Goals.{in-None, in-Some}
+use Rattle.node_messages.proofs.tallies.add_vote.Goals as goal
+
+pub invariant_of-state : goal.invariant_of-state
+invariant_of-state c = elim c.match-state.branch [
+  | in-None w ↦ subst (λ (s : Inside). IsCoherent (seen_node s.ledger.node (rest_in s)) s.tally s.unjournaled.optimes) (sym w.state-inside-is) c.state.invariant
+  | in-Some w ↦ subst (λ (s : Inside). IsCoherent (seen_node s.ledger.node (rest_in s)) s.tally s.unjournaled.optimes) (sym w.state-inside-is)
+      (coherent-counted c.state.inside.ledger.node (rest_in c.state.inside) w.in-Some.tally w.add.new.self c.state.inside.unjournaled.optimes w.in-Some.is
+      (same_voters w.add.result w.in-Some.tally w.add.new.self c.args.from w.add.ensures.ok w.add.ensures.err) c.state.invariant)
+]

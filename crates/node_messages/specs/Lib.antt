@@ -1,0 +1,4 @@
+pub mod Ahead
+pub mod HeardBeats
+pub mod Rolling
+pub mod Trying

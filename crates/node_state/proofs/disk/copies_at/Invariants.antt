@@ -1,6 +1,0 @@
-use Rattle.std.proofs.Common.{◌≡◌, take}
-use Rattle.node_state.specs.Flushing.{entries_at}
-use Rattle.node_state.proofs.disk.copies_at.Given as goal
-
-abbrev pub invariant-loop-at : goal.invariant-loop-at
-invariant-loop-at l = l.copies.items ≡ entries_at l.ledger.node.log (take l.at-index l.optimes)

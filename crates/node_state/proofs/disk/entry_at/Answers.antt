@@ -1,5 +1,0 @@
-use Rattle.node_state.proofs.FoundLemmas.{looked_up}
-use Rattle.node_state.proofs.disk.entry_at.Goals as goal
-
-pub returns : goal.returns
-returns c = looked_up c.entry_near.result (λ x. x.now) c.args.ledger.now.node.log c.args.at c.recall_sound.ensures.node.oplog c.entry_near.ensures.found c.entry_near.ensures.none

@@ -1,9 +1,0 @@
-use Rattle.node_state.proofs.Inside.{rest_in}
-use Rattle.node_state.proofs.WrittenLemmas.{coherent-aborted}
-use Rattle.node_state.proofs.state.State.abort_open.Goals as goal
-
-pub invariant_of-self : goal.invariant_of-self
-invariant_of-self c =
-    let s = c.self.inside in
-    let aborted = c.abort.ensures.node in
-    coherent-aborted s.ledger.node c.abort.new.self.node (rest_in s) c.args.writer aborted.0 s.tally s.unjournaled.optimes aborted.3 c.recall_sound.ensures.node c.self.invariant
