@@ -50,8 +50,8 @@ pub(crate) fn start_campaign(state: &mut State, next: u64) -> Mem<Turn>
     Ok(Turn::Storing { item, then })
 }
 
-/// Goes on once the candidate's own vote is in the journal: it is a candidate of the next term, or has won, and asks
-/// the other voters.
+/// Goes on once the candidate's own vote is in the journal: it is a candidate of the next term, or has won,
+/// and asks the other voters.
 pub fn go_on_campaign(
     state: &mut State,
     item: &Store,
@@ -138,7 +138,8 @@ pub(crate) fn start_drain<R: Threads + Sync>(state: &mut State, rt: &R) -> Mem<T
     })
 }
 
-/// Goes on once the configuration in the node's term is in the journal: the node is primary, and writes a no-op.
+/// Goes on once the configuration in the node's term is in the journal: the node is primary, and
+/// writes a no-op.
 pub fn go_on_drain(state: &mut State, item: &Store, config: Config) -> Turn
     requires ready { IsDrained item.now config state.old }
     ensures turn { Means result state.new.node

@@ -1,8 +1,8 @@
-//! What a node in memory does with a command of its own: writes, reads, elections, batches, flushes, checkpoints and new
-//! configurations.
+//! What a node in memory does with a command of its own: writes, reads, elections, batches, flushes,
+//! checkpoints and new configurations.
 //!
-//! `answer` does what stores nothing and sends nothing, and `start` begins the turn of any other. What is called
-//! `go_on_..` goes on with a turn once that which it stores is on disk.
+//! `answer` does what stores nothing and sends nothing, and `start` begins the turn of any other. What is
+//! called `go_on_..` goes on with a turn once that which it stores is on disk.
 #![tactic(auto)]
 
 mod admitted;

@@ -30,8 +30,8 @@ use version_store::VersionStore;
 
 /// A node that is up, as far as it is in memory. What it is to store on its disks it tells by its turns.
 ///
-/// Its fields are open to the crates of commands and messages. What holds of them together (`IsCoherent`) is proved
-/// wherever one of them changes.
+/// Its fields are open to the crates of commands and messages. What holds of them together (`IsCoherent`) is
+/// proved wherever one of them changes.
 #[derive(Drop)]
 pub struct State {
     pub alloc: Global,
