@@ -12,7 +12,7 @@ use Rattle.bson_doc.specs.Key.{key_cmp}
 use Rattle.bson_doc.specs.declared.key.IdKey.{IdKey}
 use Rattle.version_store.specs.Past.{Past, no_past}
 use Rattle.version_store.specs.Documents.{Documents}
-use Rattle.version_store.specs.Row.{Keeps}
+use Rattle.version_store.specs.Row.{AddsNoKey}
 use Rattle.version_store.proofs.Keyed.{none_kept}
 
 -- where the keys stay, the elements are pairs of a key and what was made of its value
@@ -53,5 +53,5 @@ module _ {F K X : Type 0} (T : F → K → X → Bool → X → F → Type 0) wh
       go true below rest = (below, rest)
       go false below rest = rest
 
-pub keeps_kept : {F : Type 0} (T : F → IdKey → Past → Bool → Past → F → Type 0) (f : F) (old new : Documents) → RetainsPairs T f old new → Keeps old new
+pub keeps_kept : {F : Type 0} (T : F → IdKey → Past → Bool → Past → F → Type 0) (f : F) (old new : Documents) → RetainsPairs T f old new → AddsNoKey old new
 keeps_kept T f old new run id none = none_kept (eq_by_cmp key_cmp id) no_past T f old new run none

@@ -18,7 +18,7 @@ use Rattle.bson_doc.specs.declared.key.IdKey.{IdKey}
 use Rattle.bson_doc.proofs.KeyLemmas.{key_cmp-total}
 use Rattle.version_store.specs.Past.{Past, no_past, shown}
 use Rattle.version_store.specs.Documents.{Documents, past_in, ChangesIn, ChangesEachIn}
-use Rattle.version_store.specs.Row.{IsInOrder, StandsIn, changed_at, AreApart, GoesBehind, Keeps}
+use Rattle.version_store.specs.Row.{IsInOrder, StandsIn, changed_at, AreApart, GoesBehind, AddsNoKey}
 use Rattle.version_store.specs.Shown.{one_at, shown_here, AddsShown}
 use Rattle.version_store.specs.declared.shown.Shown.{Shown}
 use Rattle.version_store.proofs.DocumentsLemmas.{set_past}
@@ -162,7 +162,7 @@ apart_other row others new id w apart absent changes q there = changes.others q 
 
 -- ---- each is cut
 
-pub apart_cut : (row others row' others' : Documents) (change : Past → Past) → change no_past ≡ no_past → AreApart row others → Keeps row row'
+pub apart_cut : (row others row' others' : Documents) (change : Past → Past) → change no_past ≡ no_past → AreApart row others → AddsNoKey row row'
     → ChangesEachIn others others' change → AreApart row' others'
 apart_cut row others row' others' change none apart kept each q there = each q ∙ ap change (apart q (go (lookup (eq_by_cmp key_cmp q) row) refl)) ∙ none
   where
@@ -170,7 +170,7 @@ apart_cut row others row' others' change none apart kept each q there = each q �
     go (Some past) is = ap is_some is
     go None is = absurd (cc (sym (ap is_some (kept q is)) ∙ there))
 
-pub changes_cut : (row others row' others' : Documents) (change : Past → Past) → change no_past ≡ no_past → AreApart row others → Keeps row row'
+pub changes_cut : (row others row' others' : Documents) (change : Past → Past) → change no_past ≡ no_past → AreApart row others → AddsNoKey row row'
     → ChangesEachIn row row' change → ChangesEachIn others others' change → ChangesEachIn (row ++ others) (row' ++ others') change
 changes_cut row others row' others' change none apart kept each each' id = go (lookup (eq_by_cmp key_cmp id) row) refl
   where

@@ -34,6 +34,6 @@ pub record GoesBehind (row others : Documents) (id : IdKey) : Type 0 where
   pub absent : past_in others id ≡ no_past
 
 -- what isn't in old isn't in new
-abbrev pub Keeps : (old new : Documents) → Type 0
-Keeps old new =
+abbrev pub AddsNoKey : (old new : Documents) → Type 0
+AddsNoKey old new =
     (id : IdKey) → lookup (eq_by_cmp key_cmp id) old ≡ None → lookup (eq_by_cmp key_cmp id) new ≡ None

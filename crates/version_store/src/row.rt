@@ -10,7 +10,7 @@ ghost use Rattle.version_store.specs.Cuts.{left_by};
 ghost use Rattle.version_store.specs.Documents.{past_in, ChangesEachIn};
 ghost use Rattle.bson_doc.specs.declared.key.IdKey.{IdKey as AnIdKey};
 ghost use Rattle.version_store.specs.Past.{Past, no_past, is_before, shown, with_version, held_by};
-ghost use Rattle.version_store.specs.Row.{IsInOrder, StandsIn, Keeps, changed_at};
+ghost use Rattle.version_store.specs.Row.{IsInOrder, StandsIn, AddsNoKey, changed_at};
 ghost use Rattle.version_store.specs.Shown.{AddsShown};
 
 use crate::cut::Cut;
@@ -137,7 +137,8 @@ impl Row {
         Ok(self.entries.push((id, history))?)
     }
 
-    /// Makes room for one more document. There is room for a quarter more at most, since documents are many.
+    /// Makes room for one more document. Where there is none, it makes room for a quarter more and four: of
+    /// twice as much, half would stand empty.
     fn make_room(&mut self) -> Mem<()>
         ensures { self.new ≡ self.old }
     {
@@ -150,7 +151,7 @@ impl Row {
 
     pub(crate) fn cut(&mut self, cut: Cut)
         ensures each { ChangesEachIn self.old self.new (left_by cut) }
-        ensures kept { Keeps self.old self.new }
+        ensures kept { AddsNoKey self.old self.new }
     {
         self.entries.retain_mut(
             |entry| -> bool
