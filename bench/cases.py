@@ -9,6 +9,11 @@ def inserts(n):
     return OPENING + [f"insert n0 items {{_id: {k}}}" for k in range(n)]
 
 
+def shuffled(n):
+    """Inserts whose keys come out of order."""
+    return OPENING + [f"insert n0 items {{_id: {k * 7919 % n}}}" for k in range(n)]
+
+
 def pairs(n):
     """Writers that begin and commit, two open at a time, so that half of the commits fill a hole."""
     lines = []
@@ -284,6 +289,7 @@ class Case:
 CASES = {
     # one node
     "inserts": Case(inserts, 95_000, 20_000),
+    "shuffled": Case(shuffled, 95_000, 20_000),
     "retried": Case(retried, 50_000, 20_000),
     "sessions": Case(sessions, 50_000, 20_000),
     "pairs": Case(pairs, 60_000, 10_000),
