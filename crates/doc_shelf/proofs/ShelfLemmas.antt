@@ -155,20 +155,6 @@ same_parts a b documents before =
     ap (λ (d : Documents). record { documents = d; before = a.before }) documents
     ∙ ap (λ (s : List Before). record { documents = b.documents; before = s }) before
 
--- there is one
-pub one_there : (old shelf : Shelf) (entry : Entry) → old ≡ with_applied shelf entry → old.before ≡ [] → ⊥
-one_there old shelf entry made none =
-    let more : length old.before ≡ length shelf.before + 1 = ap (λ (s : Shelf). length s.before) made ∙ length-append shelf.before (stood_before shelf.documents entry ∷ []) in
-    absurd (omega (arith, more, ap length none))
-
--- it touched no document
-pub left_alone : (old shelf : Shelf) (entry : Entry) (rest : List Before) (last : Before) → old ≡ with_applied shelf entry → old.before ≡ rest ++ last ∷ [] → last ≡ None
-    → record { documents = old.documents; before = rest } ≡ shelf
-left_alone old shelf entry rest last made is none =
-    let parts : (rest ≡ shelf.before) × (last ≡ stood_before shelf.documents entry) = popped old shelf entry rest last made is in
-    same_parts (record { documents = old.documents; before = rest }) shelf
-    (ap (λ (s : Shelf). s.documents) made ∙ passed_back shelf entry (sym none ∙ parts.1)) parts.0
-
 -- what stood at its place is put back
 pub stands_again : (old shelf : Shelf) (entry : Entry) (rest : List Before) (last : Before) (place : Place) (document : Option Fields) (documents : Documents)
     → old ≡ with_applied shelf entry → old.before ≡ rest ++ last ∷ [] → last ≡ Some (place, document) → documents ≡ put_at old.documents place document

@@ -17,13 +17,16 @@ use std::alloc::Global;
 use std::collections::BTreeMap;
 use std::marker::Model;
 
+/// The place that an entry touches, with what stood there; none where it touches no document.
+type Before = Option<((Text, IdKey), Option<Doc>)>;
+
 /// The documents that the first entries of a log leave, with what is needed to take each entry back: what
 /// stood at its place, and none where it touches no document.
 #[derive(Drop)]
 pub struct Shelf {
     alloc: Global,
     documents: BTreeMap<(Text, IdKey), Doc>,
-    before: Vec<Option<((Text, IdKey), Option<Doc>)>>,
+    before: Vec<Before>,
 }
 
 impl Model for Shelf {
@@ -39,7 +42,7 @@ impl Model for Shelf {
 }
 
 /// Whether an entry before which this stood touches the document at a place.
-fn touches(before: &Option<((Text, IdKey), Option<Doc>)>, place: &(Text, IdKey)) -> bool
+fn touches(before: &Before, place: &(Text, IdKey)) -> bool
     ensures { result ≡ touches before.now place.now }
 {
     match before {
@@ -49,7 +52,7 @@ fn touches(before: &Option<((Text, IdKey), Option<Doc>)>, place: &(Text, IdKey))
 }
 
 /// Whether one of the entries before which this stood touches the document at a place.
-fn is_among(stood: &[Option<((Text, IdKey), Option<Doc>)>], place: &(Text, IdKey)) -> bool
+fn is_among(stood: &[Before], place: &(Text, IdKey)) -> bool
     ensures { result ≡ list_any (λ before. touches before place.now) stood.now }
 {
     stood.iter().any(|before| touches(before, place))
@@ -118,10 +121,9 @@ impl Shelf {
         if self.count() <= place {
             return;
         }
-        let Ok(()) = self.insert_applied(entries, place, entry) else {
+        if self.insert_applied(entries, place, entry).is_err() {
             self.clear();
-            return;
-        };
+        }
     }
 
     /// An entry is put into the log at a place in front of applied ones.
@@ -148,7 +150,7 @@ impl Shelf {
     }
 
     /// Whether one of the applied entries from a place on touches the document of another entry.
-    fn is_touched(&self, place: usize, stood: &Option<((Text, IdKey), Option<Doc>)>) -> bool
+    fn is_touched(&self, place: usize, stood: &Before) -> bool
         requires { place ≤ length self.now.before }
         ensures { result ≡ is_touched stood.now (drop place self.now.before) }
     {
@@ -159,7 +161,7 @@ impl Shelf {
     }
 
     /// What stood before the applied entries from a place on.
-    fn stood_from(&self, place: usize) -> &[Option<((Text, IdKey), Option<Doc>)>]
+    fn stood_from(&self, place: usize) -> &[Before]
         requires { place ≤ length self.now.before }
         ensures { result.now ≡ drop place self.now.before }
     {
@@ -167,12 +169,7 @@ impl Shelf {
     }
 
     /// Applies an entry before which this stands as the one at a place.
-    fn put_in(
-        &mut self,
-        place: usize,
-        entry: &Entry,
-        stood: Option<((Text, IdKey), Option<Doc>)>,
-    ) -> Mem<()>
+    fn put_in(&mut self, place: usize, entry: &Entry, stood: Before) -> Mem<()>
         requires within { place ≤ length self.old.before }
         requires lawful { IsLawful entry.now }
         ensures documents { OnOk result (self.new.documents ≡ applied self.old.documents entry.now) }
@@ -233,7 +230,7 @@ impl Shelf {
     }
 
     /// What stands at the place of an entry.
-    fn standing(&self, entry: &Entry) -> Mem<Option<((Text, IdKey), Option<Doc>)>>
+    fn standing(&self, entry: &Entry) -> Mem<Before>
         requires { IsLawful entry.now }
         ensures { IfOk result (λ stood. stood ≡ stood_before self.now.documents entry.now) }
     {
@@ -250,10 +247,9 @@ impl Shelf {
         ensures { (log : List Entry) → IsOfFront log self.old
             → IsOfFront log self.new × (length self.new.before < length self.old.before) }
     {
-        let Ok(()) = self.take_back() else {
+        if self.take_back().is_err() {
             self.clear();
-            return;
-        };
+        }
     }
 
     /// Takes the last entry back.

@@ -8,5 +8,5 @@ pub returns-then-count-place : goal.returns-then-count-place
 returns-then-count-place c =
     still_front c.args.entries.now c.args.self.now c.args.place c.args.entry.now c.requires.front c.requires.within (omega arith)
 
-pub returns-in_default : goal.returns-in_default
-returns-in_default c = none_of_front (insert c.args.entries.now c.args.place c.args.entry.now) c.clear.new.self c.clear.ensures
+pub returns-then-is_err : goal.returns-then-is_err
+returns-then-is_err c = none_of_front (insert c.args.entries.now c.args.place c.args.entry.now) c.clear.new.self c.clear.ensures
