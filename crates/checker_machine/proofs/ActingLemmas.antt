@@ -10,9 +10,9 @@ use Rattle.set_model.specs.Node.{Node}
 use Rattle.set_model.specs.Rows.{row}
 use Rattle.set_model.specs.Stores.{Plan, done, finished, reaches, store_count, storing}
 use Rattle.set_model.specs.World.{Step, Task, World, acts, actor, by_plan, event_plan, plan_of, step, takes, task, touched_node, with_outcome}
-use Rattle.checker_machine.specs.declared.answer.Answer.{Answer}
+use Rattle.checker_node.specs.declared.answer.Answer.{Answer}
 use Rattle.checker_machine.specs.Acting.{Acts, IsOutOfDoubt, left_after}
-use Rattle.checker_machine.specs.Done.{Does, left_of, outcome_of}
+use Rattle.checker_node.specs.Done.{Does, left_of, outcome_of}
 use Rattle.checker_machine.specs.Reached.{IsReadable}
 
 -- ---- which stores are reached

@@ -21,6 +21,7 @@ use Rattle.set_model.specs.Node.{Node}
 use Rattle.set_model.specs.Outcome.{refused, replied}
 use Rattle.set_model.specs.Rows.{row}
 use Rattle.set_model.specs.Stores.{Plan, finished, unless_refused}
+use Rattle.set_model.specs.Taking.{CanTake}
 use Rattle.set_model.specs.World.{World, takes, task}
 use Rattle.set_model.specs.Write.{write}
 use Rattle.set_model.specs.declared.command.Command.{Command}
@@ -28,8 +29,10 @@ use Rattle.set_model.specs.declared.command.Command.TheVariants.{Campaign, Drain
 use Rattle.set_model.specs.declared.reply.Refusal.{Refusal}
 use Rattle.set_model.specs.declared.reply.Refusal.TheVariants.{NodeDown}
 use Rattle.set_model.specs.declared.reply.Reply.{Reply}
-use Rattle.checker_machine.specs.declared.answer.Answer.{Answer}
-use Rattle.checker_machine.specs.Done.{Does, IsEnd, Replies, outcome_of}
+use Rattle.checker_node.specs.declared.answer.Answer.{Answer}
+use Rattle.checker_node.specs.Done.{Does, IsEnd, Replies}
+use Rattle.checker_node.proofs.DoesLemmas.{says}
+use Rattle.checker_machine.specs.Hears.{CanHear}
 use Rattle.checker_machine.specs.Plain.{is_plain, is_up_only, is_write}
 use Rattle.node_state.proofs.TurnLemmas.{while_up}
 
@@ -38,11 +41,8 @@ use Rattle.node_state.proofs.TurnLemmas.{while_up}
 pub does_end : (plan : Plan) (failed : Option ℕ) (answer : Answer) (new : Node) → IsEnd plan answer new → Does plan failed failed answer new
 does_end plan failed answer new is = subst (λ (p : Plan). Does p failed failed answer new) (sym is) (record { outcome = refl; left_is = refl })
 
-answered : (reply : Reply) (answer : Answer) (new : Node) → Replies answer reply [] → replied reply new ≡ outcome_of answer new
-answered reply answer new replies i = record { reply = sym replies.reply_is i; node = new; sent = sym replies.sent_is i }
-
 pub does_reply : (reply : Reply) (failed : Option ℕ) (answer : Answer) (new : Node) → Replies answer reply [] → Does (finished (replied reply new)) failed failed answer new
-does_reply reply failed answer new replies = record { outcome = answered reply answer new replies; left_is = refl }
+does_reply reply failed answer new replies = record { outcome = says reply answer new new refl replies; left_is = refl }
 
 -- ---- a command on a node that is up
 
@@ -101,6 +101,9 @@ others_are_plain (DeliverLatest from to) only a b c d e f g h i j = absurd (cc o
 others_are_plain _ only a b c d e f g h i j = refl
 
 -- ---- a message
+
+pub can_hear : (node : Node) (message : Message) → CanTake node message → CanHear message
+can_hear node message can reply is = record { order = (can.fetched reply is).order; base = (can.fetched reply is).base }
 
 pub deliver_down : (next : ℕ) (node : Node) (message : Message) → node.up ≡ false → deliver next node message ≡ finished (refused NodeDown node)
 deliver_down next node message down =

@@ -7,8 +7,8 @@ use Rattle.set_model.specs.Node.{Node}
 use Rattle.set_model.specs.Outcome.{refused}
 use Rattle.set_model.specs.Rows.{row}
 use Rattle.set_model.specs.Stores.{Plan, finished, if_up}
-use Rattle.checker_machine.specs.declared.answer.Answer.{Answer}
-use Rattle.checker_machine.specs.Done.{Answers, Does}
+use Rattle.checker_node.specs.declared.answer.Answer.{Answer}
+use Rattle.checker_node.specs.Done.{Answers, Does}
 use Rattle.checker_machine.specs.Plain.{is_up_only}
 
 by_up : (node : Node) (plan : Plan) (up : Bool) → node.up ≡ up → if_up node plan ≡ cond up plan (finished (refused NodeDown node))

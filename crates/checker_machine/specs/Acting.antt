@@ -4,8 +4,8 @@ use Rattle.set_model.specs.declared.command.Event.{Event}
 use Rattle.set_model.specs.Limits.{settles_doubt}
 use Rattle.set_model.specs.Stores.{Plan}
 use Rattle.set_model.specs.World.{World, event_plan, step}
-use Rattle.checker_machine.specs.Done.{left_of}
-use Rattle.checker_machine.specs.declared.answer.Answer.{Answer}
+use Rattle.checker_node.specs.Done.{left_of}
+use Rattle.checker_node.specs.declared.answer.Answer.{Answer}
 
 -- where no such message was sent no store is reached
 abbrev pub left_after : Option Plan → Option ℕ → Option ℕ

@@ -1,16 +1,5 @@
 pub mod Acting
-pub mod Admits
-pub mod Code
-pub mod Done
-pub mod Flushing
-pub mod Forgets
-pub mod Hearing
-pub mod Holding
-pub mod Journal
-pub mod Lending
+pub mod Hears
 pub mod Newest
 pub mod Plain
 pub mod Reached
-pub mod SessionTable
-pub mod Slots
-pub mod Sound

@@ -7,7 +7,7 @@ use Rattle.set_model.specs.Node.{Node}
 use Rattle.set_model.specs.Run.{AreSizes, Sizes, run}
 use Rattle.set_model.specs.Taking.{CanTake}
 use Rattle.set_model.specs.World.{World}
-use Rattle.checker_machine.specs.Sound.{IsSound}
+use Rattle.checker_node.specs.Sound.{IsSound}
 
 -- a run leads to this world, of few enough events that no number outgrows its type
 pub record IsReached (world : World) : Type 0 where

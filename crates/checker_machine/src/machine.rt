@@ -11,10 +11,11 @@ ghost use Rattle.checker_machine.specs.Acting.{Acts, IsOutOfDoubt};
 ghost use Rattle.checker_machine.specs.Reached.{AreSound, CanBeTaken, IsReached, IsReadable};
 ghost use Rattle.checker_machine.specs.declared.machine.StepError.TheVariants as errors;
 
-use crate::answer::Answer;
-use crate::node::Node;
+use crate::deliver::deliver;
 use crate::pool::Pool;
+use crate::rows::act;
 use bson_doc::Mem;
+use checker_node::{Answer, Node};
 use member_config::{Config, Member, MemberList};
 use repl_msg::Message;
 use safety_laws::{configs_are_lawful, messages_can_be_taken, nodes_are_sound, numbers_stay_small};
@@ -59,7 +60,7 @@ impl Model for Machine {
     ghost use Rattle.member_config.specs.contracts.config.Config as config_row;
     ghost use Rattle.repl_msg.specs.contracts.record.Record as record_kept;
     ghost use Rattle.set_model.specs.contracts.store.Store as store_row;
-    ghost use Rattle.checker_machine.specs.Code.{writers_code, slots_code, progress_code, known_code, tally_code};
+    ghost use Rattle.checker_tables.specs.Code.{writers_code, slots_code, progress_code, known_code, tally_code};
     ghost use Rattle.repl_msg.specs.contracts.message.Message as message;
     ghost use Rattle.set_model.specs.World.{World};
 
@@ -121,7 +122,7 @@ fn settles_doubt(node: &Node, event: &Event) -> bool
         && limits.is_in_doubt node.now) }
 {
     match &event.command {
-        Command::Restart { .. } => event.failed != Some(0) && !node.up && node.doubt.is_some(),
+        Command::Restart { .. } => event.failed != Some(0) && node.is_in_doubt(),
         _ => false,
     }
 }
@@ -233,7 +234,7 @@ impl Machine {
         if is_out_of_doubt(node, event) {
             return Err(StepError::NoFit);
         }
-        Ok(node.act(nodes, next, event.kept, &event.command, failed)?)
+        Ok(act(node, nodes, next, event.kept, &event.command, failed)?)
     }
 
     /// A message is delivered, where it was sent.
@@ -255,7 +256,8 @@ impl Machine {
             let reply = Reply::Refused(Refusal::NoSuchMessage);
             return Ok(Answer::alone(self.alloc, reply));
         };
-        Ok(self.nodes[message.to as usize].deliver(next, message, failed)?)
+        let node = &mut self.nodes[message.to as usize];
+        Ok(deliver(node, next, message, failed)?)
     }
 }
 

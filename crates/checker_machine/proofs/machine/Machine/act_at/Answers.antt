@@ -38,7 +38,7 @@ returns-clause-answer c =
     let there : slice_get world.nodes c.args.number ≡ Some node = slice_get_read world.nodes (length world.nodes) c.args.number node refl within c.index_mut-node.ensures.value in
     let own = c.requires.own world in
     let many : c.size-nodes.result ≡ length world.nodes = c.size-nodes.ensures ∙ ap (λ (w : World). length w.nodes) (sym c.self.view_is) in
-    subst (λ (w : World). Acts w c.args.event.now c.act.new.failed c.in_ok-act.field-0 (record { nodes = slice_set world.nodes c.args.number c.act.new.self; messages = world.messages })) c.self.view_is
+    subst (λ (w : World). Acts w c.args.event.now c.act.new.failed c.in_ok-act.field-0 (record { nodes = slice_set world.nodes c.args.number c.act.new.node; messages = world.messages })) c.self.view_is
     (acts_own world c.args.event.now c.args.number own node there c.size-nodes.result c.len.result many c.len.ensures c.args.failed.now c.act.new.failed c.requires.failed
-    c.in_ok-act.field-0 c.act.new.self c.in_ok-act.ensures
+    c.in_ok-act.field-0 c.act.new.node c.in_ok-act.ensures
     (finds_doubt world c.args.event.now (acts c.args.number) own node there c.is_out_of_doubt.result c.is_out_of_doubt.ensures c.if-is_out_of_doubt.false))

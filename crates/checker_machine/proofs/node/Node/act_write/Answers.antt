@@ -1,5 +1,0 @@
-use Rattle.checker_machine.proofs.StepLemmas.{writes_so}
-use Rattle.checker_machine.proofs.node.Node.act_write.Goals as goal
-
-pub returns : goal.returns
-returns c = writes_so c.args.self.now c.write.new.self c.args.command.now c.in_ok-op.op c.write.result c.requires.up c.requires.write c.in_ok-op.ensures c.write.ensures

@@ -1,6 +1,0 @@
-use Rattle.std.proofs.Common.{◌≡◌, ◌++◌}
-use Rattle.checker_machine.proofs.WriteLemmas.{shown_of}
-use Rattle.checker_machine.proofs.reads.listed.Given as goal
-
-abbrev pub invariant-loop-place : goal.invariant-loop-place
-invariant-loop-place l = l.list ++ shown_of l.place-iterator ≡ shown_of l.initial.place-iterator

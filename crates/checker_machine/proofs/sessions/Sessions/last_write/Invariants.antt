@@ -1,6 +1,0 @@
-use Rattle.std.proofs.Common.{◌≡◌}
-use Rattle.checker_machine.specs.SessionTable.{IsTableOf}
-use Rattle.checker_machine.proofs.sessions.Sessions.last_write.Given as goal
-
-abbrev pub invariant-loop-place : goal.invariant-loop-place
-invariant-loop-place l = IsTableOf l.entries l.self × (l.place ≡ l.self.count)

@@ -1,9 +1,0 @@
-use Rattle.std.proofs.Common.{◌-◌, length}
-use Rattle.checker_machine.specs.Journal.{AreKept}
-use Rattle.checker_machine.proofs.unkept.pass_kept.Given as goal
-
-abbrev pub invariant-loop-place : goal.invariant-loop-place
-invariant-loop-place l = AreKept l.place l.entries l.kept.entries
-
-abbrev pub decreases-loop-place : goal.decreases-loop-place
-decreases-loop-place l = length l.entries - l.place

@@ -1,0 +1,10 @@
+mod BeatLemmas
+mod ChangeLemmas
+mod DiskLemmas
+pub mod DoesLemmas
+mod ElectionLemmas
+mod FetchLemmas
+mod HearLemmas
+mod RollbackLemmas
+mod VoterLemmas
+mod WriteLemmas

@@ -1,0 +1,7 @@
+pub mod Admits
+pub mod Done
+pub mod Flushing
+pub mod Forgets
+pub mod Hearing
+pub mod Slots
+pub mod Sound

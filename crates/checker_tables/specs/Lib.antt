@@ -1,0 +1,5 @@
+pub mod Code
+pub mod Holding
+pub mod Journal
+pub mod Lending
+pub mod SessionTable

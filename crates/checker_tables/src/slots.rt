@@ -1,0 +1,61 @@
+// The open slots of a node.
+ghost use Rattle.std.specs.Prelude.{◌≡◌, OnOk};
+ghost use Rattle.std.specs.FinSet as sets;
+ghost use Rattle.oplog_entry.specs.Visible.{least};
+
+use bson_doc::Mem;
+use rs_optime::OpTime;
+use std::alloc::Global;
+use std::collections::BTreeSet;
+use std::marker::Model;
+
+/// The optimes that are reserved and not yet settled.
+#[derive(Drop)]
+pub struct Slots {
+    slots: BTreeSet<OpTime>,
+}
+
+impl Model for Slots {
+    ghost use Rattle.std.specs.FinSet as sets;
+    ghost use Rattle.rs_optime.specs.Order.{optime_cmp};
+    ghost use Rattle.checker_tables.specs.Code.{slots_code};
+
+    ghost Value = { sets.FinSet optime_cmp };
+
+    ghost coded = { slots_code };
+
+    ghost view = { λ s. sets.from_list s.slots.keys };
+}
+
+impl Slots {
+    /// No slot.
+    pub fn new(alloc: Global) -> Self
+        ensures { result ≡ sets.empty }
+    {
+        Slots {
+            slots: BTreeSet::new(alloc),
+        }
+    }
+
+    /// The earliest open slot.
+    pub fn least(&self) -> Option<OpTime>
+        ensures { result ≡ least (sets.items self.now) }
+    {
+        self.slots.first().copied()
+    }
+
+    /// Opens a slot. Out of memory is the one error.
+    pub fn insert(&mut self, at: OpTime) -> Mem<()>
+        ensures { OnOk result (self.new ≡ sets.insert self.old at) }
+    {
+        self.slots.insert(at)?;
+        Ok(())
+    }
+
+    /// Closes a slot.
+    pub fn remove(&mut self, at: OpTime)
+        ensures { self.new ≡ sets.remove self.old at }
+    {
+        self.slots.remove(&at);
+    }
+}
