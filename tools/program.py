@@ -12,8 +12,9 @@ TOOLS = os.path.join(TOP, "tools")
 CRATES = os.path.join(TOP, "crates")
 # The gate and `tools/prove` leave it there.
 PROVED = os.path.join(CRATES, "replset", "out", "replset")
-# The program that is built without proofs. Git ignores the folder.
+# The program that is built without proofs, and one that isn't optimised either, which soon stands. Git ignores the folder.
 UNPROVED = os.path.join(TOP, "build", "replset")
+QUICK = os.path.join(TOP, "build", "quick")
 
 # Statuses of the wrapper's own.
 NO_TOOLCHAIN = 69
@@ -77,8 +78,8 @@ def proved():
 
 
 def unproved():
-    """The program that was built of the present sources without proofs, where it stands."""
-    return UNPROVED if is_current(UNPROVED, ("src",)) else None
+    """The program that was built of the present sources without proofs, the faster one where both stand."""
+    return next((program for program in (UNPROVED, QUICK) if is_current(program, ("src",))), None)
 
 
 def stop_without_toolchain():
@@ -87,11 +88,10 @@ def stop_without_toolchain():
 
 
 @contextlib.contextmanager
-def alone():
-    """Waits until no other call builds."""
-    folder = os.path.dirname(UNPROVED)
-    os.makedirs(folder, exist_ok=True)
-    with open(os.path.join(folder, "lock"), "w") as lock:
+def alone(program):
+    """Waits until no other call builds this program."""
+    os.makedirs(os.path.dirname(program), exist_ok=True)
+    with open(f"{program}.lock", "w") as lock:
         fcntl.flock(lock, fcntl.LOCK_EX)
         yield
 
@@ -101,24 +101,41 @@ def called(*words):
     return subprocess.run(words, stdin=subprocess.DEVNULL, stdout=subprocess.PIPE, stderr=subprocess.STDOUT, text=True)
 
 
+def build(program, *how):
+    """Builds a program without proofs. False where the kit has no way to do so."""
+    began, made = time.time(), f"{program}.new"
+    built = called(os.path.join(TOOLS, "build_unproved"), *how, made)
+    if built.returncode == OTHER_KIT:
+        return False
+    if built.returncode != 0:
+        raise Stop(NOT_BUILT, f"the program could not be built\n{built.stdout}")
+    # A source that changes meanwhile makes it old.
+    os.utime(made, (began, began))
+    os.replace(made, program)
+    return True
+
+
 def build_unproved():
-    """Builds the program without proofs. Gives how to call it: by `rt try` where the kit has no other way."""
+    """Builds a program without proofs, which isn't optimised, and has one that is built beside what follows. Gives how to call
+    it: by `rt try` where the kit has no other way."""
     stop_without_toolchain()
-    with alone():
-        if unproved():
-            return [UNPROVED]
-        say("building the program without proofs, which takes a minute or two")
-        began, made = time.time(), f"{UNPROVED}.new"
-        built = called(os.path.join(TOOLS, "build_unproved"), made)
-        if built.returncode == OTHER_KIT:
-            say("this kit builds no optimised program without proofs; `rt try` runs one that is slower")
+    with alone(QUICK):
+        standing = unproved()
+        if standing:
+            return [standing]
+        say("building the program without proofs, which takes a minute or two; one ten times as fast is built meanwhile, and is run once it stands")
+        if not build(QUICK, "--quick"):
+            say("this kit builds no program without proofs; `rt try` runs one that is slower")
             return ["rt", "try", "--"]
-        if built.returncode != 0:
-            raise Stop(NOT_BUILT, f"the program could not be built\n{built.stdout}")
-        # A source that changes meanwhile makes it old.
-        os.utime(made, (began, began))
-        os.replace(made, UNPROVED)
-    return [UNPROVED]
+    nothing = dict.fromkeys(("stdin", "stdout", "stderr"), subprocess.DEVNULL)
+    subprocess.Popen([sys.executable, os.path.abspath(__file__)], start_new_session=True, **nothing)
+    return [QUICK]
+
+
+def optimise():
+    """Builds the optimised program, where it doesn't stand. False where the kit has no way to do so."""
+    with alone(UNPROVED):
+        return is_current(UNPROVED, ("src",)) or build(UNPROVED)
 
 
 def prove():
@@ -127,3 +144,8 @@ def prove():
         stop_without_toolchain()
         if subprocess.run([os.path.join(TOOLS, "prove")], stdin=subprocess.DEVNULL).returncode != 0:
             raise Stop(NOT_BUILT, "there is no proved program to run")
+
+
+if __name__ == "__main__":
+    with contextlib.suppress(Stop):
+        optimise()

@@ -14,7 +14,9 @@ usage: replset run < SCRIPT
        replset --help | --version
 
 Where no proved program of these sources stands, one is built without proofs. That takes a minute or two, the first time
-and where a source changed, and standard error says that nothing was proved. `.ci/run`, the gate, proves and builds all.
+and where a source changed, and standard error says that nothing was proved. It is built quickly and runs slowly; one that is
+optimised is built in the background then, for three minutes, and is run from then on. `.ci/run`, the gate, proves and builds
+all.
 Standard output has what the program writes, and nothing else but what --help, --version and --install tell.
 
 status: 0 the script was run, or the trace is that of a run
@@ -137,8 +139,9 @@ def installed_program():
 
 def unproved_program(words):
     """How to call the program that is built without proofs; it is built now where it doesn't stand."""
-    if program.unproved():
-        return [program.UNPROVED]
+    standing = program.unproved()
+    if standing:
+        return [standing]
     stop_on_wrong_words(words)
     return program.build_unproved()
 
@@ -216,7 +219,7 @@ def tell_version(_):
     elif program.proved():
         print(f"proved: {program.PROVED}")
     else:
-        print(f"built without proofs: {program.UNPROVED}" if program.unproved() else "not built yet")
+        print(f"built without proofs: {program.unproved()}" if program.unproved() else "not built yet")
     return 0
 
 
@@ -225,13 +228,14 @@ def install(words):
     if len(words) != 1 or not words[0] or is_installed():
         say("usage: ./replset --install PREFIX, in a checkout")
         return WRONG_WORDS
-    call, is_proved = program_for(["run"])
-    if len(call) > 1:
-        raise Stop(NOT_BUILT, "there is no program of its own to install")
-    if not is_proved:
+    proved = program.proved()
+    if not proved:
+        program.stop_without_toolchain()
+        if not program.optimise():
+            raise Stop(NOT_BUILT, "there is no program of its own to install")
         say(NOTHING_PROVED)
-    kind = "proved" if is_proved else "unproved"
-    installed = subprocess.run([os.path.join(program.TOOLS, "install"), words[0], *call, kind, version()])
+    kind = "proved" if proved else "unproved"
+    installed = subprocess.run([os.path.join(program.TOOLS, "install"), words[0], proved or program.UNPROVED, kind, version()])
     return NOT_BUILT if installed.returncode else 0
 
 
