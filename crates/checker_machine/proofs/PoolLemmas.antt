@@ -8,7 +8,7 @@ use Rattle.std.proofs.lemmas.List.Elements.{filter-append}
 use Rattle.repl_msg.specs.declared.message.Message.{Message}
 use Rattle.set_model.specs.World.{is_between, last_message, latest_between}
 use Rattle.checker_machine.specs.Newest.{AreNewest, IsNewest, pair_of}
-use Rattle.node_ledger.proofs.MapLemmas.{get-from_pairs, get-with-other, get-with-same, same_or_apart}
+use Rattle.node_data.proofs.MapLemmas.{get-from_pairs, get-with-other, get-with-same, same_or_apart}
 
 last_behind : (messages : List Message) (message : Message) (b : Bool) → last_message (messages ++ cond b (message ∷ []) []) ≡ cond b (Some message) (last_message messages)
 last_behind [] message true = refl

@@ -34,7 +34,7 @@ use Rattle.set_model.specs.declared.reply.Reply.{Reply}
 use Rattle.set_model.specs.declared.reply.Reply.TheVariants as reply
 use Rattle.set_model.specs.declared.writer.Writer.{Writer}
 use Rattle.set_model.specs.declared.writer.Writer.TheVariants.{Open, Done, Lost}
-use Rattle.node_ledger.proofs.OwnLemmas.{IsOwn, own_docs}
+use Rattle.node_data.proofs.OwnLemmas.{IsOwn, own_docs}
 use Rattle.checker_tables.specs.Journal.{AreJournaled}
 use Rattle.checker_node.specs.Admits.{op_to_log}
 use Rattle.checker_node.specs.Slots.{slot_of}

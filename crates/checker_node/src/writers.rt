@@ -4,7 +4,7 @@ ghost use Rattle.std.specs.FinMap as maps;
 ghost use Rattle.oplog_store.specs.Log.{IsOplog, with_entry};
 ghost use Rattle.set_model.specs.Outcome.{replied};
 ghost use Rattle.set_model.specs.Writers as writers;
-ghost use Rattle.node_ledger.specs.Writers.{is_open};
+ghost use Rattle.node_data.specs.Writers.{is_open};
 ghost use Rattle.checker_node.specs.Slots.{slot_of};
 ghost use Rattle.safety_laws.specs.Sound.{IsSoundNode};
 ghost use Rattle.checker_node.specs.Sound.{IsReady};

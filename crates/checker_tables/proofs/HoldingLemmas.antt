@@ -16,9 +16,9 @@ use Rattle.set_model.specs.Holds.{holder_among, holds}
 use Rattle.set_model.specs.declared.writer.Writer.{Writer}
 use Rattle.set_model.specs.declared.writer.Writer.TheVariants.{Open, Done, Lost}
 use Rattle.set_model.proofs.LostLemmas.{none_open}
-use Rattle.node_ledger.specs.Kept.{is_held_by}
-use Rattle.node_ledger.proofs.HolderLemmas.{nobody_holds}
-use Rattle.node_ledger.proofs.MapLemmas.{get-with-other, get-with-same, get-without-other, get-without-same, same_or_apart}
+use Rattle.node_data.specs.Kept.{is_held_by}
+use Rattle.node_data.proofs.HolderLemmas.{nobody_holds}
+use Rattle.node_data.proofs.MapLemmas.{get-with-other, get-with-same, get-without-other, get-without-same, same_or_apart}
 use Rattle.checker_tables.specs.Holding.{Holders, LeadAlso, LeadsTo, LeadToAll, LeadToOthers}
 
 abbrev Writers : Type 0

@@ -15,7 +15,7 @@ use Rattle.oplog_entry.specs.declared.entry.Session.{Session}
 use Rattle.set_model.specs.declared.session.LastWrite.{LastWrite}
 use Rattle.set_model.specs.Sessions.{is_past, last_write, later_write}
 use Rattle.checker_tables.specs.SessionTable.{Counts, IsTableOf, Table, Writes, nothing_counted}
-use Rattle.node_ledger.proofs.MapLemmas.{get-with-other, get-with-same, same_or_apart}
+use Rattle.node_data.proofs.MapLemmas.{get-with-other, get-with-same, same_or_apart}
 
 abbrev with_later : ℕ → Option LastWrite → Entry → Option LastWrite
 with_later id last entry = later_write id last entry.optime entry.session

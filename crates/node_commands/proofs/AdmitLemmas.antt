@@ -36,8 +36,8 @@ use Rattle.set_model.specs.Points.{next_optime}
 use Rattle.set_model.specs.Writers.{unless_open}
 use Rattle.version_store.specs.declared.history.Version.{Version}
 use Rattle.node_commands.specs.Admits.{IsRefusal, CanBeLogged}
-use Rattle.node_ledger.specs.Versions.{AreSmall, IsSmall, versions_from}
-use Rattle.node_ledger.specs.Writers.{is_open, IsWriting}
+use Rattle.node_data.specs.Versions.{AreSmall, IsSmall, versions_from}
+use Rattle.node_data.specs.Writers.{is_open, IsWriting}
 use Rattle.set_model.proofs.EntrySizes.{IsWithin, short_within}
 use Rattle.set_model.proofs.WriteLemmas.{short_name, sound_update}
 

@@ -21,9 +21,9 @@ use Rattle.set_model.specs.Stores.{records_after}
 use Rattle.set_model.specs.declared.store.Store.{Store}
 use Rattle.set_model.specs.declared.store.Store.TheVariants as stores
 use Rattle.node_state.specs.Coherent.{IsCoherent}
-use Rattle.node_ledger.specs.Ledger.{Ledger, applied_with}
+use Rattle.node_data.specs.NodeData.{NodeData, applied_with}
 use Rattle.node_state.specs.Ready.{IsFlush, IsCheckpoint, IsReadyTurn}
-use Rattle.node_state.specs.Seen.{BesideLedger, seen_node}
+use Rattle.node_state.specs.Seen.{BesideData, seen_node}
 use Rattle.node_state.specs.StateView.{StateView}
 use Rattle.node_state.specs.declared.turn.Continuation.TheVariants as continuations
 use Rattle.node_state.specs.declared.turn.Turn.TheVariants as turns
@@ -70,7 +70,7 @@ checkpoint-applied n m item at same ready =
 
 -- ---- a batch
 
-pub apply-done : (old new : Ledger) (rest : BesideLedger) (count : ℕ) (to : OpTime) → is_primary old.node.role ≡ false → new ≡ applied_with old (next_batch old.node) → count ≡ length (next_batch old.node)
+pub apply-done : (old new : NodeData) (rest : BesideData) (count : ℕ) (to : OpTime) → is_primary old.node.role ≡ false → new ≡ applied_with old (next_batch old.node) → count ≡ length (next_batch old.node)
     → (count ≡ 0 → ⊥) → to ≡ new.node.applied → apply (seen_node old.node rest) ≡ replied (reply.Applied count to) (seen_node new.node rest)
 apply-done old new rest count to not new_is count_is some to_is =
     ap (λ b. cond b (refused NothingToDo (seen_node old.node rest)) (batch_applied (seen_node old.node rest) (next_batch old.node))) not
@@ -79,7 +79,7 @@ apply-done old new rest count to not new_is count_is some to_is =
     go : (batch : List Entry) → new ≡ applied_with old batch → count ≡ length batch → batch_applied (seen_node old.node rest) batch ≡ replied (reply.Applied count to) (seen_node new.node rest)
     go [] is long = absurd (some long)
     go (entry ∷ entries) is long =
-        sym (ap (λ (l : Ledger). replied (reply.Applied (length (entry ∷ entries)) l.node.applied) (seen_node l.node rest)) is)
+        sym (ap (λ (l : NodeData). replied (reply.Applied (length (entry ∷ entries)) l.node.applied) (seen_node l.node rest)) is)
         ∙ sym (ap (λ n. replied (reply.Applied n new.node.applied) (seen_node new.node rest)) long)
         ∙ sym (ap (λ o. replied (reply.Applied count o) (seen_node new.node rest)) to_is)
 

@@ -15,7 +15,7 @@ use Rattle.set_model.specs.declared.command.ReadLevel.{ReadLevel}
 use Rattle.set_model.specs.declared.command.ReadLevel.TheVariants.{Local, Majority}
 use Rattle.set_model.specs.declared.role.Role.{Role}
 use Rattle.set_model.specs.declared.role.Role.TheVariants.{Secondary, Candidate, Draining, Primary}
-use Rattle.node_ledger.specs.Ledger.{IsReadable}
+use Rattle.node_data.specs.NodeData.{IsReadable}
 use Rattle.node_commands.specs.Reading.{level_of}
 
 if_not_primary : {A : Type 0} (role : Role) (a b : A) → is_primary role ≡ false → if_primary role a b ≡ b

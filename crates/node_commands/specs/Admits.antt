@@ -18,7 +18,7 @@ use Rattle.set_model.specs.Admitted.{admitted, refusal_of}
 use Rattle.set_model.specs.Holds.{holder}
 use Rattle.set_model.specs.Node.{Node}
 use Rattle.set_model.specs.Points.{next_optime}
-use Rattle.node_ledger.specs.Versions.{IsSmall}
+use Rattle.node_data.specs.Versions.{IsSmall}
 use Rattle.node_commands.specs.declared.admitted.Admission.{Admission}
 
 -- the refusal for the reason that a write is refused for; out of memory is none

@@ -143,6 +143,6 @@ fn show(state: &mut State, command: &Command) -> Mem<Reply>
 fn set_clock(state: &mut State, seconds: u32) -> Reply
     ensures { set_clock state.old.node seconds ≡ replied result state.new.node }
 {
-    state.ledger.set_clock(seconds);
+    state.clock = seconds;
     Reply::Clock(seconds)
 }

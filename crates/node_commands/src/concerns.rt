@@ -56,7 +56,7 @@ fn target_point(state: &State, target: Target) -> Result<OpTime, Refusal>
 fn written_by(state: &State, number: u32) -> Result<OpTime, Refusal>
     ensures { result ≡ concerns.written_by (maps.get state.now.node.writers number) }
 {
-    match state.ledger.writer(number) {
+    match state.node_data.writer(number) {
         None => Err(Refusal::NoSuchWriter),
         Some(Writer::Open { .. }) => Err(Refusal::WriterOpen),
         Some(Writer::Lost(term)) => Err(Refusal::SteppedDown(*term)),
@@ -79,10 +79,10 @@ fn ack_at(state: &State, at: OpTime, concern: AckConcern) -> Turn
 fn ack_refusal(state: &State, at: OpTime, concern: AckConcern) -> Option<Refusal>
     ensures { result ≡ concerns.ack_refusal state.now.node at concern }
 {
-    if state.ledger.role() != Role::Primary {
+    if state.role != Role::Primary {
         return Some(Refusal::NotPrimary);
     }
-    if at.term != state.ledger.term() {
+    if at.term != state.term {
         return Some(Refusal::SteppedDown(at.term));
     }
     if !has(state, at) {
@@ -95,7 +95,7 @@ fn ack_refusal(state: &State, at: OpTime, concern: AckConcern) -> Option<Refusal
 fn has(state: &State, at: OpTime) -> bool
     ensures { result ≡ has_entry state.now.node.log at }
 {
-    state.ledger.entry_at(at).is_some()
+    state.node_data.entry_at(at).is_some()
 }
 
 /// Why the concern isn't met.

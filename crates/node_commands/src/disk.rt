@@ -11,7 +11,7 @@ ghost use Rattle.node_state.specs.Turns.{Means, rest_of};
 ghost use Rattle.node_state.specs.declared.turn.Continuation.TheVariants as continuations;
 
 use bson_doc::Mem;
-use node_ledger::Ledger;
+use node_data::NodeData;
 use node_state::{Continuation, State, Turn, earlier};
 use oplog_entry::Entry;
 use repl_msg::{EntryList, Record};
@@ -24,11 +24,11 @@ use std::thread::Threads;
 const RECORD: usize = 2_000;
 
 /// The entry with an optime, which is looked for at a likely place of the log first.
-fn entry_at<'a>(ledger: &'a Ledger, likely: &mut usize, at: OpTime) -> Option<&'a Entry>
-    ensures { option_copied result ≡ entry_at ledger.now.node.log at }
+fn entry_at<'a>(node_data: &'a NodeData, likely: &mut usize, at: OpTime) -> Option<&'a Entry>
+    ensures { option_copied result ≡ entry_at node_data.now.node.log at }
 {
-    ledger.recall_sound();
-    ledger.entry_near(likely, at)
+    node_data.recall_sound();
+    node_data.entry_near(likely, at)
 }
 
 /// The optime of the last entry, or ZERO where there is none.
@@ -42,17 +42,17 @@ fn last_optime(list: &EntryList) -> OpTime
 }
 
 /// Copies of the entries with these optimes.
-fn copies_at(alloc: Global, ledger: &Ledger, optimes: &[OpTime]) -> Mem<EntryList>
-    ensures { IfOk result (λ list. list ≡ entries_at ledger.now.node.log optimes.now) }
+fn copies_at(alloc: Global, node_data: &NodeData, optimes: &[OpTime]) -> Mem<EntryList>
+    ensures { IfOk result (λ list. list ≡ entries_at node_data.now.node.log optimes.now) }
 {
     let mut copies = Vec::with_capacity(alloc, optimes.len())?;
     let mut likely = 0;
     for at in optimes {
-        if let Some(entry) = entry_at(ledger, &mut likely, *at) {
+        if let Some(entry) = entry_at(node_data, &mut likely, *at) {
             copies.push(entry.copy()?)?;
         }
     }
-    ledger.recall_sound();
+    node_data.recall_sound();
     Ok(EntryList::new(copies))
 }
 
@@ -64,7 +64,7 @@ pub(crate) fn apply<R: Threads + Sync>(state: &mut State, rt: &R, workers: u32) 
     ensures ready { IfOk result (λ turn. IsReadyTurn turn state.new) }
     ensures err { OnErr result (state.new.node ≡ state.old.node) }
 {
-    if state.ledger.role() == Role::Primary {
+    if state.role == Role::Primary {
         return Ok(state.refused(Refusal::NothingToDo));
     }
     apply_batch(state, rt, workers)
@@ -78,11 +78,11 @@ fn apply_batch<R: Threads + Sync>(state: &mut State, rt: &R, workers: u32) -> Me
     ensures ready { IfOk result (λ turn. IsReadyTurn turn state.new) }
     ensures err { OnErr result (state.new.node ≡ state.old.node) }
 {
-    let count = state.ledger.apply(rt, workers)?;
+    let count = state.node_data.apply(rt, workers)?;
     if count == 0 {
         return Ok(state.refused(Refusal::NothingToDo));
     }
-    let to = state.ledger.applied();
+    let to = state.node_data.applied();
     Ok(state.answered(Reply::Applied {
         count: count as u64,
         to,
@@ -114,7 +114,7 @@ pub(crate) fn start_flush(state: &mut State) -> Mem<Turn>
 fn is_flushed(state: &State) -> bool
     ensures { result ≡ disk.is_flushed state.now.node }
 {
-    state.unjournaled.is_empty() && state.durable == state.ledger.visible()
+    state.unjournaled.is_empty() && state.durable == state.node_data.visible()
 }
 
 /// Copies of the entries of the next record.
@@ -122,9 +122,9 @@ fn next_entries(state: &mut State) -> Mem<EntryList>
     ensures list { IfOk result (λ list. list ≡ disk.next_entries state.old.node) }
     ensures same { state.new ≡ state.old }
 {
-    state.ledger.recall_sound();
+    state.node_data.recall_sound();
     let optimes = state.unjournaled.first(RECORD)?;
-    copies_at(state.alloc, &state.ledger, &optimes)
+    copies_at(state.alloc, &state.node_data, &optimes)
 }
 
 /// How far the log is durable once these next entries are in the records.
@@ -132,7 +132,7 @@ fn next_durable(state: &State, list: &EntryList) -> OpTime
     requires { list.now ≡ disk.next_entries state.now.node }
     ensures { result ≡ disk.next_durable state.now.node }
 {
-    let visible = state.ledger.visible();
+    let visible = state.node_data.visible();
     if state.unjournaled.len() <= RECORD {
         return visible;
     }
@@ -157,7 +157,7 @@ fn flush(state: &mut State, item: &Store, count: usize, point: OpTime)
     requires ready { IsFlush item.now count point state.old.node }
     ensures { state.new.node ≡ record (stored state.old.node item.now) { durable = point } }
 {
-    state.ledger.recall_sound();
+    state.node_data.recall_sound();
     state.unjournaled.drop_first(count);
     state.records = state.records.with(item);
     state.durable = point;
@@ -169,7 +169,7 @@ pub(crate) fn start_checkpoint(state: &mut State) -> Turn
     ensures same { state.new.node ≡ state.old.node }
 {
     let at = next_stable(state);
-    if at == state.ledger.stable() {
+    if at == state.node_data.stable() {
         return state.refused(Refusal::NothingToDo);
     }
     Turn::Storing {
@@ -182,7 +182,7 @@ pub(crate) fn start_checkpoint(state: &mut State) -> Turn
 fn next_stable(state: &State) -> OpTime
     ensures { result ≡ disk.next_stable state.now.node }
 {
-    earlier(state.commit, state.ledger.applied_point())
+    earlier(state.commit, state.node_data.applied_point())
 }
 
 /// Goes on once the checkpoint has the documents as of this optime.
@@ -201,7 +201,7 @@ fn keep_documents(state: &mut State, item: &Store, at: OpTime)
     requires ready { IsCheckpoint item.now at state.old.node }
     ensures { state.new.node ≡ stored state.old.node item.now }
 {
-    state.ledger.recall_sound();
-    state.ledger.prune(at);
+    state.node_data.recall_sound();
+    state.node_data.prune(at);
     state.records = state.records.with(item);
 }

@@ -23,7 +23,7 @@ fn candidate_refusal(state: &State) -> Option<Refusal>
     if !state.config.is_electable(state.number) {
         return Some(Refusal::NotElectable(1));
     }
-    match state.ledger.role() {
+    match state.role {
         Role::Draining | Role::Primary => Some(Refusal::NotElectable(2)),
         Role::Secondary | Role::Candidate => None,
     }
@@ -42,7 +42,7 @@ pub(crate) fn start_campaign(state: &mut State, next: u64) -> Mem<Turn>
     if let Some(why) = candidate_refusal(state) {
         return Ok(state.refused(why));
     }
-    let term = state.ledger.term() + 1;
+    let term = state.term + 1;
     let tally = Tally::new(state.alloc, state.number, &state.config)?;
     let sent = asks(state, term, false)?;
     let item = vote_record(term, Some(state.number));
@@ -64,7 +64,7 @@ pub fn go_on_campaign(
         (rest_of (continuations.Campaign next tally sent) (stored state.old.node item.now)) }
     ensures ready { IsReadyTurn result state.new }
 {
-    let term = state.ledger.term() + 1;
+    let term = state.term + 1;
     let count = sent.len() as u32;
     state.enter_term(item, term, Some(state.number));
     state.stand(tally);
@@ -94,7 +94,7 @@ pub(crate) fn dry_run(state: &mut State, next: u64) -> Mem<Turn>
     if let Some(why) = candidate_refusal(state) {
         return Ok(state.refused(why));
     }
-    let term = state.ledger.term();
+    let term = state.term;
     let dry_run = new_dry_run(state)?;
     let sent = asks(state, term, true)?;
     let count = sent.len() as u32;
@@ -115,7 +115,7 @@ fn new_dry_run(state: &State) -> Mem<DryRun>
         elections.trying state.now.node ≡ record state.now.node { dry_tally = Some dry_run }) }
 {
     let config = state.config.copy()?;
-    DryRun::new(state.alloc, state.number, state.ledger.term(), config)
+    DryRun::new(state.alloc, state.number, state.term, config)
 }
 
 /// Drains a node that won: it applies its whole log, and then stores its configuration in its own term.
@@ -125,7 +125,7 @@ pub(crate) fn start_drain<R: Threads + Sync>(state: &mut State, rt: &R) -> Mem<T
     ensures ready { IfOk result (λ turn. IsReadyTurn turn state.new) }
     ensures err { OnErr result (state.new.node ≡ state.old.node) }
 {
-    if state.ledger.role() != Role::Draining {
+    if state.role != Role::Draining {
         return Ok(state.refused(Refusal::NotPrimary));
     }
     let config = state.config_in_term()?;
@@ -150,7 +150,7 @@ pub fn go_on_drain(state: &mut State, item: &Store, config: Config) -> Turn
     let noop = state.log_noop();
     state.evaluate();
     state.answered(Reply::Primary {
-        term: state.ledger.term(),
+        term: state.term,
         noop,
     })
 }
@@ -159,7 +159,7 @@ pub(crate) fn step_down(state: &mut State) -> Turn
     ensures turn { Means result state.new.node (finished (elections.step_down state.old.node)) }
     ensures ready { IsReadyTurn result state.new }
 {
-    if state.ledger.role() == Role::Secondary {
+    if state.role == Role::Secondary {
         return state.refused(Refusal::NotPrimary);
     }
     state.be_secondary();

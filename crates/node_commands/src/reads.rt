@@ -8,7 +8,7 @@ ghost use Rattle.set_model.specs.Outcome.{replied};
 ghost use Rattle.set_model.specs.Reads.{shown_documents, shown_log, read, dump, show_log, show_state};
 ghost use Rattle.set_model.specs.Roles.{is_primary};
 ghost use Rattle.set_model.specs.Rollback.{rolled};
-ghost use Rattle.node_ledger.specs.Ledger.{IsReadable};
+ghost use Rattle.node_data.specs.NodeData.{IsReadable};
 ghost use Rattle.node_commands.specs.Reading.{level_of};
 
 use crate::listing::listed;
@@ -31,7 +31,7 @@ fn concern(level: ReadLevel) -> Level
 fn is_primary(state: &State) -> bool
     ensures { result ≡ is_primary state.now.node.role }
 {
-    match state.ledger.role() {
+    match state.role {
         Role::Primary => true,
         Role::Secondary | Role::Candidate | Role::Draining => false,
     }
@@ -42,10 +42,10 @@ fn shown_point(state: &State, level: ReadLevel) -> OpTime
     ensures readable { IsReadable state.now.node result }
     ensures shown { log_up_to result state.now.node.log ≡ shown_log state.now.node level }
 {
-    state.ledger.recall_sound();
-    let applied = state.ledger.applied_point();
+    state.node_data.recall_sound();
+    let applied = state.node_data.applied_point();
     match snapshot(concern(level), is_primary(state), state.commit, applied) {
-        ReadAt::Latest => state.ledger.local_point(),
+        ReadAt::Latest => state.node_data.local_point(),
         ReadAt::At(at) => at,
     }
 }
@@ -69,21 +69,25 @@ pub(crate) fn read(state: &State, level: ReadLevel, collection: &Text, id: &Valu
 fn shown<'a>(state: &'a State, level: ReadLevel, ns: &str, id: &IdKey) -> Option<&'a Doc>
     ensures { option_copied result ≡ maps.get (shown_documents state.now.node level) (ns.now, id.now) }
 {
-    state.ledger.read_at(ns, id, shown_point(state, level))
+    state.node_data.read_at(ns, id, shown_point(state, level))
 }
 
 /// All documents.
 pub(crate) fn dump(state: &State, level: ReadLevel) -> Mem<Reply>
     ensures { IfOk result (λ reply. dump state.now.node level ≡ replied reply state.now.node) }
 {
-    Ok(Reply::Documents(listed(state.alloc, state.ledger.store(), shown_point(state, level))?))
+    Ok(Reply::Documents(listed(
+        state.alloc,
+        state.node_data.store(),
+        shown_point(state, level),
+    )?))
 }
 
 /// The entries that are written.
 pub(crate) fn show_log(state: &State) -> Mem<Reply>
     ensures { IfOk result (λ reply. show_log state.now.node ≡ replied reply state.now.node) }
 {
-    Ok(Reply::Entries(state.ledger.entries()?))
+    Ok(Reply::Entries(state.node_data.entries()?))
 }
 
 /// Role, term, vote, points and configuration.
@@ -91,12 +95,12 @@ pub(crate) fn show_state(state: &State) -> Reply
     ensures { show_state state.now.node ≡ replied result state.now.node }
 {
     Reply::State {
-        role: state.ledger.role(),
-        term: state.ledger.term(),
+        role: state.role,
+        term: state.term,
         vote: state.vote,
-        last: state.ledger.last(),
+        last: state.node_data.last(),
         durable: state.durable,
-        applied: state.ledger.applied_point(),
+        applied: state.node_data.applied_point(),
         commit: state.commit,
         config: (state.config.term, state.config.version),
         rollback: state.rollback,

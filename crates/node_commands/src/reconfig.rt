@@ -38,10 +38,10 @@ fn refusal_of(why: ConfigRefusal) -> Refusal
 fn reconfig_refusal(state: &State, nodes: u32, config: &Config) -> Option<Refusal>
     ensures { result ≡ change.reconfig_refusal nodes state.now.node config.now }
 {
-    if state.ledger.role() != Role::Primary {
+    if state.role != Role::Primary {
         return Some(Refusal::NotPrimary);
     }
-    let term = state.ledger.term();
+    let term = state.term;
     match check(
         &state.config,
         config,
@@ -67,7 +67,7 @@ pub(crate) fn start_reconfig(state: &mut State, nodes: u32, config: &Config) -> 
     if let Some(why) = reconfig_refusal(state, nodes, config) {
         return Ok(state.refused(why));
     }
-    let config = in_term(config, state.ledger.term())?;
+    let config = in_term(config, state.term)?;
     Ok(Turn::Storing {
         item: Store::Record(Record::Config(config.copy()?)),
         then: Continuation::Reconfig { config },

@@ -64,7 +64,7 @@ pub(crate) fn fetch(state: &mut State, next: u64) -> Mem<Turn>
     ensures ready { IfOk result (λ turn. IsReadyTurn turn state.new) }
     ensures err { OnErr result (state.new.node ≡ state.old.node) }
 {
-    let last = state.ledger.last();
+    let last = state.node_data.last();
     let Some(source) = state.known.source(&state.config, state.number, last) else {
         return Ok(state.refused(Refusal::NoSource));
     };
@@ -83,8 +83,8 @@ pub(crate) fn beat(state: &State) -> Mem<Beat>
     Ok(Beat {
         config: state.config.copy()?,
         commit: state.commit,
-        visible: state.ledger.visible(),
-        primary: state.ledger.role() == Role::Primary,
+        visible: state.node_data.visible(),
+        primary: state.role == Role::Primary,
     })
 }
 
@@ -102,5 +102,5 @@ pub(crate) fn sends(state: &State, reply: Reply, to: u32, body: Body) -> Mem<Tur
 pub(crate) fn message(state: &State, to: u32, body: Body) -> Mem<Vec<Message>>
     ensures { IfOk result (λ sent. sent.items ≡ message_to state.now.node to body ∷ []) }
 {
-    state.message_in(state.ledger.term(), to, body)
+    state.message_in(state.term, to, body)
 }

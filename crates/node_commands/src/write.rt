@@ -22,7 +22,7 @@ pub(crate) fn admit(state: &State, borrowed: BorrowedWrite<'_>) -> Mem<Result<Ad
     requires name { is_collection (collection_of (shown borrowed)) ≡ true }
     ensures { IfOk result (λ admission. Admits state.now.node (shown borrowed.entry) admission) }
 {
-    state.ledger.recall_sound();
+    state.node_data.recall_sound();
     borrowed.recall_sound();
     match check_borrowed(state.alloc, borrowed) {
         Ok((ns, id)) => admit_at(state, ns, id, borrowed),
@@ -43,8 +43,8 @@ fn admit_at(
     requires sound { IsSoundWrite (shown borrowed) }
     ensures { IfOk result (λ admission. Admits state.now.node (shown borrowed.entry) admission) }
 {
-    state.ledger.recall_sound();
-    let found = state.ledger.current(ns.as_str(), &id);
+    state.node_data.recall_sound();
+    let found = state.node_data.current(ns.as_str(), &id);
     if let Some(writer) = found.holder {
         return Ok(Err(Refusal::WriteConflict(writer)));
     }
@@ -62,7 +62,7 @@ pub(crate) fn write_at_once(state: &mut State, borrowed: BorrowedWrite<'_>) -> M
         write state.old.node (shown borrowed.entry) ≡ replied reply state.new.node) }
     ensures err { OnErr result (state.new.node ≡ state.old.node) }
 {
-    if state.ledger.role() != Role::Primary {
+    if state.role != Role::Primary {
         return Ok(Reply::Refused(Refusal::NotPrimary));
     }
     write_in(state, borrowed, None)
@@ -94,10 +94,10 @@ pub(crate) fn retry(state: &mut State, session: Session, borrowed: BorrowedWrite
         retry state.old.node session (shown borrowed.entry) ≡ replied reply state.new.node) }
     ensures err { OnErr result (state.new.node ≡ state.old.node) }
 {
-    if state.ledger.role() != Role::Primary {
+    if state.role != Role::Primary {
         return Ok(Reply::Refused(Refusal::NotPrimary));
     }
-    if let Some(last) = state.ledger.last_write(session.id) {
+    if let Some(last) = state.node_data.last_write(session.id) {
         if session.number < last.number {
             return Ok(Reply::Refused(Refusal::OldNumber(last.number)));
         }
@@ -114,14 +114,15 @@ pub(crate) fn note(state: &mut State) -> Mem<Reply>
     ensures ok { IfOk result (λ reply. note state.old.node ≡ replied reply state.new.node) }
     ensures err { OnErr result (state.new.node ≡ state.old.node) }
 {
-    if state.ledger.role() != Role::Primary {
+    if state.role != Role::Primary {
         return Ok(Reply::Refused(Refusal::NotPrimary));
     }
-    state.ledger.recall_sound();
+    state.node_data.recall_sound();
     state.unjournaled.reserve(1)?;
-    let at = state.ledger.write_note()?;
+    let at = state.next();
+    state.node_data.write_note(at)?;
     state.unjournaled.add(at);
-    state.ledger.recall_sound();
+    state.node_data.recall_sound();
     Ok(Reply::Written(at))
 }
 
@@ -141,11 +142,12 @@ fn write_admitted(state: &mut State, admission: Admission, session: Option<Sessi
         Prepared::NoMatch => Ok(Reply::NoMatch),
         Prepared::Unchanged => Ok(Reply::Unchanged),
         Prepared::Entry { op, after } => {
-            state.ledger.recall_sound();
+            state.node_data.recall_sound();
             state.unjournaled.reserve(1)?;
-            let at = state.ledger.write(ns, id, op, after, session)?;
+            let at = state.next();
+            state.node_data.write(at, ns, id, op, after, session)?;
             state.unjournaled.add(at);
-            state.ledger.recall_sound();
+            state.node_data.recall_sound();
             Ok(Reply::Written(at))
         }
     }

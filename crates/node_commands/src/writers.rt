@@ -7,7 +7,7 @@ ghost use Rattle.set_model.specs.Limits.{is_collection, collection_of};
 ghost use Rattle.set_model.specs.Outcome.{replied};
 ghost use Rattle.set_model.specs.Writers.{begin, begun, commit, abort};
 ghost use Rattle.node_commands.specs.Admits.{CanBeLogged};
-ghost use Rattle.node_ledger.specs.Writers.{IsWriting, is_open};
+ghost use Rattle.node_data.specs.Writers.{IsWriting, is_open};
 
 use crate::admitted::Admission;
 use crate::write::admit;
@@ -25,10 +25,10 @@ pub(crate) fn begin(state: &mut State, writer: u32, borrowed: BorrowedWrite<'_>)
         begin state.old.node writer (shown borrowed.entry) ≡ replied reply state.new.node) }
     ensures err { OnErr result (state.new.node ≡ state.old.node) }
 {
-    if state.ledger.role() != Role::Primary {
+    if state.role != Role::Primary {
         return Ok(Reply::Refused(Refusal::NotPrimary));
     }
-    if state.ledger.is_writing(writer) {
+    if state.node_data.is_writing(writer) {
         return Ok(Reply::Refused(Refusal::WriterOpen));
     }
     match admit(state, borrowed) {
@@ -55,8 +55,9 @@ fn begin_admitted(state: &mut State, writer: u32, admission: Admission) -> Mem<R
         Prepared::NoMatch => Ok(Reply::NoMatch),
         Prepared::Unchanged => Ok(Reply::Unchanged),
         Prepared::Entry { op, .. } => {
-            state.ledger.recall_sound();
-            let at = state.ledger.open(writer, ns.as_str(), &id, op)?;
+            state.node_data.recall_sound();
+            let at = state.next();
+            state.node_data.open(at, writer, ns.as_str(), &id, op)?;
             Ok(Reply::Begun(at))
         }
     }
@@ -67,7 +68,7 @@ pub(crate) fn commit(state: &mut State, writer: u32) -> Mem<Reply>
     ensures ok { IfOk result (λ reply. commit state.old.node writer ≡ replied reply state.new.node) }
     ensures err { OnErr result (state.new.node ≡ state.old.node) }
 {
-    match state.ledger.writer(writer) {
+    match state.node_data.writer(writer) {
         Some(Writer::Open { .. }) => commit_open(state, writer),
         Some(Writer::Lost(term)) => Ok(Reply::Refused(Refusal::SteppedDown(*term))),
         Some(Writer::Done(_)) | None => Ok(Reply::Refused(Refusal::NoSuchWriter)),
@@ -79,11 +80,11 @@ fn commit_open(state: &mut State, writer: u32) -> Mem<Reply>
     ensures ok { IfOk result (λ reply. commit state.old.node writer ≡ replied reply state.new.node) }
     ensures err { OnErr result (state.new.node ≡ state.old.node) }
 {
-    state.ledger.recall_sound();
+    state.node_data.recall_sound();
     state.unjournaled.reserve(1)?;
-    let at = state.ledger.settle(writer)?;
+    let at = state.node_data.settle(writer)?;
     state.unjournaled.add(at);
-    state.ledger.recall_sound();
+    state.node_data.recall_sound();
     Ok(Reply::Committed(at))
 }
 
@@ -91,7 +92,7 @@ fn commit_open(state: &mut State, writer: u32) -> Mem<Reply>
 pub(crate) fn abort(state: &mut State, writer: u32) -> Reply
     ensures { abort state.old.node writer ≡ replied result state.new.node }
 {
-    match state.ledger.writer(writer) {
+    match state.node_data.writer(writer) {
         Some(Writer::Open { .. }) => abort_open(state, writer),
         Some(Writer::Lost(term)) => Reply::Refused(Refusal::SteppedDown(*term)),
         Some(Writer::Done(_)) | None => Reply::Refused(Refusal::NoSuchWriter),
@@ -102,7 +103,7 @@ fn abort_open(state: &mut State, writer: u32) -> Reply
     requires { IsWriting state.old.node.writers writer }
     ensures { abort state.old.node writer ≡ replied result state.new.node }
 {
-    state.ledger.recall_sound();
-    state.ledger.abort(writer);
+    state.node_data.recall_sound();
+    state.node_data.abort(writer);
     Reply::Aborted
 }

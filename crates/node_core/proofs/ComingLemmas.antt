@@ -18,7 +18,7 @@ use Rattle.node_journal.proofs.DiskLemmas.{kept_count}
 use Rattle.set_model.specs.Disk.{come_back, has_more}
 use Rattle.set_model.specs.Node.{Node}
 use Rattle.set_model.specs.Safety.{AtMost}
-use Rattle.node_ledger.proofs.LogLemmas.{up_to-up_to}
+use Rattle.node_data.proofs.LogLemmas.{up_to-up_to}
 use Rattle.node_state.specs.WellKept.{IsReadAs, IsWellKept, coming}
 use Rattle.node_state.proofs.EntryLemmas.{last_most}
 use Rattle.node_state.proofs.RestartLemmas.{no_further}

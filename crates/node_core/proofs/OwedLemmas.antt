@@ -9,7 +9,7 @@ use Rattle.node_journal.specs.Layout.{NOBODY}
 use Rattle.set_model.specs.declared.store.Store.{Store}
 use Rattle.set_model.specs.declared.store.Store.TheVariants as stores
 use Rattle.set_model.specs.Node.{Node}
-use Rattle.node_ledger.specs.Sound.{IsSound}
+use Rattle.node_data.specs.Sound.{IsSound}
 use Rattle.node_state.specs.Ready.{CanBeStored}
 use Rattle.node_state.specs.WellKept.{StoresWell}
 use Rattle.node_commands.proofs.VoterLemmas.{few_members}

@@ -30,7 +30,7 @@ use Rattle.set_model.specs.declared.command.Command.TheVariants.{Restart}
 use Rattle.set_model.specs.declared.store.Store.TheVariants as stores
 use Rattle.set_model.specs.Node.{Node}
 use Rattle.set_model.specs.Stores.{stored, in_doubt}
-use Rattle.node_ledger.specs.Ledger.{IsReadable}
+use Rattle.node_data.specs.NodeData.{IsReadable}
 use Rattle.node_core.specs.Acting.{AreSame, DisksLeft, RunsWithoutOrders}
 use Rattle.node_core.specs.Putting.{IsKeepable, IsSavable, Puts}
 use Rattle.node_core.specs.OnDisks.{UpOnDisks}

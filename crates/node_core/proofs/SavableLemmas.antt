@@ -25,10 +25,10 @@ use Rattle.checkpoint_store.specs.Shown.{CanBeSaved}
 use Rattle.checkpoint_store.specs.Spelled.{NAME}
 use Rattle.set_model.proofs.HoldLemmas.{get-step}
 use Rattle.set_model.specs.Node.{Node}
-use Rattle.node_ledger.proofs.FollowLemmas.{small_up_to}
-use Rattle.node_ledger.proofs.OwnLemmas.{IsOwn, own_docs}
-use Rattle.node_ledger.specs.Sound.{IsSound}
-use Rattle.node_ledger.specs.Versions.{IsSmall}
+use Rattle.node_data.proofs.FollowLemmas.{small_up_to}
+use Rattle.node_data.proofs.OwnLemmas.{IsOwn, own_docs}
+use Rattle.node_data.specs.Sound.{IsSound}
+use Rattle.node_data.specs.Versions.{IsSmall}
 use Rattle.node_commands.proofs.AdmitLemmas.{small_docs}
 
 -- ---- the name of its collection

@@ -20,7 +20,7 @@ use Rattle.set_model.specs.Node.{Node}
 use Rattle.set_model.specs.Outcome.{refused}
 use Rattle.set_model.specs.Stores.{Plan, finished, storing, done, reaches, in_doubt, stored}
 use Rattle.set_model.specs.declared.reply.Refusal.TheVariants.{DiskFailed}
-use Rattle.node_ledger.specs.Ledger.{IsReadable}
+use Rattle.node_data.specs.NodeData.{IsReadable}
 use Rattle.node_core.specs.OnDisks.{UpOnDisks, DownOnDisks}
 use Rattle.node_core.specs.Stands.{Stands, documents_at}
 use Rattle.node_state.specs.Turns.{rest_of}

@@ -16,7 +16,7 @@ ghost use Rattle.set_model.specs.Points.{last_point};
 ghost use Rattle.set_model.specs.Reads.{local_documents};
 ghost use Rattle.set_model.specs.Rows.{row};
 ghost use Rattle.set_model.specs.World.{is_delivery};
-ghost use Rattle.node_ledger.specs.Ledger.{IsReadable};
+ghost use Rattle.node_data.specs.NodeData.{IsReadable};
 ghost use Rattle.node_core.specs.Acting.{Acted, AreReopened, AreSame, DisksLeft, RunsWithoutOrders, Took, Unchanged};
 ghost use Rattle.node_state.specs.Bounds.{IsBounded, IsNumbered, is_own};
 ghost use Rattle.node_core.specs.Nodes.{HasFailed, answer_of, checkpoints_after, journal_after};
@@ -66,7 +66,7 @@ impl<D: Disk> Model for Node<D> {
     ghost use Rattle.member_config.specs.contracts.config.Config as config_row;
     ghost use Rattle.repl_msg.specs.contracts.record.Record as record_kept;
     ghost use Rattle.set_model.specs.contracts.store.Store as store_row;
-    ghost use Rattle.node_ledger.specs.Code.{writers_code, slots_code, progress_code, known_code, tally_code};
+    ghost use Rattle.node_data.specs.Code.{writers_code, slots_code, progress_code, known_code, tally_code};
     ghost use Rattle.set_model.specs.Node.{Node as Seen};
 
     ghost Value = { Seen × D × D };

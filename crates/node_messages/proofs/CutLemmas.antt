@@ -29,9 +29,9 @@ use Rattle.set_model.specs.Safety.{AtMost, Has}
 use Rattle.oplog_store.specs.Unjournaled.{up_to}
 use Rattle.node_state.specs.Coherent.{IsCoherent, is_kept}
 use Rattle.node_state.specs.Ready.{IsCut}
-use Rattle.node_state.specs.Seen.{BesideLedger, seen_node}
-use Rattle.node_ledger.specs.Sound.{IsSound}
-use Rattle.node_ledger.proofs.LogLemmas.{filter-swap}
+use Rattle.node_state.specs.Seen.{BesideData, seen_node}
+use Rattle.node_data.specs.Sound.{IsSound}
+use Rattle.node_data.proofs.LogLemmas.{filter-swap}
 use Rattle.node_state.proofs.RestartLemmas.{no_further}
 use Rattle.node_state.proofs.StoredLemmas.{sound_seen}
 use Rattle.node_state.proofs.WellKeptLemmas.{has_up_to}
@@ -145,7 +145,7 @@ module _ (node : Node) (point : OpTime) (lost : List (Place × Option Fields)) (
   }
 
 -- the same of a node's parts in memory
-pub coherent-rolled : (n m : Node) (rest : BesideLedger) (items : List Record) (point durable : OpTime) (lost : List (Place × Option Fields)) (optimes fewer : List OpTime)
+pub coherent-rolled : (n m : Node) (rest : BesideData) (items : List Record) (point durable : OpTime) (lost : List (Place × Option Fields)) (optimes fewer : List OpTime)
     → m ≡ record n { log = log_up_to point n.log; applied = point } → items ≡ rest.records ++ records.Cut point ∷ [] → durable ≡ earlier_of rest.durable point → fewer ≡ up_to point optimes
     → IsSound n → IsCut point (seen_node n rest) → IsCoherent (seen_node n rest) rest.tally optimes
     → IsCoherent (seen_node m (record rest { records = items; durable = durable; lost = lost; rollback = rest.rollback + 1 })) rest.tally fewer

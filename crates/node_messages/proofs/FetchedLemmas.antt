@@ -21,7 +21,7 @@ use Rattle.set_model.specs.Fetched.{Follows}
 use Rattle.set_model.specs.Fetching.{seen_after, with_fetched}
 use Rattle.set_model.specs.Node.{Node}
 use Rattle.set_model.specs.Safety.{AtMost}
-use Rattle.node_ledger.specs.Kept.{FitsBeside}
+use Rattle.node_data.specs.Kept.{FitsBeside}
 use Rattle.node_state.specs.Coherent.{IsCoherent}
 use Rattle.node_state.proofs.SlotLemmas.{visible_grows}
 use Rattle.node_state.proofs.CoherentLemmas.{coherent-written, touched}

@@ -13,7 +13,7 @@ use Rattle.set_model.specs.Points.{last_point, visible_point}
 use Rattle.set_model.specs.Roles.{is_primary}
 use Rattle.node_state.specs.Coherent.{IsCoherent}
 use Rattle.node_messages.specs.HeardBeats.{commit_learnt}
-use Rattle.node_state.specs.Seen.{BesideLedger, seen_node}
+use Rattle.node_state.specs.Seen.{BesideData, seen_node}
 use Rattle.node_state.proofs.CommitLemmas.{IsBetween, coherent-commit, counted_between}
 use Rattle.node_state.proofs.TermLemmas.{coherent-turned}
 
@@ -36,7 +36,7 @@ learnt_between true stable durable commit heard old = counted_between stable dur
 learnt_between false stable durable commit heard old = old
 
 -- a commit point is learnt of a node that is known
-pub coherent-learnt : (n : Node) (rest : BesideLedger) (commit heard : OpTime) (known : maps.FinMap nat_cmp Heard) (tally : Option Tallied) (optimes : List OpTime)
+pub coherent-learnt : (n : Node) (rest : BesideData) (commit heard : OpTime) (known : maps.FinMap nat_cmp Heard) (tally : Option Tallied) (optimes : List OpTime)
     → commit ≡ commit_learnt (seen_node n rest) heard
     → IsCoherent (seen_node n rest) tally optimes → IsCoherent (seen_node n (record rest { commit = commit; known = known })) tally optimes
 coherent-learnt n rest commit heard known tally optimes is old =
@@ -47,7 +47,7 @@ coherent-learnt n rest commit heard known tally optimes is old =
     old)
 
 -- a candidate that is a secondary counts nothing
-pub coherent-given_way : (n m : Node) (rest : BesideLedger) (tally : Option Tallied) (optimes : List OpTime) → m ≡ record n { role = Secondary }
+pub coherent-given_way : (n m : Node) (rest : BesideData) (tally : Option Tallied) (optimes : List OpTime) → m ≡ record n { role = Secondary }
     → IsCoherent (seen_node n rest) tally optimes → IsCoherent (seen_node m (record rest { tally = None })) None optimes
 coherent-given_way n m rest tally optimes is old =
     subst (λ (k : Node). IsCoherent (seen_node k (record rest { tally = None })) None optimes) (sym is)

@@ -30,9 +30,9 @@ use Rattle.set_model.specs.Fetching.{with_fetched}
 use Rattle.set_model.specs.Node.{Node, Heard}
 use Rattle.set_model.specs.Points.{last_point, visible_point, visible_log}
 use Rattle.set_model.specs.Safety.{AtMost}
-use Rattle.node_ledger.specs.Versions.{AreSmall, IsSmall, versions_from}
+use Rattle.node_data.specs.Versions.{AreSmall, IsSmall, versions_from}
 use Rattle.node_state.specs.Coherent.{IsCoherent}
-use Rattle.node_state.specs.Seen.{BesideLedger, seen_node}
+use Rattle.node_state.specs.Seen.{BesideData, seen_node}
 use Rattle.set_model.specs.Taking.{CanTakeEntries}
 use Rattle.node_state.proofs.CommitLemmas.{coherent-commit, counted_between}
 use Rattle.node_state.proofs.EntryLemmas.{last_grows}
@@ -143,7 +143,7 @@ durable_last node oplog most =
     (last_grows (visible_log node) node.log oplog.order (λ entry there. (in_visible (sets.items node.slots) node.log entry there).0))
 
 -- the node with these entries
-pub coherent-appended : (n m : Node) (rest : BesideLedger) (reply : FetchReply) (entries : List Entry) (tally : Option Tallied) (optimes more : List OpTime)
+pub coherent-appended : (n m : Node) (rest : BesideData) (reply : FetchReply) (entries : List Entry) (tally : Option Tallied) (optimes more : List OpTime)
     → entries ≡ reply.entries → m ≡ with_fetched n entries → more ≡ fold with_optime optimes (map (λ (e : Entry). e.optime) reply.entries)
     → CanTakeEntries (seen_node n rest) n.term reply → continues (last_point n) reply ≡ true → IsOplog n.log
     → IsCoherent (seen_node n rest) tally optimes → IsCoherent (seen_node m rest) tally more
@@ -156,7 +156,7 @@ coherent-appended n m rest reply entries tally optimes more entries_is node_is m
     old))
 
 -- what is learnt of its sender
-pub coherent-source : (n : Node) (rest : BesideLedger) (commit heard : OpTime) (known : maps.FinMap nat_cmp Heard) (tally : Option Tallied) (optimes : List OpTime)
+pub coherent-source : (n : Node) (rest : BesideData) (commit heard : OpTime) (known : maps.FinMap nat_cmp Heard) (tally : Option Tallied) (optimes : List OpTime)
     → commit ≡ commit_after rest.commit heard rest.durable
     → IsCoherent (seen_node n rest) tally optimes → IsCoherent (seen_node n (record rest { commit = commit; known = known })) tally optimes
 coherent-source n rest commit heard known tally optimes is old =

@@ -27,14 +27,14 @@ use Rattle.set_model.specs.Rollback.{common_told, lost_documents, roll_back, rol
 use Rattle.set_model.specs.Safety.{AtMost, Has}
 use Rattle.node_messages.specs.Ahead.{IsPreparedFor, ComesTo, taking}
 use Rattle.node_state.specs.Coherent.{IsCoherent}
-use Rattle.node_ledger.specs.Ledger.{Ledger}
+use Rattle.node_data.specs.NodeData.{NodeData}
 use Rattle.node_state.specs.Ready.{IsCut}
 use Rattle.node_messages.specs.Rolling.{point_or, reached}
-use Rattle.node_state.specs.Seen.{BesideLedger, seen_node}
+use Rattle.node_state.specs.Seen.{BesideData, seen_node}
 use Rattle.node_state.specs.MessageContinuation.{message_plan}
 use Rattle.node_state.specs.declared.turn.MessageContinuation.TheVariants as message_continuations
 use Rattle.node_state.proofs.CoherentLemmas.{coherent-applied}
-use Rattle.node_ledger.proofs.LogLemmas.{up_to-last}
+use Rattle.node_data.proofs.LogLemmas.{up_to-last}
 use Rattle.node_state.proofs.RestartLemmas.{no_further}
 use Rattle.node_state.proofs.WellKeptLemmas.{has_up_to}
 use Rattle.node_messages.proofs.BeatLemmas.{secondary_is}
@@ -156,9 +156,9 @@ can_cut raised term old after optimes visible point oplog reason is commit below
         }
 
 -- a log that is applied further, or not, keeps a node coherent
-pub coherent-reached : (n m : Node) (rest : BesideLedger) (spare left : ℕ) (at : OpTime) (result : Result (Unit {0}) AllocError) (tally : Option Tallied) (optimes : List OpTime)
-    → OnOk result (◌≡◌ {A = Ledger} (record { node = m; spare = left }) (record { node = record n { applied = at }; spare = spare })) → OnErr result (◌≡◌ {A = Ledger} (record { node = m; spare = left }) (record { node = n; spare = spare }))
+pub coherent-reached : (n m : Node) (rest : BesideData) (spare left : ℕ) (at : OpTime) (result : Result (Unit {0}) AllocError) (tally : Option Tallied) (optimes : List OpTime)
+    → OnOk result (◌≡◌ {A = NodeData} (record { node = m; spare = left }) (record { node = record n { applied = at }; spare = spare })) → OnErr result (◌≡◌ {A = NodeData} (record { node = m; spare = left }) (record { node = n; spare = spare }))
     → IsCoherent (seen_node n rest) tally optimes → IsCoherent (seen_node m rest) tally optimes
 coherent-reached n m rest spare left at (Ok done) tally optimes ok err old =
-    subst (λ (l : Ledger). IsCoherent (seen_node l.node rest) tally optimes) (sym ok) (coherent-applied (seen_node n rest) tally optimes at old)
-coherent-reached n m rest spare left at (Err why) tally optimes ok err old = subst (λ (l : Ledger). IsCoherent (seen_node l.node rest) tally optimes) (sym err) old
+    subst (λ (l : NodeData). IsCoherent (seen_node l.node rest) tally optimes) (sym ok) (coherent-applied (seen_node n rest) tally optimes at old)
+coherent-reached n m rest spare left at (Err why) tally optimes ok err old = subst (λ (l : NodeData). IsCoherent (seen_node l.node rest) tally optimes) (sym err) old

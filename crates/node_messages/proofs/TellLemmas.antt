@@ -21,7 +21,7 @@ use Rattle.set_model.specs.Points.{visible_log, visible_point}
 use Rattle.set_model.specs.Rollback.{common_refusal}
 use Rattle.node_messages.specs.Ahead.{in_term, taking}
 use Rattle.node_state.proofs.EntryLemmas.{filter_in, below_last}
-use Rattle.node_ledger.proofs.LogLemmas.{up_to-last}
+use Rattle.node_data.proofs.LogLemmas.{up_to-last}
 use Rattle.node_state.proofs.MergeLemmas.{same_log}
 
 not_so : (b : Bool) → not b ≡ true → b ≡ false

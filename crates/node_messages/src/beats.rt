@@ -153,7 +153,7 @@ fn config_after(state: &State, beat: &Beat, role: Role) -> Mem<Config>
 fn commit_after(state: &State, heard: OpTime, role: Role) -> OpTime
     ensures { result ≡ commit_learnt (record state.now.node { role = role }) heard }
 {
-    if role == Role::Primary || heard.term != state.ledger.last().term {
+    if role == Role::Primary || heard.term != state.node_data.last().term {
         return state.commit;
     }
     learn(state.commit, heard, state.durable)
@@ -196,8 +196,8 @@ fn give_way(state: &mut State, hearing: &HeardBeat)
     ensures node { state.new.node ≡ beats.given_way state.old.node (beat_in hearing.now state.old.node) }
     ensures places { state.new.places ≡ state.old.places }
 {
-    if hearing.primary && state.ledger.role() == Role::Candidate {
-        state.ledger.set_role(Role::Secondary);
+    if hearing.primary && state.role == Role::Candidate {
+        state.role = Role::Secondary;
         state.tally = None;
     }
 }
@@ -226,7 +226,7 @@ fn learn_of(state: &mut State, hearing: &HeardBeat)
         (heard_of state.old.node hearing.now.from hearing.now.visible hearing.now.primary)
         (beat_in hearing.now state.old.node) }
 {
-    state.commit = commit_after(state, hearing.commit, state.ledger.role());
+    state.commit = commit_after(state, hearing.commit, state.role);
     state
         .known
         .set(hearing.from, hearing.visible, hearing.primary);

@@ -47,7 +47,7 @@ pub fn take<R: Threads + Sync>(state: &mut State, rt: &R, next: u64, message: &M
     if let Some(why) = body_refusal(state, message) {
         return Ok(state.refused(why));
     }
-    if brings_term(&message.body) && state.ledger.is_below(message.term) {
+    if brings_term(&message.body) && state.is_below(message.term) {
         return take_higher(state, rt, next, message);
     }
     take_known(state, rt, next, message)

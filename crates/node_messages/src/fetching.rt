@@ -69,7 +69,7 @@ fn make_room(state: &mut State, count: usize) -> Mem<()>
 {
     state.known.make_room()?;
     state.unjournaled.reserve(count)?;
-    state.ledger.reserve(count)
+    state.node_data.reserve(count)
 }
 
 /// Appends the entries if they continue a secondary's log, and replies with their number and the
@@ -79,10 +79,10 @@ pub(crate) fn take_entries(state: &mut State, from: u32, reply: FetchReply) -> T
     ensures turn { Means result state.new.node (finished (rows.entries_told state.old.node from reply)) }
     ensures ready { IsReadyTurn result state.new }
 {
-    if state.ledger.role() != Role::Secondary {
+    if state.role != Role::Secondary {
         return state.answered(Reply::Ignored(Ignored::NotSecondary));
     }
-    let Ok(_) = accept(state.ledger.last(), &reply) else {
+    let Ok(_) = accept(state.node_data.last(), &reply) else {
         return state.answered(Reply::Ignored(Ignored::OtherPlace));
     };
     follow(state, from, reply)
@@ -103,7 +103,7 @@ fn follow(state: &mut State, from: u32, reply: FetchReply) -> Turn
     learn_from(state, from, visible, commit, primary);
     state.answered(Reply::Took {
         count,
-        last: state.ledger.last(),
+        last: state.node_data.last(),
     })
 }
 
@@ -125,8 +125,8 @@ fn append(state: &mut State, reply: FetchReply)
     ensures node { state.new.node ≡ rows.with_fetched state.old.node reply.entries }
     ensures places { state.new.places ≡ state.old.places }
 {
-    state.ledger.recall_sound();
+    state.node_data.recall_sound();
     note_all(&mut state.unjournaled, reply.entries.as_slice());
-    state.ledger.append(reply.entries.into_entries());
-    state.ledger.recall_sound();
+    state.node_data.append(reply.entries.into_entries());
+    state.node_data.recall_sound();
 }

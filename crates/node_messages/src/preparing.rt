@@ -111,10 +111,10 @@ fn prepare_fetch(
         (view_in_term (nat_lt state.old.node.term message.now.term) message.now.term state.new)) }
     ensures same { state.new ≡ state.old }
 {
-    state.ledger.recall_sound();
+    state.node_data.recall_sound();
     let primary = own.leads();
     let reply = state
-        .ledger
+        .node_data
         .fetched(own.visible, base, state.commit, primary)?;
     let sent = state.message_in(own.term, message.from, Body::FetchReply(reply))?;
     Ok(MessageContinuation::Answered { next, sent })
@@ -132,17 +132,17 @@ fn make_place(state: &mut State) -> Mem<()>
 pub(crate) fn in_term(state: &State, term: u64) -> InTerm
     ensures { IsInTerm result term state.now.node }
 {
-    if state.ledger.is_below(term) {
+    if state.is_below(term) {
         return InTerm {
             term,
             role: Role::Secondary,
-            visible: state.ledger.last(),
+            visible: state.node_data.last(),
         };
     }
     InTerm {
-        term: state.ledger.term(),
-        role: state.ledger.role(),
-        visible: state.ledger.visible(),
+        term: state.term,
+        role: state.role,
+        visible: state.node_data.visible(),
     }
 }
 

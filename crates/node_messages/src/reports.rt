@@ -49,10 +49,10 @@ pub(crate) fn report_told(
 fn report_ignored(state: &State, from: u32, term: u64) -> Option<Ignored>
     ensures { result ≡ report_ignored state.now.node from term }
 {
-    if term < state.ledger.term() {
+    if term < state.term {
         return Some(Ignored::OldTerm);
     }
-    if state.ledger.role() != Role::Primary {
+    if state.role != Role::Primary {
         return Some(Ignored::NotPrimary);
     }
     if !has_number(state.config.members.as_slice(), from) {

@@ -48,7 +48,7 @@ pub(crate) fn common_refusal(state: &mut State, term: u64, after: OpTime) -> Opt
 {
     state.recall_sound();
     let own = in_term(state, term);
-    if state.ledger.count_between(after, own.visible) > MOST_OPTIMES {
+    if state.node_data.count_between(after, own.visible) > MOST_OPTIMES {
         return Some(Refusal::TooManyOptimes);
     }
     None
@@ -75,7 +75,7 @@ pub(crate) fn prepare_common_asked(
     state.recall_sound();
     let body = Body::CommonReply {
         after,
-        optimes: state.ledger.optimes_between(after, own.visible)?,
+        optimes: state.node_data.optimes_between(after, own.visible)?,
         visible: own.visible,
     };
     let sent = state.message_in(own.term, message.from, body)?;
@@ -105,12 +105,12 @@ pub(crate) fn prepare_common_told<R: Threads + Sync>(
         (view_in_term (nat_lt state.old.node.term message.now.term) message.now.term state.new)) }
     ensures err { OnErr result (state.new.node ≡ state.old.node) }
 {
-    state.ledger.recall_sound();
+    state.node_data.recall_sound();
     let point = match rollback_point(state, message.term, after, optimes, visible, own) {
         Ok(point) => point,
         Err(why) => return Ok(MessageContinuation::Ignored(why)),
     };
-    let removed = state.ledger.count_behind(point);
+    let removed = state.node_data.count_behind(point);
     let lost = lost_behind(state, point)?;
     reach(state, rt, point)?;
     Ok(MessageContinuation::RolledBack {
@@ -141,7 +141,7 @@ fn rollback_point(
         return Err(Ignored::OldTerm);
     }
     match state
-        .ledger
+        .node_data
         .rollback_plan(own.term, visible, after, optimes.as_slice())
     {
         Ok(point) => Ok(point),
@@ -156,7 +156,7 @@ fn lost_behind(state: &mut State, point: OpTime) -> Mem<LostList>
         lost ≡ rows.lost_documents (local_documents state.old.node) (log_behind point state.old.node.log)) }
     ensures same { state.new ≡ state.old }
 {
-    listed(state.alloc, state.ledger.lost_behind(point)?)
+    listed(state.alloc, state.node_data.lost_behind(point)?)
 }
 
 /// Applies the log up to a point, so that it can be cut there.
@@ -164,9 +164,9 @@ fn reach<R: Threads + Sync>(state: &mut State, rt: &R, point: OpTime) -> Mem<()>
     ensures ok { OnOk result (state.new.node ≡ reached state.old.node point) }
     ensures err { OnErr result (state.new.node ≡ state.old.node) }
 {
-    match state.ledger.role() {
+    match state.role {
         Role::Primary => Ok(()),
-        Role::Secondary | Role::Candidate | Role::Draining => state.ledger.apply_to(rt, point),
+        Role::Secondary | Role::Candidate | Role::Draining => state.node_data.apply_to(rt, point),
     }
 }
 
@@ -211,8 +211,8 @@ fn cut_log(state: &mut State, item: &Store, point: OpTime, lost: LostList)
     requires ready { IsCut point state.old.node }
     ensures { state.new.node ≡ rolled_node (stored state.old.node item.now) point lost }
 {
-    state.ledger.recall_sound();
-    state.ledger.cut(point);
+    state.node_data.recall_sound();
+    state.node_data.cut(point);
     state.unjournaled.cut(point);
     state.records = state.records.with(item);
     state.durable = earlier(state.durable, point);

@@ -26,10 +26,10 @@ pub(crate) fn election_told(
     ensures ready { IfOk result (λ turn. IsReadyTurn turn state.new) }
     ensures err { OnErr result (state.new.node ≡ state.old.node) }
 {
-    if state.ledger.role() != Role::Candidate {
+    if state.role != Role::Candidate {
         return Ok(state.answered(Reply::Ignored(Ignored::NotCandidate)));
     }
-    let term = state.ledger.term();
+    let term = state.term;
     if asked != term {
         return Ok(state.answered(Reply::Ignored(Ignored::OldTerm)));
     }
@@ -93,7 +93,7 @@ fn is_trying(state: &State, asked: u64) -> bool
 {
     match &state.dry_run {
         None => false,
-        Some(dry_run) => dry_run.term() == asked && asked == state.ledger.term(),
+        Some(dry_run) => dry_run.term() == asked && asked == state.term,
     }
 }
 

@@ -41,7 +41,7 @@ pub(crate) fn vote_asked(state: &mut State, next: u64, from: u32, ask: VoteAsk) 
     ensures err { OnErr result (state.new.node ≡ state.old.node) }
 {
     let why = vote_refusal(state, from, &ask);
-    let term = state.ledger.term();
+    let term = state.term;
     if !ask.dry && term < ask.asked {
         let sent = vote_reply(state, ask.asked, from, &ask, why)?;
         return Ok(Turn::Storing {
@@ -79,11 +79,11 @@ fn vote_refusal(state: &State, from: u32, ask: &VoteAsk) -> Option<VoteRefusal>
     ensures { result ≡ votes.vote_refusal state.now.node ask.now }
 {
     let own = VoterView {
-        term: state.ledger.term(),
+        term: state.term,
         vote: state.vote,
         config_term: state.config.term,
         config_version: state.config.version,
-        last: state.ledger.last(),
+        last: state.node_data.last(),
     };
     match decide(&own, from, ask) {
         Ok(_) => None,

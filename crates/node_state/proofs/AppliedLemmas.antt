@@ -10,7 +10,7 @@ use Rattle.oplog_entry.specs.declared.entry.Entry.{Entry}
 use Rattle.set_model.specs.Node.{Node}
 use Rattle.set_model.specs.Points.{last_point}
 use Rattle.set_model.specs.Safety.{AtMost}
-use Rattle.node_ledger.specs.Sound.{IsSound}
+use Rattle.node_data.specs.Sound.{IsSound}
 use Rattle.node_state.proofs.EntryLemmas.{below_last}
 
 all_pass : {X : Type 0} (p : X → Bool) (xs : List X) → ((x : X) → In x xs → p x ≡ true) → filter p xs ≡ xs

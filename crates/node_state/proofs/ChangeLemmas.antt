@@ -23,7 +23,7 @@ use Rattle.part_laws.specs.Points.{checked, refusal_of}
 use Rattle.part_laws.proofs.RowLemmas.{reconfigs_agree}
 use Rattle.node_state.specs.Coherent.{IsCoherent}
 use Rattle.node_state.specs.Ready.{IsReadyTurn}
-use Rattle.node_state.specs.Seen.{BesideLedger, seen_node}
+use Rattle.node_state.specs.Seen.{BesideData, seen_node}
 use Rattle.node_state.specs.StateView.{StateView}
 use Rattle.node_state.specs.declared.turn.Continuation.TheVariants as continuations
 use Rattle.node_state.specs.declared.turn.Turn.TheVariants as turns
@@ -68,7 +68,7 @@ change_ready nodes standing config taken kept none taken_is kept_is =
 
 -- ---- a configuration that is kept
 
-pub coherent-configured : (n : Node) (rest : BesideLedger) (items : List Record) (config : Config) (tally : Option Tallied) (optimes : List OpTime)
+pub coherent-configured : (n : Node) (rest : BesideData) (items : List Record) (config : Config) (tally : Option Tallied) (optimes : List OpTime)
     → items ≡ rest.records ++ records.Config config ∷ [] → rule config ≡ None → n.role ≢ Candidate → IsCoherent (seen_node n rest) tally optimes
     → IsCoherent (seen_node n (record rest { records = items; config = config })) tally optimes
 coherent-configured n rest items config tally optimes are lawful other old =

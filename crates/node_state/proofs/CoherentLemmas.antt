@@ -24,7 +24,7 @@ use Rattle.set_model.specs.Safety.{AtMost, Has}
 use Rattle.set_model.specs.declared.writer.Writer.{Writer}
 use Rattle.oplog_store.specs.Unjournaled.{with_optime}
 use Rattle.oplog_store.proofs.OptimeLemmas.{map-with_entry}
-use Rattle.node_ledger.specs.Kept.{FitsBeside}
+use Rattle.node_data.specs.Kept.{FitsBeside}
 use Rattle.node_state.specs.Coherent.{IsCoherent, IsRecorded, is_kept}
 use Rattle.node_state.proofs.EntryLemmas.{has_in, in_has, filter-with}
 

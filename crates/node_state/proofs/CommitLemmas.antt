@@ -9,7 +9,7 @@ use Rattle.repl_msg.specs.Points.{advanced, commit_counted, counted_point, voted
 use Rattle.set_model.specs.Node.{Node}
 use Rattle.set_model.specs.Safety.{AtMost}
 use Rattle.node_state.specs.Coherent.{IsCoherent}
-use Rattle.node_state.specs.Seen.{BesideLedger, seen_node}
+use Rattle.node_state.specs.Seen.{BesideData, seen_node}
 
 -- a point from one optime to another
 abbrev pub IsBetween : OpTime → OpTime → OpTime → Type 0
@@ -43,7 +43,7 @@ coherent-commit node commit tally optimes between old = record {
 }
 
 -- a primary's commit point, as far as a majority and the node itself have come
-pub coherent-advanced : (n : Node) (rest : BesideLedger) (commit : OpTime) (term : ℕ) (tally : Option Tallied) (optimes : List OpTime)
+pub coherent-advanced : (n : Node) (rest : BesideData) (commit : OpTime) (term : ℕ) (tally : Option Tallied) (optimes : List OpTime)
     → commit ≡ advanced rest.progress rest.config term rest.number rest.durable rest.commit
     → IsCoherent (seen_node n rest) tally optimes → IsCoherent (seen_node n (record rest { commit = commit })) tally optimes
 coherent-advanced n rest commit term tally optimes is old =

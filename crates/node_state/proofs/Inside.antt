@@ -1,12 +1,15 @@
--- What a node in memory has beside its ledger.
-use Rattle.node_state.specs.Seen.{BesideLedger}
+-- What a node in memory has beside its data.
+use Rattle.node_state.specs.Seen.{BesideData}
 use Rattle.node_state.specs.declared.state.State.TheInside.{Inside}
 
-abbrev pub rest_in : Inside → BesideLedger
+abbrev pub rest_in : Inside → BesideData
 rest_in s =
     record {
       number = s.number;
       first = s.first;
+      role = s.role;
+      term = s.term;
+      clock = s.clock;
       vote = s.vote;
       records = s.records.list;
       durable = s.durable;

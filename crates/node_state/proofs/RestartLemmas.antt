@@ -27,12 +27,12 @@ use Rattle.set_model.specs.Node.{Node}
 use Rattle.set_model.specs.Points.{visible_point}
 use Rattle.set_model.specs.Safety.{AtMost, Has}
 use Rattle.node_state.specs.Coherent.{IsCoherent, is_kept}
-use Rattle.node_ledger.specs.Ledger.{restored}
-use Rattle.node_state.specs.Seen.{BesideLedger, seen_node}
-use Rattle.node_ledger.specs.Versions.{AreSmall}
+use Rattle.node_data.specs.NodeData.{restored}
+use Rattle.node_state.specs.Seen.{BesideData, seen_node}
+use Rattle.node_data.specs.Versions.{AreSmall}
 use Rattle.node_state.specs.WellKept.{IsWellKept, IsReadAs, coming, counted}
 use Rattle.node_state.proofs.EntryLemmas.{in_has, has_in, below_last}
-use Rattle.node_ledger.proofs.LogLemmas.{filter-all, filter-none}
+use Rattle.node_data.proofs.LogLemmas.{filter-all, filter-none}
 
 -- ---- coming back
 
@@ -86,7 +86,7 @@ come_back-coherent first number records stable rollback clock below lawful well 
     has entry there = in_has (kept records).entries entry.optime entry there refl
 
 -- beside its log, what a node comes back with that was read
-abbrev pub rest_read : Config → ℕ → List Record → OpTime → ℕ → Vote → Option Config → OpTime → BesideLedger
+abbrev pub rest_read : Config → ℕ → List Record → OpTime → ℕ → Vote → Option Config → OpTime → BesideData
 rest_read first number records stable rollback vote config point =
     record {
       number = number;
@@ -124,7 +124,7 @@ all_counted found records read =
         let read_too : In entry (log_up_to found.point found.entries) = subst (In entry) (sym read.entries) there in
         ap (λ o. not (is_before o entry.optime)) (sym read.point) ∙ (in_filter (λ (e : Entry). not (is_before found.point e.optime)) found.entries entry read_too).1
 
--- entries that a ledger is restored with, and the optime of the documents
+-- entries that a node_data is restored with, and the optime of the documents
 pub record IsRestorable (term : ℕ) (entries : List Entry) (at : OpTime) : Type 0 where
   pub term_below : term < 2 ^ 63
   pub oplog : IsOplog entries
@@ -151,14 +151,14 @@ restorable found records stable entries well read is =
     }
 
 -- a node that comes back is coherent, and nothing in its log isn't in its records
-pub restored-coherent : (first : Config) (number : ℕ) (records : List Record) (stable : OpTime) (rollback clock : ℕ) (found : Kept) (ledger : Node) (rest : BesideLedger) (optimes : List OpTime)
+pub restored-coherent : (first : Config) (number : ℕ) (records : List Record) (stable : OpTime) (rollback clock : ℕ) (found : Kept) (node_data : Node) (rest : BesideData) (optimes : List OpTime)
     → number < 50 → rule first ≡ None → IsWellKept records stable → IsReadAs found records
-    → ledger ≡ restored found.vote.term clock (log_up_to found.point found.entries) stable
+    → node_data ≡ restored found.vote.term clock (log_up_to found.point found.entries) stable
     → rest ≡ rest_read first number records stable rollback found.vote found.config found.point → optimes ≡ []
-    → IsCoherent (seen_node ledger rest) None optimes
-restored-coherent first number records stable rollback clock found ledger rest optimes below lawful well read ledger_is rest_is none =
-    subst (IsCoherent (seen_node ledger rest) None) (sym none)
+    → IsCoherent (seen_node node_data rest) None optimes
+restored-coherent first number records stable rollback clock found node_data rest optimes below lawful well read data_is rest_is none =
+    subst (IsCoherent (seen_node node_data rest) None) (sym none)
     (subst (λ (n : Node). IsCoherent n None []) (sym whole) (come_back-coherent first number records stable rollback clock below lawful well))
   where
-    whole : seen_node ledger rest ≡ come_back (coming first number records stable rollback clock) (kept records)
-    whole = (λ i. seen_node (ledger_is i) (rest_is i)) ∙ restored_is first number records stable rollback clock found read
+    whole : seen_node node_data rest ≡ come_back (coming first number records stable rollback clock) (kept records)
+    whole = (λ i. seen_node (data_is i) (rest_is i)) ∙ restored_is first number records stable rollback clock found read

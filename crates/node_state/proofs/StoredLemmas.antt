@@ -31,21 +31,21 @@ use Rattle.set_model.specs.Stores.{records_after, vote_record, config_record}
 use Rattle.set_model.specs.Votes.{vote_for}
 use Rattle.node_state.specs.Coherent.{IsCoherent, is_kept}
 use Rattle.node_state.specs.Ready.{IsReady, IsReadyTurn, CanBeStored, IsCut}
-use Rattle.node_ledger.specs.Sound.{IsSound}
+use Rattle.node_data.specs.Sound.{IsSound}
 use Rattle.node_state.specs.StateView.{StateView}
-use Rattle.node_ledger.specs.Ledger.{IsReadable}
-use Rattle.node_state.specs.Seen.{BesideLedger, seen_node}
+use Rattle.node_data.specs.NodeData.{IsReadable}
+use Rattle.node_state.specs.Seen.{BesideData, seen_node}
 use Rattle.node_state.specs.WellKept.{IsWellKept, StoresWell}
 use Rattle.node_state.specs.declared.turn.Continuation.{Continuation}
 use Rattle.node_state.specs.declared.turn.Continuation.TheVariants.{Campaign, Drain, Flush, Checkpoint, Reconfig, VoteInTerm, VoteGiven, TookTerm, Installed, Cut}
 use Rattle.node_state.specs.declared.turn.Turn.TheVariants.{Storing}
 use Rattle.node_state.proofs.EntryLemmas.{has_in}
 use Rattle.node_state.proofs.FlushLemmas.{flushed_node, coherent-flushed}
-use Rattle.node_ledger.proofs.LogLemmas.{up_to-up_to}
+use Rattle.node_data.proofs.LogLemmas.{up_to-up_to}
 use Rattle.node_state.proofs.WellKeptLemmas.{kept_up_to, well_kept, well_voted, well_configured, well_cut, well_stable}
 
-pub sound_seen : (ledger : Node) (rest : BesideLedger) → IsSound ledger → IsSound (seen_node ledger rest)
-sound_seen ledger rest sound = record {
+pub sound_seen : (node_data : Node) (rest : BesideData) → IsSound node_data → IsSound (seen_node node_data rest)
+sound_seen node_data rest sound = record {
   oplog = sound.oplog;
   entries = sound.entries;
   documents = sound.documents;
@@ -63,7 +63,7 @@ other_point Secondary a b other = refl
 other_point Candidate a b other = refl
 other_point Draining a b other = refl
 
--- what a ledger says doesn't hang on what is kept
+-- what a node_data says doesn't hang on what is kept
 sound-kept : (node : Node) (items : List Record) (durable : OpTime) → IsSound node → IsSound (record node { records = items; durable = durable })
 sound-kept node items durable sound = record {
   oplog = sound.oplog;
@@ -197,10 +197,10 @@ stores_well item (Cut point removed lost) standing tally optimes sound coherent 
     as_item standing.node item _ ready.0 (cuts_well standing.node tally optimes sound coherent point ready.1)
 
 -- the same of a node's parts in memory
-pub well_in_memory : (ledger : Node) (rest : BesideLedger) (optimes : List OpTime) → IsSound ledger → IsCoherent (seen_node ledger rest) rest.tally optimes → IsWellKept rest.records ledger.stable
-well_in_memory ledger rest optimes sound coherent = well_kept (seen_node ledger rest) rest.tally optimes (sound_seen ledger rest sound) coherent
+pub well_in_memory : (node_data : Node) (rest : BesideData) (optimes : List OpTime) → IsSound node_data → IsCoherent (seen_node node_data rest) rest.tally optimes → IsWellKept rest.records node_data.stable
+well_in_memory node_data rest optimes sound coherent = well_kept (seen_node node_data rest) rest.tally optimes (sound_seen node_data rest sound) coherent
 
-pub stores_in_memory : (item : Store) (then : Continuation) (ledger : Node) (rest : BesideLedger) (spare places : ℕ) (optimes : List OpTime) → IsSound ledger → IsCoherent (seen_node ledger rest) rest.tally optimes
-    → IsReadyTurn (Storing item then) (record { node = seen_node ledger rest; spare = spare; places = places }) → StoresWell (seen_node ledger rest) item
-stores_in_memory item then ledger rest spare places optimes sound coherent ready =
-    stores_well item then (record { node = seen_node ledger rest; spare = spare; places = places }) rest.tally optimes (sound_seen ledger rest sound) coherent ready.0 ready.1
+pub stores_in_memory : (item : Store) (then : Continuation) (node_data : Node) (rest : BesideData) (spare places : ℕ) (optimes : List OpTime) → IsSound node_data → IsCoherent (seen_node node_data rest) rest.tally optimes
+    → IsReadyTurn (Storing item then) (record { node = seen_node node_data rest; spare = spare; places = places }) → StoresWell (seen_node node_data rest) item
+stores_in_memory item then node_data rest spare places optimes sound coherent ready =
+    stores_well item then (record { node = seen_node node_data rest; spare = spare; places = places }) rest.tally optimes (sound_seen node_data rest sound) coherent ready.0 ready.1

@@ -31,8 +31,8 @@ use Rattle.set_model.specs.Node.{Node, DryTally, Report}
 use Rattle.set_model.specs.Points.{visible_point}
 use Rattle.set_model.specs.Safety.{AtMost}
 use Rattle.node_state.specs.Coherent.{IsCoherent, IsRecorded, CountsVoters}
-use Rattle.node_state.specs.Seen.{BesideLedger, seen_node}
-use Rattle.node_ledger.specs.Sound.{IsSound}
+use Rattle.node_state.specs.Seen.{BesideData, seen_node}
+use Rattle.node_data.specs.Sound.{IsSound}
 use Rattle.node_state.proofs.SlotLemmas.{visible_grows}
 
 -- ---- another role
@@ -126,7 +126,7 @@ all_visible n sound =
     visible_grows (sets.items n.slots) (sets.items (sets.empty {R = optime_cmp})) n.log n.log sound.oplog (λ entry there. there) (λ slot listed. absurd (none_open slot listed))
 
 -- a secondary counts nothing
-pub coherent-secondary : (n m : Node) (rest : BesideLedger) (tally : Option Tallied) (optimes : List OpTime) → m ≡ stepped_down n → IsSound n
+pub coherent-secondary : (n m : Node) (rest : BesideData) (tally : Option Tallied) (optimes : List OpTime) → m ≡ stepped_down n → IsSound n
     → IsCoherent (seen_node n rest) tally optimes
     → IsCoherent (seen_node m (record rest { progress = maps.empty; tally = None; dry_tally = None })) None optimes
 coherent-secondary n m rest tally optimes is sound old =
@@ -134,7 +134,7 @@ coherent-secondary n m rest tally optimes is sound old =
     (coherent-turned (seen_node n rest) Secondary sets.empty (stepped_down n).writers (stepped_down n).applied maps.empty [] None tally None optimes (all_visible n sound) (λ role. absurd (cc role)) old)
 
 -- a secondary of another term, whose vote is kept
-pub coherent-entered : (n m : Node) (rest : BesideLedger) (items : List Record) (term : ℕ) (vote : Option ℕ) (tally : Option Tallied) (optimes : List OpTime)
+pub coherent-entered : (n m : Node) (rest : BesideData) (items : List Record) (term : ℕ) (vote : Option ℕ) (tally : Option Tallied) (optimes : List OpTime)
     → m ≡ record (stepped_down n) { term = term } → items ≡ rest.records ++ records.Vote (record { term = term; candidate = vote }) ∷ []
     → IsSound n → IfSome vote (λ voter. voter < 50) → IsCoherent (seen_node n rest) tally optimes
     → IsCoherent (seen_node m (record rest { vote = vote; records = items; progress = maps.empty; tally = None; dry_tally = None })) None optimes
@@ -147,7 +147,7 @@ coherent-entered n m rest items term vote tally optimes is are sound within old 
     second.counts second)
 
 -- a vote in the node's term is kept
-pub coherent-voted : (n : Node) (rest : BesideLedger) (items : List Record) (vote : ℕ) (tally : Option Tallied) (optimes : List OpTime)
+pub coherent-voted : (n : Node) (rest : BesideData) (items : List Record) (vote : ℕ) (tally : Option Tallied) (optimes : List OpTime)
     → items ≡ rest.records ++ records.Vote (record { term = n.term; candidate = Some vote }) ∷ [] → vote < 50 → IsCoherent (seen_node n rest) tally optimes
     → IsCoherent (seen_node n (record rest { vote = Some vote; records = items })) tally optimes
 coherent-voted n rest items vote tally optimes are within old =
@@ -155,7 +155,7 @@ coherent-voted n rest items vote tally optimes are within old =
     old.counts old
 
 -- a candidate counts the votes of the voters
-pub coherent-standing : (n m : Node) (rest : BesideLedger) (counted : Tallied) (tally : Option Tallied) (optimes : List OpTime)
+pub coherent-standing : (n m : Node) (rest : BesideData) (counted : Tallied) (tally : Option Tallied) (optimes : List OpTime)
     → m ≡ record n { role = Candidate } → counted.voters ≡ voters rest.config → IsCoherent (seen_node n rest) tally optimes
     → IsCoherent (seen_node m (record rest { tally = Some counted })) (Some counted) optimes
 coherent-standing n m rest counted tally optimes is voters_are old =
@@ -163,7 +163,7 @@ coherent-standing n m rest counted tally optimes is voters_are old =
     (coherent-turned (seen_node n rest) Candidate n.slots n.writers n.applied rest.progress counted.yes rest.dry_tally tally (Some counted) optimes (at_most_refl (visible_point n)) (λ role. (voters_are, λ none. cc none)) old)
 
 -- a node in another role, but no candidate
-pub coherent-role : (n m : Node) (rest : BesideLedger) (role : Role) (optimes : List OpTime)
+pub coherent-role : (n m : Node) (rest : BesideData) (role : Role) (optimes : List OpTime)
     → m ≡ record n { role = role } → role ≢ Candidate → IsCoherent (seen_node n rest) rest.tally optimes → IsCoherent (seen_node m rest) rest.tally optimes
 coherent-role n m rest role optimes is other old =
     subst (λ (k : Node). IsCoherent (seen_node k rest) rest.tally optimes) (sym is)
@@ -171,7 +171,7 @@ coherent-role n m rest role optimes is other old =
     (λ same. absurd (other same)) old)
 
 -- a primary whose configuration in its term is kept
-pub coherent-leading : (n m : Node) (rest : BesideLedger) (items : List Record) (config : Config) (tally : Option Tallied) (optimes : List OpTime)
+pub coherent-leading : (n m : Node) (rest : BesideData) (items : List Record) (config : Config) (tally : Option Tallied) (optimes : List OpTime)
     → m ≡ record n { role = Primary } → config ≡ in_term rest.config n.term → items ≡ rest.records ++ records.Config config ∷ []
     → IsCoherent (seen_node n rest) tally optimes
     → IsCoherent (seen_node m (record rest { records = items; config = config; progress = maps.empty })) tally optimes
@@ -186,13 +186,13 @@ coherent-leading n m rest items config tally optimes is config_is are old =
 -- ---- votes counted
 
 -- a candidate that has counted one more answer, or none for want of memory
-pub coherent-counted : (n : Node) (rest : BesideLedger) (was now : Tallied) (optimes : List OpTime) → rest.tally ≡ Some was → now.voters ≡ was.voters
+pub coherent-counted : (n : Node) (rest : BesideData) (was now : Tallied) (optimes : List OpTime) → rest.tally ≡ Some was → now.voters ≡ was.voters
     → IsCoherent (seen_node n rest) rest.tally optimes → IsCoherent (seen_node n (record rest { tally = Some now })) (Some now) optimes
 coherent-counted n rest was now optimes is same old =
     coherent-turned (seen_node n rest) n.role n.slots n.writers n.applied rest.progress now.yes rest.dry_tally rest.tally (Some now) optimes (at_most_refl (visible_point n))
     (λ role. (same ∙ subst (λ t. IfSome t (λ (x : Tallied). x.voters ≡ voters rest.config)) is (old.counts role).0, λ none. cc none)) old
 
-pub coherent-dry : (n : Node) (rest : BesideLedger) (dry : Option DryTally) (optimes : List OpTime) → IsCoherent (seen_node n rest) rest.tally optimes
+pub coherent-dry : (n : Node) (rest : BesideData) (dry : Option DryTally) (optimes : List OpTime) → IsCoherent (seen_node n rest) rest.tally optimes
     → IsCoherent (seen_node n (record rest { dry_tally = dry })) rest.tally optimes
 coherent-dry n rest dry optimes old =
     coherent-turned (seen_node n rest) n.role n.slots n.writers n.applied rest.progress (seen_node n rest).tally dry rest.tally rest.tally optimes (at_most_refl (visible_point n)) old.counts old

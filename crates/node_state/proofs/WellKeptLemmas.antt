@@ -27,12 +27,12 @@ use Rattle.set_model.specs.Disk.{has_more}
 use Rattle.set_model.specs.Node.{Node}
 use Rattle.set_model.specs.Safety.{AtMost, Has}
 use Rattle.node_state.specs.Coherent.{IsCoherent, IsRecorded, is_kept}
-use Rattle.node_ledger.specs.Sound.{IsSound}
-use Rattle.node_ledger.specs.Versions.{AreSmall, IsSmall, versions_of}
+use Rattle.node_data.specs.Sound.{IsSound}
+use Rattle.node_data.specs.Versions.{AreSmall, IsSmall, versions_of}
 use Rattle.node_state.specs.WellKept.{IsWellKept, IsReadAs, counted}
 use Rattle.node_state.proofs.EntryLemmas.{filter_in, in_has, has_in}
-use Rattle.node_ledger.proofs.LogLemmas.{filter-all, filter-swap, up_to-up_to}
-use Rattle.node_ledger.proofs.VersionLemmas.{up_to-from}
+use Rattle.node_data.proofs.LogLemmas.{filter-all, filter-swap, up_to-up_to}
+use Rattle.node_data.proofs.VersionLemmas.{up_to-from}
 
 -- ---- optimes and logs
 

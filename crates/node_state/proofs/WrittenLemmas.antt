@@ -24,10 +24,10 @@ use Rattle.set_model.specs.declared.writer.Writer.TheVariants.{Open, Done}
 use Rattle.set_model.proofs.SeenLemmas.{next_past}
 use Rattle.oplog_store.specs.Unjournaled.{with_optime}
 use Rattle.node_state.specs.Coherent.{IsCoherent}
-use Rattle.node_ledger.specs.Kept.{AreApart, IsPending, FitsBeside}
-use Rattle.node_state.specs.Seen.{BesideLedger, seen_node}
-use Rattle.node_ledger.specs.Sound.{IsSound}
-use Rattle.node_ledger.specs.Writers.{HasOpen}
+use Rattle.node_data.specs.Kept.{AreApart, IsPending, FitsBeside}
+use Rattle.node_state.specs.Seen.{BesideData, seen_node}
+use Rattle.node_data.specs.Sound.{IsSound}
+use Rattle.node_data.specs.Writers.{HasOpen}
 use Rattle.node_state.proofs.EntryLemmas.{last_before}
 use Rattle.node_state.proofs.SlotLemmas.{in_fewer, in_visible, visible_grows}
 use Rattle.node_state.proofs.CoherentLemmas.{coherent-slots, coherent-written}
@@ -58,7 +58,7 @@ zero_before stable at behind = at_most_before_trans ZERO stable at (zero_at_most
 
 -- ---- each write
 
-pub coherent-logged : (n m : Node) (rest : BesideLedger) (op : Op) (session : Option Session) (tally : Option Tallied) (optimes : List OpTime) → m ≡ logged n op session → IsSound n → IsSound m
+pub coherent-logged : (n m : Node) (rest : BesideData) (op : Op) (session : Option Session) (tally : Option Tallied) (optimes : List OpTime) → m ≡ logged n op session → IsSound n → IsSound m
     → IsCoherent (seen_node n rest) tally optimes → IsCoherent (seen_node m rest) tally (with_optime optimes (next_optime n))
 coherent-logged n m rest op session tally optimes is sound after old =
     subst (λ (k : Node). IsCoherent (seen_node k rest) tally (with_optime optimes (next_optime n))) (sym is)
@@ -72,7 +72,7 @@ coherent-logged n m rest op session tally optimes is sound after old =
     })
     old)
 
-pub coherent-opened : (n m : Node) (rest : BesideLedger) (number : ℕ) (op : Op) (tally : Option Tallied) (optimes : List OpTime) → m ≡ opened n number op → IsSound n
+pub coherent-opened : (n m : Node) (rest : BesideData) (number : ℕ) (op : Op) (tally : Option Tallied) (optimes : List OpTime) → m ≡ opened n number op → IsSound n
     → IsCoherent (seen_node n rest) tally optimes → IsCoherent (seen_node m rest) tally optimes
 coherent-opened n m rest number op tally optimes is sound old =
     subst (λ (k : Node). IsCoherent (seen_node k rest) tally optimes) (sym is)
@@ -84,7 +84,7 @@ coherent-opened n m rest number op tally optimes is sound old =
     ]))
     old)
 
-pub coherent-settled : (n m : Node) (rest : BesideLedger) (number : ℕ) (at : OpTime) (op : Op) (tally : Option Tallied) (optimes : List OpTime) → m ≡ settled n number at op → HasOpen n.writers number at op
+pub coherent-settled : (n m : Node) (rest : BesideData) (number : ℕ) (at : OpTime) (op : Op) (tally : Option Tallied) (optimes : List OpTime) → m ≡ settled n number at op → HasOpen n.writers number at op
     → IsSound n → AreApart n → IsSound m → IsCoherent (seen_node n rest) tally optimes → IsCoherent (seen_node m rest) tally (with_optime optimes at)
 coherent-settled n m rest number at op tally optimes is has sound writers after old =
     subst (λ (k : Node). IsCoherent (seen_node k rest) tally (with_optime optimes at)) (sym is)
@@ -101,7 +101,7 @@ coherent-settled n m rest number at op tally optimes is has sound writers after 
     pending : IsPending n at op
     pending = writers.pending number at op has
 
-pub coherent-aborted : (n m : Node) (rest : BesideLedger) (number : ℕ) (at : OpTime) (tally : Option Tallied) (optimes : List OpTime) → m ≡ aborted n number at → IsSound n
+pub coherent-aborted : (n m : Node) (rest : BesideData) (number : ℕ) (at : OpTime) (tally : Option Tallied) (optimes : List OpTime) → m ≡ aborted n number at → IsSound n
     → IsCoherent (seen_node n rest) tally optimes → IsCoherent (seen_node m rest) tally optimes
 coherent-aborted n m rest number at tally optimes is sound old =
     subst (λ (k : Node). IsCoherent (seen_node k rest) tally optimes) (sym is)

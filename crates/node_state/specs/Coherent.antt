@@ -1,6 +1,7 @@
 -- What is true of a node in memory after each step.
-use Rattle.std.specs.Prelude.{◌≡◌, ◌≢◌, ◌<◌, ◌⊎◌, Bool, true, false, All, List, Option, None, IfSome, map, filter, unwrap_or}
-use Rattle.rs_optime.specs.Order.{is_before}
+use Rattle.std.specs.Prelude.{◌≡◌, ◌≢◌, ◌<◌, ◌≤◌, ◌^◌, ◌⊎◌, ℕ, Bool, true, false, All, IsTrue, List, Option, None, IfSome, map, filter, unwrap_or}
+use Rattle.std.specs.FinSet as sets
+use Rattle.rs_optime.specs.Order.{is_before, optime_cmp}
 use Rattle.rs_optime.specs.declared.optime.OpTime.{OpTime}
 use Rattle.oplog_entry.specs.Visible.{ZERO}
 use Rattle.oplog_entry.specs.declared.entry.Entry.{Entry}
@@ -12,7 +13,10 @@ use Rattle.set_model.specs.declared.role.Role.TheVariants.{Candidate}
 use Rattle.set_model.specs.Node.{Node}
 use Rattle.set_model.specs.Disk.{unjournaled}
 use Rattle.set_model.specs.Points.{has_entry, visible_point}
+use Rattle.set_model.specs.Roles.{is_primary}
 use Rattle.set_model.specs.Safety.{AtMost, Has}
+use Rattle.node_data.specs.NodeData.{data_role}
+use Rattle.node_state.specs.Seen.{BesideData, seen_node}
 
 -- each point is at or before the next one, and the log is durable up to an entry
 pub record ArePoints (node : Node) : Type 0 where
@@ -49,3 +53,16 @@ pub record IsCoherent (node : Node) (tally : Option Tallied) (optimes : List OpT
   -- the entries that aren't in the records
   pub unjournaled : optimes ≡ map (λ entry. entry.optime) (unjournaled node)
   pub counts : CountsVoters node tally
+
+-- the term is within its bound, no entry is of a later one, and each open slot is of this one
+pub record IsOfTerm (term : ℕ) (log : List Entry) (slots : sets.FinSet optime_cmp) : Type 0 where
+  pub bound : term < 2 ^ 63
+  pub entries : All (λ entry. entry.optime.term ≤ term) log
+  pub open_slots : (slot : OpTime) → IsTrue (sets.contains slots slot) → slot.term ≡ term
+
+-- A node of this data and of what it has beside is coherent. Writers may write where it is primary, and only
+-- there, and its log is of its term.
+pub record IsState (node : Node) (rest : BesideData) (optimes : List OpTime) : Type 0 where
+  pub writable : node.role ≡ data_role (is_primary rest.role)
+  pub of_term : IsOfTerm rest.term node.log node.slots
+  pub coherent : IsCoherent (seen_node node rest) rest.tally optimes

@@ -9,6 +9,7 @@ use Rattle.member_config.specs.declared.config.Config.{Config}
 use Rattle.election_core.specs.Counting.{Tallied}
 use Rattle.repl_msg.specs.declared.record.Record.{Record}
 use Rattle.set_model.specs.Node.{Node, DryTally, Report, Heard}
+use Rattle.set_model.specs.declared.role.Role.{Role}
 
 -- those who voted for the candidate
 abbrev pub yes_of : Option Tallied → List ℕ
@@ -16,9 +17,12 @@ yes_of None = []
 yes_of (Some tally) = tally.yes
 
 -- beside the log and what hangs on it
-pub record BesideLedger : Type 0 where
+pub record BesideData : Type 0 where
   pub number : ℕ
   pub first : Config
+  pub role : Role
+  pub term : ℕ
+  pub clock : ℕ
   pub vote : Option ℕ
   pub records : List Record
   pub durable : OpTime
@@ -31,14 +35,17 @@ pub record BesideLedger : Type 0 where
   pub lost : List (Place × Option Fields)
   pub rollback : ℕ
 
--- the node of which a ledger has the log. It is up.
-abbrev pub seen_node : Node → BesideLedger → Node
-seen_node ledger rest =
-    record ledger {
+-- the node that has this data. It is up.
+abbrev pub seen_node : Node → BesideData → Node
+seen_node node_data rest =
+    record node_data {
       number = rest.number;
       up = true;
       doubt = None;
       first = rest.first;
+      role = rest.role;
+      term = rest.term;
+      clock = rest.clock;
       vote = rest.vote;
       records = rest.records;
       durable = rest.durable;

@@ -14,8 +14,8 @@ use Rattle.set_model.specs.Node.{Node, opening_node}
 use Rattle.set_model.specs.Safety.{AtMost, Has}
 use Rattle.set_model.specs.Stores.{records_after, stable_after}
 use Rattle.set_model.specs.declared.store.Store.{Store}
-use Rattle.node_ledger.specs.Ledger.{IsReadable}
-use Rattle.node_ledger.specs.Versions.{AreSmall}
+use Rattle.node_data.specs.NodeData.{IsReadable}
+use Rattle.node_data.specs.Versions.{AreSmall}
 
 -- the entries that count: those up to the point
 abbrev pub counted : List Record → List Entry

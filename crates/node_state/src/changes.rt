@@ -33,9 +33,10 @@ impl State {
         ensures spare { self.new.spare ≡ self.old.spare }
         ensures places { self.new.places ≡ self.old.places }
     {
-        self.ledger.recall_sound();
-        self.ledger.step_down();
-        self.ledger.set_term(term);
+        self.node_data.recall_sound();
+        self.node_data.follow();
+        self.role = Role::Secondary;
+        self.term = term;
         self.records = self.records.with(item);
         self.vote = vote;
         self.progress = Progress::new(self.alloc);
@@ -48,8 +49,9 @@ impl State {
         ensures node { self.new.node ≡ stepped_down self.old.node }
         ensures spare { self.new.spare ≡ self.old.spare }
     {
-        self.ledger.recall_sound();
-        self.ledger.step_down();
+        self.node_data.recall_sound();
+        self.node_data.follow();
+        self.role = Role::Secondary;
         self.progress = Progress::new(self.alloc);
         self.tally = None;
         self.dry_run = None;
@@ -73,7 +75,7 @@ impl State {
         ensures node { self.new.node ≡ record self.old.node { role = Candidate; tally = tally.yes } }
         ensures spare { self.new.spare ≡ self.old.spare }
     {
-        self.ledger.set_role(Role::Candidate);
+        self.role = Role::Candidate;
         self.tally = Some(tally);
     }
 
@@ -87,7 +89,7 @@ impl State {
         if !self.is_elected() {
             return false;
         }
-        self.ledger.set_role(Role::Draining);
+        self.role = Role::Draining;
         true
     }
 

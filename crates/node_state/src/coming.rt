@@ -6,7 +6,8 @@ ghost use Rattle.oplog_entry.specs.Visible.{log_up_to};
 ghost use Rattle.member_config.specs.Rule.{rule};
 ghost use Rattle.repl_msg.specs.Kept.{kept};
 ghost use Rattle.set_model.specs.Disk.{come_back};
-ghost use Rattle.node_ledger.specs.Sound.{IsSound};
+ghost use Rattle.node_data.specs.Sound.{IsSound};
+ghost use Rattle.node_state.specs.Coherent.{IsOfTerm};
 ghost use Rattle.node_state.specs.WellKept.{coming, IsReadAs, IsWellKept, StoresWell};
 ghost use Rattle.node_state.specs.Ready.{IsReady, CanBeStored};
 
@@ -15,11 +16,11 @@ use crate::turn::Continuation;
 use bson_doc::{Doc, IdKey, Mem, Text};
 use commit_point::Progress;
 use member_config::Config;
-use node_ledger::Ledger;
+use node_data::NodeData;
 use oplog_store::Unjournaled;
 use repl_msg::Kept;
 use rs_optime::OpTime;
-use set_model::{EntryList, LostList, Records, Store};
+use set_model::{EntryList, LostList, Records, Role, Store};
 use std::alloc::Global;
 use std::collections::BTreeMap;
 use std::thread::Threads;
@@ -64,20 +65,15 @@ impl State {
     {
         let config = config_or(found.config, coming_up.first)?;
         let entries = entries_up_to(found.entries, found.point);
-        let ledger = Ledger::restore(
-            rt,
-            alloc,
-            found.vote.term,
-            coming_up.clock,
-            entries,
-            stable,
-            documents,
-        )?;
+        let node_data = NodeData::restore(rt, alloc, entries, stable, documents)?;
         Ok(State {
             alloc,
             number: coming_up.number,
             first: coming_up.first.copy()?,
-            ledger,
+            role: Role::Secondary,
+            term: found.vote.term,
+            clock: coming_up.clock,
+            node_data,
             vote: found.vote.candidate,
             durable: found.point,
             commit: stable,
@@ -96,17 +92,18 @@ impl State {
 
 // Facts of a node in memory, for the proofs of who stores for it.
 impl State {
-    /// It is up, with nothing in doubt, its log is in order, and its number and first configuration are
-    /// lawful: a fact for callers' proofs, which costs nothing.
+    /// It is up, with nothing in doubt, its log is in order and of its term, and its number and first
+    /// configuration are lawful: a fact for callers' proofs, which costs nothing.
     pub fn recall_sound(&self)
         ensures sound { IsSound self.now.node }
+        ensures term { IsOfTerm self.now.node.term self.now.node.log self.now.node.slots }
         ensures up { self.now.node.up ≡ true }
         ensures settled { self.now.node.doubt ≡ None }
         ensures number { self.now.node.number < 50 }
         ensures first { rule self.now.node.first ≡ None }
     {
         let _ = &self.number;
-        self.ledger.recall_sound();
+        self.node_data.recall_sound();
     }
 
     /// A node in memory is up.
@@ -122,7 +119,7 @@ impl State {
         ensures { IsWellKept self.now.node.records self.now.node.stable }
     {
         let _ = &self.number;
-        self.ledger.recall_sound();
+        self.node_data.recall_sound();
     }
 
     /// The node could come up again once this is stored, too: a fact for callers' proofs,
@@ -133,7 +130,7 @@ impl State {
         ensures { StoresWell self.now.node _item.now }
     {
         let _ = &self.number;
-        self.ledger.recall_sound();
+        self.node_data.recall_sound();
     }
 }
 

@@ -31,7 +31,7 @@ impl State {
     pub fn config_in_term(&self) -> Mem<Config>
         ensures { IfOk result (λ config. config ≡ in_term self.now.node.config self.now.node.term) }
     {
-        in_term(&self.config, self.ledger.term())
+        in_term(&self.config, self.term)
     }
 
     /// Applies the whole log.
@@ -42,9 +42,9 @@ impl State {
         ensures spare { self.new.spare ≡ self.old.spare }
         ensures err { OnErr result (self.new.node ≡ self.old.node) }
     {
-        self.ledger.recall_sound();
-        let last = self.ledger.last();
-        self.ledger.apply_to(rt, last)?;
+        self.node_data.recall_sound();
+        let last = self.node_data.last();
+        self.node_data.apply_to(rt, last)?;
         Ok(())
     }
 
@@ -54,7 +54,7 @@ impl State {
         ensures ok { OnOk result (more ≤ self.new.spare) }
     {
         self.unjournaled.reserve(more)?;
-        self.ledger.reserve(more)
+        self.node_data.reserve(more)
     }
 
     /// Makes the node primary, with its configuration in its own term, whose record is in the journal.
@@ -66,7 +66,8 @@ impl State {
         ensures node { self.new.node ≡ drained (stored self.old.node item.now) }
         ensures spare { self.new.spare ≡ self.old.spare }
     {
-        self.ledger.become_primary();
+        self.node_data.make_writable();
+        self.role = Role::Primary;
         self.records = self.records.with(item);
         self.config = config;
         self.progress = Progress::new(self.alloc);
@@ -80,9 +81,10 @@ impl State {
         ensures at { result ≡ next_optime self.old.node }
         ensures node { self.new.node ≡ logged self.old.node Noop None }
     {
-        self.ledger.recall_sound();
-        let at = self.ledger.append_noop();
-        self.ledger.recall_sound();
+        self.node_data.recall_sound();
+        let at = self.next();
+        self.node_data.append_noop(at);
+        self.node_data.recall_sound();
         self.unjournaled.add(at);
         at
     }
@@ -92,11 +94,14 @@ impl State {
         ensures node { self.new.node ≡ evaluated self.old.node }
         ensures spare { self.new.spare ≡ self.old.spare }
     {
-        if self.ledger.role() == Role::Primary {
-            let term = self.ledger.term();
-            self.commit = self
-                .progress
-                .advance(&self.config, term, self.number, self.durable, self.commit);
+        if self.role == Role::Primary {
+            self.commit = self.progress.advance(
+                &self.config,
+                self.term,
+                self.number,
+                self.durable,
+                self.commit,
+            );
         }
     }
 }

@@ -1,4 +1,4 @@
-ghost use Rattle.std.specs.Prelude.{◌≡◌, ◌<◌, [], None, length, IfOk};
+ghost use Rattle.std.specs.Prelude.{◌≡◌, ◌-◌, ◌^◌, ◌<◌, [], None, length, nat_lt, IfOk};
 ghost use Rattle.std.specs.FinMap as maps;
 ghost use Rattle.bson_doc.specs.Place.{Place};
 ghost use Rattle.rs_optime.specs.declared.optime.OpTime.{OpTime};
@@ -8,9 +8,9 @@ ghost use Rattle.version_store.specs.Past.{latest_of};
 ghost use Rattle.version_store.specs.Store.{shown_at, versions_at};
 ghost use Rattle.member_config.specs.Rule.{rule};
 ghost use Rattle.set_model.specs.Node.{opening_node};
-ghost use Rattle.set_model.specs.Points.{last_point};
+ghost use Rattle.set_model.specs.Points.{last_point, next_optime};
 ghost use Rattle.set_model.specs.Reads.{local_documents};
-ghost use Rattle.node_ledger.specs.Ledger.{IsReadable};
+ghost use Rattle.node_data.specs.NodeData.{IsNext, IsReadable};
 ghost use Rattle.node_state.specs.Turns.{FinishesWith};
 
 use crate::turn::Turn;
@@ -18,11 +18,11 @@ use bson_doc::Mem;
 use commit_point::Progress;
 use election_core::{DryRun, Tally};
 use member_config::Config;
-use node_ledger::Ledger;
+use node_data::NodeData;
 use oplog_store::Unjournaled;
 use repl_msg::{NEWEST_FORM, Record};
-use rs_optime::OpTime;
-use set_model::{LostList, Records, Refusal, Reply, Store};
+use rs_optime::{OpTime, next_after};
+use set_model::{LostList, Records, Refusal, Reply, Role, Store};
 use std::alloc::Global;
 use std::marker::Model;
 use sync_source::KnownTable;
@@ -30,7 +30,7 @@ use version_store::VersionStore;
 
 /// A node that is up, as far as it is in memory. What it is to store on its disks it tells by its turns.
 ///
-/// Its fields are open to the crates of commands and messages. What holds of them together (`IsCoherent`) is
+/// Its fields are open to the crates of commands and messages. What holds of them together (`IsState`) is
 /// proved wherever one of them changes.
 #[derive(Drop)]
 pub struct State {
@@ -39,8 +39,14 @@ pub struct State {
     pub number: u32,
     /// The configuration that the set began with.
     pub first: Config,
+    /// What it does in the set.
+    pub role: Role,
+    /// The term that it is in.
+    pub term: u64,
+    /// The second that its timestamps start from.
+    pub clock: u32,
     /// Its log, with the open slots, and the documents.
-    pub ledger: Ledger,
+    pub node_data: NodeData,
     /// Whom it voted for in its term.
     pub vote: Option<u32>,
     /// How far the log is durable.
@@ -77,7 +83,7 @@ impl Model for State {
     ghost use Rattle.member_config.specs.contracts.config.Config as config_row;
     ghost use Rattle.repl_msg.specs.contracts.record.Record as record_kept;
     ghost use Rattle.set_model.specs.contracts.store.Store as store_row;
-    ghost use Rattle.node_ledger.specs.Code.{writers_code, slots_code, progress_code, known_code, tally_code};
+    ghost use Rattle.node_data.specs.Code.{writers_code, slots_code, progress_code, known_code, tally_code};
     ghost use Rattle.node_state.specs.StateView.{StateView};
 
     ghost Value = { StateView };
@@ -99,12 +105,15 @@ impl Model for State {
     ) };
 
     ghost use Rattle.node_state.specs.Seen.{seen_node};
-    ghost use Rattle.node_state.specs.Coherent.{IsCoherent};
+    ghost use Rattle.node_state.specs.Coherent.{IsState};
 
     ghost view = { λ s. record {
-      node = seen_node s.ledger.node (record {
+      node = seen_node s.node_data.node (record {
         number = s.number;
         first = s.first;
+        role = s.role;
+        term = s.term;
+        clock = s.clock;
         vote = s.vote;
         records = s.records.list;
         durable = s.durable;
@@ -117,13 +126,16 @@ impl Model for State {
         lost = s.lost;
         rollback = s.rollback;
       });
-      spare = min s.ledger.spare s.unjournaled.spare;
+      spare = min s.node_data.spare s.unjournaled.spare;
       places = s.known.spare;
     } };
 
-    ghost invariant = { λ s. IsCoherent (seen_node s.ledger.node (record {
+    ghost invariant = { λ s. IsState s.node_data.node (record {
       number = s.number;
       first = s.first;
+      role = s.role;
+      term = s.term;
+      clock = s.clock;
       vote = s.vote;
       records = s.records.list;
       durable = s.durable;
@@ -135,7 +147,7 @@ impl Model for State {
       dry_tally = s.dry_run;
       lost = s.lost;
       rollback = s.rollback;
-    })) s.tally s.unjournaled.optimes };
+    }) s.unjournaled.optimes };
 }
 
 impl State {
@@ -150,7 +162,10 @@ impl State {
             alloc,
             number,
             first: config.copy()?,
-            ledger: Ledger::new(alloc)?,
+            role: Role::Secondary,
+            term: 0,
+            clock: 0,
+            node_data: NodeData::new(alloc)?,
             vote: None,
             durable: OpTime::ZERO,
             commit: OpTime::ZERO,
@@ -175,7 +190,7 @@ impl State {
             → shown_at result.now place at ≡ maps.get (docs (log_up_to at self.now.node.log)) place }
         ensures shards { result.now.count ≡ 64 }
     {
-        self.ledger.store()
+        self.node_data.store()
     }
 
     /// A turn that is finished, with this reply and no message.
@@ -216,21 +231,40 @@ impl State {
     pub fn clock(&self) -> u32
         ensures { result ≡ self.now.node.clock }
     {
-        self.ledger.clock()
+        self.clock
+    }
+
+    /// The optime that its next entry gets.
+    pub fn next(&self) -> OpTime
+        requires { self.now.node.seen < 2 ^ 64 - 1 }
+        ensures at { result ≡ next_optime self.now.node }
+        ensures next { IsNext self.now.node.log self.now.node.slots self.now.node.seen result }
+    {
+        OpTime {
+            term: self.term,
+            ts: next_after(self.clock, self.node_data.seen()),
+        }
+    }
+
+    /// Whether a term is later than the node's.
+    pub fn is_below(&self, term: u64) -> bool
+        ensures { result ≡ nat_lt self.now.node.term term }
+    {
+        self.term < term
     }
 
     /// The optime as of which the checkpoint has the documents.
     pub fn stable(&self) -> OpTime
         ensures { result ≡ self.now.node.stable }
     {
-        self.ledger.stable()
+        self.node_data.stable()
     }
 
     /// The optimes of its last entry, or ZERO, and of its commit point.
     pub fn points(&self) -> (OpTime, OpTime)
         ensures { result ≡ (last_point self.now.node, self.now.node.commit) }
     {
-        (self.ledger.last(), self.commit)
+        (self.node_data.last(), self.commit)
     }
 
     /// How many entries of its log stand up to its commit point.
@@ -238,7 +272,7 @@ impl State {
         ensures count { result ≡ length (log_up_to self.old.node.commit self.old.node.log) }
         ensures same { self.new ≡ self.old }
     {
-        self.ledger.count_up_to(self.commit)
+        self.node_data.count_up_to(self.commit)
     }
 
     /// The rollback id: how often the node rolled back or came up again.

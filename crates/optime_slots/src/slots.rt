@@ -63,9 +63,19 @@ impl Slots {
             term,
             ts: next_after(clock, self.mark),
         };
+        self.open(at)?;
+        Ok(at)
+    }
+
+    /// Opens a slot at an optime past every timestamp that was seen.
+    pub fn open(&mut self, at: OpTime) -> Mem<()>
+        requires { self.old.mark < at.ts }
+        ensures ok { OnOk result (self.new ≡ opened self.old at) }
+        ensures err { OnErr result (self.new ≡ self.old) }
+    {
         self.slots.insert(at)?;
         self.mark = at.ts;
-        Ok(at)
+        Ok(())
     }
 
     /// Raises the greatest timestamp seen, for an entry that had no slot.

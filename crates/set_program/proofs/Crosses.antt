@@ -45,17 +45,17 @@ use Rattle.sync_source.specs.contracts.table.KnownTable as known_table
 use Rattle.election_core.specs.contracts.dry_run.DryRun as dry_run
 use Rattle.oplog_store.specs.contracts.unjournaled.Unjournaled as unjournaled
 use Rattle.election_core.specs.contracts.tally.Tally as tally
-use Rattle.node_ledger.specs.contracts.writer_map.WriterMap as writer_map
-use Rattle.node_ledger.specs.contracts.ledger.Ledger as ledger
-use Rattle.node_ledger.specs.contracts.session_log.SessionLog as session_log
-use Rattle.node_ledger.specs.contracts.session_log.SessionTable as session_table
+use Rattle.node_data.specs.contracts.writer_map.WriterMap as writer_map
+use Rattle.node_data.specs.contracts.keeping.NodeData as node_data
+use Rattle.node_data.specs.contracts.session_log.SessionLog as session_log
+use Rattle.node_data.specs.contracts.session_log.SessionTable as session_table
 use Rattle.node_state.specs.contracts.state.State as state
 use Rattle.node_core.specs.contracts.disks.Disks as disks
 use Rattle.node_core.specs.contracts.node.Node as node
 use Rattle.node_core.specs.contracts.down.DownState as down_state
 use Rattle.commit_point.proofs.progress.Progress.TheSendSync.{the_send as progress_send}
 use Rattle.set_model.proofs.records.Records.TheSendSync.{the_send as records_send}
-use Rattle.node_ledger.specs.contracts.writer_map.Held as held
+use Rattle.node_data.specs.contracts.writer_map.Held as held
 use Rattle.bson_doc.specs.contracts.doc.Value as value
 use Rattle.node_journal.proofs.journal.Journal.TheSendSync.{the_send as journal_send}
 use Rattle.checkpoint_store.proofs.checkpoints.Checkpoints.TheSendSync.{the_send as checkpoints_send}
@@ -224,11 +224,11 @@ session_table_send = search (sendable, heap.crosses, maps.crosses) depth 40 fits
 session_log_send : IsSend session_log.the_row
 session_log_send = search (sendable, heap.crosses, open_log_send, session_table_send) depth 40 fits 20000
 
-ledger_send : IsSend ledger.the_row
-ledger_send = search (sendable, heap.crosses, session_log_send, slots_send, writer_map_send, store_send) depth 40 fits 20000
+node_data_send : IsSend node_data.the_row
+node_data_send = search (sendable, heap.crosses, session_log_send, slots_send, writer_map_send, store_send) depth 40 fits 20000
 
 state_send : IsSend state.the_row
-state_send = search (sendable, heap.crosses, config_send, ledger_send, progress_send, known_send, tally_send, dry_run_send, lost_list_send, unjournaled_send, records_send) depth 40 fits 20000
+state_send = search (sendable, heap.crosses, config_send, node_data_send, progress_send, known_send, tally_send, dry_run_send, lost_list_send, unjournaled_send, records_send) depth 40 fits 20000
 
 down_send : IsSend down_state.the_row
 down_send = search (sendable, heap.crosses, records_send, entry_list_send) depth 60 fits 20000

@@ -7,5 +7,5 @@ use Rattle.node_commands.proofs.concerns.has.Goals as goal
 pub returns : goal.returns
 returns c =
     c.is_some.ensures
-    ∙ sym (has_looked_up c.entry_at.result (λ x. x.now) c.state.inside.ledger.node.log c.args.at c.entry_at.ensures.found c.entry_at.ensures.none)
+    ∙ sym (has_looked_up c.entry_at.result (λ x. x.now) c.state.inside.node_data.node.log c.args.at c.entry_at.ensures.found c.entry_at.ensures.none)
     ∙ ap (λ (s : StateView). has_entry s.node.log c.args.at) c.state.view_is

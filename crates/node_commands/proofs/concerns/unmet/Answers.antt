@@ -12,7 +12,7 @@ use Rattle.node_commands.proofs.concerns.unmet.Goals as goal
 
 pub returns : goal.returns
 returns c =
-    let node : Node = seen_node c.state.inside.ledger.node (rest_in c.state.inside) in
+    let node : Node = seen_node c.state.inside.node_data.node (rest_in c.state.inside) in
     c.refusal.ensures
     ∙ ap refusal_of (c.answer.ensures ∙ ap (λ (k : Concern). answered node.progress node.config node.number node.durable node.commit c.args.at k) c.concern.ensures)
     ∙ concerns_agree node c.args.at c.args.asked ∙ ap (λ (s : StateView). unmet s.node c.args.at c.args.asked) c.state.view_is

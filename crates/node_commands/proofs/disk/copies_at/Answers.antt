@@ -9,7 +9,7 @@ use Rattle.node_commands.proofs.disk.copies_at.Goals.{in-Some+in_ok-copy+in_ok-p
 
 pub new-requires : goal.new-requires
 new-requires c =
-    subst (All IsLawful) (sym c.loop-at.invariant) (entries_at-more c.args.ledger.now.node.log (take c.loop-at.at-index c.args.optimes.now) c.recall_sound.ensures.node.oplog.lawful)
+    subst (All IsLawful) (sym c.loop-at.invariant) (entries_at-more c.args.node_data.now.node.log (take c.loop-at.at-index c.args.optimes.now) c.recall_sound.ensures.node.oplog.lawful)
 
 pub loop-at-preserved : goal.loop-at-preserved
 loop-at-preserved c =
@@ -19,8 +19,8 @@ loop-at-preserved c =
           ap (λ (v : Vec Entry Global). v.items) w.copies-is ∙ w.in_ok-push.ensures.items
           ∙ ap (λ (e : Entry). c.loop-at.copies.items ++ e ∷ []) w.in_ok-copy.ensures
           ∙ ap (λ (xs : List Entry). xs ++ w.in-Some.entry.now ∷ []) c.loop-at.invariant
-          ∙ sym (entries_next_some c.args.ledger.now.node.log c.args.optimes.now c.loop-at.at-index d w.in-Some.entry.now c.loop-at-test.true w.in-Some.ensures)
+          ∙ sym (entries_next_some c.args.node_data.now.node.log c.args.optimes.now c.loop-at.at-index d w.in-Some.entry.now c.loop-at-test.true w.in-Some.ensures)
       | in_default w ↦
           ap (λ (v : Vec Entry Global). v.items) w.copies-is ∙ c.loop-at.invariant
-          ∙ sym (entries_next_none c.args.ledger.now.node.log c.args.optimes.now c.loop-at.at-index d c.loop-at-test.true w.in_default.ensures)
+          ∙ sym (entries_next_none c.args.node_data.now.node.log c.args.optimes.now c.loop-at.at-index d c.loop-at-test.true w.in_default.ensures)
     ]

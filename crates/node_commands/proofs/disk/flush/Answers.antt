@@ -10,12 +10,12 @@ use Rattle.node_commands.proofs.disk.flush.Goals as goal
 pub drop_first-requires : goal.drop_first-requires
 drop_first-requires c =
     let s = c.state.inside in
-    flush-count (seen_node s.ledger.node (rest_in s)) c.args.state.now.node c.args.item.now c.args.count c.args.point s.tally s.unjournaled.optimes
+    flush-count (seen_node s.node_data.node (rest_in s)) c.args.state.now.node c.args.item.now c.args.count c.args.point s.tally s.unjournaled.optimes
     (ap (λ (x : StateView). x.node) c.state.view_is) c.requires.ready c.state.invariant
 
 pub invariant_of-state : goal.invariant_of-state
 invariant_of-state c =
     let s = c.state.inside in
-    subst (λ (r : Records). IsCoherent (seen_node s.ledger.node (record (rest_in s) { records = r.list; durable = c.args.point })) s.tally c.drop_first.new.self.optimes) (sym c.with-state-inside.ensures)
-    (flush-coherent (seen_node s.ledger.node (rest_in s)) c.args.state.now.node c.args.item.now c.args.count c.args.point s.tally s.unjournaled.optimes c.drop_first.new.self.optimes
+    subst (λ (r : Records). IsCoherent (seen_node s.node_data.node (record (rest_in s) { records = r.list; durable = c.args.point })) s.tally c.drop_first.new.self.optimes) (sym c.with-state-inside.ensures)
+    (flush-coherent (seen_node s.node_data.node (rest_in s)) c.args.state.now.node c.args.item.now c.args.count c.args.point s.tally s.unjournaled.optimes c.drop_first.new.self.optimes
     (ap (λ (x : StateView). x.node) c.state.view_is) c.requires.ready c.recall_sound.ensures.node.oplog c.drop_first.ensures.optimes c.state.invariant)

@@ -10,8 +10,8 @@ use Rattle.node_commands.proofs.disk.next_entries.Goals as goal
 pub returns-clause-list : goal.returns-clause-list
 returns-clause-list c =
     let s = c.state.inside in
-    let found : entries_at s.ledger.node.log c.deref.result.now ≡ next_entries c.args.state.now.node =
-    ap (entries_at s.ledger.node.log) (c.deref.ensures.value ∙ c.in_ok-optimes.ensures.first)
-    ∙ next_entries-at (seen_node s.ledger.node (rest_in s)) s.unjournaled.optimes c.recall_sound.ensures.node.oplog c.state.invariant.unjournaled
+    let found : entries_at s.node_data.node.log c.deref.result.now ≡ next_entries c.args.state.now.node =
+    ap (entries_at s.node_data.node.log) (c.deref.ensures.value ∙ c.in_ok-optimes.ensures.first)
+    ∙ next_entries-at (seen_node s.node_data.node (rest_in s)) s.unjournaled.optimes c.recall_sound.ensures.node.oplog c.state.invariant.unjournaled
     ∙ ap (λ (x : StateView). next_entries x.node) c.state.view_is in
     subst (λ xs. IfOk c.copies_at.result (λ list. list ≡ xs)) found c.copies_at.ensures

@@ -14,9 +14,9 @@ pub returns-in-Latest : goal.returns-in-Latest
 returns-in-Latest c =
     let s = c.state.inside in
     let level_is = ap (λ (l : Level). shown_at l c.is_primary.result s.commit c.applied_point-applied.result) c.concern.ensures in
-    let here : IsShownAt (seen_node s.ledger.node (rest_in s)) c.args.level c.local_point.result = record {
+    let here : IsShownAt (seen_node s.node_data.node (rest_in s)) c.args.level c.local_point.result = record {
       readable = record { kept = c.local_point.ensures.readable.kept; reached = c.local_point.ensures.readable.reached };
-      shown = latest_shown (seen_node s.ledger.node (rest_in s)) c.args.level c.is_primary.result s.commit c.applied_point-applied.result c.local_point.result (c.in-Latest.ensures ∙ level_is) c.local_point.ensures.shown;
+      shown = latest_shown (seen_node s.node_data.node (rest_in s)) c.args.level c.is_primary.result s.commit c.applied_point-applied.result c.local_point.result (c.in-Latest.ensures ∙ level_is) c.local_point.ensures.shown;
     } in
     let there : IsShownAt c.args.state.now.node c.args.level c.local_point.result = subst (λ (x : StateView). IsShownAt x.node c.args.level c.local_point.result) c.state.view_is here in
     record { readable = there.readable; shown = there.shown }
@@ -26,8 +26,8 @@ returns-in-At c =
     let s = c.state.inside in
     let level_is = ap (λ (l : Level). shown_at l c.is_primary.result s.commit c.applied_point-applied.result) c.concern.ensures in
     let primary_is = ap (λ (b : Bool). shown_at (level_of c.args.level) b s.commit c.applied_point-applied.result) (c.is_primary.ensures ∙ ap (λ (x : StateView). is_primary x.node.role) (sym c.state.view_is)) in
-    let applied_is = ap (λ (o : OpTime). shown_at (level_of c.args.level) (is_primary s.ledger.node.role) s.commit o) c.applied_point-applied.ensures in
-    let here : IsShownAt (seen_node s.ledger.node (rest_in s)) c.args.level c.in-At.at =
-    at_shown (seen_node s.ledger.node (rest_in s)) c.args.level c.in-At.at c.state.invariant.points.stable c.recall_sound.ensures.node.stable (c.in-At.ensures ∙ level_is ∙ primary_is ∙ applied_is) in
+    let applied_is = ap (λ (o : OpTime). shown_at (level_of c.args.level) (is_primary s.node_data.node.role) s.commit o) c.applied_point-applied.ensures in
+    let here : IsShownAt (seen_node s.node_data.node (rest_in s)) c.args.level c.in-At.at =
+    at_shown (seen_node s.node_data.node (rest_in s)) c.args.level c.in-At.at c.state.invariant.points.stable c.recall_sound.ensures.node.stable (c.in-At.ensures ∙ level_is ∙ primary_is ∙ applied_is) in
     let there : IsShownAt c.args.state.now.node c.args.level c.in-At.at = subst (λ (x : StateView). IsShownAt x.node c.args.level c.in-At.at) c.state.view_is here in
     record { readable = there.readable; shown = there.shown }

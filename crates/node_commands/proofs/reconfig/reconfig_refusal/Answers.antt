@@ -17,8 +17,8 @@ check-requires c = few_members c.state.inside.config c.state.invariant.config
 pub returns-in-Ok : goal.returns-in-Ok
 returns-in-Ok c =
     let s = c.state.inside in
-    let node : Node = seen_node s.ledger.node (rest_in s) in
-    let primary : s.ledger.node.role ≡ Primary = search rules in
+    let node : Node = seen_node s.node_data.node (rest_in s) in
+    let primary : s.node_data.node.role ≡ Primary = search rules in
     let is : checked c.args.nodes node c.args.config.now ≡ None =
     ap (λ (t : ℕ). refusal s.config c.args.config.now s.number c.args.nodes t s.progress s.durable s.commit) (sym c.term-term.ensures) ∙ c.in-Ok.ensures.ok in
     refused_as c.args.nodes node c.args.config.now None primary is ∙ ap (λ (x : StateView). reconfig_refusal c.args.nodes x.node c.args.config.now) c.state.view_is
@@ -26,8 +26,8 @@ returns-in-Ok c =
 pub returns-in-Err : goal.returns-in-Err
 returns-in-Err c =
     let s = c.state.inside in
-    let node : Node = seen_node s.ledger.node (rest_in s) in
-    let primary : s.ledger.node.role ≡ Primary = search rules in
+    let node : Node = seen_node s.node_data.node (rest_in s) in
+    let primary : s.node_data.node.role ≡ Primary = search rules in
     let is : checked c.args.nodes node c.args.config.now ≡ Some c.in-Err.why =
     ap (λ (t : ℕ). refusal s.config c.args.config.now s.number c.args.nodes t s.progress s.durable s.commit) (sym c.term-term.ensures) ∙ c.in-Err.ensures.err in
     ap (λ why. Some why) c.refusal_of.ensures

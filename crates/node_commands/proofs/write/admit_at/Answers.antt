@@ -12,7 +12,7 @@ use Rattle.set_model.specs.Reads.{local_documents}
 use Rattle.set_model.specs.Roles.{if_primary}
 use Rattle.set_model.specs.declared.role.Role.{Role}
 use Rattle.node_state.specs.StateView.{StateView}
-use Rattle.node_ledger.specs.Versions.{AreSmall}
+use Rattle.node_data.specs.Versions.{AreSmall}
 use Rattle.node_commands.proofs.AdmitLemmas.{admitted-held, admitted-free, refuses, effect_can}
 use Rattle.node_commands.proofs.write.admit_at.Goals as goal
 

@@ -11,7 +11,7 @@ use Rattle.node_commands.proofs.write.note.Goals as goal
 pub invariant_of-state-2 : goal.invariant_of-state-2
 invariant_of-state-2 c =
     let s = c.state.inside in
-    let optimes : c.add.new.self.optimes ≡ with_optime s.unjournaled.optimes (next_optime s.ledger.node) =
+    let optimes : c.add.new.self.optimes ≡ with_optime s.unjournaled.optimes (next_optime s.node_data.node) =
     ap (λ (u : Optimes). u.optimes) c.add.ensures ∙ ap₂ with_optime c.reserve.ensures.optimes c.in_ok-at.ensures.at in
     subst (λ list. IsCoherent (seen_node c.write_note.new.self.node (rest_in s)) s.tally list) (sym optimes)
-    (coherent-logged s.ledger.node c.write_note.new.self.node (rest_in s) Note None s.tally s.unjournaled.optimes c.in_ok-at.ensures.ok c.recall_sound.ensures.node c.recall_sound-2.ensures.node c.state.invariant)
+    (coherent-logged s.node_data.node c.write_note.new.self.node (rest_in s) Note None s.tally s.unjournaled.optimes c.in_ok-at.ensures.ok c.recall_sound.ensures.node c.recall_sound-2.ensures.node c.state.invariant)

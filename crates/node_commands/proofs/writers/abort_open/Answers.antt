@@ -6,4 +6,4 @@ pub invariant_of-state : goal.invariant_of-state
 invariant_of-state c =
     let s = c.state.inside in
     let aborted = c.abort.ensures.node in
-    coherent-aborted s.ledger.node c.abort.new.self.node (rest_in s) c.args.writer aborted.0 s.tally s.unjournaled.optimes aborted.3 c.recall_sound.ensures.node c.state.invariant
+    coherent-aborted s.node_data.node c.abort.new.self.node (rest_in s) c.args.writer aborted.0 s.tally s.unjournaled.optimes aborted.3 c.recall_sound.ensures.node c.state.invariant

@@ -15,4 +15,4 @@ open-requires-clause-within c =
 pub invariant_of-state-in-Entry : goal.invariant_of-state-in-Entry
 invariant_of-state-in-Entry c =
     let s = c.state.inside in
-    coherent-opened s.ledger.node c.open.new.self.node (rest_in s) c.args.writer c.in-Entry.op s.tally s.unjournaled.optimes c.in_ok-at-in-Entry.ensures.ok c.recall_sound.ensures.node c.state.invariant
+    coherent-opened s.node_data.node c.open.new.self.node (rest_in s) c.args.writer c.in-Entry.op s.tally s.unjournaled.optimes c.in_ok-at-in-Entry.ensures.ok c.recall_sound.ensures.node c.state.invariant

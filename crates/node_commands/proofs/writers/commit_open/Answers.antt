@@ -13,4 +13,4 @@ invariant_of-state-2 c =
     let optimes : c.add.new.self.optimes ≡ with_optime s.unjournaled.optimes c.in_ok-at.at =
     ap (λ (u : Optimes). u.optimes) c.add.ensures ∙ ap (λ list. with_optime list c.in_ok-at.at) c.reserve.ensures.optimes in
     subst (λ list. IsCoherent (seen_node c.settle.new.self.node (rest_in s)) s.tally list) (sym optimes)
-    (coherent-settled s.ledger.node c.settle.new.self.node (rest_in s) c.args.writer c.in_ok-at.at settled.0 s.tally s.unjournaled.optimes settled.2 settled.1 c.recall_sound.ensures.node c.recall_sound.ensures.writers c.recall_sound-2.ensures.node c.state.invariant)
+    (coherent-settled s.node_data.node c.settle.new.self.node (rest_in s) c.args.writer c.in_ok-at.at settled.0 s.tally s.unjournaled.optimes settled.2 settled.1 c.recall_sound.ensures.node c.recall_sound.ensures.writers c.recall_sound-2.ensures.node c.state.invariant)

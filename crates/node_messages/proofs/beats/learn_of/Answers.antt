@@ -9,7 +9,7 @@ use Rattle.node_messages.proofs.beats.learn_of.Goals as goal
 
 pub invariant_of-state : goal.invariant_of-state
 invariant_of-state c =
-    coherent-learnt c.state.inside.ledger.node (rest_in c.state.inside) c.commit_after-state-inside.result c.args.hearing.now.commit c.set.new.self.heard c.state.inside.tally c.state.inside.unjournaled.optimes
+    coherent-learnt c.state.inside.node_data.node (rest_in c.state.inside) c.commit_after-state-inside.result c.args.hearing.now.commit c.set.new.self.heard c.state.inside.tally c.state.inside.unjournaled.optimes
     (c.commit_after-state-inside.ensures
     ∙ ap (λ (s : StateView). commit_learnt (record s.node { role = c.role.result }) c.args.hearing.now.commit) (sym c.state.view_is)
-    ∙ ap (λ (r : Role). commit_learnt (record (seen_node c.state.inside.ledger.node (rest_in c.state.inside)) { role = r }) c.args.hearing.now.commit) c.role.ensures) c.state.invariant
+    ∙ ap (λ (r : Role). commit_learnt (record (seen_node c.state.inside.node_data.node (rest_in c.state.inside)) { role = r }) c.args.hearing.now.commit) c.role.ensures) c.state.invariant

@@ -7,7 +7,7 @@ use Rattle.set_model.specs.Fetching.{reply_to}
 use Rattle.set_model.specs.Node.{Node}
 use Rattle.set_model.specs.Outcome.{message_to}
 use Rattle.set_model.specs.Roles.{is_primary}
-use Rattle.node_ledger.specs.Ledger.{Ledger}
+use Rattle.node_data.specs.NodeData.{NodeData}
 use Rattle.node_state.specs.Seen.{seen_node}
 use Rattle.node_state.specs.StateView.{StateView}
 use Rattle.node_messages.proofs.ForeseenLemmas.{answered_is, fetch_body}
@@ -23,7 +23,7 @@ returns-clause-told c =
     let raised = nat_lt old.term term in
     let order : AllPairs StandsBefore old.log = subst (λ (s : StateView). AllPairs StandsBefore s.node.log) c.state.view_is c.recall_sound.ensures.node.oplog.order in
     let same : seen_node c.fetched.new.self.node (rest_in c.state.inside) ≡ old =
-    ap (λ (l : Ledger). seen_node l.node (rest_in c.state.inside)) c.fetched.ensures.same ∙ ap (λ (s : StateView). s.node) c.state.view_is in
+    ap (λ (l : NodeData). seen_node l.node (rest_in c.state.inside)) c.fetched.ensures.same ∙ ap (λ (s : StateView). s.node) c.state.view_is in
     let body = bodies.FetchReply c.in_ok-reply.reply in
     foretold _ raised term _ old (seen_node c.fetched.new.self.node (rest_in c.state.inside))
     (answered_is raised term c.args.next from old c.in_ok-sent.sent.items body (λ n. bodies.FetchReply (reply_to n c.args.base))

@@ -5,4 +5,4 @@ use Rattle.node_messages.proofs.reports.note_report.Goals as goal
 
 pub invariant_of-state : goal.invariant_of-state
 invariant_of-state c =
-    coherent-tables (seen_node c.state.inside.ledger.node (rest_in c.state.inside)) c.note.new.self c.state.inside.known.heard c.state.inside.tally c.state.inside.unjournaled.optimes c.state.invariant
+    coherent-tables (seen_node c.state.inside.node_data.node (rest_in c.state.inside)) c.note.new.self c.state.inside.known.heard c.state.inside.tally c.state.inside.unjournaled.optimes c.state.invariant

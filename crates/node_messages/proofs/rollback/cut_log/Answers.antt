@@ -9,6 +9,6 @@ use Rattle.node_messages.proofs.rollback.cut_log.Goals as goal
 
 pub invariant_of-state : goal.invariant_of-state
 invariant_of-state c =
-    coherent-rolled c.state.inside.ledger.node c.cut.new.self.node (rest_in c.state.inside) c.with-state-inside.result.list c.args.point c.earlier-state-inside.result c.args.lost c.state.inside.unjournaled.optimes c.cut-2.new.self.optimes
+    coherent-rolled c.state.inside.node_data.node c.cut.new.self.node (rest_in c.state.inside) c.with-state-inside.result.list c.args.point c.earlier-state-inside.result c.args.lost c.state.inside.unjournaled.optimes c.cut-2.new.self.optimes
     c.cut.ensures.node (ap (λ (r : Records). r.list) c.with-state-inside.ensures ∙ ap (records_after c.state.inside.records.list) c.requires.item) c.earlier-state-inside.ensures c.cut-2.ensures.optimes
     c.recall_sound.ensures.node (subst (λ (s : StateView). IsCut c.args.point s.node) (sym c.state.view_is) c.requires.ready) c.state.invariant

@@ -6,7 +6,7 @@ use Rattle.repl_msg.specs.declared.message.Body.TheVariants as bodies
 use Rattle.set_model.specs.Node.{Node}
 use Rattle.set_model.specs.Outcome.{message_to}
 use Rattle.set_model.specs.Rollback.{common_reply, optimes_of}
-use Rattle.node_ledger.specs.Ledger.{Ledger}
+use Rattle.node_data.specs.NodeData.{NodeData}
 use Rattle.node_state.specs.Seen.{seen_node}
 use Rattle.node_state.specs.StateView.{StateView}
 use Rattle.node_messages.proofs.CommonLemmas.{common_body}
@@ -23,7 +23,7 @@ returns-clause-told c =
     let from = c.args.message.now.from in
     let raised = nat_lt old.term term in
     let same : seen_node c.optimes_between.new.self.node (rest_in c.state.inside) ≡ old =
-    ap (λ (l : Ledger). seen_node l.node (rest_in c.state.inside)) c.optimes_between.ensures.same ∙ ap (λ (s : StateView). s.node) c.state.view_is in
+    ap (λ (l : NodeData). seen_node l.node (rest_in c.state.inside)) c.optimes_between.ensures.same ∙ ap (λ (s : StateView). s.node) c.state.view_is in
     let body = bodies.CommonReply c.args.after c.in_ok-optimes_between.field-0 c.args.own.visible in
     foretold _ raised term _ old (seen_node c.optimes_between.new.self.node (rest_in c.state.inside))
     (answered_is raised term c.args.next from old c.in_ok-sent.sent.items body (λ n. common_reply n c.args.after)

@@ -6,7 +6,7 @@ use Rattle.set_model.specs.declared.reply.Ignored.{Ignored}
 use Rattle.set_model.specs.Node.{Node}
 use Rattle.set_model.specs.Reads.{local_documents}
 use Rattle.set_model.specs.Rollback.{common_told, lost_documents, rollback_reason}
-use Rattle.node_ledger.specs.Ledger.{Ledger}
+use Rattle.node_data.specs.NodeData.{NodeData}
 use Rattle.node_messages.specs.Ahead.{IsPreparedFor, taking}
 use Rattle.node_state.specs.Ready.{IsCut}
 use Rattle.node_messages.specs.Rolling.{point_or, reached}
@@ -37,7 +37,7 @@ returns-clause-told g c =
     let found = no_reason (rollback_reason (taking raised term old) term c.args.after c.args.optimes.now c.args.visible) (common_point old.log c.args.after c.args.optimes.now) c.in-Ok.point (c.in-Ok.ensures.point ∙ ap (λ (r : Option Ignored). point_or r (common_point old.log c.args.after c.args.optimes.now)) same) in
     let oplog : IsOplog old.log = subst (λ (s : StateView). IsOplog s.node.log) c.state.view_is c.recall_sound.ensures.node.oplog in
     let counted : seen_node c.count_behind-removed.new.self.node (rest_in c.state-2.inside) ≡ old =
-    ap (λ (l : Ledger). seen_node l.node (rest_in c.state-2.inside)) c.count_behind-removed.ensures.same ∙ ap (λ (s : StateView). s.node) (c.state-2.view_is ∙ c.rollback_point.ensures.same) in
+    ap (λ (l : NodeData). seen_node l.node (rest_in c.state-2.inside)) c.count_behind-removed.ensures.same ∙ ap (λ (s : StateView). s.node) (c.state-2.view_is ∙ c.rollback_point.ensures.same) in
     let left : c.lost_behind.new.state.node ≡ old = ap (λ (s : StateView). s.node) c.lost_behind.ensures.same ∙ counted in
     subst (IsPreparedFor (message_continuations.RolledBack c.in-Ok.point c.count_behind-removed.result c.in_ok-lost.lost) raised term
     (λ (node : Node). common_told node term c.args.after c.args.optimes.now c.args.visible) old)
@@ -55,7 +55,7 @@ returns-clause-ready g c =
     let found = no_reason (rollback_reason (taking raised term old) term c.args.after c.args.optimes.now c.args.visible) (common_point old.log c.args.after c.args.optimes.now) c.in-Ok.point (c.in-Ok.ensures.point ∙ ap (λ (r : Option Ignored). point_or r (common_point old.log c.args.after c.args.optimes.now)) same) in
     let oplog : IsOplog old.log = subst (λ (s : StateView). IsOplog s.node.log) c.state.view_is c.recall_sound.ensures.node.oplog in
     let counted : seen_node c.count_behind-removed.new.self.node (rest_in c.state-2.inside) ≡ old =
-    ap (λ (l : Ledger). seen_node l.node (rest_in c.state-2.inside)) c.count_behind-removed.ensures.same ∙ ap (λ (s : StateView). s.node) (c.state-2.view_is ∙ c.rollback_point.ensures.same) in
+    ap (λ (l : NodeData). seen_node l.node (rest_in c.state-2.inside)) c.count_behind-removed.ensures.same ∙ ap (λ (s : StateView). s.node) (c.state-2.view_is ∙ c.rollback_point.ensures.same) in
     let left : c.lost_behind.new.state.node ≡ old = ap (λ (s : StateView). s.node) c.lost_behind.ensures.same ∙ counted in
     subst (λ (n : Node). IsCut c.in-Ok.point (taking raised term n)) (sym (c.in_ok-reach.ensures.ok ∙ ap (λ (n : Node). reached n c.in-Ok.point) left))
     (can_cut raised term old c.args.after c.args.optimes.now c.args.visible c.in-Ok.point oplog found.0 found.1 (c.requires.common found.0) c.requires.bounds.rollback)

@@ -9,7 +9,7 @@ use Rattle.node_messages.proofs.tallies.add_dry_vote.Goals as goal
 
 pub invariant_of-state : goal.invariant_of-state
 invariant_of-state c = elim c.match-state.branch [
-  | in-None w ↦ subst (λ (s : Inside). IsCoherent (seen_node s.ledger.node (rest_in s)) s.tally s.unjournaled.optimes) (sym w.state-inside-is) c.state.invariant
-  | in-Some w ↦ subst (λ (s : Inside). IsCoherent (seen_node s.ledger.node (rest_in s)) s.tally s.unjournaled.optimes) (sym w.state-inside-is)
-      (coherent-dry c.state.inside.ledger.node (rest_in c.state.inside) (Some w.add.new.self) c.state.inside.unjournaled.optimes c.state.invariant)
+  | in-None w ↦ subst (λ (s : Inside). IsCoherent (seen_node s.node_data.node (rest_in s)) s.tally s.unjournaled.optimes) (sym w.state-inside-is) c.state.invariant
+  | in-Some w ↦ subst (λ (s : Inside). IsCoherent (seen_node s.node_data.node (rest_in s)) s.tally s.unjournaled.optimes) (sym w.state-inside-is)
+      (coherent-dry c.state.inside.node_data.node (rest_in c.state.inside) (Some w.add.new.self) c.state.inside.unjournaled.optimes c.state.invariant)
 ]

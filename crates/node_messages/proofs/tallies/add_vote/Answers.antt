@@ -10,8 +10,8 @@ use Rattle.node_messages.proofs.tallies.add_vote.Goals as goal
 
 pub invariant_of-state : goal.invariant_of-state
 invariant_of-state c = elim c.match-state.branch [
-  | in-None w ↦ subst (λ (s : Inside). IsCoherent (seen_node s.ledger.node (rest_in s)) s.tally s.unjournaled.optimes) (sym w.state-inside-is) c.state.invariant
-  | in-Some w ↦ subst (λ (s : Inside). IsCoherent (seen_node s.ledger.node (rest_in s)) s.tally s.unjournaled.optimes) (sym w.state-inside-is)
-      (coherent-counted c.state.inside.ledger.node (rest_in c.state.inside) w.in-Some.tally w.add.new.self c.state.inside.unjournaled.optimes w.in-Some.is
+  | in-None w ↦ subst (λ (s : Inside). IsCoherent (seen_node s.node_data.node (rest_in s)) s.tally s.unjournaled.optimes) (sym w.state-inside-is) c.state.invariant
+  | in-Some w ↦ subst (λ (s : Inside). IsCoherent (seen_node s.node_data.node (rest_in s)) s.tally s.unjournaled.optimes) (sym w.state-inside-is)
+      (coherent-counted c.state.inside.node_data.node (rest_in c.state.inside) w.in-Some.tally w.add.new.self c.state.inside.unjournaled.optimes w.in-Some.is
       (same_voters w.add.result w.in-Some.tally w.add.new.self c.args.from w.add.ensures.ok w.add.ensures.err) c.state.invariant)
 ]

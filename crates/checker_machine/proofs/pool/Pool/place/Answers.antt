@@ -2,7 +2,7 @@ use Rattle.std.proofs.Common.{◌≡◌, ◌∙◌, ℕ, List, Option, ap, subst
 use Rattle.std.specs.FinMap as maps
 use Rattle.std.specs.Ordering.{nat_cmp}
 use Rattle.repl_msg.specs.declared.message.Message.{Message}
-use Rattle.node_ledger.proofs.MapLemmas.{get-from_pairs}
+use Rattle.node_data.proofs.MapLemmas.{get-from_pairs}
 use Rattle.checker_machine.specs.Newest.{IsNewest, pair_of}
 use Rattle.checker_machine.proofs.pool.Pool.place.Goals as goal
 

@@ -1,7 +1,7 @@
 use Rattle.std.proofs.Common.{◌≡◌, ◌∙◌, ℕ, ap, arith, rules, length}
 use Rattle.std.specs.FinMap as maps
 use Rattle.std.specs.Ordering.{nat_cmp}
-use Rattle.node_ledger.proofs.MapLemmas.{pairs_with}
+use Rattle.node_data.proofs.MapLemmas.{pairs_with}
 use Rattle.checker_machine.specs.Newest.{pair_of}
 use Rattle.checker_machine.proofs.PoolLemmas.{newest_more}
 use Rattle.checker_machine.proofs.pool.Pool.put.Goals as goal

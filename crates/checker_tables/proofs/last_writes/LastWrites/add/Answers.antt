@@ -1,7 +1,7 @@
 use Rattle.std.proofs.Common.{◌∙◌, ap, sym}
 use Rattle.std.specs.FinMap as maps
 use Rattle.set_model.specs.Sessions.{is_past}
-use Rattle.node_ledger.proofs.MapLemmas.{pairs_with}
+use Rattle.node_data.proofs.MapLemmas.{pairs_with}
 use Rattle.checker_tables.proofs.SessionLemmas.{noted}
 use Rattle.checker_tables.proofs.last_writes.LastWrites.add.Goals as goal
 

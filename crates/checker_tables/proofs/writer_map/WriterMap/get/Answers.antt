@@ -1,6 +1,6 @@
 use Rattle.std.proofs.Common.{◌∙◌, ap, sym}
 use Rattle.std.specs.FinMap as maps
-use Rattle.node_ledger.proofs.MapLemmas.{get-from_pairs}
+use Rattle.node_data.proofs.MapLemmas.{get-from_pairs}
 use Rattle.checker_tables.proofs.writer_map.WriterMap.get.Goals as goal
 
 pub returns : goal.returns

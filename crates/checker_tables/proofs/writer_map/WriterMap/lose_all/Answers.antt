@@ -4,7 +4,7 @@ use Rattle.std.specs.FinMap as maps
 use Rattle.std.specs.Ordering.{nat_cmp}
 use Rattle.set_model.specs.Changes.{all_lost, lost_writer}
 use Rattle.set_model.specs.declared.writer.Writer.{Writer}
-use Rattle.node_ledger.proofs.WriterLemmas.{writers_lost}
+use Rattle.node_data.proofs.WriterLemmas.{writers_lost}
 use Rattle.checker_tables.specs.Holding.{LeadToAll}
 use Rattle.checker_tables.proofs.HoldingLemmas.{led_lost}
 use Rattle.checker_tables.proofs.writer_map.WriterMap.lose_all.Goals as goal

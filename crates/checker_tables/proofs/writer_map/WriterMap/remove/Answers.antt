@@ -2,7 +2,7 @@ use Rattle.std.proofs.Common.{◌∙◌, ap, subst, sym}
 use Rattle.std.specs.FinMap as maps
 use Rattle.std.specs.Ordering.{nat_cmp}
 use Rattle.set_model.specs.declared.writer.Writer.{Writer}
-use Rattle.node_ledger.proofs.MapLemmas.{pairs_without}
+use Rattle.node_data.proofs.MapLemmas.{pairs_without}
 use Rattle.checker_tables.specs.Holding.{Holders, LeadToAll}
 use Rattle.checker_tables.proofs.HoldingLemmas.{led_without}
 use Rattle.checker_tables.proofs.writer_map.WriterMap.remove.Goals as goal

@@ -6,7 +6,7 @@ use Rattle.version_store.specs.Past.{latest_of}
 use Rattle.version_store.specs.Store.{shown_at, versions_at}
 use Rattle.set_model.specs.Node.{Node}
 use Rattle.set_model.specs.Reads.{local_documents}
-use Rattle.node_ledger.specs.Ledger.{IsReadable}
+use Rattle.node_data.specs.NodeData.{IsReadable}
 use Rattle.node_core.specs.Down.{down_state}
 use Rattle.node_core.proofs.PlainLemmas.{seen_up}
 use Rattle.node_core.proofs.node.Node.store.Goals as goal

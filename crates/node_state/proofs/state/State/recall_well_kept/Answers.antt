@@ -8,4 +8,4 @@ use Rattle.node_state.proofs.state.State.recall_well_kept.Goals as goal
 pub returns : goal.returns
 returns c =
     subst (λ (s : StateView). IsWellKept s.node.records s.node.stable) c.self.view_is
-    (well_in_memory c.self.inside.ledger.node (rest_in c.self.inside) c.self.inside.unjournaled.optimes c.recall_sound.ensures.node c.self.invariant)
+    (well_in_memory c.self.inside.node_data.node (rest_in c.self.inside) c.self.inside.unjournaled.optimes c.recall_sound.ensures.node c.self.invariant)

@@ -1,5 +1,5 @@
 use Rattle.std.proofs.Common.{◌∙◌, ap, ◌+◌, None}
-use Rattle.node_ledger.specs.Ledger.{restored}
+use Rattle.node_data.specs.NodeData.{restored}
 use Rattle.node_state.proofs.RestartLemmas.{restorable, restored-coherent}
 use Rattle.node_state.proofs.state.State.restored.Goals as goal
 
@@ -19,7 +19,7 @@ pub invariant_of-result : goal.invariant_of-result
 invariant_of-result g c =
     restored-coherent c.args.coming_up.first.now c.args.coming_up.number c.args.coming_up.records.list c.args.stable c.args.coming_up.rollback c.args.coming_up.clock c.args.found
     _ _ _ c.requires.number c.requires.first c.requires.kept c.requires.read
-    (c.in_ok-ledger.ensures
+    (c.in_ok-node_data.ensures
     ∙ ap (λ entries. restored c.args.found.vote.term c.args.coming_up.clock entries c.args.stable) c.entries_up_to-entries.ensures)
     (λ i. record {
       number = c.args.coming_up.number;

@@ -1,0 +1,23 @@
+mod AppendLemmas
+pub mod BatchLemmas
+pub mod BatchesLemmas
+pub mod FollowLemmas
+pub mod GoesOnLemmas
+pub mod HasLemmas
+pub mod HolderLemmas
+pub mod KeptLemmas
+pub mod LogLemmas
+pub mod MapLemmas
+pub mod OpenLemmas
+pub mod OwnLemmas
+pub mod ReleaseLemmas
+pub mod RestoreLemmas
+pub mod RoleLemmas
+pub mod SessionLogLemmas
+pub mod ShownLemmas
+pub mod SizeLemmas
+pub mod SoundLemmas
+pub mod StoreLemmas
+pub mod VersionLemmas
+pub mod VisibleLemmas
+pub mod WriterLemmas

@@ -1,0 +1,9 @@
+use Rattle.std.proofs.Common.{◌∙◌, ap, sym}
+use Rattle.std.specs.FinMap as maps
+use Rattle.node_data.proofs.MapLemmas.{get-from_pairs}
+use Rattle.node_data.proofs.session_log.SessionTable.get.Goals as goal
+
+pub returns : goal.returns
+returns c =
+    c.copied.ensures ∙ c.get.ensures.value ∙ sym (get-from_pairs c.self.inside.writes.entries c.args.id)
+    ∙ ap (λ t. maps.get t c.args.id) c.self.view_is

@@ -1,0 +1,7 @@
+pub mod Code
+pub mod Kept
+pub mod NodeData
+pub mod SessionLog
+pub mod Sound
+pub mod Versions
+pub mod Writers

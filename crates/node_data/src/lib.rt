@@ -1,0 +1,16 @@
+//! What a node has written: its log, the slots that are open with their writers, and the documents with their
+//! versions, as far as the log is applied.
+#![tactic(auto)]
+
+mod documents;
+mod following;
+mod keeping;
+mod restoring;
+mod session_log;
+mod sharing;
+mod slots;
+mod writable;
+mod writer_map;
+mod writing;
+
+pub use keeping::NodeData;

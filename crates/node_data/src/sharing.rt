@@ -1,0 +1,165 @@
+// What is shown and told of the log. A node that is about to step down may have entries behind open slots,
+// which it tells as its slots were closed.
+ghost use Rattle.std.specs.Prelude.{◌≡◌, ◌≢◌, All, IfNone, IfOk, IfSome, length, map};
+ghost use Rattle.std.specs.Option.{option_copied};
+ghost use Rattle.oplog_entry.specs.Visible.{log_up_to};
+ghost use Rattle.oplog_fetcher.specs.Fetch.{reply_to as answered};
+ghost use Rattle.oplog_store.specs.Places.{IsEntryAt};
+ghost use Rattle.repl_msg.specs.Logs.{log_behind};
+ghost use Rattle.repl_msg.specs.Rollback.{touched_documents};
+ghost use Rattle.rollback_core.specs.Lost.{lost_of};
+ghost use Rattle.rollback_core.specs.Plan.{plan as planned};
+ghost use Rattle.set_model.specs.Points.{last_point};
+ghost use Rattle.set_model.specs.Reads.{local_documents};
+ghost use Rattle.set_model.specs.Rollback.{optimes_of};
+ghost use Rattle.std.specs.FinMap as maps;
+
+use crate::NodeData;
+use bson_doc::Mem;
+use oplog_entry::Entry;
+use oplog_fetcher::{behind, reply_to};
+use repl_msg::{EntryList, FetchReply, OptimeList};
+use rollback_core::{LostDocument, RollbackRefusal, lost_documents, plan};
+use rs_optime::OpTime;
+use std::alloc::Global;
+
+/// The optimes of some entries.
+fn optimes_of(alloc: Global, entries: &[Entry]) -> Mem<OptimeList>
+    ensures { IfOk result (λ list. list ≡ optimes_of entries.now) }
+{
+    let mut optimes = OptimeList::new(alloc);
+    for entry in entries {
+        optimes.push(entry.optime)?;
+    }
+    Ok(optimes)
+}
+
+impl NodeData {
+    /// The entry with an optime.
+    pub fn entry_at(&self, at: OpTime) -> Option<&Entry>
+        ensures found { IfSome (option_copied result) (λ entry. IsEntryAt self.now.node.log at entry) }
+        ensures none { IfNone result (All (λ entry. entry.optime ≢ at) self.now.node.log) }
+    {
+        self.log.written().get(at)
+    }
+
+    /// `entry_at`, which looks at a likely place of the log first, and leaves there the place behind the
+    /// entry. So entries that follow one another are found at once.
+    pub fn entry_near(&self, likely: &mut usize, at: OpTime) -> Option<&Entry>
+        ensures found { IfSome (option_copied result) (λ entry. IsEntryAt self.now.node.log at entry) }
+        ensures none { IfNone result (All (λ entry. entry.optime ≢ at) self.now.node.log) }
+    {
+        self.log.written().get_near(likely, at)
+    }
+
+    /// Copies of all entries, in their order. Out of memory is the one error.
+    pub fn entries(&self) -> Mem<EntryList>
+        ensures { IfOk result (λ list. list ≡ self.now.node.log) }
+    {
+        Ok(EntryList::new(self.log.written().copies(self.alloc)?))
+    }
+
+    /// The answer to a node whose last optime is `base`, where the log is visible up to `visible`, as
+    /// `oplog_fetcher` gives it. Out of memory is the one error.
+    pub fn fetched(
+        &mut self,
+        visible: OpTime,
+        base: OpTime,
+        commit: OpTime,
+        primary: bool,
+    ) -> Mem<FetchReply>
+        ensures reply { IfOk result (λ reply.
+            reply ≡ answered self.old.node.log visible base commit primary) }
+        ensures same { self.new ≡ self.old }
+    {
+        self.log.gather_up_to(visible);
+        reply_to(
+            self.alloc,
+            self.log.written().settled(),
+            visible,
+            base,
+            commit,
+            primary,
+        )
+    }
+
+    /// How many entries stand behind an optime, up to another one.
+    pub fn count_between(&mut self, after: OpTime, to: OpTime) -> usize
+        ensures count { result ≡ length (log_behind after (log_up_to to self.old.node.log)) }
+        ensures same { self.new ≡ self.old }
+    {
+        self.log.gather_up_to(to);
+        behind(self.log.written().settled().up_to(to), after).len()
+    }
+
+    /// How many entries stand up to an optime.
+    pub fn count_up_to(&mut self, to: OpTime) -> u64
+        ensures count { result ≡ length (log_up_to to self.old.node.log) }
+        ensures same { self.new ≡ self.old }
+    {
+        self.log.gather_up_to(to);
+        self.log.written().settled().up_to(to).len() as u64
+    }
+
+    /// The optimes of the entries that stand behind an optime, up to another one.
+    pub fn optimes_between(&mut self, after: OpTime, to: OpTime) -> Mem<OptimeList>
+        ensures list { IfOk result (λ list.
+            list ≡ optimes_of (log_behind after (log_up_to to self.old.node.log))) }
+        ensures same { self.new ≡ self.old }
+    {
+        self.log.gather_up_to(to);
+        optimes_of(
+            self.alloc,
+            behind(self.log.written().settled().up_to(to), after),
+        )
+    }
+
+    /// Up to where the log is rolled back for a source that has these optimes behind `after`, as
+    /// `rollback_core` plans it.
+    pub fn rollback_plan(
+        &mut self,
+        term: u64,
+        source_last: OpTime,
+        after: OpTime,
+        optimes: &[OpTime],
+    ) -> Result<OpTime, RollbackRefusal>
+        ensures plan { result
+            ≡ planned term self.old.node.log (last_point self.old.node) source_last after optimes.now }
+        ensures same { self.new ≡ self.old }
+    {
+        self.log.gather();
+        plan(
+            term,
+            self.log.written().settled(),
+            self.log.written().last(),
+            source_last,
+            after,
+            optimes,
+        )
+    }
+
+    /// How many entries stand behind an optime.
+    pub fn count_behind(&mut self, at: OpTime) -> u64
+        ensures count { result ≡ length (log_behind at self.old.node.log) }
+        ensures same { self.new ≡ self.old }
+    {
+        self.log.gather();
+        self.log.written().settled().after(at).len() as u64
+    }
+
+    /// The documents that the entries behind an optime touched, each once, as a read at `local` shows them:
+    /// what a rollback to that optime takes. Out of memory is the one error.
+    pub fn lost_behind(&mut self, at: OpTime) -> Mem<Vec<LostDocument>>
+        ensures lost { IfOk result (λ lost. map lost_of lost.items
+            ≡ touched_documents (λ place. maps.get (local_documents self.old.node) place)
+            (log_behind at self.old.node.log)) }
+        ensures same { self.new ≡ self.old }
+    {
+        self.log.gather();
+        lost_documents(
+            self.alloc,
+            &self.store,
+            self.log.written().settled().after(at),
+        )
+    }
+}

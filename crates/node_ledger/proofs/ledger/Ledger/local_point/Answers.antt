@@ -1,9 +1,0 @@
-use Rattle.std.proofs.Common.{arith}
-use Rattle.node_ledger.proofs.FollowLemmas.{next_term_readable, next_term_shown}
-use Rattle.node_ledger.proofs.ledger.Ledger.local_point.Goals as goal
-
-pub returns-in-Primary-clause-readable : goal.returns-in-Primary-clause-readable
-returns-in-Primary-clause-readable c = rw (← c.self.view_is) (next_term_readable _ _ c.self.invariant.sound c.in-Primary.is (omega arith))
-
-pub returns-in-Primary-clause-shown : goal.returns-in-Primary-clause-shown
-returns-in-Primary-clause-shown c = rw (← c.self.view_is) (next_term_shown _ _ c.self.invariant.sound c.in-Primary.is (omega arith))
