@@ -188,8 +188,6 @@ kept_batch node store later n kept other some applied =
         oplog = kept.sound.oplog;
         entries = kept.sound.entries;
         documents = kept.sound.documents;
-        term = kept.sound.term;
-        terms = kept.sound.terms;
         marked = kept.sound.marked;
         idle = λ not. record { slots = idle.slots; writers = idle.writers };
         applied = last_has (λ o. is_before (last_of node.log) o ≡ false) (batch_of n node.applied node.log) some

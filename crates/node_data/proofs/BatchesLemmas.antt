@@ -217,8 +217,6 @@ kept_back node store later point kept other behind within changes =
         oplog = kept.sound.oplog;
         entries = kept.sound.entries;
         documents = kept.sound.documents;
-        term = kept.sound.term;
-        terms = kept.sound.terms;
         marked = kept.sound.marked;
         idle = λ not. record { slots = idle.slots; writers = idle.writers };
         applied = at_most_trans point node.applied (last_of node.log) within kept.sound.applied;

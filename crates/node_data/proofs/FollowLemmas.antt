@@ -1,12 +1,12 @@
 -- The documents stay those of the log as it is cut, and as versions are pruned.
-use Rattle.std.proofs.Common.{◌≡◌, ◌⊎◌, inl, inr, ◌<◌, ◌≤◌, ◌∙◌, ℕ, Bool, true, false, not, List, [], ◌∷◌, None, refl, sym, ap, subst, arith}
+use Rattle.std.proofs.Common.{◌≡◌, ◌⊎◌, inl, inr, ◌<◌, ◌≤◌, ◌^◌, ◌∙◌, ℕ, Bool, true, false, not, List, [], ◌∷◌, None, refl, sym, ap, subst, arith}
 use Rattle.std.specs.Prelude.{slice_index_or}
 use Rattle.std.specs.List.{All, AllPairs, list_any}
 use Rattle.std.proofs.lemmas.List.Elements.{All-filter}
 use Rattle.rs_optime.specs.Later.{same_optime}
 use Rattle.rs_optime.specs.Order.{is_before}
 use Rattle.rs_optime.specs.declared.optime.OpTime.{OpTime}
-use Rattle.rs_optime.proofs.Optimes.{at_most_before_trans, at_most_refl, before_both, before_parts, later_term}
+use Rattle.rs_optime.proofs.Optimes.{at_most_before_trans, at_most_refl, before_at_most, before_both, earlier_term, later_term}
 use Rattle.entry_bytes.specs.Sizes.{IsWithinEntry}
 use Rattle.oplog_entry.specs.Log.{StandsBefore}
 use Rattle.oplog_entry.specs.Visible.{ZERO, last_of, log_up_to}
@@ -23,7 +23,7 @@ use Rattle.set_model.specs.declared.command.ReadLevel.TheVariants.{Local}
 use Rattle.set_model.specs.declared.role.Role.{Role}
 use Rattle.set_model.specs.declared.role.Role.TheVariants.{Secondary, Primary}
 use Rattle.set_model.specs.Node.{Node}
-use Rattle.set_model.specs.Points.{if_primary, applied_point, next_optime, visible_point}
+use Rattle.set_model.specs.Points.{if_primary, applied_point, visible_point}
 use Rattle.set_model.specs.Reads.{shown_log}
 use Rattle.set_model.specs.Roles.{is_primary}
 use Rattle.node_data.specs.Kept.{IsKept, IsHolder, IsPending}
@@ -35,7 +35,7 @@ use Rattle.node_data.proofs.HasLemmas.{has_pruned}
 use Rattle.node_data.proofs.LogLemmas.{filter-all, up_to-up_to}
 use Rattle.node_data.proofs.RoleLemmas.{apart_idle, if_other}
 use Rattle.node_data.proofs.ShownLemmas.{shown_order}
-use Rattle.node_data.proofs.SoundLemmas.{next_unstable, primary_not, primary_point, writing_primary}
+use Rattle.node_data.proofs.SoundLemmas.{primary_not, primary_point, stable_before, writing_primary}
 use Rattle.node_data.proofs.VersionLemmas.{up_to-from}
 use Rattle.node_data.proofs.VisibleLemmas.{SomeEntry, IsBeforeSlots, filter_some, some_fact, some_more, some_to_last, visible_shown}
 
@@ -48,8 +48,6 @@ kept_pruned node store later at kept behind within changes = record {
     oplog = kept.sound.oplog;
     entries = kept.sound.entries;
     documents = kept.sound.documents;
-    term = kept.sound.term;
-    terms = kept.sound.terms;
     marked = kept.sound.marked;
     idle = λ not. record { slots = (kept.sound.idle not).slots; writers = (kept.sound.idle not).writers };
     applied = kept.sound.applied;
@@ -59,6 +57,7 @@ kept_pruned node store later at kept behind within changes = record {
     pending = λ v by other opens.
         let was : IsPending node by other = kept.writers.pending v by other opens in
         record { open_slot = was.open_slot; positive = was.positive; seen = was.seen; term = was.term; unstable = unstable v by other opens was; lawful = was.lawful; within = was.within; place = was.place; small = was.small; newest = was.newest };
+    order = kept.writers.order;
     apart = kept.writers.apart;
     alone = kept.writers.alone;
   };
@@ -114,8 +113,6 @@ kept_cut node store kept other is_point =
         oplog = oplog;
         entries = All-filter (λ (e : Entry). not (is_before at e.optime)) IsWithinEntry node.log kept.sound.entries;
         documents = small_up_to at node.log kept.sound.oplog.order kept.sound.documents;
-        term = kept.sound.term;
-        terms = All-filter (λ (e : Entry). not (is_before at e.optime)) (λ (e : Entry). e.optime.term ≤ node.term) node.log kept.sound.terms;
         marked = All-filter (λ (e : Entry). not (is_before at e.optime)) (λ (e : Entry). e.optime.ts ≤ node.seen) node.log kept.sound.marked;
         idle = λ not. record { slots = idle.slots; writers = idle.writers };
         applied = cut_reaches at node.log oplog.order is_point;
@@ -132,17 +129,22 @@ kept_cut node store kept other is_point =
 
 -- ---- behind every entry
 
--- an optime of the next term is behind every entry of a primary
-pub next_term_readable : (node : Node) (at : OpTime) → IsSound node → node.role ≡ Primary → node.term < at.term → IsReadable node at
-next_term_readable node at sound primary later = record {
-  kept = elim (before_parts node.stable (next_optime node) (next_unstable node sound primary)) [
-    | inl less ↦ later_term at node.stable (omega (arith, less, later))
-    | inr same ↦ later_term at node.stable (omega (arith, same.0, later))
-  ];
+-- no entry's term goes as far
+terms_below : (node : Node) (at : OpTime) → IsSound node → 2 ^ 63 ≤ at.term → All (λ (e : Entry). e.optime.term < at.term) node.log
+terms_below node at sound late k d within =
+    let fits : (slice_index_or node.log k d).optime.term < 2 ^ 63 = (sound.oplog.lawful k d within).term in
+    omega (arith, fits, late)
+
+-- so an optime of such a term is behind every entry, and can be read on a primary
+pub late_readable : (node : Node) (at : OpTime) → IsSound node → node.role ≡ Primary → 2 ^ 63 ≤ at.term → IsReadable node at
+late_readable node at sound primary late = record {
+  kept = before_at_most node.stable at
+      (stable_before node at sound primary (earlier_term ZERO at (omega (arith, late)))
+      (λ k d within. earlier_term (slice_index_or node.log k d).optime at (terms_below node at sound late k d within)));
   reached = λ not. absurd (primary_not node.role primary not);
 }
 
-pub next_term_shown : (node : Node) (at : OpTime) → IsSound node → node.role ≡ Primary → node.term < at.term → log_up_to at node.log ≡ shown_log node Local
-next_term_shown node at sound primary later =
-    filter-all (λ (e : Entry). not (is_before at e.optime)) node.log (λ k d within. ap not (later_term at (slice_index_or node.log k d).optime (omega (arith, sound.terms k d within, later))))
+pub late_shown : (node : Node) (at : OpTime) → IsSound node → node.role ≡ Primary → 2 ^ 63 ≤ at.term → log_up_to at node.log ≡ shown_log node Local
+late_shown node at sound primary late =
+    filter-all (λ (e : Entry). not (is_before at e.optime)) node.log (λ k d within. ap not (later_term at (slice_index_or node.log k d).optime (terms_below node at sound late k d within)))
     ∙ sym (ap (λ r. if_primary r node.log (log_up_to node.applied node.log)) primary)

@@ -56,9 +56,9 @@ seen_each seen (entry ∷ entries) =
     (omega (arith, seen_least (max seen entry.optime.ts) entries)) (seen_each (max seen entry.optime.ts) entries)
 
 pub kept_appended : (node : Node) (store : Store) (entries : List Entry) → IsKept node store → is_primary node.role ≡ false → IsOplog (node.log ++ entries)
-    → All (λ entry. is_before (last_point node) entry.optime ≡ true) entries → All (λ entry. entry.optime.term ≤ node.term) entries
+    → All (λ entry. is_before (last_point node) entry.optime ≡ true) entries
     → All IsWithinEntry entries → AreSmall (node.log ++ entries) → IsKept (with_fetched node entries) store
-kept_appended node store entries kept other oplog later terms within small =
+kept_appended node store entries kept other oplog later within small =
     let idle : IsIdle node = kept.sound.idle other in
     let after_applied : All (λ (e : Entry). is_before node.applied e.optime ≡ true) entries =
     λ k d inside. at_most_before_trans node.applied (last_point node) _ kept.sound.applied (later k d inside) in
@@ -67,8 +67,6 @@ kept_appended node store entries kept other oplog later terms within small =
         oplog = oplog;
         entries = All-append IsWithinEntry node.log entries kept.sound.entries within;
         documents = small;
-        term = kept.sound.term;
-        terms = All-append (λ (e : Entry). e.optime.term ≤ node.term) node.log entries kept.sound.terms terms;
         marked = All-append (λ (e : Entry). e.optime.ts ≤ seen_after node.seen entries) node.log entries
             (λ k d inside. omega (arith, kept.sound.marked k d inside, seen_least node.seen entries)) (seen_each node.seen entries);
         idle = λ not. record { slots = idle.slots; writers = idle.writers };
@@ -130,8 +128,6 @@ kept_stepped node store later kept count versions free = record {
     oplog = kept.sound.oplog;
     entries = kept.sound.entries;
     documents = kept.sound.documents;
-    term = kept.sound.term;
-    terms = kept.sound.terms;
     marked = kept.sound.marked;
     idle = λ not. record { slots = refl; writers = closed };
     applied = reached_last node.role (last_point node) node.applied (at_most_refl (last_point node)) kept.sound.applied;

@@ -1,11 +1,10 @@
 -- The documents stay those of the log as it is written.
-use Rattle.std.proofs.Common.{◌≡◌, ◌≢◌, max, arith, ◌⊎◌, inl, inr, ◌∙◌, ℕ, Bool, true, false, List, [], ◌∷◌, ◌++◌, Option, None, Some, IfSome, IsSome, refl, sym, ap, subst, rules}
+use Rattle.std.proofs.Common.{◌≡◌, ◌≢◌, max, ◌<◌, arith, ◌⊎◌, inl, inr, ◌∙◌, ℕ, Bool, true, false, List, [], ◌∷◌, ◌++◌, Option, None, Some, IfSome, IsSome, refl, sym, ap, subst, rules}
 use Rattle.std.specs.FinMap.{get, entries, insert, remove}
 use Rattle.std.specs.Prelude.{All}
 use Rattle.bson_doc.specs.Place.{Place}
 use Rattle.bson_doc.specs.Tree.{Fields}
 use Rattle.rs_optime.specs.Order.{is_before}
-use Rattle.rs_optime.specs.Time.{timestamp_after}
 use Rattle.rs_optime.specs.declared.optime.OpTime.{OpTime}
 use Rattle.oplog_entry.specs.Docs.{docs}
 use Rattle.entry_bytes.specs.Sizes.{IsWithinEntry}
@@ -26,21 +25,21 @@ use Rattle.set_model.specs.declared.role.Role.{Role}
 use Rattle.set_model.specs.declared.role.Role.TheVariants.{Primary}
 use Rattle.set_model.specs.declared.writer.Writer.{Writer}
 use Rattle.set_model.specs.declared.writer.Writer.TheVariants.{Done, Open}
-use Rattle.set_model.specs.Changes.{logged, opened}
+use Rattle.set_model.specs.Changes.{logged_at, opened_at}
 use Rattle.set_model.specs.Holds.{holder_among}
 use Rattle.set_model.specs.Node.{Node}
-use Rattle.set_model.specs.Points.{if_primary, next_optime}
+use Rattle.set_model.specs.Points.{if_primary}
 use Rattle.set_model.specs.Reads.{local_documents, shown_log}
 use Rattle.set_model.specs.Writers.{settled, aborted}
 use Rattle.node_data.proofs.SizeLemmas.{idle_within_entry}
-use Rattle.optime_slots.specs.Reserved.{Reserved, next_slot, opened as opened_slot}
+use Rattle.optime_slots.specs.Reserved.{Reserved, opened as opened_slot}
 use Rattle.node_data.specs.NodeData.{data_node}
 use Rattle.node_data.specs.Kept.{IsNewest, IsHolder, IsKept, is_held_by}
 use Rattle.node_data.specs.Versions.{HasVersions, IsSmall}
 use Rattle.node_data.specs.Writers.{Writers, HasOpen, IsWriting}
 use Rattle.node_data.proofs.HasLemmas.{has_before, has_with, has_with_other}
 use Rattle.node_data.proofs.HolderLemmas.{held_open, open_held, nobody_holds, holders_opened, holders_closed}
-use Rattle.node_data.proofs.SoundLemmas.{IsNew, next_entry, slot_entry, writing_primary, next_newest, next_unstable, sound_logged, apart_logged, sound_opened, apart_opened, sound_settled, apart_settled, sound_aborted, apart_aborted}
+use Rattle.node_data.proofs.SoundLemmas.{IsNew, MayWriteAt, entry_at, slot_entry, writing_primary, newest_past, next_unstable, sound_logged, apart_logged, sound_opened, apart_opened, sound_settled, apart_settled, sound_aborted, apart_aborted}
 use Rattle.node_data.proofs.StoreLemmas.{versions_stay, holders_stay, changes_twice}
 use Rattle.node_data.proofs.MapLemmas.{get-with-same, get-with-other, get-without-same, get-without-other}
 
@@ -91,16 +90,16 @@ not_writing writers writer closed p = by_test (is_held_by (get writers writer) p
     by_test true held = let opens = held_open (get writers writer) p held in absurd (closed (opens.0, opens.1, opens.2))
     by_test false free = free
 
-pub kept_logged : (node : Node) (store later : Store) (op : Op) (session : Option Session) (place : Place) (after : Option Fields) → IsKept node store → IsNew node op session → place_of op ≡ Some place
+pub kept_logged : (node : Node) (at : OpTime) (store later : Store) (op : Op) (session : Option Session) (place : Place) (after : Option Fields) → IsKept node store → IsNew node at op session → place_of op ≡ Some place
     → holder_among (entries node.writers) place ≡ None → after ≡ document_after op (get (docs node.log) place)
-    → Changes store later place (with_version (past_at store place) (record { at = next_optime node; doc = after }))
-    → IsKept (logged node op session) later
-kept_logged node store later op session place after kept new own free left changes = record {
-  sound = sound_logged node op session kept.sound new;
-  writers = apart_logged node op session kept.sound kept.writers new (nobody_open node op place free own);
-  versions = as_shown node.role node.stable (with_entry node.log (next_entry node op session)) (log_up_to node.applied (with_entry node.log (next_entry node op session))) later new.role
-      (versions_changed node (next_entry node op session) store later place _ kept new.role (next_newest node op session kept.sound) (next_unstable node kept.sound new.role) own changes
-      (ap (λ (doc : Option Fields). versions_at store place ++ record { at = next_optime node; doc = doc } ∷ []) left));
+    → Changes store later place (with_version (past_at store place) (record { at = at; doc = after }))
+    → IsKept (logged_at at node op session) later
+kept_logged node at store later op session place after kept new own free left changes = record {
+  sound = sound_logged node at op session kept.sound new;
+  writers = apart_logged node at op session kept.sound kept.writers new (nobody_open node op place free own);
+  versions = as_shown node.role node.stable (with_entry node.log (entry_at at op session)) (log_up_to node.applied (with_entry node.log (entry_at at op session))) later new.role
+      (versions_changed node (entry_at at op session) store later place _ kept new.role (newest_past node at op session kept.sound new.next) (next_unstable node at kept.sound new.role new.next) own changes
+      (ap (λ (doc : Option Fields). versions_at store place ++ record { at = at; doc = doc } ∷ []) left));
   holders = λ p. subst (λ h. IsHolder node.writers p h) (sym (holders_stay store later place _ changes refl p)) (kept.holders p);
   shards = changes.count ∙ kept.shards;
 }
@@ -114,12 +113,12 @@ pub idle_nowhere : (op : Op) → (op ≡ Noop) ⊎ (op ≡ Note) → place_of op
 idle_nowhere op idle = elim idle [ inl same ↦ ap place_of same | inr same ↦ ap place_of same ]
 
 -- where an op touches no document, the documents are as they were
-pub kept_idle : (node : Node) (store : Store) (op : Op) → IsKept node store → IsNew node op None → place_of op ≡ None → IsKept (logged node op None) store
-kept_idle node store op kept new nowhere = record {
-  sound = sound_logged node op None kept.sound new;
-  writers = apart_logged node op None kept.sound kept.writers new touches;
-  versions = as_shown node.role node.stable (with_entry node.log (next_entry node op None)) (log_up_to node.applied (with_entry node.log (next_entry node op None))) store new.role
-      (λ p. has_with_other p node.stable node.log (next_entry node op None) (versions_at store p) (next_newest node op None kept.sound).fits (next_unstable node kept.sound new.role) (λ there. none_some (sym nowhere ∙ there)) (whole_versions node store kept new.role p));
+pub kept_idle : (node : Node) (at : OpTime) (store : Store) (op : Op) → IsKept node store → IsNew node at op None → place_of op ≡ None → IsKept (logged_at at node op None) store
+kept_idle node at store op kept new nowhere = record {
+  sound = sound_logged node at op None kept.sound new;
+  writers = apart_logged node at op None kept.sound kept.writers new touches;
+  versions = as_shown node.role node.stable (with_entry node.log (entry_at at op None)) (log_up_to node.applied (with_entry node.log (entry_at at op None))) store new.role
+      (λ p. has_with_other p node.stable node.log (entry_at at op None) (versions_at store p) (newest_past node at op None kept.sound new.next).fits (next_unstable node at kept.sound new.role new.next) (λ there. none_some (sym nowhere ∙ there)) (whole_versions node store kept new.role p));
   holders = kept.holders;
   shards = kept.shards;
 }
@@ -134,15 +133,15 @@ kept_idle node store op kept new nowhere = record {
         none_touches None e some = absurd (cc some)
         none_touches (Some p) e some = cc
 
-kept_opened : (node : Node) (store later : Store) (writer : ℕ) (op : Op) (place : Place) → IsKept node store → IsNew node op None → place_of op ≡ Some place
+kept_opened : (node : Node) (at : OpTime) (store later : Store) (writer : ℕ) (op : Op) (place : Place) → IsKept node store → IsNew node at op None → place_of op ≡ Some place
     → holder_among (entries node.writers) place ≡ None → ¬ (IsWriting node.writers writer)
     → Changes store later place (held_by (past_at store place) (Some writer))
-    → IsKept (opened node writer op) later
-kept_opened node store later writer op place kept new own free closed changes = record {
-  sound = sound_opened node writer op kept.sound new.role;
-  writers = apart_opened node writer op kept.sound kept.writers new (some_place (place_of op) place own) (nobody_open node op place free own);
+    → IsKept (opened_at at node writer op) later
+kept_opened node at store later writer op place kept new own free closed changes = record {
+  sound = sound_opened node at writer op kept.sound new.role new.next;
+  writers = apart_opened node at writer op kept.sound kept.writers new (some_place (place_of op) place own) (nobody_open node op place free own);
   versions = λ p. subst (λ vs. HasVersions p node.stable (shown_log node Local) vs) (sym (versions_stay store later place _ changes refl p)) (kept.versions p);
-  holders = holders_opened node.writers store later place _ writer (next_optime node) op kept.holders (nobody_holds node.writers place free) (not_writing node.writers writer closed) own refl changes;
+  holders = holders_opened node.writers store later place _ writer at op kept.holders (nobody_holds node.writers place free) (not_writing node.writers writer closed) own refl changes;
   shards = changes.count ∙ kept.shards;
 }
 
@@ -189,11 +188,12 @@ kept_same node store later kept count same = record {
 }
 
 -- what a write owes
-pub new_write : (node : Node) (op : Op) (session : Option Session) (place : Place) (after : Option Fields) → node.role ≡ Primary → IsLawfulOp op → IfSome session IsSession
-    → IsWithinEntry (next_entry node op session) → place_of op ≡ Some place
-    → after ≡ document_after op (get (docs node.log) place) → IsSmall after → IsNew node op session
-new_write node op session place after role lawful session_is within own left small = record {
+pub new_write : (node : Node) (at : OpTime) (op : Op) (session : Option Session) (place : Place) (after : Option Fields) → node.role ≡ Primary → MayWriteAt node at → IsLawfulOp op → IfSome session IsSession
+    → IsWithinEntry (entry_at at op session) → place_of op ≡ Some place
+    → after ≡ document_after op (get (docs node.log) place) → IsSmall after → IsNew node at op session
+new_write node at op session place after role next lawful session_is within own left small = record {
   role = role;
+  next = next;
   lawful = lawful;
   session_too = session_is;
   write = touches session;
@@ -209,13 +209,14 @@ new_write node op session place after role lawful session_is within own left sma
     some_same p e = cc
 
 -- and a no-op or a note
-pub new_idle : (node : Node) (op : Op) → node.role ≡ Primary → (op ≡ Noop) ⊎ (op ≡ Note) → IsNew node op None
-new_idle node op role idle = record {
+pub new_idle : (node : Node) (at : OpTime) (op : Op) → node.role ≡ Primary → MayWriteAt node at → (op ≡ Noop) ⊎ (op ≡ Note) → IsNew node at op None
+new_idle node at op role next idle = record {
   role = role;
+  next = next;
   lawful = elim idle [ inl same ↦ subst IsLawfulOp (sym same) tt | inr same ↦ subst IsLawfulOp (sym same) tt ];
   session_too = tt;
   write = tt;
-  within = idle_within_entry (next_optime node) op idle;
+  within = idle_within_entry at op idle;
   small = λ place here. absurd (nowhere place (sym (idle_nowhere op idle) ∙ here));
 }
   where
@@ -223,10 +224,10 @@ new_idle node op role idle = record {
     nowhere place e = cc
 
 -- each version of a document is before the next optime
-pub before_versions : (node : Node) (store : Store) (op : Op) (place : Place) → IsKept node store → node.role ≡ Primary → place_of op ≡ Some place
-    → All (λ (v : Version). is_before v.at (next_optime node) ≡ true) (versions_at store place)
-before_versions node store op place kept role own =
-    has_before place node.stable node.log (next_entry node op None) (versions_at store place) (next_newest node op None kept.sound) (next_unstable node kept.sound role) own (whole_versions node store kept role place)
+pub before_versions : (node : Node) (at : OpTime) (store : Store) (op : Op) (place : Place) → IsKept node store → node.role ≡ Primary → MayWriteAt node at → place_of op ≡ Some place
+    → All (λ (v : Version). is_before v.at at ≡ true) (versions_at store place)
+before_versions node at store op place kept role next own =
+    has_before place node.stable node.log (entry_at at op None) (versions_at store place) (newest_past node at op None kept.sound next) (next_unstable node at kept.sound role next) own (whole_versions node store kept role place)
 
 -- and before a slot of its own writer
 pub before_slot : (node : Node) (store : Store) (writer : ℕ) (at : OpTime) (op : Op) (place : Place) → IsKept node store → HasOpen node.writers writer at op → place_of op ≡ Some place
@@ -237,38 +238,38 @@ before_slot node store writer at op place kept opens own =
     (whole_versions node store kept (writing_primary node writer kept.sound (at, op, opens)) place)
 
 -- a timestamp past the greatest one seen is then the greatest
-pub raised_to : (term seen clock : ℕ) (at : OpTime) → at ≡ record { term = term; ts = timestamp_after clock seen } → max seen at.ts ≡ at.ts
-raised_to term seen clock at is = let ts : at.ts ≡ timestamp_after clock seen = ap (λ (o : OpTime). o.ts) is in omega (arith, ts)
+pub raised_to : (seen ts : ℕ) → seen < ts → max seen ts ≡ ts
+raised_to seen ts past = omega (arith, past)
 
 -- what an op owes that opens a slot
-pub new_open : (node : Node) (op : Op) (place : Place) → node.role ≡ Primary → IsLawfulOp op → IsWithinEntry (next_entry node op None) → place_of op ≡ Some place
-    → IsSmall (document_after op (get (docs node.log) place)) → IsNew node op None
-new_open node op place role lawful within own small = new_write node op None place (document_after op (get (docs node.log) place)) role lawful tt within own refl small
+pub new_open : (node : Node) (at : OpTime) (op : Op) (place : Place) → node.role ≡ Primary → MayWriteAt node at → IsLawfulOp op → IsWithinEntry (entry_at at op None) → place_of op ≡ Some place
+    → IsSmall (document_after op (get (docs node.log) place)) → IsNew node at op None
+new_open node at op place role next lawful within own small = new_write node at op None place (document_after op (get (docs node.log) place)) role next lawful tt within own refl small
 
 -- a slot that wasn't opened leaves all as it was, once its writer is put back
-pub kept_put_back : (term : ℕ) (role : Role) (clock : ℕ) (log : List Entry) (reserved again : Reserved) (writers back : Writers) (applied stable : OpTime) (store later : Store)
-    → IsKept (data_node term role clock log reserved.slots writers reserved.mark applied stable) store → again ≡ reserved → back ≡ writers → later.count ≡ store.count → ((p : Place) → past_at later p ≡ past_at store p)
-    → IsKept (data_node term role clock log again.slots back again.mark applied stable) later
-kept_put_back term role clock log reserved again writers back applied stable store later kept slots put count same =
-    subst (λ (r : Reserved). IsKept (data_node term role clock log r.slots back r.mark applied stable) later) (sym slots)
-    (subst (λ (w : Writers). IsKept (data_node term role clock log reserved.slots w reserved.mark applied stable) later) (sym put)
-    (kept_same (data_node term role clock log reserved.slots writers reserved.mark applied stable) store later kept count same))
+pub kept_put_back : (writable : Bool) (log : List Entry) (reserved again : Reserved) (writers back : Writers) (applied stable : OpTime) (store later : Store)
+    → IsKept (data_node writable log reserved.slots writers reserved.mark applied stable) store → again ≡ reserved → back ≡ writers → later.count ≡ store.count → ((p : Place) → past_at later p ≡ past_at store p)
+    → IsKept (data_node writable log again.slots back again.mark applied stable) later
+kept_put_back writable log reserved again writers back applied stable store later kept slots put count same =
+    subst (λ (r : Reserved). IsKept (data_node writable log r.slots back r.mark applied stable) later) (sym slots)
+    (subst (λ (w : Writers). IsKept (data_node writable log reserved.slots w reserved.mark applied stable) later) (sym put)
+    (kept_same (data_node writable log reserved.slots writers reserved.mark applied stable) store later kept count same))
 
 -- and one that was opened
-pub kept_slot_opened : (term : ℕ) (role : Role) (clock : ℕ) (log again : List Entry) (reserved next : Reserved) (writers with_writer : Writers) (applied stable at : OpTime) (store later : Store) (number : ℕ) (writer : Writer) (op : Op) (place : Place)
-    → IsKept (data_node term role clock log reserved.slots writers reserved.mark applied stable) store
-    → IsNew (data_node term role clock log reserved.slots writers reserved.mark applied stable) op None → place_of op ≡ Some place
+pub kept_slot_opened : (writable : Bool) (log again : List Entry) (reserved next : Reserved) (writers with_writer : Writers) (applied stable at : OpTime) (store later : Store) (number : ℕ) (writer : Writer) (op : Op) (place : Place)
+    → IsKept (data_node writable log reserved.slots writers reserved.mark applied stable) store
+    → IsNew (data_node writable log reserved.slots writers reserved.mark applied stable) at op None → place_of op ≡ Some place
     → holder_among (entries writers) place ≡ None → ¬ (IsWriting writers number)
-    → again ≡ log → next ≡ opened_slot reserved (next_slot reserved term clock) → with_writer ≡ insert writers number writer → writer ≡ Open at op → at ≡ next_slot reserved term clock
+    → again ≡ log → next ≡ opened_slot reserved at → with_writer ≡ insert writers number writer → writer ≡ Open at op
     → Changes store later place (held_by (past_at store place) (Some number))
-    → IsKept (data_node term role clock again next.slots with_writer next.mark applied stable) later
-kept_slot_opened term role clock log again reserved next writers with_writer applied stable at store later number writer op place kept new own free closed same slots put opens is changes =
-    let after = opened_slot reserved (next_slot reserved term clock) in
-    let all : with_writer ≡ insert writers number (Open (next_slot reserved term clock) op) = put ∙ ap (insert writers number) (opens ∙ ap (λ o. Open o op) is) in
-    subst (λ (l : List Entry). IsKept (data_node term role clock l next.slots with_writer next.mark applied stable) later) (sym same)
-    (subst (λ (r : Reserved). IsKept (data_node term role clock log r.slots with_writer r.mark applied stable) later) (sym slots)
-    (subst (λ (w : Writers). IsKept (data_node term role clock log after.slots w after.mark applied stable) later) (sym all)
-    (kept_opened (data_node term role clock log reserved.slots writers reserved.mark applied stable) store later number op place kept new own free closed changes)))
+    → IsKept (data_node writable again next.slots with_writer next.mark applied stable) later
+kept_slot_opened writable log again reserved next writers with_writer applied stable at store later number writer op place kept new own free closed same slots put opens changes =
+    let after = opened_slot reserved at in
+    let all : with_writer ≡ insert writers number (Open at op) = put ∙ ap (insert writers number) opens in
+    subst (λ (l : List Entry). IsKept (data_node writable l next.slots with_writer next.mark applied stable) later) (sym same)
+    (subst (λ (r : Reserved). IsKept (data_node writable log r.slots with_writer r.mark applied stable) later) (sym slots)
+    (subst (λ (w : Writers). IsKept (data_node writable log after.slots w after.mark applied stable) later) (sym all)
+    (kept_opened (data_node writable log reserved.slots writers reserved.mark applied stable) at store later number op place kept new own free closed changes)))
 
 -- what a primary shows is what its whole log leaves
 pub whole_documents : (node : Node) → node.role ≡ Primary → local_documents node ≡ docs node.log

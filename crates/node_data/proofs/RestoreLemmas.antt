@@ -188,22 +188,20 @@ later_reached at last reached = by_test (is_before at last) refl
 pub applied_whole : (at : OpTime) (log : List Entry) → AllPairs StandsBefore log → is_before (last_of log) at ≡ false → later_of at (last_of (log_up_to (last_of log) log)) ≡ last_of log
 applied_whole at log order reached = ap (λ l. later_of at (last_of l)) (up_to-last log order) ∙ later_reached at (last_of log) reached
 
-pub kept_stored : (store : Store) (term clock : ℕ) (log : List Entry) (at : OpTime) → term < 2 ^ 63 → IsOplog log → All IsWithinEntry log → All (λ (e : Entry). e.optime.term ≤ term) log → AreSmall log
+pub kept_stored : (store : Store) (log : List Entry) (at : OpTime) → IsOplog log → All IsWithinEntry log → AreSmall log
     → is_before (last_of log) at ≡ false → ((p : Place) → versions_at store p ≡ version_as_of at (maps.get (docs (log_up_to at log)) p)) → ((p : Place) → holder_at store p ≡ None) → store.count ≡ 64
-    → IsKept (data_node term Secondary clock log sets.empty maps.empty (seen_after 0 log) at at) store
-kept_stored store term clock log at fits oplog within terms small reached versions free shards = record {
+    → IsKept (data_node false log sets.empty maps.empty (seen_after 0 log) at at) store
+kept_stored store log at oplog within small reached versions free shards = record {
   sound = record {
     oplog = oplog;
     entries = within;
     documents = small;
-    term = fits;
-    terms = terms;
     marked = λ k d inside. omega (arith, last_greatest log oplog.order k d inside, seen_whole log oplog.order);
     idle = λ not. record { slots = refl; writers = closed };
     applied = reached;
     stable = at_most_refl at;
   };
-  writers = apart_idle (data_node term Secondary clock log sets.empty maps.empty (seen_after 0 log) at at) closed;
+  writers = apart_idle (data_node false log sets.empty maps.empty (seen_after 0 log) at at) closed;
   versions = λ p. subst (λ vs. HasVersions p at (log_up_to at log) vs) (sym (versions p)) (has_as_of p at log);
   holders = λ p. subst (λ h. IsHolder maps.empty p h) (sym (free p)) (λ w. ap (λ v. is_held_by v p) (maps.get-empty nat_cmp w));
   shards = shards;
@@ -214,13 +212,13 @@ kept_stored store term clock log at fits oplog within terms small reached versio
         let here : None ≡ Some (Open writing.0 writing.1) = sym (maps.get-empty nat_cmp writer) ∙ writing.2 in
         cc
 
-pub restored_is : (term clock mark : ℕ) (log entries : List Entry) (slots : sets.FinSet optime_cmp) (writers : Writers) (last at : OpTime) → log ≡ entries → slots ≡ sets.empty → writers ≡ maps.empty → mark ≡ seen_after 0 entries
+pub restored_is : (mark : ℕ) (log entries : List Entry) (slots : sets.FinSet optime_cmp) (writers : Writers) (last at : OpTime) → log ≡ entries → slots ≡ sets.empty → writers ≡ maps.empty → mark ≡ seen_after 0 entries
     → last ≡ last_of entries → AllPairs StandsBefore entries → is_before (last_of entries) at ≡ false
-    → data_node term Secondary clock log slots writers mark (later_of at (last_of (log_up_to last log))) at ≡ restored term clock entries at
-restored_is term clock mark log entries slots writers last at same none idle seen end order reached =
-    ap (λ l. data_node term Secondary clock l slots writers mark (later_of at (last_of (log_up_to last l))) at) same
-    ∙ ap (λ s. data_node term Secondary clock entries s writers mark (later_of at (last_of (log_up_to last entries))) at) none
-    ∙ ap (λ w. data_node term Secondary clock entries sets.empty w mark (later_of at (last_of (log_up_to last entries))) at) idle
-    ∙ ap (λ m. data_node term Secondary clock entries sets.empty maps.empty m (later_of at (last_of (log_up_to last entries))) at) (seen ∙ seen_whole entries order)
-    ∙ ap (λ o. data_node term Secondary clock entries sets.empty maps.empty (last_of entries).ts (later_of at (last_of (log_up_to o entries))) at) end
-    ∙ ap (λ o. data_node term Secondary clock entries sets.empty maps.empty (last_of entries).ts o at) (applied_whole at entries order reached)
+    → data_node false log slots writers mark (later_of at (last_of (log_up_to last log))) at ≡ restored entries at
+restored_is mark log entries slots writers last at same none idle seen end order reached =
+    ap (λ l. data_node false l slots writers mark (later_of at (last_of (log_up_to last l))) at) same
+    ∙ ap (λ s. data_node false entries s writers mark (later_of at (last_of (log_up_to last entries))) at) none
+    ∙ ap (λ w. data_node false entries sets.empty w mark (later_of at (last_of (log_up_to last entries))) at) idle
+    ∙ ap (λ m. data_node false entries sets.empty maps.empty m (later_of at (last_of (log_up_to last entries))) at) (seen ∙ seen_whole entries order)
+    ∙ ap (λ o. data_node false entries sets.empty maps.empty (last_of entries).ts (later_of at (last_of (log_up_to o entries))) at) end
+    ∙ ap (λ o. data_node false entries sets.empty maps.empty (last_of entries).ts o at) (applied_whole at entries order reached)

@@ -43,119 +43,49 @@ if_other Draining Primary a b c x y = cc y
 pub apart_idle : (node : Node) → ((writer : ℕ) → ¬ IsWriting node.writers writer) → AreApart node
 apart_idle node closed = record {
   pending = λ v by other opens. absurd (closed v (by, other, opens));
+  order = λ one two a b x y first second times. absurd (closed one (a, x, first));
   apart = λ one two a b x y first second times. absurd (closed one (a, x, first));
   alone = λ one two a b x y first second places. absurd (closed one (a, x, first));
 }
-
-pub kept_clock : (node : Node) (store : Store) (seconds : ℕ) → IsKept node store → IsKept (record node { clock = seconds }) store
-kept_clock node store seconds kept = record {
-  sound = record {
-    oplog = kept.sound.oplog;
-    entries = kept.sound.entries;
-    documents = kept.sound.documents;
-    term = kept.sound.term;
-    terms = kept.sound.terms;
-    marked = kept.sound.marked;
-    idle = λ not. record { slots = (kept.sound.idle not).slots; writers = (kept.sound.idle not).writers };
-    applied = kept.sound.applied;
-    stable = kept.sound.stable;
-  };
-  writers = record {
-    pending = λ v by other opens. let was = kept.writers.pending v by other opens in
-        record { open_slot = was.open_slot; positive = was.positive; seen = was.seen; term = was.term; unstable = was.unstable; lawful = was.lawful; within = was.within; place = was.place; small = was.small; newest = was.newest };
-    apart = kept.writers.apart;
-    alone = kept.writers.alone;
-  };
-  versions = kept.versions;
-  holders = kept.holders;
-  shards = kept.shards;
-}
-
-pub kept_term : (node : Node) (store : Store) (term : ℕ) → IsKept node store → node.role ≡ Secondary → node.term ≤ term → term < 2 ^ 63 → IsKept (record node { term = term }) store
-kept_term node store term kept role later fits =
-    let idle : IsIdle node = kept.sound.idle (ap is_primary role) in
-    record {
-      sound = record {
-        oplog = kept.sound.oplog;
-        entries = kept.sound.entries;
-        documents = kept.sound.documents;
-        term = fits;
-        terms = λ k d within. omega (arith, kept.sound.terms k d within);
-        marked = kept.sound.marked;
-        idle = λ not. record { slots = idle.slots; writers = idle.writers };
-        applied = kept.sound.applied;
-        stable = kept.sound.stable;
-      };
-      writers = apart_idle (record node { term = term }) idle.writers;
-      versions = kept.versions;
-      holders = kept.holders;
-      shards = kept.shards;
-    }
-
-pub kept_role : (node : Node) (store : Store) (role : Role) → IsKept node store → is_primary node.role ≡ false → is_primary role ≡ false → IsKept (record node { role = role }) store
-kept_role node store role kept was not =
-    let idle : IsIdle node = kept.sound.idle was in
-    record {
-      sound = record {
-        oplog = kept.sound.oplog;
-        entries = kept.sound.entries;
-        documents = kept.sound.documents;
-        term = kept.sound.term;
-        terms = kept.sound.terms;
-        marked = kept.sound.marked;
-        idle = λ _. record { slots = idle.slots; writers = idle.writers };
-        applied = kept.sound.applied;
-        stable = ap (λ p. is_before p node.stable) (if_other role node.role (visible_point node) node.applied (visible_point node) not was) ∙ kept.sound.stable;
-      };
-      writers = apart_idle (record node { role = role }) idle.writers;
-      versions = λ p. subst (λ log. HasVersions p node.stable log (versions_at store p)) (if_other node.role role node.log (log_up_to node.applied node.log) node.log was not) (kept.versions p);
-      holders = kept.holders;
-      shards = kept.shards;
-    }
 
 -- a node without slots shows its whole log
 visible-idle : (log : List Entry) (slots : sets.FinSet optime_cmp) → slots ≡ sets.empty → visible log (sets.items slots) ≡ last_of log
 visible-idle log slots none = ap (λ xs. visible log xs) (none_listed (sets.items slots) (items_again slots ∙ none))
 
-pub kept_primary : (node : Node) (store : Store) → IsKept node store → node.role ≡ Draining → node.applied ≡ last_point node → IsKept (record node { role = Primary }) store
-kept_primary node store kept role applied =
-    let was : is_primary node.role ≡ false = ap is_primary role in
+pub kept_primary : (node : Node) (store : Store) → IsKept node store → is_primary node.role ≡ false → node.applied ≡ last_point node → IsKept (record node { role = Primary }) store
+kept_primary node store kept was applied =
     let idle : IsIdle node = kept.sound.idle was in
     record {
       sound = record {
         oplog = kept.sound.oplog;
         entries = kept.sound.entries;
         documents = kept.sound.documents;
-        term = kept.sound.term;
-        terms = kept.sound.terms;
         marked = kept.sound.marked;
         idle = λ not. cc not;
         applied = kept.sound.applied;
-        stable = ap (λ p. is_before p node.stable) (visible-idle node.log node.slots idle.slots ∙ sym applied ∙ sym (ap (λ r. if_primary r (visible_point node) node.applied) role)) ∙ kept.sound.stable;
+        stable = ap (λ p. is_before p node.stable) (visible-idle node.log node.slots idle.slots ∙ sym applied ∙ sym (if_other node.role Secondary (visible_point node) node.applied (visible_point node) was refl)) ∙ kept.sound.stable;
       };
       writers = apart_idle (record node { role = Primary }) idle.writers;
       versions = λ p. subst (λ log. HasVersions p node.stable log (versions_at store p))
-          (ap (λ r. if_primary r node.log (log_up_to node.applied node.log)) role ∙ ap (λ o. log_up_to o node.log) applied ∙ up_to-last node.log kept.sound.oplog.order) (kept.versions p);
+          (if_other node.role Secondary node.log (log_up_to node.applied node.log) node.log was refl ∙ ap (λ o. log_up_to o node.log) applied ∙ up_to-last node.log kept.sound.oplog.order) (kept.versions p);
       holders = kept.holders;
       shards = kept.shards;
     }
 
 -- ---- data as the set begins
 
-pub kept_new : (store : Store) → store.count ≡ 64 → ((p : Place) → past_at store p ≡ no_past) → IsKept (data_node 0 Secondary 0 [] sets.empty maps.empty 0 ZERO ZERO) store
+pub kept_new : (store : Store) → store.count ≡ 64 → ((p : Place) → past_at store p ≡ no_past) → IsKept (data_node false [] sets.empty maps.empty 0 ZERO ZERO) store
 kept_new store shards none = record {
   sound = record {
     oplog = record { order = λ i j d less within. absurd (omega arith); lawful = λ k d within. absurd (omega arith) };
     entries = λ k d within. absurd (omega arith);
     documents = λ place k d within. absurd (omega arith);
-    term = lit< tt;
-    terms = λ k d within. absurd (omega arith);
     marked = λ k d within. absurd (omega arith);
     idle = λ not. record { slots = refl; writers = closed };
     applied = refl;
     stable = refl;
   };
-  writers = apart_idle (data_node 0 Secondary 0 [] sets.empty maps.empty 0 ZERO ZERO) closed;
+  writers = apart_idle (data_node false [] sets.empty maps.empty 0 ZERO ZERO) closed;
   versions = λ p. record { base = []; is = ap (λ (past : Past). past.versions) (none p); early = λ k d within. absurd (omega arith); shows = sym (maps.get-empty place_cmp p) };
   holders = λ p. subst (λ h. IsHolder maps.empty p h) (sym (ap (λ (past : Past). past.holder) (none p))) (λ w. ap (λ v. is_held_by v p) (maps.get-empty nat_cmp w));
   shards = shards;

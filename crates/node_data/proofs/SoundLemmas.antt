@@ -28,13 +28,13 @@ use Rattle.version_store.specs.Past.{latest_of}
 use Rattle.set_model.specs.declared.role.Role.{Role}
 use Rattle.set_model.specs.declared.role.Role.TheVariants.{Secondary, Candidate, Draining, Primary}
 use Rattle.set_model.specs.declared.writer.Writer.TheVariants.{Open}
-use Rattle.set_model.specs.Changes.{logged, opened}
+use Rattle.set_model.specs.Changes.{logged_at, opened_at}
 use Rattle.set_model.specs.Node.{Node}
-use Rattle.set_model.specs.Points.{if_primary, next_optime, visible_point}
+use Rattle.set_model.specs.Points.{if_primary, visible_point}
 use Rattle.set_model.specs.Roles.{is_primary}
 use Rattle.set_model.specs.Writers.{settled, aborted}
-use Rattle.set_model.proofs.SeenLemmas.{next_past}
 use Rattle.node_data.specs.Kept.{IsNewest, IsPending, AreApart}
+use Rattle.node_data.specs.NodeData.{IsNext}
 use Rattle.node_data.specs.Sound.{IsSound}
 use Rattle.node_data.specs.Versions.{versions_of, IsSmall, AreSmall}
 use Rattle.node_data.specs.Writers.{HasOpen, IsWriting}
@@ -62,12 +62,18 @@ primary_point role a b is = ap (λ r. if_primary r a b) is
 
 -- ---- the newest entry
 
+-- a primary may write next at this optime
+abbrev pub MayWriteAt : Node → OpTime → Type 0
+MayWriteAt node at = IsNext node.log node.slots node.seen at
+
 -- an entry past all others is the newest of its document
-pub newest_past : (node : Node) (at : OpTime) (op : Op) (session : Option Session) → IsSound node → at.term ≡ node.term → node.seen < at.ts → IsNewest node.log (record { optime = at; op = op; session = session })
-newest_past node at op session sound term past = record {
-  fits = λ k d within. inl (record { earlier = omega (arith, sound.marked k d within); term = omega (arith, sound.terms k d within) });
-  last = λ k d within after. absurd (omega (arith, sound.marked k d within));
-}
+pub newest_past : (node : Node) (at : OpTime) (op : Op) (session : Option Session) → IsSound node → MayWriteAt node at → IsNewest node.log (record { optime = at; op = op; session = session })
+newest_past node at op session sound next =
+    let past : node.seen < at.ts = next.past in
+    record {
+      fits = λ k d within. inl (record { earlier = omega (arith, sound.marked k d within); term = next.entries k d within });
+      last = λ k d within after. absurd (omega (arith, sound.marked k d within));
+    }
 
 -- the log goes no less far with one entry more
 last-with : (log : List Entry) (entry : Entry) (o : OpTime) → AllPairs StandsBefore (with_entry log entry) → is_before (last_of log) o ≡ false → is_before (last_of (with_entry log entry)) o ≡ false
@@ -140,67 +146,69 @@ stable_stays role log later slots after applied o primary order new into stable 
 
 -- ---- an entry past all others
 
--- an entry that is written next, and one that a slot waits for
-abbrev pub next_entry : Node → Op → Option Session → Entry
-next_entry node op session = record { optime = next_optime node; op = op; session = session }
+-- an entry that is written at an optime, and one that a slot waits for
+abbrev pub entry_at : OpTime → Op → Option Session → Entry
+entry_at at op session = record { optime = at; op = op; session = session }
 
 abbrev pub slot_entry : OpTime → Op → Entry
-slot_entry at op = record { optime = at; op = op; session = None }
+slot_entry at op = entry_at at op None
 
 -- what a new entry owes
-pub record IsNew (node : Node) (op : Op) (session : Option Session) : Type 0 where
+pub record IsNew (node : Node) (at : OpTime) (op : Op) (session : Option Session) : Type 0 where
   pub role : node.role ≡ Primary
+  pub next : MayWriteAt node at
   pub lawful : IsLawfulOp op
   pub session_too : IfSome session IsSession
   pub write : IfSome session (λ _. IsSome (place_of op))
-  pub within : IsWithinEntry (next_entry node op session)
+  pub within : IsWithinEntry (entry_at at op session)
   pub small : (place : Place) → place_of op ≡ Some place → IsSmall (document_after op (get (docs node.log) place))
 
-pub next_newest : (node : Node) (op : Op) (session : Option Session) → IsSound node → IsNewest node.log (next_entry node op session)
-next_newest node op session sound = newest_past node (next_optime node) op session sound refl (next_past node)
-
-pub sound_logged : (node : Node) (op : Op) (session : Option Session) → IsSound node → IsNew node op session → IsSound (logged node op session)
-sound_logged node op session sound new =
-    let newest : IsNewest node.log (next_entry node op session) = next_newest node op session sound in
-    let past : node.seen < (next_optime node).ts = next_past node in
-    let oplog : IsOplog (with_entry node.log (next_entry node op session)) =
-    with_entry_keeps node.log (next_entry node op session) sound.oplog (record { term = sound.term; op = new.lawful; session = new.session_too; write = new.write }) newest.fits in
+pub sound_logged : (node : Node) (at : OpTime) (op : Op) (session : Option Session) → IsSound node → IsNew node at op session → IsSound (logged_at at node op session)
+sound_logged node at op session sound new =
+    let newest : IsNewest node.log (entry_at at op session) = newest_past node at op session sound new.next in
+    let past : node.seen < at.ts = new.next.past in
+    let oplog : IsOplog (with_entry node.log (entry_at at op session)) =
+    with_entry_keeps node.log (entry_at at op session) sound.oplog (record { term = new.next.term; op = new.lawful; session = new.session_too; write = new.write }) newest.fits in
     record {
       oplog = oplog;
-      entries = all_with_entry IsWithinEntry node.log (next_entry node op session) new.within sound.entries;
-      documents = small_with node.log (next_entry node op session) sound.oplog.order newest new.small sound.documents;
-      term = sound.term;
-      terms = all_with_entry (λ (e : Entry). e.optime.term ≤ node.term) node.log (next_entry node op session) (omega arith) sound.terms;
-      marked = all_with_entry (λ (e : Entry). e.optime.ts ≤ (next_optime node).ts) node.log (next_entry node op session) (omega arith) (λ k d within. omega (arith, sound.marked k d within));
+      entries = all_with_entry IsWithinEntry node.log (entry_at at op session) new.within sound.entries;
+      documents = small_with node.log (entry_at at op session) sound.oplog.order newest new.small sound.documents;
+      marked = all_with_entry (λ (e : Entry). e.optime.ts ≤ at.ts) node.log (entry_at at op session) (omega arith) (λ k d within. omega (arith, sound.marked k d within));
       idle = λ not. absurd (primary_not node.role new.role not);
-      applied = last-with node.log (next_entry node op session) node.applied oplog.order sound.applied;
-      stable = stable_stays node.role node.log (with_entry node.log (next_entry node op session)) node.slots node.slots node.applied node.stable new.role oplog.order
-          (λ k d within slot there. inl there) (some_with (λ e. (is_before e node.stable ≡ false) × IsBeforeSlots node.slots e) node.log (next_entry node op session)) sound.stable;
+      applied = last-with node.log (entry_at at op session) node.applied oplog.order sound.applied;
+      stable = stable_stays node.role node.log (with_entry node.log (entry_at at op session)) node.slots node.slots node.applied node.stable new.role oplog.order
+          (λ k d within slot there. inl there) (some_with (λ e. (is_before e node.stable ≡ false) × IsBeforeSlots node.slots e) node.log (entry_at at op session)) sound.stable;
     }
 
-before_next : (node : Node) → IsSound node → All (λ (e : Entry). is_before e.optime (next_optime node) ≡ true) node.log
-before_next node sound k d within =
-    let past : node.seen < (next_optime node).ts = next_past node in
-    before_both (slice_index_or node.log k d).optime (next_optime node) (sound.terms k d within) (omega (arith, sound.marked k d within))
+before_next : (node : Node) (at : OpTime) → IsSound node → MayWriteAt node at → All (λ (e : Entry). is_before e.optime at ≡ true) node.log
+before_next node at sound next k d within =
+    let past : node.seen < at.ts = next.past in
+    before_both (slice_index_or node.log k d).optime at (next.entries k d within) (omega (arith, sound.marked k d within))
 
--- what is stable is before the next optime
-pub next_unstable : (node : Node) → IsSound node → node.role ≡ Primary → is_before node.stable (next_optime node) ≡ true
-next_unstable node sound primary = elim (visible_shown node.log node.slots node.stable (ap (λ p. is_before p node.stable) (sym (primary_point node.role (visible_point node) node.applied primary)) ∙ sound.stable)) [
-  | inl none ↦ at_most_before_trans node.stable ZERO (next_optime node) none (before_both ZERO (next_optime node) (omega arith) (omega (arith, next_past node)))
-  | inr some ↦ some_fact (is_before node.stable (next_optime node) ≡ true) node.log
-      (some_more (λ e. ((is_before e node.stable ≡ false) × IsBeforeSlots node.slots e) × (is_before e (next_optime node) ≡ true)) (λ e. is_before node.stable (next_optime node) ≡ true) node.log
-      (λ e both. at_most_before_trans node.stable e (next_optime node) both.0.0 both.1)
-      (some_both (λ e. (is_before e node.stable ≡ false) × IsBeforeSlots node.slots e) (λ e. is_before e (next_optime node) ≡ true) node.log (before_next node sound) some))
+-- what is stable is before an optime that every entry is before
+pub stable_before : (node : Node) (at : OpTime) → IsSound node → node.role ≡ Primary → is_before ZERO at ≡ true → All (λ (e : Entry). is_before e.optime at ≡ true) node.log → is_before node.stable at ≡ true
+stable_before node at sound primary positive each = elim (visible_shown node.log node.slots node.stable (ap (λ p. is_before p node.stable) (sym (primary_point node.role (visible_point node) node.applied primary)) ∙ sound.stable)) [
+  | inl none ↦ at_most_before_trans node.stable ZERO at none positive
+  | inr some ↦ some_fact (is_before node.stable at ≡ true) node.log
+      (some_more (λ e. ((is_before e node.stable ≡ false) × IsBeforeSlots node.slots e) × (is_before e at ≡ true)) (λ e. is_before node.stable at ≡ true) node.log
+      (λ e both. at_most_before_trans node.stable e at both.0.0 both.1)
+      (some_both (λ e. (is_before e node.stable ≡ false) × IsBeforeSlots node.slots e) (λ e. is_before e at ≡ true) node.log each some))
 ]
 
-pub apart_logged : (node : Node) (op : Op) (session : Option Session) → IsSound node → AreApart node → IsNew node op session
-    → ((v : ℕ) (by : OpTime) (other : Op) → HasOpen node.writers v by other → place_of op ≢ place_of other) → AreApart (logged node op session)
-apart_logged node op session sound writers new free = record { pending = pending; apart = writers.apart; alone = writers.alone }
+-- and so before the next one that is written
+pub next_unstable : (node : Node) (at : OpTime) → IsSound node → node.role ≡ Primary → MayWriteAt node at → is_before node.stable at ≡ true
+next_unstable node at sound primary next =
+    let past : node.seen < at.ts = next.past in
+    stable_before node at sound primary (before_both ZERO at (omega arith) (omega (arith, past))) (before_next node at sound next)
+
+pub apart_logged : (node : Node) (at : OpTime) (op : Op) (session : Option Session) → IsSound node → AreApart node → IsNew node at op session
+    → ((v : ℕ) (by : OpTime) (other : Op) → HasOpen node.writers v by other → place_of op ≢ place_of other) → AreApart (logged_at at node op session)
+apart_logged node at op session sound writers new free = record { pending = pending; order = writers.order; apart = writers.apart; alone = writers.alone }
   where
-    pending : (v : ℕ) (by : OpTime) (other : Op) → HasOpen node.writers v by other → IsPending (logged node op session) by other
+    pending : (v : ℕ) (by : OpTime) (other : Op) → HasOpen node.writers v by other → IsPending (logged_at at node op session) by other
     pending v by other opens =
         let old : IsPending node by other = writers.pending v by other opens in
-        let past : node.seen < (next_optime node).ts = next_past node in
+        let past : node.seen < at.ts = new.next.past in
         record {
           open_slot = old.open_slot;
           positive = old.positive;
@@ -210,65 +218,60 @@ apart_logged node op session sound writers new free = record { pending = pending
           lawful = old.lawful;
           within = old.within;
           place = old.place;
-          small = small_still node.log (next_entry node op session) other sound.oplog.order (next_newest node op session sound) (free v by other opens) old.small;
-          newest = newest_with node.log (slot_entry by other) (next_entry node op session) old.newest
-              (inr (record { earlier = omega (arith, old.seen, past); term = omega (arith, old.term) })) (λ _. free v by other opens);
+          small = small_still node.log (entry_at at op session) other sound.oplog.order (newest_past node at op session sound new.next) (free v by other opens) old.small;
+          newest = newest_with node.log (slot_entry by other) (entry_at at op session) old.newest
+              (inr (record { earlier = omega (arith, old.seen, past); term = new.next.open_slots by old.open_slot })) (λ _. free v by other opens);
         }
 
 -- ---- slots
 
-pub sound_opened : (node : Node) (writer : ℕ) (op : Op) → IsSound node → node.role ≡ Primary → IsSound (opened node writer op)
-sound_opened node writer op sound primary =
-    let past : node.seen < (next_optime node).ts = next_past node in
+pub sound_opened : (node : Node) (at : OpTime) (writer : ℕ) (op : Op) → IsSound node → node.role ≡ Primary → MayWriteAt node at → IsSound (opened_at at node writer op)
+sound_opened node at writer op sound primary next =
+    let past : node.seen < at.ts = next.past in
     record {
       oplog = sound.oplog;
       entries = sound.entries;
       documents = sound.documents;
-      term = sound.term;
-      terms = sound.terms;
       marked = λ k d within. omega (arith, sound.marked k d within, past);
       idle = λ not. absurd (primary_not node.role primary not);
       applied = sound.applied;
-      stable = stable_stays node.role node.log node.log node.slots (sets.insert node.slots (next_optime node)) node.applied node.stable primary sound.oplog.order new (λ some. some) sound.stable;
+      stable = stable_stays node.role node.log node.log node.slots (sets.insert node.slots at) node.applied node.stable primary sound.oplog.order new (λ some. some) sound.stable;
     }
   where
-    new : All (λ (e : Entry). (slot : OpTime) → IsTrue (sets.contains (sets.insert node.slots (next_optime node)) slot) → IsTrue (sets.contains node.slots slot) ⊎ (is_before e.optime slot ≡ true)) node.log
-    new k d within slot there = elim (open_with node.slots (next_optime node) slot there) [
-      | inl same ↦ inr (ap (λ o. is_before (slice_index_or node.log k d).optime o) same ∙ before_next node sound k d within)
+    new : All (λ (e : Entry). (slot : OpTime) → IsTrue (sets.contains (sets.insert node.slots at) slot) → IsTrue (sets.contains node.slots slot) ⊎ (is_before e.optime slot ≡ true)) node.log
+    new k d within slot there = elim (open_with node.slots at slot there) [
+      | inl same ↦ inr (ap (λ o. is_before (slice_index_or node.log k d).optime o) same ∙ before_next node at sound next k d within)
       | inr old ↦ inl old
     ]
 
-pub apart_opened : (node : Node) (writer : ℕ) (op : Op) → IsSound node → AreApart node → IsNew node op None → IsSome (place_of op)
-    → ((v : ℕ) (by : OpTime) (other : Op) → HasOpen node.writers v by other → place_of op ≢ place_of other) → AreApart (opened node writer op)
-apart_opened node writer op sound writers new place free = record { pending = pending; apart = apart; alone = alone }
+pub apart_opened : (node : Node) (at : OpTime) (writer : ℕ) (op : Op) → IsSound node → AreApart node → IsNew node at op None → IsSome (place_of op)
+    → ((v : ℕ) (by : OpTime) (other : Op) → HasOpen node.writers v by other → place_of op ≢ place_of other) → AreApart (opened_at at node writer op)
+apart_opened node at writer op sound writers new place free = record { pending = pending; order = order; apart = apart; alone = alone }
   where
-    at : OpTime
-    at = next_optime node
-
-    here : IsPending (opened node writer op) (next_optime node) op
+    here : IsPending (opened_at at node writer op) at op
     here = record {
-      open_slot = slot-itself node.slots (next_optime node);
-      positive = let past : node.seen < (next_optime node).ts = next_past node in omega (arith, past);
+      open_slot = slot-itself node.slots at;
+      positive = let past : node.seen < at.ts = new.next.past in omega (arith, past);
       seen = omega arith;
-      term = refl;
-      unstable = next_unstable node sound new.role;
+      term = new.next.term;
+      unstable = next_unstable node at sound new.role new.next;
       lawful = new.lawful;
       within = new.within;
       place = place;
       small = new.small;
-      newest = next_newest node op None sound;
+      newest = newest_past node at op None sound new.next;
     }
 
-    pending : (v : ℕ) (by : OpTime) (other : Op) → HasOpen (insert node.writers writer (Open (next_optime node) op)) v by other → IsPending (opened node writer op) by other
-    pending v by other opens = elim (opened_cases node.writers writer (next_optime node) op v by other opens) [
+    pending : (v : ℕ) (by : OpTime) (other : Op) → HasOpen (insert node.writers writer (Open at op)) v by other → IsPending (opened_at at node writer op) by other
+    pending v by other opens = elim (opened_cases node.writers writer at op v by other opens) [
       | inl same ↦
-          subst (λ (o : OpTime). IsPending (opened node writer op) o other) same.1
-          (subst (λ (o : Op). IsPending (opened node writer op) (next_optime node) o) same.2 here)
+          subst (λ (o : OpTime). IsPending (opened_at at node writer op) o other) same.1
+          (subst (λ (o : Op). IsPending (opened_at at node writer op) at o) same.2 here)
       | inr old ↦
           let was : IsPending node by other = writers.pending v by other old.1 in
-          let past : node.seen < (next_optime node).ts = next_past node in
+          let past : node.seen < at.ts = new.next.past in
           record {
-            open_slot = slot-more node.slots (next_optime node) by was.open_slot;
+            open_slot = slot-more node.slots at by was.open_slot;
             positive = was.positive;
             seen = omega (arith, was.seen, past);
             term = was.term;
@@ -281,33 +284,54 @@ apart_opened node writer op sound writers new place free = record { pending = pe
           }
     ]
 
-    apart : (one two : ℕ) (a b : OpTime) (x y : Op) → HasOpen (insert node.writers writer (Open (next_optime node) op)) one a x → HasOpen (insert node.writers writer (Open (next_optime node) op)) two b y → a.ts ≡ b.ts → one ≡ two
-    apart one two a b x y first second times = elim (opened_cases node.writers writer (next_optime node) op one a x first) [
-      | inl same ↦ elim (opened_cases node.writers writer (next_optime node) op two b y second) [
+    order : (one two : ℕ) (a b : OpTime) (x y : Op) → HasOpen (insert node.writers writer (Open at op)) one a x → HasOpen (insert node.writers writer (Open at op)) two b y → a.ts < b.ts → a.term ≤ b.term
+    order one two a b x y first second times = elim (opened_cases node.writers writer at op one a x first) [
+      | inl same ↦ elim (opened_cases node.writers writer at op two b y second) [
+        | inl also ↦
+            let one_time : at.ts ≡ a.ts = ap (λ (o : OpTime). o.ts) same.1 in
+            let two_time : at.ts ≡ b.ts = ap (λ (o : OpTime). o.ts) also.1 in
+            absurd (omega (arith, one_time, two_time, times))
+        | inr old ↦
+            let was : IsPending node b y = writers.pending two b y old.1 in
+            let time : at.ts ≡ a.ts = ap (λ (o : OpTime). o.ts) same.1 in
+            let past : node.seen < at.ts = new.next.past in
+            absurd (omega (arith, was.seen, time, times, past))
+      ]
+      | inr old ↦ elim (opened_cases node.writers writer at op two b y second) [
+        | inl also ↦
+            let was : IsPending node a x = writers.pending one a x old.1 in
+            subst (λ (o : OpTime). a.term ≤ o.term) also.1 (new.next.open_slots a was.open_slot)
+        | inr too ↦ writers.order one two a b x y old.1 too.1 times
+      ]
+    ]
+
+    apart : (one two : ℕ) (a b : OpTime) (x y : Op) → HasOpen (insert node.writers writer (Open at op)) one a x → HasOpen (insert node.writers writer (Open at op)) two b y → a.ts ≡ b.ts → one ≡ two
+    apart one two a b x y first second times = elim (opened_cases node.writers writer at op one a x first) [
+      | inl same ↦ elim (opened_cases node.writers writer at op two b y second) [
         | inl also ↦ same.0 ∙ sym also.0
         | inr old ↦
             let was : IsPending node b y = writers.pending two b y old.1 in
-            let time : (next_optime node).ts ≡ a.ts = ap (λ (o : OpTime). o.ts) same.1 in
-            let past : node.seen < (next_optime node).ts = next_past node in
+            let time : at.ts ≡ a.ts = ap (λ (o : OpTime). o.ts) same.1 in
+            let past : node.seen < at.ts = new.next.past in
             absurd (omega (arith, was.seen, time, times, past))
       ]
-      | inr old ↦ elim (opened_cases node.writers writer (next_optime node) op two b y second) [
+      | inr old ↦ elim (opened_cases node.writers writer at op two b y second) [
         | inl also ↦
             let was : IsPending node a x = writers.pending one a x old.1 in
-            let time : (next_optime node).ts ≡ b.ts = ap (λ (o : OpTime). o.ts) also.1 in
-            let past : node.seen < (next_optime node).ts = next_past node in
+            let time : at.ts ≡ b.ts = ap (λ (o : OpTime). o.ts) also.1 in
+            let past : node.seen < at.ts = new.next.past in
             absurd (omega (arith, was.seen, time, times, past))
         | inr too ↦ writers.apart one two a b x y old.1 too.1 times
       ]
     ]
 
-    alone : (one two : ℕ) (a b : OpTime) (x y : Op) → HasOpen (insert node.writers writer (Open (next_optime node) op)) one a x → HasOpen (insert node.writers writer (Open (next_optime node) op)) two b y → place_of x ≡ place_of y → one ≡ two
-    alone one two a b x y first second places = elim (opened_cases node.writers writer (next_optime node) op one a x first) [
-      | inl same ↦ elim (opened_cases node.writers writer (next_optime node) op two b y second) [
+    alone : (one two : ℕ) (a b : OpTime) (x y : Op) → HasOpen (insert node.writers writer (Open at op)) one a x → HasOpen (insert node.writers writer (Open at op)) two b y → place_of x ≡ place_of y → one ≡ two
+    alone one two a b x y first second places = elim (opened_cases node.writers writer at op one a x first) [
+      | inl same ↦ elim (opened_cases node.writers writer at op two b y second) [
         | inl also ↦ same.0 ∙ sym also.0
         | inr old ↦ absurd (free two b y old.1 (ap place_of same.2 ∙ places))
       ]
-      | inr old ↦ elim (opened_cases node.writers writer (next_optime node) op two b y second) [
+      | inr old ↦ elim (opened_cases node.writers writer at op two b y second) [
         | inl also ↦ absurd (free one a x old.1 (ap place_of also.2 ∙ sym places))
         | inr too ↦ writers.alone one two a b x y old.1 too.1 places
       ]
@@ -318,13 +342,11 @@ sound_settled node writer at op sound writers opens =
     let here : IsPending node at op = writers.pending writer at op opens in
     let primary : node.role ≡ Primary = writing_primary node writer sound (at, op, opens) in
     let oplog : IsOplog (with_entry node.log (slot_entry at op)) =
-    with_entry_keeps node.log (slot_entry at op) sound.oplog (record { term = omega (arith, sound.term, here.term); op = here.lawful; session = tt; write = tt }) here.newest.fits in
+    with_entry_keeps node.log (slot_entry at op) sound.oplog (record { term = here.term; op = here.lawful; session = tt; write = tt }) here.newest.fits in
     record {
       oplog = oplog;
       entries = all_with_entry IsWithinEntry node.log (slot_entry at op) here.within sound.entries;
       documents = small_with node.log (slot_entry at op) sound.oplog.order here.newest here.small sound.documents;
-      term = sound.term;
-      terms = all_with_entry (λ (e : Entry). e.optime.term ≤ node.term) node.log (slot_entry at op) (omega (arith, here.term)) sound.terms;
       marked = all_with_entry (λ (e : Entry). e.optime.ts ≤ node.seen) node.log (slot_entry at op) here.seen sound.marked;
       idle = λ not. absurd (primary_not node.role primary not);
       applied = last-with node.log (slot_entry at op) node.applied oplog.order sound.applied;
@@ -335,6 +357,7 @@ sound_settled node writer at op sound writers opens =
 pub apart_settled : (node : Node) (writer : ℕ) (at : OpTime) (op : Op) → IsSound node → AreApart node → HasOpen node.writers writer at op → AreApart (settled node writer at op)
 apart_settled node writer at op sound writers opens = record {
   pending = λ v by other done. pending (writers.pending writer at op opens) v by other (done_cases node.writers writer at v by other done);
+  order = λ one two a b x y first second. writers.order one two a b x y (done_cases node.writers writer at one a x first).1 (done_cases node.writers writer at two b y second).1;
   apart = λ one two a b x y first second. writers.apart one two a b x y (done_cases node.writers writer at one a x first).1 (done_cases node.writers writer at two b y second).1;
   alone = λ one two a b x y first second. writers.alone one two a b x y (done_cases node.writers writer at one a x first).1 (done_cases node.writers writer at two b y second).1;
 }
@@ -354,10 +377,10 @@ apart_settled node writer at op sound writers opens = record {
           small = small_still node.log (slot_entry at op) other sound.oplog.order here.newest (λ places. old.0 (writers.alone v writer by at other op old.1 opens (sym places))) was.small;
           newest = newest_with node.log (slot_entry by other) (slot_entry at op) was.newest
               (elim (three_ways by.ts at.ts) [
-                | inl less ↦ inr (record { earlier = less; term = omega (arith, here.term, was.term) })
+                | inl less ↦ inr (record { earlier = less; term = writers.order v writer by at other op old.1 opens less })
                 | inr rest ↦ elim rest [
                   | inl same ↦ absurd (old.0 (writers.apart v writer by at other op old.1 opens same))
-                  | inr more ↦ inl (record { earlier = more; term = omega (arith, here.term, was.term) })
+                  | inr more ↦ inl (record { earlier = more; term = writers.order writer v at by op other opens old.1 more })
                 ]
               ])
               (λ _ places. old.0 (writers.alone v writer by at other op old.1 opens (sym places)));
@@ -370,8 +393,6 @@ sound_aborted node writer at op sound opens =
       oplog = sound.oplog;
       entries = sound.entries;
       documents = sound.documents;
-      term = sound.term;
-      terms = sound.terms;
       marked = sound.marked;
       idle = λ not. absurd (primary_not node.role primary not);
       applied = sound.applied;
@@ -382,6 +403,7 @@ sound_aborted node writer at op sound opens =
 pub apart_aborted : (node : Node) (writer : ℕ) (at : OpTime) (op : Op) → AreApart node → HasOpen node.writers writer at op → AreApart (aborted node writer at)
 apart_aborted node writer at op writers opens = record {
   pending = λ v by other gone. pending v by other (gone_cases node.writers writer v by other gone);
+  order = λ one two a b x y first second. writers.order one two a b x y (gone_cases node.writers writer one a x first).1 (gone_cases node.writers writer two b y second).1;
   apart = λ one two a b x y first second. writers.apart one two a b x y (gone_cases node.writers writer one a x first).1 (gone_cases node.writers writer two b y second).1;
   alone = λ one two a b x y first second. writers.alone one two a b x y (gone_cases node.writers writer one a x first).1 (gone_cases node.writers writer two b y second).1;
 }

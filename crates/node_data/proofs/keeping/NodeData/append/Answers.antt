@@ -6,7 +6,6 @@ invariant_of-self c =
     let role = rw (← c.self.view_is) at c.requires.role in
     let oplog = rw (← c.self.view_is) at c.requires.oplog in
     let later = rw (← c.self.view_is) at c.requires.later in
-    let terms = rw (← c.self.view_is) at c.requires.terms in
     let small = rw (← c.self.view_is) at c.requires.small in
     rw (c.insert_all.ensures.entries, c.insert_all.ensures.slots)
-    (kept_appended _ c.self.inside.store c.args.entries.items c.self.invariant role oplog later terms c.requires.within small)
+    (kept_appended _ c.self.inside.store c.args.entries.items c.self.invariant role oplog later c.requires.within small)

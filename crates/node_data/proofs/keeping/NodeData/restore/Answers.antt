@@ -20,7 +20,7 @@ invariant_of-node_data-2 g c =
     let seen : c.insert_all.new.slots.mark ≡ seen_after 0 c.args.entries =
     ap (λ (s : Reserved). s.mark) c.insert_all.ensures.slots ∙ ap (λ (s : Reserved). seen_after s.mark c.into_entries-entries.result.items) c.new-slots.ensures ∙ ap (λ es. seen_after 0 es) c.into_entries-entries.ensures.entries in
     rw (log, slots, seen, c.new.ensures)
-    (kept_stored c.in_ok-stored.field-0 c.args.term c.args.clock c.args.entries c.args.at c.requires.term c.requires.oplog c.requires.within c.requires.terms c.requires.small c.requires.reached
+    (kept_stored c.in_ok-stored.field-0 c.args.entries c.args.at c.requires.oplog c.requires.within c.requires.small c.requires.reached
     (λ p. c.in_ok-stored.ensures.versions p ∙ ap (λ d. version_as_of c.args.at (maps.get d p)) c.requires.documents) c.in_ok-stored.ensures.free c.in_ok-stored.ensures.count)
 
 pub returns : goal.returns
@@ -34,5 +34,5 @@ returns g c =
     let end : c.last-last.result ≡ last_of c.args.entries = c.last-last.ensures ∙ ap (λ (l : LogWithHoles). last_of l.entries) c.written.ensures ∙ ap (λ (es : List Entry). last_of es) c.insert_all.ensures.entries
     ∙ ap (λ (es : List Entry). last_of (es ++ c.into_entries-entries.result.items)) (c.in_ok-reserve.ensures.entries ∙ c.new-log.ensures) ∙ ap last_of c.into_entries-entries.ensures.entries in
     ap (λ (l : Seen). l.node) c.in_ok-apply_to.ensures.ok
-    ∙ restored_is c.args.term c.args.clock c.insert_all.new.slots.mark c.log-2.inside.log.entries c.args.entries c.insert_all.new.slots.slots c.new.result c.last-last.result c.args.at log slots c.new.ensures seen end
+    ∙ restored_is c.insert_all.new.slots.mark c.log-2.inside.log.entries c.args.entries c.insert_all.new.slots.slots c.new.result c.last-last.result c.args.at log slots c.new.ensures seen end
     c.requires.oplog.order c.requires.reached
