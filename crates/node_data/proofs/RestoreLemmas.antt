@@ -1,5 +1,5 @@
 -- A node's data out of the entries and the documents that disks have.
-use Rattle.std.proofs.Common.{◌≡◌, inl, inr, ◌∙◌, ◌<◌, ◌≤◌, ◌^◌, ap, sym, refl, subst, arith, Bool, true, false, not, ℕ, zero, suc, List, [], ◌∷◌, ◌++◌, Option, None, Some, append-nil, length, length-append, max}
+use Rattle.std.proofs.Common.{◌≡◌, inl, inr, ◌∙◌, ◌≤◌, ap, sym, refl, subst, arith, Bool, true, false, not, ℕ, zero, suc, List, [], ◌∷◌, ◌++◌, Option, None, Some, append-nil, length, length-append, max}
 use Rattle.std.specs.Prelude.{slice_index_or}
 use Rattle.std.specs.List.{All, AllPairs, AllByRecursion}
 use Rattle.std.specs.List.Sorted.{IsStrictlySortedBy}
@@ -32,7 +32,6 @@ use Rattle.repl_msg.specs.Logs.{log_behind}
 use Rattle.version_store.specs.declared.history.Version.{Version}
 use Rattle.version_store.specs.Past.{Past, no_past, latest_of, with_version}
 use Rattle.version_store.specs.Store.{Store, past_at, versions_at, holder_at, Changes}
-use Rattle.set_model.specs.declared.role.Role.TheVariants.{Secondary}
 use Rattle.set_model.specs.declared.writer.Writer.TheVariants.{Open}
 use Rattle.set_model.specs.Fetching.{seen_after}
 use Rattle.node_data.specs.Kept.{IsKept, IsHolder, is_held_by}

@@ -1,5 +1,5 @@
 // Entries that are written at once, where the log is writable.
-ghost use Rattle.std.specs.Prelude.{◌≡◌, ◌⊎◌, ◌-◌, ◌<◌, All, None, Some, IfOk, IfSome, OnOk, OnErr};
+ghost use Rattle.std.specs.Prelude.{◌≡◌, ◌⊎◌, ◌-◌, ◌<◌, All, None, Some, IfSome, OnOk, OnErr};
 ghost use Rattle.std.specs.FinMap as maps;
 ghost use Rattle.entry_bytes.specs.Sizes.{IsWithinEntry};
 ghost use Rattle.oplog_entry.specs.Docs.{docs};
