@@ -18,7 +18,9 @@ use Rattle.oplog_entry.specs.contracts.entry.Entry as entry
 use Rattle.oplog_entry.specs.contracts.entry.Op as op
 use Rattle.oplog_entry.specs.contracts.entry.SharedOp as shared_op
 use Rattle.batch_applier.specs.contracts.part.Part as part
-use Rattle.batch_applier.specs.contracts.part.Touch as touch
+use Rattle.batch_applier.specs.contracts.touch.Touch as touch
+use Rattle.batch_applier.specs.contracts.touches.Piece as piece
+use Rattle.batch_applier.specs.contracts.touches.Touches as touches
 use Rattle.batch_applier.specs.contracts.shard_job.ShardJob as job
 
 doc_send : IsSend doc.the_row
@@ -60,11 +62,23 @@ shared_op_sync = search (sendable, heap.crosses, op_send, op_sync) depth 40 fits
 entry_sync : IsSync entry.the_row
 entry_sync = search (sendable, heap.crosses, shared_op_sync) depth 40 fits 20000
 
+touch_send : (a : _) → IsSend (touch.the_row a)
+touch_send a = search (sendable, heap.crosses, text_sync, entry_sync) depth 40 fits 20000
+
+pub touches_send : (a : _) → IsSend (touches.the_row a)
+touches_send a = search (sendable, heap.crosses, touch_send) depth 40 fits 20000
+
+pub piece_send : (a : _) → IsSend (piece.the_row a)
+piece_send a = search (sendable, heap.crosses, touches_send, entry_sync) depth 40 fits 20000
+
 touch_sync : (a : _) → IsSync (touch.the_row a)
 touch_sync a = search (sendable, heap.crosses, text_sync, entry_sync) depth 40 fits 20000
 
+touches_sync : (a : _) → IsSync (touches.the_row a)
+touches_sync a = search (sendable, heap.crosses, touch_sync) depth 40 fits 20000
+
 part_sync : (a : _) → IsSync (part.the_row a)
-part_sync a = search (sendable, heap.crosses, touch_sync) depth 40 fits 20000
+part_sync a = search (sendable, heap.crosses, touches_sync) depth 40 fits 20000
 
 pub job_send : (a b : _) → IsSend (job.the_row a b)
 job_send a b = search (sendable, heap.crosses, shard_send, part_sync) depth 40 fits 20000

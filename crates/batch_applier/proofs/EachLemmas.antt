@@ -64,7 +64,7 @@ one_applied shards count place entry any left long within here done = record {
 
 -- ---- entries after entries
 
-applied_then : (a b c : Shard) (xs ys : List Entry) → IsApplied a b xs → IsApplied b c ys → IsApplied a c (xs ++ ys)
+pub applied_then : (a b c : Shard) (xs ys : List Entry) → IsApplied a b xs → IsApplied b c ys → IsApplied a c (xs ++ ys)
 applied_then a b c xs ys first more = record {
   each = λ place. more.each place ∙ ap (λ past. past_after place past ys) (first.each place) ∙ sym (fold-append (past_with place) (past_of a place) xs ys);
   number = more.number ∙ first.number;

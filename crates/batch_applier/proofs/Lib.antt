@@ -1,6 +1,7 @@
 pub mod FreshLemmas
 pub mod PastLemmas
 mod PartLemmas
+mod PieceLemmas
 mod WorkerLemmas
 mod BatchLemmas
 mod EachLemmas

@@ -1,6 +1,6 @@
 -- How a batch is parted over shards, and what is done to each shard.
 use Rattle.std.specs.Prelude.{◌≡◌, ◌<◌, ◌%◌, ℕ, Bool, true, false, List, [], ◌∷◌, ◌++◌, Option, None, Some, length, take, filter, nat_eq, slice_index_or, OnOk, Result}
-use Rattle.std.specs.List.{All, AllPairs}
+use Rattle.std.specs.List.{All, AllPairs, flat_map}
 use Rattle.bson_doc.specs.Place.{Place}
 use Rattle.oplog_entry.specs.declared.entry.Entry.{Entry}
 use Rattle.oplog_entry.specs.Step.{place_of}
@@ -27,6 +27,16 @@ pub record AreParts (entries : List Entry) (count : ℕ) (parts : List (List Ent
 abbrev pub IsAdded : (old new : List (List Entry)) → ℕ → Entry → Type 0
 IsAdded old new count entry = (k : ℕ) (d : List Entry) → k < length old
     → slice_index_or new k d ≡ slice_index_or old k d ++ part_of (entry ∷ []) count k
+
+-- the entries of a batch's pieces, one piece behind the other
+abbrev pub joined : List (List Entry) → List Entry
+joined pieces = flat_map (λ piece. piece) pieces
+
+-- each part has those of the next piece behind its own
+pub record AreJoined (parts piece joined : List (List Entry)) : Type 0 where
+  pub long : length joined ≡ length parts
+  pub each : (k : ℕ) (d : List Entry) → k < length parts
+      → slice_index_or joined k d ≡ slice_index_or parts k d ++ slice_index_or piece k d
 
 -- the entries touch documents of the shard, with rising optimes past every version of these
 pub record IsReady (shard : Shard) (entries : List Entry) : Type 0 where

@@ -5,8 +5,10 @@ ghost use Rattle.version_store.specs.Store.{AreShards, ChangesEach};
 ghost use Rattle.batch_applier.specs.Applied.{IsBatch, HasApplied};
 ghost use Rattle.batch_applier.specs.Parts.{IsApplied, IsBegun, IsEachReady, EachOf, AreReady, AreApplied};
 
+use crate::each::apply_each;
 use crate::gate::Gate;
-use crate::part::{Part, apply_each, apply_in_turn, parted};
+use crate::part::{Part, apply_in_turn};
+use crate::parting::parted_by;
 use crate::shard_job::apply_claimed;
 use oplog_entry::Entry;
 use rs_optime::{Mem, OpTime};
@@ -65,7 +67,7 @@ fn put_back(store: &mut VersionStore, shards: Vec<Shard>, first: OpTime, done: M
     done
 }
 
-/// Applies the entries. Where threads may pay, it parts them over the shards for the workers. Where memory
+/// Applies the entries. Where threads may pay, these part them over the shards for the workers. Where memory
 /// runs out, each shard has had some of its entries applied, from the first on.
 fn apply_to<R: Threads + Sync, G: Gate + Sync>(
     rt: &R,
@@ -87,8 +89,13 @@ fn apply_to<R: Threads + Sync, G: Gate + Sync>(
         pass_all(gate, workers);
         return apply_each(alloc, count, entries, shards);
     }
-    let parts = parted(alloc, entries, count)?;
+    let parts = parted_by(rt, alloc, paying(workers, entries.len()), entries, count)?;
     apply_parts(rt, gate, alloc, workers, &parts, shards)
+}
+
+/// How many of the workers are worth their threads, where they share so many entries.
+fn paying(workers: u32, entries: usize) -> u32 {
+    (entries / SHARE).min(workers as usize) as u32
 }
 
 /// Has all workers pass the gate, the first as the last.

@@ -4,9 +4,13 @@
 
 mod batch;
 mod claims;
+mod each;
 mod gate;
 mod part;
+mod parting;
 mod shard_job;
+mod touch;
+mod touches;
 mod view;
 mod workers;
 

@@ -1,28 +1,29 @@
-use Rattle.std.proofs.Common.{◌≡◌, ◌<◌, ◌∙◌, length}
-use Rattle.std.proofs.lemmas.List.{get_or_read}
-use Rattle.std.specs.Prelude.{slice_index_or}
-use Rattle.oplog_entry.specs.declared.entry.Entry.{Entry}
-use Rattle.batch_applier.proofs.PartLemmas.{ready_own, ready_later, applied_more}
+use Rattle.std.proofs.Common.{◌≡◌, ◌∙◌, ◌<◌, ap, sym, subst, arith, length, take, take_all}
+use Rattle.batch_applier.specs.Parts.{joined, IsReady, IsApplied, IsBegun}
+use Rattle.batch_applier.proofs.PieceLemmas.{ready_piece, piece_applied, piece_begun}
 use Rattle.batch_applier.proofs.part.Part.apply.Goals as goal
 
-pub apply-requires-clause-own : goal.apply-requires-clause-own
-apply-requires-clause-own c =
-    let all : c.deref-touch-items.result.now ≡ c.args.self.now = c.deref-touch-items.ensures.value ∙ c.self.view_is in
-    let within : c.loop-touch.touch-index < length c.args.self.now = rw (← all) c.loop-touch-test.true in
-    let is : (d : Entry) → c.touch-item.result ≡ slice_index_or c.args.self.now c.loop-touch.touch-index d = rw (← all) (get_or_read c.deref-touch-items.result.now c.loop-touch.touch-index c.touch-item.result c.loop-touch-test.true c.touch-item.is) in
-    ready_own c.args.shard.now c.loop-touch.shard c.args.self.now c.loop-touch.touch-index c.touch-item.result c.requires within (is _) c.loop-touch.invariant.number c.loop-touch.invariant.count
+pub apply-requires : goal.apply-requires
+apply-requires c =
+    let whole : joined c.deref-touches-items.result.now ≡ c.args.self.now = ap joined c.deref-touches-items.ensures.value ∙ c.self.view_is in
+    ready_piece c.args.shard.now c.loop-touches.shard c.deref-touches-items.result.now c.loop-touches.touches-index c.touches-item.result c.loop-touches-test.true c.touches-item.is
+    (subst (IsReady c.args.shard.now) (sym whole) c.requires) c.loop-touches.invariant
 
-pub apply-requires-clause-later : goal.apply-requires-clause-later
-apply-requires-clause-later c =
-    let all : c.deref-touch-items.result.now ≡ c.args.self.now = c.deref-touch-items.ensures.value ∙ c.self.view_is in
-    let within : c.loop-touch.touch-index < length c.args.self.now = rw (← all) c.loop-touch-test.true in
-    let is : (d : Entry) → c.touch-item.result ≡ slice_index_or c.args.self.now c.loop-touch.touch-index d = rw (← all) (get_or_read c.deref-touch-items.result.now c.loop-touch.touch-index c.touch-item.result c.loop-touch-test.true c.touch-item.is) in
-    ready_later c.args.shard.now c.loop-touch.shard c.args.self.now c.loop-touch.touch-index c.touch-item.result c.requires within (is _) (rw all at c.loop-touch.invariant)
+pub returns-in_err-apply-clause-begun : goal.returns-in_err-apply-clause-begun
+returns-in_err-apply-clause-begun c =
+    let whole : joined c.deref-touches-items.result.now ≡ c.args.self.now = ap joined c.deref-touches-items.ensures.value ∙ c.self.view_is in
+    subst (IsBegun c.args.shard.now c.apply.new.shard) whole
+    (piece_begun c.args.shard.now c.loop-touches.shard c.apply.new.shard c.deref-touches-items.result.now c.loop-touches.touches-index c.touches-item.result c.loop-touches-test.true c.touches-item.is
+    c.loop-touches.invariant c.apply.ensures.begun)
 
-pub loop-touch-preserved : goal.loop-touch-preserved
-loop-touch-preserved c =
-    let all : c.deref-touch-items.result.now ≡ c.args.self.now = c.deref-touch-items.ensures.value ∙ c.self.view_is in
-    let within : c.loop-touch.touch-index < length c.args.self.now = rw (← all) c.loop-touch-test.true in
-    let is : (d : Entry) → c.touch-item.result ≡ slice_index_or c.args.self.now c.loop-touch.touch-index d = rw (← all) (get_or_read c.deref-touch-items.result.now c.loop-touch.touch-index c.touch-item.result c.loop-touch-test.true c.touch-item.is) in
-    rw all
-    (applied_more c.args.shard.now c.loop-touch.shard c.apply.new.shard c.args.self.now c.loop-touch.touch-index c.touch-item.result within is (rw all at c.loop-touch.invariant) c.in_ok-apply.ensures.ok)
+pub loop-touches-preserved : goal.loop-touches-preserved
+loop-touches-preserved c =
+    piece_applied c.args.shard.now c.loop-touches.shard c.apply.new.shard c.deref-touches-items.result.now c.loop-touches.touches-index c.touches-item.result c.loop-touches-test.true c.touches-item.is
+    c.loop-touches.invariant c.in_ok-apply.ensures.ok
+
+pub returns-clause-begun : goal.returns-clause-begun
+returns-clause-begun c =
+    let whole : joined c.deref-touches-items.result.now ≡ c.args.self.now = ap joined c.deref-touches-items.ensures.value ∙ c.self.view_is in
+    let all : take c.loop-touches.touches-index c.deref-touches-items.result.now ≡ c.deref-touches-items.result.now = take_all c.loop-touches.touches-index c.deref-touches-items.result.now (omega arith) in
+    let applied : IsApplied c.args.shard.now c.loop-touches.shard c.args.self.now = subst (IsApplied c.args.shard.now c.loop-touches.shard) (ap joined all ∙ whole) c.loop-touches.invariant in
+    (length c.args.self.now, subst (IsApplied c.args.shard.now c.loop-touches.shard) (sym (take_all (length c.args.self.now) c.args.self.now (omega arith))) applied)

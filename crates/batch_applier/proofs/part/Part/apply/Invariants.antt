@@ -1,7 +1,7 @@
 use Rattle.std.proofs.Common.{take}
-use Rattle.batch_applier.specs.Parts.{IsApplied}
+use Rattle.batch_applier.specs.Parts.{joined, IsApplied}
 use Rattle.batch_applier.proofs.part.Part.apply.Given as goal
 
--- the entries so far are applied
-abbrev pub invariant-loop-touch : goal.invariant-loop-touch
-invariant-loop-touch l = IsApplied l.fn.shard l.shard (take l.touch-index l.touch-items)
+-- the pieces so far are applied
+abbrev pub invariant-loop-touches : goal.invariant-loop-touches
+invariant-loop-touches l = IsApplied l.fn.shard l.shard (joined (take l.touches-index l.touches-items))

@@ -1,6 +1,6 @@
 use Rattle.std.proofs.lemmas.List.{get_or_read}
 use Rattle.batch_applier.proofs.EachLemmas.{each_so_far, ready_for}
-use Rattle.batch_applier.proofs.part.apply_each.Goals as goal
+use Rattle.batch_applier.proofs.each.apply_each.Goals as goal
 
 pub apply_one-requires-clause-ready : goal.apply_one-requires-clause-ready
 apply_one-requires-clause-ready c =

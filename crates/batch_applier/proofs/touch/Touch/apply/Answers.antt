@@ -1,7 +1,7 @@
 use Rattle.std.proofs.Common.{◌∙◌}
 use Rattle.bson_doc.proofs.BindLemmas.{on_ok}
 use Rattle.batch_applier.proofs.PartLemmas.{applied_one}
-use Rattle.batch_applier.proofs.part.Touch.apply.Goals as goal
+use Rattle.batch_applier.proofs.touch.Touch.apply.Goals as goal
 
 pub put_in-requires-clause-own : goal.put_in-requires-clause-own
 put_in-requires-clause-own c =
