@@ -1,14 +1,13 @@
 -- The entries of a part, piece by piece, and parts that get one piece more.
-use Rattle.std.proofs.Common.{◌≡◌, ◌≢◌, ◌⊎◌, inl, inr, ◌∙◌, ◌<◌, ◌≤◌, ◌+◌, ap, sym, subst, refl, arith, true, List, [], ◌∷◌, ◌++◌, ℕ, length, take, drop, Option, Some, append-nil, append_assoc, length-append, take-append-drop, zero, suc}
+use Rattle.std.proofs.Common.{◌≡◌, ◌≢◌, ◌⊎◌, inl, inr, ◌∙◌, ◌<◌, ◌≤◌, ◌+◌, ap, sym, subst, refl, arith, true, List, [], ◌∷◌, ◌++◌, ℕ, length, take, drop, Some, append-nil, append_assoc, length-append, take-append-drop, zero, suc}
 use Rattle.std.specs.Prelude.{slice_index_or, slice_set}
 use Rattle.std.proofs.Common.{get_or-set_same, get_or-set_other, length-set}
 use Rattle.std.proofs.lemmas.Bool.{cases_eq}
 use Rattle.std.proofs.Math.Seq.{get_or-append_seam}
-use Rattle.std.specs.List.{All, AllPairs, flat_map}
-use Rattle.std.proofs.lemmas.List.{take_more, get_or_append_left, get_or-append-add, get_or_default, take_at}
-use Rattle.std.proofs.lemmas.List.Concat.{flat_map-append, flat_map_single}
-use Rattle.std.proofs.lemmas.List.Elements.{filter-append}
-use Rattle.bson_doc.specs.Tree.{Fields}
+use Rattle.std.specs.List.{All, AllPairs}
+use Rattle.std.proofs.lemmas.List.{take_more, get_or_append_left, get_or-append-add, get_or_default, take_at, drop_at}
+use Rattle.std.proofs.lemmas.List.Concat.{flat_map-append}
+use Rattle.std.proofs.lemmas.List.Elements.{filter-append, All-take, All-drop}
 use Rattle.bson_doc.specs.Place.{Place}
 use Rattle.oplog_entry.specs.declared.entry.Entry.{Entry}
 use Rattle.oplog_entry.specs.Step.{place_of}
@@ -19,20 +18,13 @@ use Rattle.batch_applier.specs.Parts.{is_in, part_of, joined, AreParts, AreJoine
 use Rattle.batch_applier.proofs.PastLemmas.{after_all}
 use Rattle.batch_applier.proofs.EachLemmas.{applied_then}
 
--- ---- two lists, one behind the other
-
-all_front : {X : Type 0} (P : X → Type 0) (xs ys : List X) → All P (xs ++ ys) → All P xs
-all_front P xs ys all k d inside =
-    let long : length (xs ++ ys) ≡ length xs + length ys = length-append xs ys in
-    subst P (get_or_append_left xs ys d k inside) (all k d (omega (arith, long, inside)))
-
-all_behind : {X : Type 0} (P : X → Type 0) (xs ys : List X) → All P (xs ++ ys) → All P ys
-all_behind P xs ys all k d inside =
-    let long : length (xs ++ ys) ≡ length xs + length ys = length-append xs ys in
-    subst P (get_or-append-add xs ys k d) (all (length xs + k) d (omega (arith, long, inside)))
+-- ---- entries behind others
 
 abbrev Rise : Entry → Entry → Type 0
 Rise one two = is_before one.optime two.optime ≡ true
+
+abbrev Behind : Version → Entry → Type 0
+Behind version entry = is_before version.at entry.optime ≡ true
 
 rising_front : (xs ys : List Entry) → AllPairs Rise (xs ++ ys) → AllPairs Rise xs
 rising_front xs ys rising i j d less inside =
@@ -58,26 +50,34 @@ rising_across xs ys rising i d inside j e within =
 
 ready_front : (shard : Shard) (xs ys : List Entry) → IsReady shard (xs ++ ys) → IsReady shard xs
 ready_front shard xs ys ready = record {
-  own = all_front (λ (e : Entry). (place : Place) → place_of e.op ≡ Some place → BelongsTo shard.number shard.count place) xs ys ready.own;
+  own = subst (All Own) (take_at xs ys _ refl) (All-take Own (length xs) (xs ++ ys) ready.own);
   rising = rising_front xs ys ready.rising;
-  later = λ place own k v inside. all_front (λ (e : Entry). is_before (slice_index_or (past_of shard place).versions k v).at e.optime ≡ true) xs ys (ready.later place own k v inside);
+  later = λ place own k v inside. subst (All (Behind (slice_index_or (past_of shard place).versions k v))) (take_at xs ys _ refl)
+      (All-take (Behind (slice_index_or (past_of shard place).versions k v)) (length xs) (xs ++ ys) (ready.later place own k v inside));
 }
+  where
+    Own : Entry → Type 0
+    Own e = (place : Place) → place_of e.op ≡ Some place → BelongsTo shard.number shard.count place
 
 ready_behind : (shard now : Shard) (xs ys : List Entry) → IsReady shard (xs ++ ys) → IsApplied shard now xs → IsReady now ys
 ready_behind shard now xs ys ready applied = record {
   own = λ k d inside place at. rw (applied.number, applied.count)
-      (all_behind (λ (e : Entry). (place : Place) → place_of e.op ≡ Some place → BelongsTo shard.number shard.count place) xs ys ready.own k d inside place at);
+      (subst (All Own) (drop_at xs ys _ refl) (All-drop Own (length xs) (xs ++ ys) ready.own) k d inside place at);
   rising = rising_behind xs ys ready.rising;
   later = λ place own.
       let was : BelongsTo shard.number shard.count place = rw (← applied.number, ← applied.count) own in
       subst (λ (past : Past). All Early past.versions) (sym (applied.each place))
       (after_all Early place xs (past_of shard place)
-      (λ k v inside. all_behind (λ (e : Entry). is_before (slice_index_or (past_of shard place).versions k v).at e.optime ≡ true) xs ys (ready.later place was k v inside))
+      (λ k v inside. subst (All (Behind (slice_index_or (past_of shard place).versions k v))) (drop_at xs ys _ refl)
+      (All-drop (Behind (slice_index_or (past_of shard place).versions k v)) (length xs) (xs ++ ys) (ready.later place was k v inside)))
       (λ k d inside doc. rising_across xs ys ready.rising k d inside));
 }
   where
+    Own : Entry → Type 0
+    Own e = (place : Place) → place_of e.op ≡ Some place → BelongsTo shard.number shard.count place
+
     Early : Version → Type 0
-    Early version = All (λ (e : Entry). is_before version.at e.optime ≡ true) ys
+    Early version = All (Behind version) ys
 
 -- a piece stands behind those before it, and before those behind
 pieces_at : (pieces : List (List Entry)) (i : ℕ) (piece : List Entry) → i < length pieces → piece ≡ slice_index_or pieces i piece

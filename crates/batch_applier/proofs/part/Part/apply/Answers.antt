@@ -1,4 +1,4 @@
-use Rattle.std.proofs.Common.{◌≡◌, ◌∙◌, ◌<◌, ap, sym, subst, arith, length, take, take_all}
+use Rattle.std.proofs.Common.{◌≡◌, ◌∙◌, ap, sym, subst, arith, length, take, take_all}
 use Rattle.batch_applier.specs.Parts.{joined, IsReady, IsApplied, IsBegun}
 use Rattle.batch_applier.proofs.PieceLemmas.{ready_piece, piece_applied, piece_begun}
 use Rattle.batch_applier.proofs.part.Part.apply.Goals as goal
