@@ -1,5 +1,5 @@
-// A batch parted over shards by threads side by side. Most of that time goes by waiting for memory, since what
-// an entry touches is looked at here first.
+// A batch parted over shards by threads side by side. Most of that time goes by waiting for memory, since
+// what an entry touches is looked at here first.
 ghost use Rattle.std.specs.Prelude.{◌≡◌, ◌<◌, [], All, length, IfOk};
 ghost use Rattle.std.specs.Thread.{IsSync};
 ghost use Rattle.oplog_entry.specs.Lawful.{IsLawful};
