@@ -69,8 +69,8 @@ change_ready nodes standing config taken kept none taken_is kept_is =
 -- ---- a configuration that is kept
 
 pub coherent-configured : (n : Node) (rest : BesideData) (items : List Record) (config : Config) (tally : Option Tallied) (optimes : List OpTime)
-    → items ≡ rest.records ++ records.Config config ∷ [] → rule config ≡ None → n.role ≢ Candidate → IsCoherent (seen_node n rest) tally optimes
+    → items ≡ rest.records ++ records.Config config ∷ [] → rule config ≡ None → rest.role ≢ Candidate → IsCoherent (seen_node n rest) tally optimes
     → IsCoherent (seen_node n (record rest { records = items; config = config })) tally optimes
 coherent-configured n rest items config tally optimes are lawful other old =
-    coherent-kept (seen_node n rest) items n.term rest.vote config tally optimes (with_config_kept (seen_node n rest) items config old.recorded are) old.vote lawful
+    coherent-kept (seen_node n rest) items rest.term rest.vote config tally optimes (with_config_kept (seen_node n rest) items config old.recorded are) old.vote lawful
     (λ role. absurd (other role)) old

@@ -25,7 +25,8 @@ use Rattle.set_model.specs.declared.writer.Writer.{Writer}
 use Rattle.oplog_store.specs.Unjournaled.{with_optime}
 use Rattle.oplog_store.proofs.OptimeLemmas.{map-with_entry}
 use Rattle.node_data.specs.Kept.{FitsBeside}
-use Rattle.node_state.specs.Coherent.{IsCoherent, IsRecorded, is_kept}
+use Rattle.node_state.specs.Coherent.{IsCoherent, IsRecorded, IsState, is_kept}
+use Rattle.node_state.specs.Seen.{BesideData, seen_node}
 use Rattle.node_state.proofs.EntryLemmas.{has_in, in_has, filter-with}
 
 -- ---- another clock, and another place up to which the log is applied
@@ -57,6 +58,14 @@ coherent-applied node tally optimes at old = record {
   unjournaled = old.unjournaled;
   counts = old.counts;
 }
+
+pub state-clock : (n : Node) (rest : BesideData) (optimes : List OpTime) (seconds : ℕ) → IsState n rest optimes → IsState n (record rest { clock = seconds }) optimes
+state-clock n rest optimes seconds old =
+    record { writable = old.writable; of_term = old.of_term; coherent = coherent-clock (seen_node n rest) rest.tally optimes seconds old.coherent }
+
+pub state-applied : (n : Node) (rest : BesideData) (optimes : List OpTime) (at : OpTime) → IsState n rest optimes → IsState (record n { applied = at }) rest optimes
+state-applied n rest optimes at old =
+    record { writable = old.writable; of_term = old.of_term; coherent = coherent-applied (seen_node n rest) rest.tally optimes at old.coherent }
 
 -- ---- a slot more or less
 

@@ -8,6 +8,7 @@ pub mod Inside
 pub mod MergeLemmas
 pub mod RestartLemmas
 pub mod SlotLemmas
+pub mod StateLemmas
 pub mod StoredLemmas
 pub mod TermLemmas
 pub mod TurnLemmas

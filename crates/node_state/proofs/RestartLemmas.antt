@@ -1,5 +1,5 @@
 -- What a node comes back with.
-use Rattle.std.proofs.Common.{◌≡◌, ◌∙◌, ◌⊎◌, ◌≤◌, ◌<◌, ◌+◌, ◌^◌, inl, inr, ap, sym, subst, refl, ℕ, true, false, not, map, Option, None, Some, IfSome, List, []}
+use Rattle.std.proofs.Common.{◌≡◌, ◌∙◌, ◌⊎◌, ◌≤◌, ◌<◌, ◌+◌, ◌^◌, inl, inr, ap, sym, subst, refl, ℕ, true, false, not, map, IsTrue, Option, None, Some, IfSome, List, []}
 use Rattle.std.specs.Prelude.{unwrap_or}
 use Rattle.std.specs.List.{All}
 use Rattle.std.specs.FinMap as maps
@@ -26,7 +26,8 @@ use Rattle.set_model.specs.Disk.{come_back}
 use Rattle.set_model.specs.Node.{Node}
 use Rattle.set_model.specs.Points.{visible_point}
 use Rattle.set_model.specs.Safety.{AtMost, Has}
-use Rattle.node_state.specs.Coherent.{IsCoherent, is_kept}
+use Rattle.set_model.specs.declared.role.Role.TheVariants.{Secondary}
+use Rattle.node_state.specs.Coherent.{IsCoherent, IsState, is_kept}
 use Rattle.node_data.specs.NodeData.{restored}
 use Rattle.node_state.specs.Seen.{BesideData, seen_node}
 use Rattle.node_data.specs.Versions.{AreSmall}
@@ -86,11 +87,14 @@ come_back-coherent first number records stable rollback clock below lawful well 
     has entry there = in_has (kept records).entries entry.optime entry there refl
 
 -- beside its log, what a node comes back with that was read
-abbrev pub rest_read : Config → ℕ → List Record → OpTime → ℕ → Vote → Option Config → OpTime → BesideData
-rest_read first number records stable rollback vote config point =
+abbrev pub rest_read : Config → ℕ → List Record → OpTime → ℕ → ℕ → Vote → Option Config → OpTime → BesideData
+rest_read first number records stable rollback clock vote config point =
     record {
       number = number;
       first = first;
+      role = Secondary;
+      term = vote.term;
+      clock = clock;
       vote = vote.candidate;
       records = records;
       durable = point;
@@ -106,11 +110,11 @@ rest_read first number records stable rollback vote config point =
 
 -- what was read of the records is what they keep
 pub restored_is : (first : Config) (number : ℕ) (records : List Record) (stable : OpTime) (rollback clock : ℕ) (found : Kept) → IsReadAs found records
-    → seen_node (restored found.vote.term clock (log_up_to found.point found.entries) stable) (rest_read first number records stable rollback found.vote found.config found.point)
+    → seen_node (restored (log_up_to found.point found.entries) stable) (rest_read first number records stable rollback clock found.vote found.config found.point)
     ≡ come_back (coming first number records stable rollback clock) (kept records)
 restored_is first number records stable rollback clock found read =
     let made : Vote → Option Config → List Entry → OpTime → Node =
-    λ vote config entries point. seen_node (restored vote.term clock entries stable) (rest_read first number records stable rollback vote config point) in
+    λ vote config entries point. seen_node (restored entries stable) (rest_read first number records stable rollback clock vote config point) in
     λ i. made (read.vote i) (read.config i) (read.entries i) (read.point i)
 
 -- where nothing was read behind the point, nothing is kept behind it
@@ -124,7 +128,7 @@ all_counted found records read =
         let read_too : In entry (log_up_to found.point found.entries) = subst (In entry) (sym read.entries) there in
         ap (λ o. not (is_before o entry.optime)) (sym read.point) ∙ (in_filter (λ (e : Entry). not (is_before found.point e.optime)) found.entries entry read_too).1
 
--- entries that a node_data is restored with, and the optime of the documents
+-- the term, entries and optime of the documents that a node is restored with
 pub record IsRestorable (term : ℕ) (entries : List Entry) (at : OpTime) : Type 0 where
   pub term_below : term < 2 ^ 63
   pub oplog : IsOplog entries
@@ -150,15 +154,24 @@ restorable found records stable entries well read is =
       reached = at_most_trans stable (kept records).point (last_of (kept records).entries) well.stable_is (no_further (kept records).entries (kept records).point well.oplog well.there);
     }
 
+no_slot : (slot : OpTime) (term : ℕ) → IsTrue (sets.contains (sets.empty {R = optime_cmp}) slot) → slot.term ≡ term
+no_slot slot term there = absurd (cc (sets.contains-empty optime_cmp slot, there))
+
 -- a node that comes back is coherent, and nothing in its log isn't in its records
-pub restored-coherent : (first : Config) (number : ℕ) (records : List Record) (stable : OpTime) (rollback clock : ℕ) (found : Kept) (node_data : Node) (rest : BesideData) (optimes : List OpTime)
+pub restored-state : (first : Config) (number : ℕ) (records : List Record) (stable : OpTime) (rollback clock : ℕ) (found : Kept) (node_data : Node) (rest : BesideData) (optimes : List OpTime)
     → number < 50 → rule first ≡ None → IsWellKept records stable → IsReadAs found records
-    → node_data ≡ restored found.vote.term clock (log_up_to found.point found.entries) stable
-    → rest ≡ rest_read first number records stable rollback found.vote found.config found.point → optimes ≡ []
-    → IsCoherent (seen_node node_data rest) None optimes
-restored-coherent first number records stable rollback clock found node_data rest optimes below lawful well read data_is rest_is none =
-    subst (IsCoherent (seen_node node_data rest) None) (sym none)
-    (subst (λ (n : Node). IsCoherent n None []) (sym whole) (come_back-coherent first number records stable rollback clock below lawful well))
+    → node_data ≡ restored (log_up_to found.point found.entries) stable
+    → rest ≡ rest_read first number records stable rollback clock found.vote found.config found.point → optimes ≡ []
+    → IsState node_data rest optimes
+restored-state first number records stable rollback clock found node_data rest optimes below lawful well read data_is rest_is none =
+    subst (IsState node_data rest) (sym none) (subst (λ (r : BesideData). IsState node_data r []) (sym rest_is) (subst (λ (n : Node). IsState n own []) (sym data_is) (record {
+      writable = refl;
+      of_term = record { bound = can.term_below; entries = can.terms; open_slots = λ slot there. no_slot slot found.vote.term there };
+      coherent = subst (λ (n : Node). IsCoherent n None []) (sym (restored_is first number records stable rollback clock found read)) (come_back-coherent first number records stable rollback clock below lawful well);
+    })))
   where
-    whole : seen_node node_data rest ≡ come_back (coming first number records stable rollback clock) (kept records)
-    whole = (λ i. seen_node (data_is i) (rest_is i)) ∙ restored_is first number records stable rollback clock found read
+    own : BesideData
+    own = rest_read first number records stable rollback clock found.vote found.config found.point
+
+    can : IsRestorable found.vote.term (log_up_to found.point found.entries) stable
+    can = restorable found records stable (log_up_to found.point found.entries) well read refl

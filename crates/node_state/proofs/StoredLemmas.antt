@@ -29,11 +29,11 @@ use Rattle.set_model.specs.Rollback.{cut_record}
 use Rattle.set_model.specs.Safety.{AtMost, Has}
 use Rattle.set_model.specs.Stores.{records_after, vote_record, config_record}
 use Rattle.set_model.specs.Votes.{vote_for}
-use Rattle.node_state.specs.Coherent.{IsCoherent, is_kept}
+use Rattle.node_state.specs.Coherent.{IsCoherent, IsOfTerm, IsState, is_kept}
 use Rattle.node_state.specs.Ready.{IsReady, IsReadyTurn, CanBeStored, IsCut}
-use Rattle.node_data.specs.Sound.{IsSound}
+use Rattle.node_data.specs.Sound.{IsIdle, IsSound}
 use Rattle.node_state.specs.StateView.{StateView}
-use Rattle.node_data.specs.NodeData.{IsReadable}
+use Rattle.node_data.specs.NodeData.{IsReadable, data_role}
 use Rattle.node_state.specs.Seen.{BesideData, seen_node}
 use Rattle.node_state.specs.WellKept.{IsWellKept, StoresWell}
 use Rattle.node_state.specs.declared.turn.Continuation.{Continuation}
@@ -42,19 +42,20 @@ use Rattle.node_state.specs.declared.turn.Turn.TheVariants.{Storing}
 use Rattle.node_state.proofs.EntryLemmas.{has_in}
 use Rattle.node_state.proofs.FlushLemmas.{flushed_node, coherent-flushed}
 use Rattle.node_data.proofs.LogLemmas.{up_to-up_to}
+use Rattle.node_state.proofs.StateLemmas.{if_seen, primary_seen}
 use Rattle.node_state.proofs.WellKeptLemmas.{kept_up_to, well_kept, well_voted, well_configured, well_cut, well_stable}
 
-pub sound_seen : (node_data : Node) (rest : BesideData) → IsSound node_data → IsSound (seen_node node_data rest)
-sound_seen node_data rest sound = record {
+-- what is true of a node's data is true of the node
+pub sound_seen : (node_data : Node) (rest : BesideData) → node_data.role ≡ data_role (is_primary rest.role) → IsSound node_data → IsSound (seen_node node_data rest)
+sound_seen node_data rest writable sound = record {
   oplog = sound.oplog;
   entries = sound.entries;
   documents = sound.documents;
-  term = sound.term;
-  terms = sound.terms;
   marked = sound.marked;
-  idle = λ other. record { slots = (sound.idle other).slots; writers = (sound.idle other).writers };
+  idle = λ other.
+      let idle : IsIdle node_data = sound.idle (primary_seen node_data.role rest.role writable ∙ other) in record { slots = idle.slots; writers = idle.writers };
   applied = sound.applied;
-  stable = sound.stable;
+  stable = subst (AtMost node_data.stable) (if_seen node_data.role rest.role (visible_point node_data) node_data.applied writable) sound.stable;
 }
 
 other_point : (role : Role) (a b : OpTime) → is_primary role ≡ false → if_primary role a b ≡ b
@@ -63,23 +64,21 @@ other_point Secondary a b other = refl
 other_point Candidate a b other = refl
 other_point Draining a b other = refl
 
--- what a node_data says doesn't hang on what is kept
+-- what is said of the data doesn't hang on what is kept
 sound-kept : (node : Node) (items : List Record) (durable : OpTime) → IsSound node → IsSound (record node { records = items; durable = durable })
 sound-kept node items durable sound = record {
   oplog = sound.oplog;
   entries = sound.entries;
   documents = sound.documents;
-  term = sound.term;
-  terms = sound.terms;
   marked = sound.marked;
   idle = λ other. record { slots = (sound.idle other).slots; writers = (sound.idle other).writers };
   applied = sound.applied;
   stable = sound.stable;
 }
 
-module _ (node : Node) (tally : Option Tallied) (optimes : List OpTime) (sound : IsSound node) (coherent : IsCoherent node tally optimes) where
+module _ (node : Node) (tally : Option Tallied) (optimes : List OpTime) (sound : IsSound node) (of_term : IsOfTerm node.term node.log node.slots) (coherent : IsCoherent node tally optimes) where
   well : IsWellKept node.records node.stable
-  well = well_kept node tally optimes sound coherent
+  well = well_kept node tally optimes sound of_term coherent
 
   stable_behind : AtMost node.stable node.durable
   stable_behind = at_most_trans node.stable node.commit node.durable coherent.points.stable coherent.points.commit
@@ -117,7 +116,7 @@ module _ (node : Node) (tally : Option Tallied) (optimes : List OpTime) (sound :
   flushes_well =
       let after : IsCoherent (flushed_node node) tally (drop (length (next_entries node)) optimes) = coherent-flushed node tally optimes sound.oplog coherent in
       record {
-        well = well_kept (flushed_node node) tally (drop (length (next_entries node)) optimes) flushed_sound after;
+        well = well_kept (flushed_node node) tally (drop (length (next_entries node)) optimes) flushed_sound of_term after;
         same =
             kept_up_to (flushed_node node) node.stable after.recorded (at_most_trans node.stable node.commit (next_durable node) after.points.stable after.points.commit)
             ∙ sym (kept_up_to node node.stable coherent.recorded stable_behind);
@@ -169,38 +168,38 @@ vote_within from (Some refusal) below = tt
 as_item : (node : Node) (item own : Store) → item ≡ own → StoresWell node own → StoresWell node item
 as_item node item own is stores = subst (StoresWell node) (sym is) stores
 
-pub stores_well : (item : Store) (then : Continuation) (standing : StateView) (tally : Option Tallied) (optimes : List OpTime) → IsSound standing.node → IsCoherent standing.node tally optimes
-    → IsReady item then standing → CanBeStored item → StoresWell standing.node item
-stores_well item (Campaign next votes sent) standing tally optimes sound coherent ready can =
+pub stores_well : (item : Store) (then : Continuation) (standing : StateView) (tally : Option Tallied) (optimes : List OpTime) → IsSound standing.node → IsOfTerm standing.node.term standing.node.log standing.node.slots
+    → IsCoherent standing.node tally optimes → IsReady item then standing → CanBeStored item → StoresWell standing.node item
+stores_well item (Campaign next votes sent) standing tally optimes sound of_term coherent ready can =
     as_item standing.node item _ ready.item_is
-    (votes_well standing.node tally optimes sound coherent (standing.node.term + 1) (Some standing.node.number) (omega arith) (let below = ready.term in omega (arith, below)) coherent.number)
-stores_well item (Drain config) standing tally optimes sound coherent ready can =
-    as_item standing.node item _ ready.item_is (configures_well standing.node tally optimes sound coherent config (subst CanBeStored ready.item_is can))
-stores_well item (Flush count point) standing tally optimes sound coherent ready can =
-    as_item standing.node item _ ready.item_is (flushes_well standing.node tally optimes sound coherent)
-stores_well item (Checkpoint at) standing tally optimes sound coherent ready can =
-    as_item standing.node item _ (ready.item_is ∙ ap (λ o. stores.Checkpoint o) ready.at_is) (checkpoints_well standing.node tally optimes sound coherent)
-stores_well item (Reconfig config) standing tally optimes sound coherent ready can =
-    as_item standing.node item _ ready.item_is (configures_well standing.node tally optimes sound coherent config ready.lawful)
-stores_well item (VoteInTerm next from ask why sent) standing tally optimes sound coherent ready can =
+    (votes_well standing.node tally optimes sound of_term coherent (standing.node.term + 1) (Some standing.node.number) (omega arith) (let below = ready.term in omega (arith, below)) coherent.number)
+stores_well item (Drain config) standing tally optimes sound of_term coherent ready can =
+    as_item standing.node item _ ready.item_is (configures_well standing.node tally optimes sound of_term coherent config (subst CanBeStored ready.item_is can))
+stores_well item (Flush count point) standing tally optimes sound of_term coherent ready can =
+    as_item standing.node item _ ready.item_is (flushes_well standing.node tally optimes sound of_term coherent)
+stores_well item (Checkpoint at) standing tally optimes sound of_term coherent ready can =
+    as_item standing.node item _ (ready.item_is ∙ ap (λ o. stores.Checkpoint o) ready.at_is) (checkpoints_well standing.node tally optimes sound of_term coherent)
+stores_well item (Reconfig config) standing tally optimes sound of_term coherent ready can =
+    as_item standing.node item _ ready.item_is (configures_well standing.node tally optimes sound of_term coherent config ready.lawful)
+stores_well item (VoteInTerm next from ask why sent) standing tally optimes sound of_term coherent ready can =
     as_item standing.node item _ ready.item_is
-    (votes_well standing.node tally optimes sound coherent ask.asked (vote_for from why) (let above = ready.above in omega (arith, above)) ready.term (vote_within from why ready.from_is))
-stores_well item (VoteGiven next from ask why sent) standing tally optimes sound coherent ready can =
+    (votes_well standing.node tally optimes sound of_term coherent ask.asked (vote_for from why) (let above = ready.above in omega (arith, above)) ready.term (vote_within from why ready.from_is))
+stores_well item (VoteGiven next from ask why sent) standing tally optimes sound of_term coherent ready can =
     as_item standing.node item _ ready.item_is
-    (votes_well standing.node tally optimes sound coherent standing.node.term (Some from) (omega arith) sound.term ready.from_is)
-stores_well item (TookTerm term told) standing tally optimes sound coherent ready can =
+    (votes_well standing.node tally optimes sound of_term coherent standing.node.term (Some from) (omega arith) of_term.bound ready.from_is)
+stores_well item (TookTerm term told) standing tally optimes sound of_term coherent ready can =
     as_item standing.node item _ ready.item_is
-    (votes_well standing.node tally optimes sound coherent term None (let above = ready.above in omega (arith, above)) ready.bound tt)
-stores_well item (Installed config hearing) standing tally optimes sound coherent ready can =
-    as_item standing.node item _ ready.item_is (configures_well standing.node tally optimes sound coherent config ready.lawful)
-stores_well item (Cut point removed lost) standing tally optimes sound coherent ready can =
-    as_item standing.node item _ ready.0 (cuts_well standing.node tally optimes sound coherent point ready.1)
+    (votes_well standing.node tally optimes sound of_term coherent term None (let above = ready.above in omega (arith, above)) ready.bound tt)
+stores_well item (Installed config hearing) standing tally optimes sound of_term coherent ready can =
+    as_item standing.node item _ ready.item_is (configures_well standing.node tally optimes sound of_term coherent config ready.lawful)
+stores_well item (Cut point removed lost) standing tally optimes sound of_term coherent ready can =
+    as_item standing.node item _ ready.0 (cuts_well standing.node tally optimes sound of_term coherent point ready.1)
 
 -- the same of a node's parts in memory
-pub well_in_memory : (node_data : Node) (rest : BesideData) (optimes : List OpTime) → IsSound node_data → IsCoherent (seen_node node_data rest) rest.tally optimes → IsWellKept rest.records node_data.stable
-well_in_memory node_data rest optimes sound coherent = well_kept (seen_node node_data rest) rest.tally optimes (sound_seen node_data rest sound) coherent
+pub well_in_memory : (node_data : Node) (rest : BesideData) (optimes : List OpTime) → IsSound node_data → IsState node_data rest optimes → IsWellKept rest.records node_data.stable
+well_in_memory node_data rest optimes sound state = well_kept (seen_node node_data rest) rest.tally optimes (sound_seen node_data rest state.writable sound) state.of_term state.coherent
 
-pub stores_in_memory : (item : Store) (then : Continuation) (node_data : Node) (rest : BesideData) (spare places : ℕ) (optimes : List OpTime) → IsSound node_data → IsCoherent (seen_node node_data rest) rest.tally optimes
+pub stores_in_memory : (item : Store) (then : Continuation) (node_data : Node) (rest : BesideData) (spare places : ℕ) (optimes : List OpTime) → IsSound node_data → IsState node_data rest optimes
     → IsReadyTurn (Storing item then) (record { node = seen_node node_data rest; spare = spare; places = places }) → StoresWell (seen_node node_data rest) item
-stores_in_memory item then node_data rest spare places optimes sound coherent ready =
-    stores_well item then (record { node = seen_node node_data rest; spare = spare; places = places }) rest.tally optimes (sound_seen node_data rest sound) coherent ready.0 ready.1
+stores_in_memory item then node_data rest spare places optimes sound state ready =
+    stores_well item then (record { node = seen_node node_data rest; spare = spare; places = places }) rest.tally optimes (sound_seen node_data rest state.writable sound) state.of_term state.coherent ready.0 ready.1

@@ -1,5 +1,5 @@
 -- Another role, another term, a vote or a configuration keep a node coherent.
-use Rattle.std.proofs.Common.{◌≡◌, ◌≢◌, ◌∙◌, ◌<◌, ap, sym, subst, refl, ℕ, true, false, not, filter, map, Option, None, Some, IfSome, List, [], ◌∷◌, ◌++◌}
+use Rattle.std.proofs.Common.{◌≡◌, ◌≢◌, ◌∙◌, ◌<◌, ◌≤◌, ◌^◌, arith, ap, sym, subst, refl, ℕ, true, false, not, filter, map, Option, None, Some, IfSome, List, [], ◌∷◌, ◌++◌}
 use Rattle.std.specs.Prelude.{unwrap_or}
 use Rattle.std.specs.List.{All}
 use Rattle.std.specs.Ordering.{nat_cmp}
@@ -26,14 +26,19 @@ use Rattle.repl_msg.proofs.KeptLemmas.{kept_more}
 use Rattle.set_model.specs.declared.role.Role.{Role}
 use Rattle.set_model.specs.declared.role.Role.TheVariants.{Secondary, Candidate, Primary}
 use Rattle.set_model.specs.declared.writer.Writer.{Writer}
-use Rattle.set_model.specs.Changes.{stepped_down}
+use Rattle.set_model.specs.Changes.{in_new_term, stepped_down}
 use Rattle.set_model.specs.Node.{Node, DryTally, Report}
 use Rattle.set_model.specs.Points.{visible_point}
+use Rattle.set_model.specs.Roles.{is_primary}
 use Rattle.set_model.specs.Safety.{AtMost}
-use Rattle.node_state.specs.Coherent.{IsCoherent, IsRecorded, CountsVoters}
+use Rattle.set_model.specs.Stores.{records_after, stored, vote_record}
+use Rattle.set_model.specs.declared.store.Store.{Store}
+use Rattle.node_data.specs.NodeData.{data_role}
+use Rattle.node_state.specs.Coherent.{IsCoherent, IsOfTerm, IsRecorded, IsState, CountsVoters}
 use Rattle.node_state.specs.Seen.{BesideData, seen_node}
 use Rattle.node_data.specs.Sound.{IsSound}
 use Rattle.node_state.proofs.SlotLemmas.{visible_grows}
+use Rattle.node_state.proofs.StateLemmas.{of_term-idle, stepped_seen}
 
 -- ---- another role
 
@@ -125,63 +130,106 @@ all_visible : (n : Node) → IsSound n → AtMost (visible_point n) (last_of (en
 all_visible n sound =
     visible_grows (sets.items n.slots) (sets.items (sets.empty {R = optime_cmp})) n.log n.log sound.oplog (λ entry there. there) (λ slot listed. absurd (none_open slot listed))
 
+-- beside its data, a secondary that counts nothing
+abbrev pub following : BesideData → BesideData
+following rest = record rest { role = Secondary; progress = maps.empty; tally = None; dry_tally = None }
+
 -- a secondary counts nothing
 pub coherent-secondary : (n m : Node) (rest : BesideData) (tally : Option Tallied) (optimes : List OpTime) → m ≡ stepped_down n → IsSound n
-    → IsCoherent (seen_node n rest) tally optimes
-    → IsCoherent (seen_node m (record rest { progress = maps.empty; tally = None; dry_tally = None })) None optimes
+    → IsCoherent (seen_node n rest) tally optimes → IsCoherent (seen_node m (following rest)) None optimes
 coherent-secondary n m rest tally optimes is sound old =
-    subst (λ (k : Node). IsCoherent (seen_node k (record rest { progress = maps.empty; tally = None; dry_tally = None })) None optimes) (sym is)
+    subst (λ (k : Node). IsCoherent (seen_node k (following rest)) None optimes) (sym is)
     (coherent-turned (seen_node n rest) Secondary sets.empty (stepped_down n).writers (stepped_down n).applied maps.empty [] None tally None optimes (all_visible n sound) (λ role. absurd (cc role)) old)
 
 -- a secondary of another term, whose vote is kept
 pub coherent-entered : (n m : Node) (rest : BesideData) (items : List Record) (term : ℕ) (vote : Option ℕ) (tally : Option Tallied) (optimes : List OpTime)
-    → m ≡ record (stepped_down n) { term = term } → items ≡ rest.records ++ records.Vote (record { term = term; candidate = vote }) ∷ []
+    → m ≡ stepped_down n → items ≡ rest.records ++ records.Vote (record { term = term; candidate = vote }) ∷ []
     → IsSound n → IfSome vote (λ voter. voter < 50) → IsCoherent (seen_node n rest) tally optimes
-    → IsCoherent (seen_node m (record rest { vote = vote; records = items; progress = maps.empty; tally = None; dry_tally = None })) None optimes
+    → IsCoherent (seen_node m (record (following rest) { term = term; vote = vote; records = items })) None optimes
 coherent-entered n m rest items term vote tally optimes is are sound within old =
-    let second : IsCoherent (seen_node (stepped_down n) (record rest { progress = maps.empty; tally = None; dry_tally = None })) None optimes =
-    coherent-secondary n (stepped_down n) rest tally optimes refl sound old in
-    subst (λ (k : Node). IsCoherent (seen_node k (record rest { vote = vote; records = items; progress = maps.empty; tally = None; dry_tally = None })) None optimes) (sym is)
-    (coherent-kept (seen_node (stepped_down n) (record rest { progress = maps.empty; tally = None; dry_tally = None })) items term vote rest.config None optimes
-    (with_vote_kept (seen_node (stepped_down n) (record rest { progress = maps.empty; tally = None; dry_tally = None })) items term vote second.recorded are) within old.config
-    second.counts second)
+    let second : IsCoherent (seen_node m (following rest)) None optimes = coherent-secondary n m rest tally optimes is sound old in
+    coherent-kept (seen_node m (following rest)) items term vote rest.config None optimes
+    (with_vote_kept (seen_node m (following rest)) items term vote second.recorded are) within old.config second.counts second
 
 -- a vote in the node's term is kept
 pub coherent-voted : (n : Node) (rest : BesideData) (items : List Record) (vote : ℕ) (tally : Option Tallied) (optimes : List OpTime)
-    → items ≡ rest.records ++ records.Vote (record { term = n.term; candidate = Some vote }) ∷ [] → vote < 50 → IsCoherent (seen_node n rest) tally optimes
+    → items ≡ rest.records ++ records.Vote (record { term = rest.term; candidate = Some vote }) ∷ [] → vote < 50 → IsCoherent (seen_node n rest) tally optimes
     → IsCoherent (seen_node n (record rest { vote = Some vote; records = items })) tally optimes
 coherent-voted n rest items vote tally optimes are within old =
-    coherent-kept (seen_node n rest) items n.term (Some vote) rest.config tally optimes (with_vote_kept (seen_node n rest) items n.term (Some vote) old.recorded are) within old.config
+    coherent-kept (seen_node n rest) items rest.term (Some vote) rest.config tally optimes (with_vote_kept (seen_node n rest) items rest.term (Some vote) old.recorded are) within old.config
     old.counts old
 
 -- a candidate counts the votes of the voters
-pub coherent-standing : (n m : Node) (rest : BesideData) (counted : Tallied) (tally : Option Tallied) (optimes : List OpTime)
-    → m ≡ record n { role = Candidate } → counted.voters ≡ voters rest.config → IsCoherent (seen_node n rest) tally optimes
-    → IsCoherent (seen_node m (record rest { tally = Some counted })) (Some counted) optimes
-coherent-standing n m rest counted tally optimes is voters_are old =
-    subst (λ (k : Node). IsCoherent (seen_node k (record rest { tally = Some counted })) (Some counted) optimes) (sym is)
-    (coherent-turned (seen_node n rest) Candidate n.slots n.writers n.applied rest.progress counted.yes rest.dry_tally tally (Some counted) optimes (at_most_refl (visible_point n)) (λ role. (voters_are, λ none. cc none)) old)
+pub coherent-standing : (n : Node) (rest : BesideData) (counted : Tallied) (tally : Option Tallied) (optimes : List OpTime)
+    → counted.voters ≡ voters rest.config → IsCoherent (seen_node n rest) tally optimes
+    → IsCoherent (seen_node n (record rest { role = Candidate; tally = Some counted })) (Some counted) optimes
+coherent-standing n rest counted tally optimes voters_are old =
+    coherent-turned (seen_node n rest) Candidate n.slots n.writers n.applied rest.progress counted.yes rest.dry_tally tally (Some counted) optimes (at_most_refl (visible_point n)) (λ role. (voters_are, λ none. cc none)) old
 
 -- a node in another role, but no candidate
-pub coherent-role : (n m : Node) (rest : BesideData) (role : Role) (optimes : List OpTime)
-    → m ≡ record n { role = role } → role ≢ Candidate → IsCoherent (seen_node n rest) rest.tally optimes → IsCoherent (seen_node m rest) rest.tally optimes
-coherent-role n m rest role optimes is other old =
-    subst (λ (k : Node). IsCoherent (seen_node k rest) rest.tally optimes) (sym is)
-    (coherent-turned (seen_node n rest) role n.slots n.writers n.applied rest.progress (seen_node n rest).tally rest.dry_tally rest.tally rest.tally optimes (at_most_refl (visible_point n))
-    (λ same. absurd (other same)) old)
+pub coherent-role : (n : Node) (rest : BesideData) (role : Role) (optimes : List OpTime)
+    → role ≢ Candidate → IsCoherent (seen_node n rest) rest.tally optimes → IsCoherent (seen_node n (record rest { role = role })) rest.tally optimes
+coherent-role n rest role optimes other old =
+    coherent-turned (seen_node n rest) role n.slots n.writers n.applied rest.progress (seen_node n rest).tally rest.dry_tally rest.tally rest.tally optimes (at_most_refl (visible_point n))
+    (λ same. absurd (other same)) old
 
 -- a primary whose configuration in its term is kept
 pub coherent-leading : (n m : Node) (rest : BesideData) (items : List Record) (config : Config) (tally : Option Tallied) (optimes : List OpTime)
-    → m ≡ record n { role = Primary } → config ≡ in_term rest.config n.term → items ≡ rest.records ++ records.Config config ∷ []
+    → m ≡ record n { role = Primary } → config ≡ in_term rest.config rest.term → items ≡ rest.records ++ records.Config config ∷ []
     → IsCoherent (seen_node n rest) tally optimes
-    → IsCoherent (seen_node m (record rest { records = items; config = config; progress = maps.empty })) tally optimes
+    → IsCoherent (seen_node m (record rest { role = Primary; records = items; config = config; progress = maps.empty })) tally optimes
 coherent-leading n m rest items config tally optimes is config_is are old =
-    let first : IsCoherent (turned (seen_node n rest) Primary n.slots n.writers n.applied maps.empty (seen_node n rest).tally rest.dry_tally) tally optimes =
-    coherent-turned (seen_node n rest) Primary n.slots n.writers n.applied maps.empty (seen_node n rest).tally rest.dry_tally tally tally optimes (at_most_refl (visible_point n)) (λ role. absurd (cc role)) old in
     let node = turned (seen_node n rest) Primary n.slots n.writers n.applied maps.empty (seen_node n rest).tally rest.dry_tally in
-    subst (λ (k : Node). IsCoherent (seen_node k (record rest { records = items; config = config; progress = maps.empty })) tally optimes) (sym is)
-    (coherent-kept node items n.term rest.vote config tally optimes (with_config_kept node items config first.recorded are) old.vote
+    let first : IsCoherent node tally optimes =
+    coherent-turned (seen_node n rest) Primary n.slots n.writers n.applied maps.empty (seen_node n rest).tally rest.dry_tally tally tally optimes (at_most_refl (visible_point n)) (λ role. absurd (cc role)) old in
+    subst (λ (k : Node). IsCoherent (seen_node k (record rest { role = Primary; records = items; config = config; progress = maps.empty })) tally optimes) (sym is)
+    (coherent-kept node items rest.term rest.vote config tally optimes (with_config_kept node items config first.recorded are) old.vote
     (subst (λ (c : Config). rule c ≡ None) (sym config_is) old.config) (λ role. absurd (cc role)) first)
+
+-- ---- the same of a state
+
+-- what it then is
+pub secondary_is : (n m : Node) (rest : BesideData) (progress : maps.FinMap nat_cmp Report) → m ≡ stepped_down n → progress ≡ maps.empty → n.role ≡ data_role (is_primary rest.role)
+    → seen_node m (record (following rest) { progress = progress }) ≡ stepped_down (seen_node n rest)
+secondary_is n m rest progress is none writable =
+    ap (λ (k : Node). seen_node k (record (following rest) { progress = progress })) is
+    ∙ ap (λ (p : maps.FinMap nat_cmp Report). seen_node (stepped_down n) (record (following rest) { progress = p })) none
+    ∙ sym (stepped_seen n rest writable)
+
+pub entered_is : (n m : Node) (rest : BesideData) (progress : maps.FinMap nat_cmp Report) (items : List Record) (item : Store) (term : ℕ) (vote : Option ℕ)
+    → m ≡ stepped_down n → progress ≡ maps.empty → n.role ≡ data_role (is_primary rest.role) → items ≡ records_after rest.records item → item ≡ vote_record term vote
+    → seen_node m (record (following rest) { progress = progress; term = term; vote = vote; records = items }) ≡ in_new_term (stored (seen_node n rest) item) term vote
+entered_is n m rest progress items item term vote is none writable are item_is =
+    ap (λ (k : Node). record k { term = term; vote = vote; records = items }) (secondary_is n m rest progress is none writable)
+    ∙ ap (λ (list : List Record). record (stepped_down (seen_node n rest)) { term = term; vote = vote; records = list }) (are ∙ ap (records_after rest.records) item_is)
+    ∙ ap (λ (s : Store). in_new_term (stored (seen_node n rest) s) term vote) (sym item_is)
+
+pub state-secondary : (n m : Node) (rest : BesideData) (optimes : List OpTime) → m ≡ stepped_down n → IsSound n
+    → IsState n rest optimes → IsState m (following rest) optimes
+state-secondary n m rest optimes is sound old = record {
+  writable = ap (λ (k : Node). k.role) is;
+  of_term = subst (λ (k : Node). IsOfTerm rest.term k.log k.slots) (sym is) (of_term-idle rest.term rest.term n.log n.slots (omega arith) old.of_term.bound old.of_term);
+  coherent = coherent-secondary n m rest rest.tally optimes is sound old.coherent;
+}
+
+pub state-entered : (n m : Node) (rest : BesideData) (items : List Record) (term : ℕ) (vote : Option ℕ) (optimes : List OpTime)
+    → m ≡ stepped_down n → items ≡ rest.records ++ records.Vote (record { term = term; candidate = vote }) ∷ []
+    → rest.term ≤ term → term < 2 ^ 63 → IsSound n → IfSome vote (λ voter. voter < 50) → IsState n rest optimes
+    → IsState m (record (following rest) { term = term; vote = vote; records = items }) optimes
+state-entered n m rest items term vote optimes is are above bound sound within old = record {
+  writable = ap (λ (k : Node). k.role) is;
+  of_term = subst (λ (k : Node). IsOfTerm term k.log k.slots) (sym is) (of_term-idle rest.term term n.log n.slots above bound old.of_term);
+  coherent = coherent-entered n m rest items term vote rest.tally optimes is are sound within old.coherent;
+}
+
+pub state-leading : (n m : Node) (rest : BesideData) (items : List Record) (config : Config) (optimes : List OpTime)
+    → m ≡ record n { role = Primary } → config ≡ in_term rest.config rest.term → items ≡ rest.records ++ records.Config config ∷ []
+    → IsState n rest optimes → IsState m (record rest { role = Primary; records = items; config = config; progress = maps.empty }) optimes
+state-leading n m rest items config optimes is config_is are old = record {
+  writable = ap (λ (k : Node). k.role) is;
+  of_term = subst (λ (k : Node). IsOfTerm rest.term k.log k.slots) (sym is) old.of_term;
+  coherent = coherent-leading n m rest items config rest.tally optimes is config_is are old.coherent;
+}
 
 -- ---- votes counted
 
@@ -189,10 +237,10 @@ coherent-leading n m rest items config tally optimes is config_is are old =
 pub coherent-counted : (n : Node) (rest : BesideData) (was now : Tallied) (optimes : List OpTime) → rest.tally ≡ Some was → now.voters ≡ was.voters
     → IsCoherent (seen_node n rest) rest.tally optimes → IsCoherent (seen_node n (record rest { tally = Some now })) (Some now) optimes
 coherent-counted n rest was now optimes is same old =
-    coherent-turned (seen_node n rest) n.role n.slots n.writers n.applied rest.progress now.yes rest.dry_tally rest.tally (Some now) optimes (at_most_refl (visible_point n))
+    coherent-turned (seen_node n rest) rest.role n.slots n.writers n.applied rest.progress now.yes rest.dry_tally rest.tally (Some now) optimes (at_most_refl (visible_point n))
     (λ role. (same ∙ subst (λ t. IfSome t (λ (x : Tallied). x.voters ≡ voters rest.config)) is (old.counts role).0, λ none. cc none)) old
 
 pub coherent-dry : (n : Node) (rest : BesideData) (dry : Option DryTally) (optimes : List OpTime) → IsCoherent (seen_node n rest) rest.tally optimes
     → IsCoherent (seen_node n (record rest { dry_tally = dry })) rest.tally optimes
 coherent-dry n rest dry optimes old =
-    coherent-turned (seen_node n rest) n.role n.slots n.writers n.applied rest.progress (seen_node n rest).tally dry rest.tally rest.tally optimes (at_most_refl (visible_point n)) old.counts old
+    coherent-turned (seen_node n rest) rest.role n.slots n.writers n.applied rest.progress (seen_node n rest).tally dry rest.tally rest.tally optimes (at_most_refl (visible_point n)) old.counts old

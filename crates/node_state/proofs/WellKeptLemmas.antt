@@ -26,7 +26,7 @@ use Rattle.repl_msg.proofs.KeptLemmas.{kept_more}
 use Rattle.set_model.specs.Disk.{has_more}
 use Rattle.set_model.specs.Node.{Node}
 use Rattle.set_model.specs.Safety.{AtMost, Has}
-use Rattle.node_state.specs.Coherent.{IsCoherent, IsRecorded, is_kept}
+use Rattle.node_state.specs.Coherent.{IsCoherent, IsOfTerm, IsRecorded, is_kept}
 use Rattle.node_data.specs.Sound.{IsSound}
 use Rattle.node_data.specs.Versions.{AreSmall, IsSmall, versions_of}
 use Rattle.node_state.specs.WellKept.{IsWellKept, IsReadAs, counted}
@@ -74,14 +74,14 @@ kept_up_to node at recorded before =
         passed false is = refl
         passed true is = cc is
 
-pub well_kept : (node : Node) (tally : Option Tallied) (optimes : List OpTime) → IsSound node → IsCoherent node tally optimes → IsWellKept node.records node.stable
-well_kept node tally optimes sound coherent = record {
-  term = subst (λ t. t < 2 ^ 63) (sym term_is) sound.term;
+pub well_kept : (node : Node) (tally : Option Tallied) (optimes : List OpTime) → IsSound node → IsOfTerm node.term node.log node.slots → IsCoherent node tally optimes → IsWellKept node.records node.stable
+well_kept node tally optimes sound of_term coherent = record {
+  term = subst (λ t. t < 2 ^ 63) (sym term_is) of_term.bound;
   vote = subst (λ (v : Vote). IfSome v.candidate (λ member. member < 50)) (sym coherent.recorded.vote) coherent.vote;
   config = config_found (kept node.records).config node.first node.config coherent.recorded.config coherent.config;
   oplog = subst IsOplog (sym coherent.recorded.entries) (oplog_filter (is_kept node) node.log sound.oplog);
   terms = subst (λ t. All (λ (e : Entry). e.optime.term ≤ t) (kept node.records).entries) (sym term_is)
-      (subst (All (λ (e : Entry). e.optime.term ≤ node.term)) (sym coherent.recorded.entries) (All-filter (is_kept node) (λ (e : Entry). e.optime.term ≤ node.term) node.log sound.terms));
+      (subst (All (λ (e : Entry). e.optime.term ≤ node.term)) (sym coherent.recorded.entries) (All-filter (is_kept node) (λ (e : Entry). e.optime.term ≤ node.term) node.log of_term.entries));
   entries = subst (All IsWithinEntry) (sym counted_is) (All-filter (λ (e : Entry). not (is_before node.durable e.optime)) IsWithinEntry node.log sound.entries);
   documents = subst AreSmall (sym counted_is) (small_up_to node.durable node.log sound.oplog sound.documents);
   there = subst (λ o. (o ≡ ZERO) ⊎ Has (kept node.records).entries o) (sym coherent.recorded.point) (elim coherent.points.there [ inl none ↦ inl none | inr has ↦ inr (has_kept has) ]);

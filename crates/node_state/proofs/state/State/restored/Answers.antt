@@ -1,6 +1,7 @@
 use Rattle.std.proofs.Common.{◌∙◌, ap, ◌+◌, None}
+use Rattle.set_model.specs.declared.role.Role.TheVariants.{Secondary}
 use Rattle.node_data.specs.NodeData.{restored}
-use Rattle.node_state.proofs.RestartLemmas.{restorable, restored-coherent}
+use Rattle.node_state.proofs.RestartLemmas.{restorable, restored-state}
 use Rattle.node_state.proofs.state.State.restored.Goals as goal
 
 pub restore-requires-clause-within : goal.restore-requires-clause-within
@@ -17,13 +18,16 @@ restore-requires-clause-reached g c κs shared =
 
 pub invariant_of-result : goal.invariant_of-result
 invariant_of-result g c =
-    restored-coherent c.args.coming_up.first.now c.args.coming_up.number c.args.coming_up.records.list c.args.stable c.args.coming_up.rollback c.args.coming_up.clock c.args.found
+    restored-state c.args.coming_up.first.now c.args.coming_up.number c.args.coming_up.records.list c.args.stable c.args.coming_up.rollback c.args.coming_up.clock c.args.found
     _ _ _ c.requires.number c.requires.first c.requires.kept c.requires.read
     (c.in_ok-node_data.ensures
-    ∙ ap (λ entries. restored c.args.found.vote.term c.args.coming_up.clock entries c.args.stable) c.entries_up_to-entries.ensures)
+    ∙ ap (λ entries. restored entries c.args.stable) c.entries_up_to-entries.ensures)
     (λ i. record {
       number = c.args.coming_up.number;
       first = c.in_ok-copy.ensures i;
+      role = Secondary;
+      term = c.args.found.vote.term;
+      clock = c.args.coming_up.clock;
       vote = c.args.found.vote.candidate;
       records = c.args.coming_up.records.list;
       durable = c.args.found.point;

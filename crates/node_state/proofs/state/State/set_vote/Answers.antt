@@ -7,8 +7,11 @@ use Rattle.node_state.proofs.TermLemmas.{coherent-voted}
 use Rattle.node_state.proofs.state.State.set_vote.Goals as goal
 
 pub invariant_of-self : goal.invariant_of-self
-invariant_of-self c =
-    coherent-voted c.self.inside.node_data.node (rest_in c.self.inside) c.with-self-inside.result.list c.args.vote c.self.inside.tally c.self.inside.unjournaled.optimes
-    (ap (λ (r : Records). r.list) c.with-self-inside.ensures
-    ∙ ap (records_after c.self.inside.records.list) (c.requires.item ∙ ap (λ (s : StateView). vote_record s.node.term (Some c.args.vote)) (sym c.self.view_is)))
-    c.requires.vote c.self.invariant
+invariant_of-self c = record {
+  writable = c.self.invariant.writable;
+  of_term = c.self.invariant.of_term;
+  coherent = coherent-voted c.self.inside.node_data.node (rest_in c.self.inside) c.with-self-inside.result.list c.args.vote c.self.inside.tally c.self.inside.unjournaled.optimes
+      (ap (λ (r : Records). r.list) c.with-self-inside.ensures
+      ∙ ap (records_after c.self.inside.records.list) (c.requires.item ∙ ap (λ (s : StateView). vote_record s.node.term (Some c.args.vote)) (sym c.self.view_is)))
+      c.requires.vote c.self.invariant.coherent;
+}
