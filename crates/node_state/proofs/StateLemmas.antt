@@ -74,7 +74,7 @@ is_next n rest at of_term is = subst (IsNext n.log n.slots n.seen) (sym is) (rec
 pub of_term-idle : (term later : ℕ) (log : List Entry) (slots : sets.FinSet optime_cmp) → term ≤ later → later < 2 ^ 63 → IsOfTerm term log slots → IsOfTerm later log sets.empty
 of_term-idle term later log slots less bound old = record {
   bound = bound;
-  entries = λ k entry within. let here : entry.optime.term ≤ term = old.entries k entry within in omega (arith, here, less);
+  entries = λ k entry within. let here = old.entries k entry within in omega (arith, here, less);
   open_slots = λ slot there. absurd (cc (sets.contains-empty optime_cmp slot, there));
 }
 

@@ -1,4 +1,4 @@
-use Rattle.std.proofs.Common.{◌∙◌, ap, sym, subst}
+use Rattle.std.proofs.Common.{◌∙◌, ap, rules, sym, subst}
 use Rattle.rs_optime.specs.Later.{later_of}
 use Rattle.rs_optime.specs.declared.optime.OpTime.{OpTime}
 use Rattle.oplog_entry.specs.Visible.{last_of, log_up_to}
@@ -15,9 +15,11 @@ use Rattle.node_state.proofs.StateLemmas.{primary_seen}
 use Rattle.node_state.proofs.state.State.apply_all.Goals as goal
 
 pub apply_to-requires : goal.apply_to-requires
-apply_to-requires g c κs shared =
-    primary_seen c.self.inside.node_data.node.role c.self.inside.role c.self.invariant.writable
-    ∙ ap (λ (s : StateView). is_primary s.node.role) c.self.view_is ∙ c.requires.role
+apply_to-requires g c = (
+  search rules,
+  primary_seen c.self.inside.node_data.node.role c.self.inside.role c.self.invariant.writable
+      ∙ ap (λ (s : StateView). is_primary s.node.role) c.self.view_is ∙ c.requires.role,
+)
 
 pub invariant_of-self : goal.invariant_of-self
 invariant_of-self g c =
