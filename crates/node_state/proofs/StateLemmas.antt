@@ -1,5 +1,5 @@
 -- A node's data and what it has beside are of one role and of one term.
-use Rattle.std.proofs.Common.{◌≡◌, ◌≤◌, ◌<◌, ◌∙◌, ◌^◌, ◌++◌, inl, inr, ap, sym, subst, refl, arith, ℕ, Bool, true, false, filter, IsTrue, List}
+use Rattle.std.proofs.Common.{◌≡◌, ◌≤◌, ◌<◌, ◌∙◌, ◌^◌, ◌++◌, inl, inr, ap, sym, subst, refl, arith, ℕ, Bool, filter, List}
 use Rattle.std.specs.FinSet as sets
 use Rattle.std.specs.List.{All}
 use Rattle.std.proofs.lemmas.List.Elements.{All-append, All-filter}

@@ -1,7 +1,7 @@
-use Rattle.std.proofs.Common.{◌≡◌, ◌∙◌, ap, sym, subst, List, None}
+use Rattle.std.proofs.Common.{◌∙◌, ap, sym, subst, List, None}
 use Rattle.rs_optime.specs.declared.optime.OpTime.{OpTime}
 use Rattle.oplog_entry.specs.declared.entry.Op.TheVariants.{Noop}
-use Rattle.oplog_store.specs.Unjournaled.{Optimes, with_optime}
+use Rattle.oplog_store.specs.Unjournaled.{Optimes}
 use Rattle.set_model.specs.Points.{next_optime}
 use Rattle.node_data.specs.NodeData.{NodeData}
 use Rattle.node_state.specs.Coherent.{IsState}

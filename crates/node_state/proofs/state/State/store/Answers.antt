@@ -1,6 +1,5 @@
 use Rattle.std.proofs.Common.{◌∙◌, ap, subst, sym}
 use Rattle.std.specs.FinMap as maps
-use Rattle.bson_doc.specs.Place.{Place}
 use Rattle.node_data.specs.NodeData.{IsReadable}
 use Rattle.node_state.specs.StateView.{StateView}
 use Rattle.node_state.proofs.Inside.{rest_in}
