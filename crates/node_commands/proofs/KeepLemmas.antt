@@ -70,7 +70,7 @@ checkpoint-applied n m item at same ready =
 
 -- ---- a batch
 
-pub apply-done : (old new : NodeData) (rest : BesideData) (count : ℕ) (to : OpTime) → is_primary old.node.role ≡ false → new ≡ applied_with old (next_batch old.node) → count ≡ length (next_batch old.node)
+pub apply-done : (old new : NodeData) (rest : BesideData) (count : ℕ) (to : OpTime) → is_primary rest.role ≡ false → new ≡ applied_with old (next_batch old.node) → count ≡ length (next_batch old.node)
     → (count ≡ 0 → ⊥) → to ≡ new.node.applied → apply (seen_node old.node rest) ≡ replied (reply.Applied count to) (seen_node new.node rest)
 apply-done old new rest count to not new_is count_is some to_is =
     ap (λ b. cond b (refused NothingToDo (seen_node old.node rest)) (batch_applied (seen_node old.node rest) (next_batch old.node))) not

@@ -15,7 +15,9 @@ use Rattle.set_model.specs.declared.command.ReadLevel.{ReadLevel}
 use Rattle.set_model.specs.declared.command.ReadLevel.TheVariants.{Local, Majority}
 use Rattle.set_model.specs.declared.role.Role.{Role}
 use Rattle.set_model.specs.declared.role.Role.TheVariants.{Secondary, Candidate, Draining, Primary}
-use Rattle.node_data.specs.NodeData.{IsReadable}
+use Rattle.node_data.specs.NodeData.{IsReadable, data_role}
+use Rattle.node_state.specs.Seen.{BesideData, seen_node}
+use Rattle.node_state.proofs.StateLemmas.{if_seen, primary_seen}
 use Rattle.node_commands.specs.Reading.{level_of}
 
 if_not_primary : {A : Type 0} (role : Role) (a b : A) → is_primary role ≡ false → if_primary role a b ≡ b
@@ -23,6 +25,13 @@ if_not_primary Secondary a b not = refl
 if_not_primary Candidate a b not = refl
 if_not_primary Draining a b not = refl
 if_not_primary Primary a b not = absurd (cc not)
+
+-- what the data has is what the node has
+pub applied_seen : (n : Node) (rest : BesideData) → n.role ≡ data_role (is_primary rest.role) → applied_point n ≡ applied_point (seen_node n rest)
+applied_seen n rest writable = if_seen n.role rest.role (visible_point n) n.applied writable
+
+pub readable_seen : (n : Node) (rest : BesideData) (at : OpTime) → n.role ≡ data_role (is_primary rest.role) → IsReadable n at → IsReadable (seen_node n rest) at
+readable_seen n rest at writable can = record { kept = can.kept; reached = λ other. can.reached (primary_seen n.role rest.role writable ∙ other) }
 
 -- the latest documents are a primary's
 pub latest_shown : (node : Node) (level : ReadLevel) (primary : Bool) (commit applied at : OpTime) → Latest ≡ shown_at (level_of level) primary commit applied

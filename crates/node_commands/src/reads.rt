@@ -5,6 +5,7 @@ ghost use Rattle.std.specs.FinMap as maps;
 ghost use Rattle.bson_doc.specs.View.{tree_of};
 ghost use Rattle.oplog_entry.specs.Visible.{log_up_to};
 ghost use Rattle.set_model.specs.Outcome.{replied};
+ghost use Rattle.set_model.specs.Points.{applied_point};
 ghost use Rattle.set_model.specs.Reads.{shown_documents, shown_log, read, dump, show_log, show_state};
 ghost use Rattle.set_model.specs.Roles.{is_primary};
 ghost use Rattle.set_model.specs.Rollback.{rolled};
@@ -37,13 +38,20 @@ fn is_primary(state: &State) -> bool
     }
 }
 
+/// How far the log is applied: on a primary, as far as it is visible.
+pub(crate) fn applied_point(state: &State) -> OpTime
+    ensures { result ≡ applied_point state.now.node }
+{
+    state.node_data.applied_point()
+}
+
 /// The optime as of which a read shows documents.
 fn shown_point(state: &State, level: ReadLevel) -> OpTime
     ensures readable { IsReadable state.now.node result }
     ensures shown { log_up_to result state.now.node.log ≡ shown_log state.now.node level }
 {
     state.node_data.recall_sound();
-    let applied = state.node_data.applied_point();
+    let applied = applied_point(state);
     match snapshot(concern(level), is_primary(state), state.commit, applied) {
         ReadAt::Latest => state.node_data.local_point(),
         ReadAt::At(at) => at,
@@ -76,11 +84,7 @@ fn shown<'a>(state: &'a State, level: ReadLevel, ns: &str, id: &IdKey) -> Option
 pub(crate) fn dump(state: &State, level: ReadLevel) -> Mem<Reply>
     ensures { IfOk result (λ reply. dump state.now.node level ≡ replied reply state.now.node) }
 {
-    Ok(Reply::Documents(listed(
-        state.alloc,
-        state.node_data.store(),
-        shown_point(state, level),
-    )?))
+    Ok(Reply::Documents(listed(state.alloc, state.store(), shown_point(state, level))?))
 }
 
 /// The entries that are written.
@@ -100,7 +104,7 @@ pub(crate) fn show_state(state: &State) -> Reply
         vote: state.vote,
         last: state.node_data.last(),
         durable: state.durable,
-        applied: state.node_data.applied_point(),
+        applied: applied_point(state),
         commit: state.commit,
         config: (state.config.term, state.config.version),
         rollback: state.rollback,

@@ -117,9 +117,9 @@ pub(crate) fn note(state: &mut State) -> Mem<Reply>
     if state.role != Role::Primary {
         return Ok(Reply::Refused(Refusal::NotPrimary));
     }
+    let at = state.next();
     state.node_data.recall_sound();
     state.unjournaled.reserve(1)?;
-    let at = state.next();
     state.node_data.write_note(at)?;
     state.unjournaled.add(at);
     state.node_data.recall_sound();
@@ -142,9 +142,9 @@ fn write_admitted(state: &mut State, admission: Admission, session: Option<Sessi
         Prepared::NoMatch => Ok(Reply::NoMatch),
         Prepared::Unchanged => Ok(Reply::Unchanged),
         Prepared::Entry { op, after } => {
+            let at = state.next();
             state.node_data.recall_sound();
             state.unjournaled.reserve(1)?;
-            let at = state.next();
             state.node_data.write(at, ns, id, op, after, session)?;
             state.unjournaled.add(at);
             state.node_data.recall_sound();

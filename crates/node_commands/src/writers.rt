@@ -55,8 +55,8 @@ fn begin_admitted(state: &mut State, writer: u32, admission: Admission) -> Mem<R
         Prepared::NoMatch => Ok(Reply::NoMatch),
         Prepared::Unchanged => Ok(Reply::Unchanged),
         Prepared::Entry { op, .. } => {
-            state.node_data.recall_sound();
             let at = state.next();
+            state.node_data.recall_sound();
             state.node_data.open(at, writer, ns.as_str(), &id, op)?;
             Ok(Reply::Begun(at))
         }

@@ -3,21 +3,26 @@ use Rattle.set_model.specs.Disk.{apply, next_batch}
 use Rattle.set_model.specs.Roles.{is_primary}
 use Rattle.set_model.specs.Stores.{finished}
 use Rattle.set_model.specs.declared.reply.Reply.TheVariants as reply
-use Rattle.node_state.specs.Coherent.{IsCoherent}
+use Rattle.node_state.specs.Coherent.{IsState}
 use Rattle.node_data.specs.NodeData.{NodeData, applied_after}
 use Rattle.node_state.specs.Seen.{seen_node}
 use Rattle.node_state.specs.StateView.{StateView}
 use Rattle.node_state.proofs.Inside.{rest_in}
 use Rattle.node_commands.proofs.KeepLemmas.{apply-done}
-use Rattle.node_state.proofs.CoherentLemmas.{coherent-applied}
+use Rattle.node_state.proofs.CoherentLemmas.{state-applied}
+use Rattle.node_state.proofs.StateLemmas.{primary_seen}
 use Rattle.node_state.proofs.TurnLemmas.{says_means}
 use Rattle.node_commands.proofs.disk.apply_batch.Goals as goal
+
+pub apply-requires-clause-role : goal.apply-requires-clause-role
+apply-requires-clause-role g c =
+    primary_seen c.state.inside.node_data.node.role c.state.inside.role c.state.invariant.writable ∙ ap (λ (x : StateView). is_primary x.node.role) c.state.view_is ∙ c.requires.role
 
 pub invariant_of-state-2 : goal.invariant_of-state-2
 invariant_of-state-2 g c =
     let s = c.state.inside in
-    subst (λ (l : NodeData). IsCoherent (seen_node l.node (rest_in s)) s.tally s.unjournaled.optimes) (sym c.in_ok-count.ensures.ok)
-    (coherent-applied (seen_node s.node_data.node (rest_in s)) s.tally s.unjournaled.optimes (applied_after s.node_data.node.applied (next_batch s.node_data.node)) c.state.invariant)
+    subst (λ (l : NodeData). IsState l.node (rest_in s) s.unjournaled.optimes) (sym c.in_ok-count.ensures.ok)
+    (state-applied s.node_data.node (rest_in s) s.unjournaled.optimes (applied_after s.node_data.node.applied (next_batch s.node_data.node)) c.state.invariant)
 
 pub returns-clause-turn : goal.returns-clause-turn
 returns-clause-turn g c =

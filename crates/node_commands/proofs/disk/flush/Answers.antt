@@ -11,11 +11,17 @@ pub drop_first-requires : goal.drop_first-requires
 drop_first-requires c =
     let s = c.state.inside in
     flush-count (seen_node s.node_data.node (rest_in s)) c.args.state.now.node c.args.item.now c.args.count c.args.point s.tally s.unjournaled.optimes
-    (ap (λ (x : StateView). x.node) c.state.view_is) c.requires.ready c.state.invariant
+    (ap (λ (x : StateView). x.node) c.state.view_is) c.requires.ready c.state.invariant.coherent
 
 pub invariant_of-state : goal.invariant_of-state
 invariant_of-state c =
     let s = c.state.inside in
-    subst (λ (r : Records). IsCoherent (seen_node s.node_data.node (record (rest_in s) { records = r.list; durable = c.args.point })) s.tally c.drop_first.new.self.optimes) (sym c.with-state-inside.ensures)
-    (flush-coherent (seen_node s.node_data.node (rest_in s)) c.args.state.now.node c.args.item.now c.args.count c.args.point s.tally s.unjournaled.optimes c.drop_first.new.self.optimes
-    (ap (λ (x : StateView). x.node) c.state.view_is) c.requires.ready c.recall_sound.ensures.node.oplog c.drop_first.ensures.optimes c.state.invariant)
+    let old = c.state.invariant in
+    record {
+      writable = old.writable;
+      of_term = old.of_term;
+      coherent =
+          subst (λ (r : Records). IsCoherent (seen_node s.node_data.node (record (rest_in s) { records = r.list; durable = c.args.point })) s.tally c.drop_first.new.self.optimes) (sym c.with-state-inside.ensures)
+          (flush-coherent (seen_node s.node_data.node (rest_in s)) c.args.state.now.node c.args.item.now c.args.count c.args.point s.tally s.unjournaled.optimes c.drop_first.new.self.optimes
+          (ap (λ (x : StateView). x.node) c.state.view_is) c.requires.ready c.recall_sound.ensures.node.oplog c.drop_first.ensures.optimes old.coherent);
+    }

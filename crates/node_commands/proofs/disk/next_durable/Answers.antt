@@ -14,5 +14,5 @@ returns c =
     let more : 2000 < length c.state.inside.unjournaled.optimes = omega arith in
     c.earlier.ensures ∙ ap (λ o. earlier_of o c.last_optime.result) c.visible-visible.ensures
     ∙ ap (earlier_of (visible_point s.node_data.node)) (c.last_optime.ensures ∙ ap last_of c.requires ∙ sym (ap (λ (x : StateView). last_of (next_entries x.node)) c.state.view_is))
-    ∙ sym (next_durable-long (seen_node s.node_data.node (rest_in s)) s.unjournaled.optimes c.state.invariant.unjournaled more)
+    ∙ sym (next_durable-long (seen_node s.node_data.node (rest_in s)) s.unjournaled.optimes c.state.invariant.coherent.unjournaled more)
     ∙ ap (λ (x : StateView). next_durable x.node) c.state.view_is

@@ -12,6 +12,6 @@ overflow_cast-count c =
     let long : c.len-count.result ≡ length c.args.sent.items = omega arith in
     let few : length (asks (candidate c.args.state.now.node) false) ≤ 50 =
     subst (λ (s : StateView). length (asks (candidate s.node) false) ≤ 50) c.state.view_is
-    (few_asked (candidate (seen_node c.state.inside.node_data.node (rest_in c.state.inside))) false c.state.invariant.config) in
+    (few_asked (candidate (seen_node c.state.inside.node_data.node (rest_in c.state.inside))) false c.state.invariant.coherent.config) in
     let same : length c.args.sent.items ≡ length (asks (candidate c.args.state.now.node) false) = ap length c.requires.ready.sent_is in
     omega (arith, long, few, same)

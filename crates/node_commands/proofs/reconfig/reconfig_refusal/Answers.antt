@@ -1,5 +1,4 @@
-use Rattle.std.proofs.Common.{◌≡◌, ◌∙◌, ap, sym, ℕ, None, Some, rules}
-use Rattle.reconfig_core.specs.Reconfig.{refusal}
+use Rattle.std.proofs.Common.{◌≡◌, ◌∙◌, ap, sym, None, Some, rules}
 use Rattle.set_model.specs.Node.{Node}
 use Rattle.set_model.specs.Reconfig.{reconfig_refusal}
 use Rattle.set_model.specs.declared.role.Role.TheVariants.{Primary}
@@ -12,23 +11,23 @@ use Rattle.node_commands.proofs.VoterLemmas.{few_members}
 use Rattle.node_commands.proofs.reconfig.reconfig_refusal.Goals as goal
 
 pub check-requires : goal.check-requires
-check-requires c = few_members c.state.inside.config c.state.invariant.config
+check-requires c = few_members c.state.inside.config c.state.invariant.coherent.config
 
 pub returns-in-Ok : goal.returns-in-Ok
 returns-in-Ok c =
     let s = c.state.inside in
     let node : Node = seen_node s.node_data.node (rest_in s) in
-    let primary : s.node_data.node.role ≡ Primary = search rules in
+    let primary : s.role ≡ Primary = search rules in
     let is : checked c.args.nodes node c.args.config.now ≡ None =
-    ap (λ (t : ℕ). refusal s.config c.args.config.now s.number c.args.nodes t s.progress s.durable s.commit) (sym c.term-term.ensures) ∙ c.in-Ok.ensures.ok in
+    c.in-Ok.ensures.ok in
     refused_as c.args.nodes node c.args.config.now None primary is ∙ ap (λ (x : StateView). reconfig_refusal c.args.nodes x.node c.args.config.now) c.state.view_is
 
 pub returns-in-Err : goal.returns-in-Err
 returns-in-Err c =
     let s = c.state.inside in
     let node : Node = seen_node s.node_data.node (rest_in s) in
-    let primary : s.node_data.node.role ≡ Primary = search rules in
+    let primary : s.role ≡ Primary = search rules in
     let is : checked c.args.nodes node c.args.config.now ≡ Some c.in-Err.why =
-    ap (λ (t : ℕ). refusal s.config c.args.config.now s.number c.args.nodes t s.progress s.durable s.commit) (sym c.term-term.ensures) ∙ c.in-Err.ensures.err in
+    c.in-Err.ensures.err in
     ap (λ why. Some why) c.refusal_of.ensures
     ∙ refused_as c.args.nodes node c.args.config.now (Some c.in-Err.why) primary is ∙ ap (λ (x : StateView). reconfig_refusal c.args.nodes x.node c.args.config.now) c.state.view_is

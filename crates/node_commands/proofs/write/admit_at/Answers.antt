@@ -1,7 +1,7 @@
 use Rattle.std.proofs.Common.{◌≡◌, ◌∙◌, ap, sym, subst, None, Some, rules}
 use Rattle.std.specs.Option.{option_copied}
 use Rattle.std.specs.FinMap.{get}
-use Rattle.oplog_entry.specs.Docs.{docs}
+use Rattle.oplog_entry.specs.Docs.{Documents, docs}
 use Rattle.oplog_entry.specs.Visible.{log_up_to}
 use Rattle.doc_update.specs.Effect.{prepared}
 use Rattle.doc_update.specs.Borrowed.{shown}
@@ -13,6 +13,8 @@ use Rattle.set_model.specs.Roles.{if_primary}
 use Rattle.set_model.specs.declared.role.Role.{Role}
 use Rattle.node_state.specs.StateView.{StateView}
 use Rattle.node_data.specs.Versions.{AreSmall}
+use Rattle.node_state.proofs.StateLemmas.{local_seen}
+use Rattle.node_state.proofs.Inside.{rest_in}
 use Rattle.node_commands.proofs.AdmitLemmas.{admitted-held, admitted-free, refuses, effect_can}
 use Rattle.node_commands.proofs.write.admit_at.Goals as goal
 
@@ -30,7 +32,8 @@ returns-in-Ok c =
     let free : holder c.args.state.now.node (c.args.ns, c.args.id) ≡ None = ap (λ (s : StateView). holder s.node (c.args.ns, c.args.id)) (sym c.state.view_is) ∙ sym held ∙ none in
     let stands = rw c.as_str.ensures at c.current-found.ensures.latest in
     let latest : option_copied c.current-found.result.latest ≡ get (docs c.args.state.now.node.log) (c.args.ns, c.args.id) =
-    stands ∙ ap (λ (s : StateView). get (local_documents s.node) (c.args.ns, c.args.id)) c.state.view_is
+    stands ∙ ap (λ (ds : Documents). get ds (c.args.ns, c.args.id)) (local_seen c.state.inside.node_data.node (rest_in c.state.inside) c.state.invariant.writable)
+    ∙ ap (λ (s : StateView). get (local_documents s.node) (c.args.ns, c.args.id)) c.state.view_is
     ∙ ap (λ (r : Role). get (docs (if_primary r c.args.state.now.node.log (log_up_to c.args.state.now.node.applied c.args.state.now.node.log))) (c.args.ns, c.args.id)) c.requires.role in
     let sound = subst (λ place. IsSound place (option_copied c.current-found.result.latest) c.in-Ok.effect) c.requires.place c.in-Ok.ensures.sound in (
       admitted-free c.args.state.now.node (shown c.args.borrowed) (c.args.ns, c.args.id) c.requires.place free ∙ ap or_refused (ap (prepared (shown c.args.borrowed)) (sym latest) ∙ c.in-Ok.ensures.answer),
@@ -46,7 +49,8 @@ returns-in_ok-refusal-in-Err c =
     let free : holder c.args.state.now.node (c.args.ns, c.args.id) ≡ None = ap (λ (s : StateView). holder s.node (c.args.ns, c.args.id)) (sym c.state.view_is) ∙ sym held ∙ none in
     let stands = rw c.as_str.ensures at c.current-found.ensures.latest in
     let latest : option_copied c.current-found.result.latest ≡ get (docs c.args.state.now.node.log) (c.args.ns, c.args.id) =
-    stands ∙ ap (λ (s : StateView). get (local_documents s.node) (c.args.ns, c.args.id)) c.state.view_is
+    stands ∙ ap (λ (ds : Documents). get ds (c.args.ns, c.args.id)) (local_seen c.state.inside.node_data.node (rest_in c.state.inside) c.state.invariant.writable)
+    ∙ ap (λ (s : StateView). get (local_documents s.node) (c.args.ns, c.args.id)) c.state.view_is
     ∙ ap (λ (r : Role). get (docs (if_primary r c.args.state.now.node.log (log_up_to c.args.state.now.node.applied c.args.state.now.node.log))) (c.args.ns, c.args.id)) c.requires.role in
     admitted-free c.args.state.now.node (shown c.args.borrowed) (c.args.ns, c.args.id) c.requires.place free ∙ ap or_refused (ap (prepared (shown c.args.borrowed)) (sym latest))
     ∙ refuses c.in-Err.why c.in_ok-refusal-in-Err.field-0 (prepared (shown c.args.borrowed) (option_copied c.current-found.result.latest)) c.in-Err.ensures.answer c.in_ok-refusal-in-Err.ensures
