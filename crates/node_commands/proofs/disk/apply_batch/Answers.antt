@@ -15,7 +15,7 @@ use Rattle.node_state.proofs.TurnLemmas.{says_means}
 use Rattle.node_commands.proofs.disk.apply_batch.Goals as goal
 
 pub apply-requires-clause-role : goal.apply-requires-clause-role
-apply-requires-clause-role g c =
+apply-requires-clause-role g c κs within =
     primary_seen c.state.inside.node_data.node.role c.state.inside.role c.state.invariant.writable ∙ ap (λ (x : StateView). is_primary x.node.role) c.state.view_is ∙ c.requires.role
 
 pub invariant_of-state-2 : goal.invariant_of-state-2
