@@ -1,4 +1,4 @@
-use Rattle.std.proofs.Common.{◌≡◌, ◌∙◌, ap, sym, None, Some, rules}
+use Rattle.std.proofs.Common.{◌≡◌, ◌∙◌, ap, None, Some, rules}
 use Rattle.set_model.specs.Node.{Node}
 use Rattle.set_model.specs.Reconfig.{reconfig_refusal}
 use Rattle.set_model.specs.declared.role.Role.TheVariants.{Primary}
