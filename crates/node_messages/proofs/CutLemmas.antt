@@ -27,12 +27,13 @@ use Rattle.set_model.specs.Node.{Node}
 use Rattle.set_model.specs.Roles.{is_primary}
 use Rattle.set_model.specs.Safety.{AtMost, Has}
 use Rattle.oplog_store.specs.Unjournaled.{up_to}
-use Rattle.node_state.specs.Coherent.{IsCoherent, is_kept}
+use Rattle.node_state.specs.Coherent.{IsCoherent, IsOfTerm, IsState, is_kept}
 use Rattle.node_state.specs.Ready.{IsCut}
 use Rattle.node_state.specs.Seen.{BesideData, seen_node}
 use Rattle.node_data.specs.Sound.{IsSound}
 use Rattle.node_data.proofs.LogLemmas.{filter-swap}
 use Rattle.node_state.proofs.RestartLemmas.{no_further}
+use Rattle.node_state.proofs.StateLemmas.{of_term-filtered}
 use Rattle.node_state.proofs.StoredLemmas.{sound_seen}
 use Rattle.node_state.proofs.WellKeptLemmas.{has_up_to}
 
@@ -147,9 +148,22 @@ module _ (node : Node) (point : OpTime) (lost : List (Place × Option Fields)) (
 -- the same of a node's parts in memory
 pub coherent-rolled : (n m : Node) (rest : BesideData) (items : List Record) (point durable : OpTime) (lost : List (Place × Option Fields)) (optimes fewer : List OpTime)
     → m ≡ record n { log = log_up_to point n.log; applied = point } → items ≡ rest.records ++ records.Cut point ∷ [] → durable ≡ earlier_of rest.durable point → fewer ≡ up_to point optimes
-    → IsSound n → IsCut point (seen_node n rest) → IsCoherent (seen_node n rest) rest.tally optimes
+    → IsSound (seen_node n rest) → IsCut point (seen_node n rest) → IsCoherent (seen_node n rest) rest.tally optimes
     → IsCoherent (seen_node m (record rest { records = items; durable = durable; lost = lost; rollback = rest.rollback + 1 })) rest.tally fewer
 coherent-rolled n m rest items point durable lost optimes fewer log_is items_are durable_is fewer_are sound can old =
     subst (λ (k : Node × (List Record × (OpTime × List OpTime))). IsCoherent (seen_node k.0 (record rest { records = k.1.0; durable = k.1.1.0; lost = lost; rollback = rest.rollback + 1 })) rest.tally k.1.1.1)
     (λ i. (sym log_is i, (sym items_are i, (sym durable_is i, sym fewer_are i))))
-    (coherent-cut (seen_node n rest) point lost rest.tally optimes (sound_seen n rest sound) can old)
+    (coherent-cut (seen_node n rest) point lost rest.tally optimes sound can old)
+
+-- the same of a state
+pub state-rolled : (n m : Node) (rest : BesideData) (items : List Record) (point durable : OpTime) (lost : List (Place × Option Fields)) (optimes fewer : List OpTime)
+    → m ≡ record n { log = log_up_to point n.log; applied = point } → items ≡ rest.records ++ records.Cut point ∷ [] → durable ≡ earlier_of rest.durable point → fewer ≡ up_to point optimes
+    → IsSound n → IsCut point (seen_node n rest) → IsState n rest optimes
+    → IsState m (record rest { records = items; durable = durable; lost = lost; rollback = rest.rollback + 1 }) fewer
+state-rolled n m rest items point durable lost optimes fewer log_is items_are durable_is fewer_are sound can old = record {
+  writable = ap (λ (k : Node). k.role) log_is ∙ old.writable;
+  of_term = subst (λ (k : Node). IsOfTerm rest.term k.log k.slots) (sym log_is)
+      (of_term-filtered rest.term n.log n.slots (λ (e : Entry). not (is_before point e.optime)) old.of_term);
+  coherent = coherent-rolled n m rest items point durable lost optimes fewer log_is items_are durable_is fewer_are
+      (sound_seen n rest old.writable sound) can old.coherent;
+}

@@ -1,5 +1,5 @@
 -- What is heard of other members keeps a node coherent.
-use Rattle.std.proofs.Common.{◌≡◌, sym, subst, Bool, true, false, cond, not, ◌&&◌, Option, None, Some, List, []}
+use Rattle.std.proofs.Common.{◌≡◌, ◌∙◌, ap, sym, subst, Bool, true, false, cond, not, ◌&&◌, Option, None, Some, List, []}
 use Rattle.std.specs.Prelude.{◌==◌}
 use Rattle.std.specs.Ordering.{nat_cmp}
 use Rattle.std.specs.FinMap as maps
@@ -11,7 +11,8 @@ use Rattle.set_model.specs.declared.role.Role.TheVariants.{Secondary}
 use Rattle.set_model.specs.Node.{Node, Report, Heard}
 use Rattle.set_model.specs.Points.{last_point, visible_point}
 use Rattle.set_model.specs.Roles.{is_primary}
-use Rattle.node_state.specs.Coherent.{IsCoherent}
+use Rattle.node_data.specs.NodeData.{data_role}
+use Rattle.node_state.specs.Coherent.{IsCoherent, IsState}
 use Rattle.node_messages.specs.HeardBeats.{commit_learnt}
 use Rattle.node_state.specs.Seen.{BesideData, seen_node}
 use Rattle.node_state.proofs.CommitLemmas.{IsBetween, coherent-commit, counted_between}
@@ -43,12 +44,15 @@ coherent-learnt n rest commit heard known tally optimes is old =
     coherent-tables (seen_node n (record rest { commit = commit })) rest.progress known tally optimes
     (coherent-commit (seen_node n rest) commit tally optimes
     (subst (IsBetween n.stable rest.durable) (sym is)
-    (learnt_between (not (is_primary n.role) && heard.term == (last_point n).term) n.stable rest.durable rest.commit heard (old.points.stable, old.points.commit)))
+    (learnt_between (not (is_primary rest.role) && heard.term == (last_point n).term) n.stable rest.durable rest.commit heard (old.points.stable, old.points.commit)))
     old)
 
 -- a candidate that is a secondary counts nothing
-pub coherent-given_way : (n m : Node) (rest : BesideData) (tally : Option Tallied) (optimes : List OpTime) → m ≡ record n { role = Secondary }
-    → IsCoherent (seen_node n rest) tally optimes → IsCoherent (seen_node m (record rest { tally = None })) None optimes
-coherent-given_way n m rest tally optimes is old =
-    subst (λ (k : Node). IsCoherent (seen_node k (record rest { tally = None })) None optimes) (sym is)
-    (coherent-turned (seen_node n rest) Secondary n.slots n.writers n.applied rest.progress [] rest.dry_tally tally None optimes (at_most_refl (visible_point n)) (λ role. absurd (cc role)) old)
+pub state-given_way : (n : Node) (rest : BesideData) (optimes : List OpTime) → is_primary rest.role ≡ false → IsState n rest optimes
+    → IsState n (record rest { role = Secondary; tally = None }) optimes
+state-given_way n rest optimes other old = record {
+  writable = old.writable ∙ ap data_role other;
+  of_term = old.of_term;
+  coherent = coherent-turned (seen_node n rest) Secondary n.slots n.writers n.applied rest.progress [] rest.dry_tally rest.tally None optimes
+      (at_most_refl (visible_point n)) (λ role. absurd (cc role)) old.coherent;
+}

@@ -31,11 +31,12 @@ use Rattle.set_model.specs.Node.{Node, Heard}
 use Rattle.set_model.specs.Points.{last_point, visible_point, visible_log}
 use Rattle.set_model.specs.Safety.{AtMost}
 use Rattle.node_data.specs.Versions.{AreSmall, IsSmall, versions_from}
-use Rattle.node_state.specs.Coherent.{IsCoherent}
+use Rattle.node_state.specs.Coherent.{IsCoherent, IsOfTerm, IsState}
 use Rattle.node_state.specs.Seen.{BesideData, seen_node}
 use Rattle.set_model.specs.Taking.{CanTakeEntries}
 use Rattle.node_state.proofs.CommitLemmas.{coherent-commit, counted_between}
 use Rattle.node_state.proofs.EntryLemmas.{last_grows}
+use Rattle.node_state.proofs.StateLemmas.{of_term-joined}
 use Rattle.node_messages.proofs.FetchedLemmas.{coherent-fetched, follow_behind, joined, joined_oplog}
 use Rattle.node_messages.proofs.HearLemmas.{coherent-tables}
 use Rattle.node_state.proofs.SlotLemmas.{in_visible}
@@ -145,15 +146,27 @@ durable_last node oplog most =
 -- the node with these entries
 pub coherent-appended : (n m : Node) (rest : BesideData) (reply : FetchReply) (entries : List Entry) (tally : Option Tallied) (optimes more : List OpTime)
     → entries ≡ reply.entries → m ≡ with_fetched n entries → more ≡ fold with_optime optimes (map (λ (e : Entry). e.optime) reply.entries)
-    → CanTakeEntries (seen_node n rest) n.term reply → continues (last_point n) reply ≡ true → IsOplog n.log
+    → CanTakeEntries (seen_node n rest) rest.term reply → continues (last_point n) reply ≡ true → IsOplog n.log
     → IsCoherent (seen_node n rest) tally optimes → IsCoherent (seen_node m rest) tally more
 coherent-appended n m rest reply entries tally optimes more entries_is node_is more_is can goes oplog old =
     subst (λ (k : Node). IsCoherent (seen_node k rest) tally more) (sym (node_is ∙ ap (with_fetched n) entries_is))
     (subst (IsCoherent (seen_node (with_fetched n reply.entries) rest) tally) (sym more_is)
     (coherent-fetched reply.entries (seen_node n rest) tally optimes
-    (fetched_oplog (seen_node n rest) n.term reply reply.entries refl can goes oplog)
-    (fetched_later (seen_node n rest) n.term reply reply.entries rest.durable refl can goes (durable_last (seen_node n rest) oplog old.points.durable))
+    (fetched_oplog (seen_node n rest) rest.term reply reply.entries refl can goes oplog)
+    (fetched_later (seen_node n rest) rest.term reply reply.entries rest.durable refl can goes (durable_last (seen_node n rest) oplog old.points.durable))
     old))
+
+-- the same of a state
+pub state-appended : (n m : Node) (rest : BesideData) (reply : FetchReply) (entries : List Entry) (optimes more : List OpTime)
+    → entries ≡ reply.entries → m ≡ with_fetched n entries → more ≡ fold with_optime optimes (map (λ (e : Entry). e.optime) reply.entries)
+    → CanTakeEntries (seen_node n rest) rest.term reply → continues (last_point n) reply ≡ true → IsOplog n.log
+    → IsState n rest optimes → IsState m rest more
+state-appended n m rest reply entries optimes more entries_is node_is more_is can goes oplog old = record {
+  writable = ap (λ (k : Node). k.role) node_is ∙ old.writable;
+  of_term = subst (λ (k : Node). IsOfTerm rest.term k.log k.slots) (sym (node_is ∙ ap (with_fetched n) entries_is))
+      (of_term-joined rest.term n.log reply.entries n.slots can.terms old.of_term);
+  coherent = coherent-appended n m rest reply entries rest.tally optimes more entries_is node_is more_is can goes oplog old.coherent;
+}
 
 -- what is learnt of its sender
 pub coherent-source : (n : Node) (rest : BesideData) (commit heard : OpTime) (known : maps.FinMap nat_cmp Heard) (tally : Option Tallied) (optimes : List OpTime)

@@ -13,7 +13,6 @@ use Rattle.oplog_store.specs.Log.{IsOplog}
 use Rattle.oplog_store.proofs.LogLemmas.{oplog_filter}
 use Rattle.repl_msg.specs.Logs.{later_of, log_behind}
 use Rattle.repl_msg.specs.Rollback.{is_common, common_point}
-use Rattle.election_core.specs.Counting.{Tallied}
 use Rattle.rollback_core.proofs.Greatest.{greatest_last}
 use Rattle.set_model.specs.declared.reply.Ignored.{Ignored}
 use Rattle.set_model.specs.declared.reply.Ignored.TheVariants as ignored
@@ -26,14 +25,14 @@ use Rattle.set_model.specs.Roles.{is_secondary}
 use Rattle.set_model.specs.Rollback.{common_told, lost_documents, roll_back, rolled_back, rollback_reason}
 use Rattle.set_model.specs.Safety.{AtMost, Has}
 use Rattle.node_messages.specs.Ahead.{IsPreparedFor, ComesTo, taking}
-use Rattle.node_state.specs.Coherent.{IsCoherent}
+use Rattle.node_state.specs.Coherent.{IsState}
 use Rattle.node_data.specs.NodeData.{NodeData}
 use Rattle.node_state.specs.Ready.{IsCut}
 use Rattle.node_messages.specs.Rolling.{point_or, reached}
-use Rattle.node_state.specs.Seen.{BesideData, seen_node}
+use Rattle.node_state.specs.Seen.{BesideData}
 use Rattle.node_state.specs.MessageContinuation.{message_plan}
 use Rattle.node_state.specs.declared.turn.MessageContinuation.TheVariants as message_continuations
-use Rattle.node_state.proofs.CoherentLemmas.{coherent-applied}
+use Rattle.node_state.proofs.CoherentLemmas.{state-applied}
 use Rattle.node_data.proofs.LogLemmas.{up_to-last}
 use Rattle.node_state.proofs.RestartLemmas.{no_further}
 use Rattle.node_state.proofs.WellKeptLemmas.{has_up_to}
@@ -155,10 +154,10 @@ can_cut raised term old after optimes visible point oplog reason is commit below
           rollback = below;
         }
 
--- a log that is applied further, or not, keeps a node coherent
-pub coherent-reached : (n m : Node) (rest : BesideData) (spare left : ℕ) (at : OpTime) (result : Result (Unit {0}) AllocError) (tally : Option Tallied) (optimes : List OpTime)
+-- a state whose log is applied further, or is not, stays one
+pub state-reached : (n m : Node) (rest : BesideData) (spare left : ℕ) (at : OpTime) (result : Result (Unit {0}) AllocError) (optimes : List OpTime)
     → OnOk result (◌≡◌ {A = NodeData} (record { node = m; spare = left }) (record { node = record n { applied = at }; spare = spare })) → OnErr result (◌≡◌ {A = NodeData} (record { node = m; spare = left }) (record { node = n; spare = spare }))
-    → IsCoherent (seen_node n rest) tally optimes → IsCoherent (seen_node m rest) tally optimes
-coherent-reached n m rest spare left at (Ok done) tally optimes ok err old =
-    subst (λ (l : NodeData). IsCoherent (seen_node l.node rest) tally optimes) (sym ok) (coherent-applied (seen_node n rest) tally optimes at old)
-coherent-reached n m rest spare left at (Err why) tally optimes ok err old = subst (λ (l : NodeData). IsCoherent (seen_node l.node rest) tally optimes) (sym err) old
+    → IsState n rest optimes → IsState m rest optimes
+state-reached n m rest spare left at (Ok done) optimes ok err old =
+    subst (λ (d : NodeData). IsState d.node rest optimes) (sym ok) (state-applied n rest optimes at old)
+state-reached n m rest spare left at (Err why) optimes ok err old = subst (λ (d : NodeData). IsState d.node rest optimes) (sym err) old

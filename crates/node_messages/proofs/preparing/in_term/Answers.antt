@@ -11,7 +11,7 @@ pub returns-then-is_below : goal.returns-then-is_below
 returns-then-is_below c =
     let node = c.args.state.now.node in
     let higher : nat_lt node.term c.args.term ≡ true =
-    sym (c.is_below.ensures ∙ ap (λ (s : StateView). nat_lt s.node.term c.args.term) c.state.view_is) ∙ c.if-is_below.true in
+    sym c.is_below.ensures ∙ c.if-is_below.true in
     subst (λ (visible : OpTime). IsInTerm (record { term = c.args.term; role = Secondary; visible = visible }) c.args.term node)
     (sym (c.last.ensures ∙ ap (λ (s : StateView). last_point s.node) c.state.view_is)) (in_higher_term node c.args.term higher)
 
@@ -19,10 +19,10 @@ pub returns : goal.returns
 returns c =
     let node = c.args.state.now.node in
     let own : nat_lt node.term c.args.term ≡ false =
-    sym (c.is_below.ensures ∙ ap (λ (s : StateView). nat_lt s.node.term c.args.term) c.state.view_is) ∙ c.if-is_below.false in
+    sym c.is_below.ensures ∙ c.if-is_below.false in
     let is = in_own_term node c.args.term own in
     record {
-      term_is = c.term.ensures ∙ ap (λ (s : StateView). s.node.term) c.state.view_is ∙ is.term_is;
-      role_is = c.role.ensures ∙ ap (λ (s : StateView). s.node.role) c.state.view_is ∙ is.role_is;
+      term_is = ap (λ (s : StateView). s.node.term) c.state.view_is ∙ is.term_is;
+      role_is = ap (λ (s : StateView). s.node.role) c.state.view_is ∙ is.role_is;
       visible_is = c.visible.ensures ∙ ap (λ (s : StateView). visible_point s.node) c.state.view_is ∙ is.visible_is;
     }

@@ -1,4 +1,4 @@
-use Rattle.std.proofs.Common.{◌∙◌, ap, sym, ℕ}
+use Rattle.std.proofs.Common.{◌∙◌, ap, sym}
 use Rattle.rs_optime.specs.declared.optime.OpTime.{OpTime}
 use Rattle.repl_msg.specs.Votes.{refusal_of}
 use Rattle.set_model.specs.Votes.{vote_refusal}
@@ -10,14 +10,12 @@ pub returns-in-Ok : goal.returns-in-Ok
 returns-in-Ok c =
     let s = c.state.inside in
     granted_none _ _ _ (sym c.in-Ok.is ∙ c.decide.ensures)
-    ∙ ap (λ (t : ℕ). refusal_of t s.vote (s.config.term, s.config.version) c.last.result c.args.ask.now) c.term.ensures
-    ∙ ap (λ (at : OpTime). refusal_of s.node_data.node.term s.vote (s.config.term, s.config.version) at c.args.ask.now) c.last.ensures
+    ∙ ap (λ (at : OpTime). refusal_of s.term s.vote (s.config.term, s.config.version) at c.args.ask.now) c.last.ensures
     ∙ ap (λ (n : StateView). vote_refusal n.node c.args.ask.now) c.state.view_is
 
 pub returns-in-Err : goal.returns-in-Err
 returns-in-Err c =
     let s = c.state.inside in
     refused_some _ _ _ (sym c.in-Err.is ∙ c.decide.ensures)
-    ∙ ap (λ (t : ℕ). refusal_of t s.vote (s.config.term, s.config.version) c.last.result c.args.ask.now) c.term.ensures
-    ∙ ap (λ (at : OpTime). refusal_of s.node_data.node.term s.vote (s.config.term, s.config.version) at c.args.ask.now) c.last.ensures
+    ∙ ap (λ (at : OpTime). refusal_of s.term s.vote (s.config.term, s.config.version) at c.args.ask.now) c.last.ensures
     ∙ ap (λ (n : StateView). vote_refusal n.node c.args.ask.now) c.state.view_is
