@@ -88,11 +88,11 @@ def stop_without_toolchain():
 
 
 @contextlib.contextmanager
-def alone(program):
-    """Waits until no other call builds this program."""
+def alone(program, how=fcntl.LOCK_EX):
+    """Waits until no other call builds this program, or raises BlockingIOError where it is not to wait."""
     os.makedirs(os.path.dirname(program), exist_ok=True)
     with open(f"{program}.lock", "w") as lock:
-        fcntl.flock(lock, fcntl.LOCK_EX)
+        fcntl.flock(lock, how)
         yield
 
 
@@ -116,26 +116,32 @@ def build(program, *how):
 
 
 def build_unproved():
-    """Builds a program without proofs, which isn't optimised, and has one that is built beside what follows. Gives how to call
-    it: by `rt try` where the kit has no other way."""
+    """Builds a program without proofs that isn't optimised. Gives how to call it: by `rt try` where the kit has no other way."""
     stop_without_toolchain()
     with alone(QUICK):
         standing = unproved()
         if standing:
             return [standing]
-        say("building the program without proofs, which takes a minute or two; one ten times as fast is built meanwhile, and is run once it stands")
+        say("building the program without proofs, which takes a minute or two; one that is ten times as fast is then built in the background")
         if not build(QUICK, "--quick"):
-            say("this kit builds no program without proofs; `rt try` runs one that is slower")
+            say("this kit keeps no program without proofs; `rt try` builds it for each run")
             return ["rt", "try", "--"]
-    nothing = dict.fromkeys(("stdin", "stdout", "stderr"), subprocess.DEVNULL)
-    subprocess.Popen([sys.executable, os.path.abspath(__file__)], start_new_session=True, **nothing)
     return [QUICK]
 
 
 def optimise():
     """Builds the optimised program, where it doesn't stand. False where the kit has no way to do so."""
-    with alone(UNPROVED):
-        return is_current(UNPROVED, ("src",)) or build(UNPROVED)
+    if is_current(UNPROVED, ("src",)):
+        return True
+    stop_without_toolchain()
+    say("building the program without proofs, which takes three minutes")
+    return build(UNPROVED)
+
+
+def optimise_later():
+    """Has the optimised program built in the background, where no call does so yet."""
+    nothing = dict.fromkeys(("stdin", "stdout", "stderr"), subprocess.DEVNULL)
+    subprocess.Popen([sys.executable, os.path.abspath(__file__)], start_new_session=True, **nothing)
 
 
 def prove():
@@ -147,5 +153,6 @@ def prove():
 
 
 if __name__ == "__main__":
-    with contextlib.suppress(Stop):
+    os.nice(10)
+    with contextlib.suppress(Stop, BlockingIOError), alone(UNPROVED, fcntl.LOCK_EX | fcntl.LOCK_NB):
         optimise()

@@ -140,10 +140,12 @@ def installed_program():
 def unproved_program(words):
     """How to call the program that is built without proofs; it is built now where it doesn't stand."""
     standing = program.unproved()
-    if standing:
-        return [standing]
-    stop_on_wrong_words(words)
-    return program.build_unproved()
+    if not standing:
+        stop_on_wrong_words(words)
+    call = [standing] if standing else program.build_unproved()
+    if call == [program.QUICK]:
+        program.optimise_later()
+    return call
 
 
 def program_for(words):
@@ -219,7 +221,8 @@ def tell_version(_):
     elif program.proved():
         print(f"proved: {program.PROVED}")
     else:
-        print(f"built without proofs: {program.unproved()}" if program.unproved() else "not built yet")
+        standing = program.unproved()
+        print(f"built without proofs: {standing}" if standing else "not built yet")
     return 0
 
 
@@ -230,9 +233,9 @@ def install(words):
         return WRONG_WORDS
     proved = program.proved()
     if not proved:
-        program.stop_without_toolchain()
-        if not program.optimise():
-            raise Stop(NOT_BUILT, "there is no program of its own to install")
+        with program.alone(program.UNPROVED):
+            if not program.optimise():
+                raise Stop(NOT_BUILT, "there is no program of its own to install")
         say(NOTHING_PROVED)
     kind = "proved" if proved else "unproved"
     installed = subprocess.run([os.path.join(program.TOOLS, "install"), words[0], proved or program.UNPROVED, kind, version()])

@@ -31,7 +31,7 @@ A short script is a script with macros in it; every word that takes a FILE takes
   last                     as an OPTIME of ack and await: that of A's newest write
 
 The program that plays the scripts is the one that the environment variable REPLSET names; else the proved one of this
-repository; else one that is built without proofs, in a minute.
+repository; else one that is built without proofs, in three minutes.
 
 statuses: 0 done; 1 a test isn't met, or a variation changes what is watched; 2 wrong words; 3 no script; 4 a file can't
 be read or written; 5 no program, or too old a Python; 6 the program failed; 7 a macro can't go on; 8 nothing found; 130 interrupted

@@ -32,9 +32,10 @@ def _search(name: str) -> str:
             raise LabError(PROGRAM, f"{name.upper()} names {named}, which is no program")
         return os.path.abspath(named)
     unproved = TOP / "build" / name
-    # ./replset has one that is built quickly stand there until the optimised one does.
+    # ./replset lets one that is built quickly stand beside it, until the optimised one does.
     quick = [TOP / "build" / "quick"] if name == "replset" else []
-    for place in (TOP / "crates" / name / "out" / name, unproved, *quick):
+    built = [place for place in (unproved, *quick) if os.access(place, os.X_OK)]
+    for place in (TOP / "crates" / name / "out" / name, *sorted(built, key=os.path.getmtime, reverse=True)):
         if os.access(place, os.X_OK):
             return str(place)
     return _build(name, unproved)
