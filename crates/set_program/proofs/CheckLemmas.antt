@@ -3,9 +3,9 @@ use Rattle.std.proofs.Common.{◌≡◌, ◌∙◌, ◌≤◌, ℕ, true, List, 
 use Rattle.std.specs.Prelude.{◌≢◌, IfSome, codes}
 use Rattle.rs_io.specs.Fault.{CountRose}
 use Rattle.oplog_entry.proofs.FieldLemmas.{same_name}
-use Rattle.set_program.specs.declared.words.Task.{Task}
+use Rattle.task_words.specs.declared.words.Task.{Task}
 use Rattle.set_program.specs.Headline.{HasNoFault, IsOneOf, status_of_check}
-use Rattle.set_program.specs.Tasks.{is_check, task_of}
+use Rattle.task_words.specs.Tasks.{is_check, task_of}
 use Rattle.trace_check.specs.declared.stop.CheckStop.{CheckStop}
 use Rattle.trace_check.specs.declared.stop.CheckStop.TheVariants.{NoTrace, ReadFault, TooLong, WriteFault, Memory}
 use Rattle.trace_check.specs.Ends.{Ends, limit}

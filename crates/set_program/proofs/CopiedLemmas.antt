@@ -19,8 +19,8 @@ use Rattle.set_program.specs.declared.outcome.Left.{Left}
 use Rattle.set_program.specs.declared.outcome.Left.TheVariants.{World, Parts}
 use Rattle.set_program.specs.declared.stop.Stop.{Stop}
 use Rattle.set_program.specs.declared.stop.Stop.TheVariants.{Memory, Usage, Script as NoScript, ReadFault, WriteFault, TooLong, DiskFault, CopyFault, Refused}
-use Rattle.set_program.specs.declared.words.Task.{Task}
-use Rattle.set_program.specs.declared.words.Task.TheVariants.{Run, Trace, Chaos, Sync, Linear as ReadsLinear, Watch as Watches}
+use Rattle.task_words.specs.declared.words.Task.{Task}
+use Rattle.task_words.specs.declared.words.Task.TheVariants.{Run, Trace, Chaos, Sync, Linear as ReadsLinear, Watch as Watches}
 use Rattle.set_program.specs.Disks.{IsUnarmed}
 use Rattle.set_program.specs.Headline.{Ends, EndsTask, EndsWithoutRun, IsAsked, status_of}
 use Rattle.set_program.specs.Left.{disks_of}

@@ -26,8 +26,8 @@ use Rattle.rs_io.specs.declared.sink.SinkError.{SinkError}
 use Rattle.rs_io.specs.declared.sink.SinkError.TheVariants.{Failed, Memory as NoRoom}
 use Rattle.set_program.specs.Causes.{of_read, of_sink, of_sync}
 use Rattle.set_program.specs.Headline.{Asks, AsksNothing, AsksSource, Ends, EndsTask, EndsWithoutRun, HasNoFault, IsFaulty, IsOneOf, IsReadable, IsScriptOf, limit, status_of, usage}
-use Rattle.set_program.specs.declared.words.Task.{Task}
-use Rattle.set_program.specs.declared.words.Task.TheVariants.{Run, Trace, Chaos, Sync, Linear as ReadsLinear, Watch as Watches}
+use Rattle.task_words.specs.declared.words.Task.{Task}
+use Rattle.task_words.specs.declared.words.Task.TheVariants.{Run, Trace, Chaos, Sync, Linear as ReadsLinear, Watch as Watches}
 use Rattle.set_program.specs.Left.{IfSet}
 use Rattle.set_program.specs.Syncing.{ended_so}
 use Rattle.set_program.specs.Tasks.{is_of_source, may_end_in}

@@ -29,8 +29,8 @@ use Rattle.set_program.specs.declared.outcome.Left.{Left}
 use Rattle.set_program.specs.declared.outcome.Left.TheVariants.{World, Parts}
 use Rattle.set_program.specs.declared.stop.Stop.{Stop}
 use Rattle.set_program.specs.declared.stop.Stop.TheVariants.{Memory, WriteFault}
-use Rattle.set_program.specs.declared.words.Task.{Task}
-use Rattle.set_program.specs.declared.words.Task.TheVariants.{Sync}
+use Rattle.task_words.specs.declared.words.Task.{Task}
+use Rattle.task_words.specs.declared.words.Task.TheVariants.{Sync}
 use Rattle.set_program.specs.Asking.{OpensScript, RunsScript}
 use Rattle.set_program.specs.Behind.{Behind, EndsBehind}
 use Rattle.set_program.specs.Causes.{of_sync}

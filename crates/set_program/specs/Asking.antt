@@ -13,7 +13,7 @@ use Rattle.set_program.specs.declared.outcome.Left.{Left}
 use Rattle.set_program.specs.declared.outcome.Left.TheVariants.{World, Parts}
 use Rattle.set_program.specs.declared.stop.Stop.{Stop}
 use Rattle.set_program.specs.declared.stop.Stop.TheVariants.{Memory, Usage, Script as NoScript, ReadFault, WriteFault, TooLong, DiskFault, CopyFault, Refused}
-use Rattle.set_program.specs.declared.words.Task.{Task}
+use Rattle.task_words.specs.declared.words.Task.{Task}
 use Rattle.set_program.specs.Headline.{Asks, EndsTask, EndsWithoutRun, IsFaulty, IsOneOf, IsRead, IsScriptOf, limit, opening_error}
 use Rattle.set_program.specs.Orders.{AnyPrefix, PutsPrefix}
 use Rattle.set_program.specs.Parts.{DisksEnd}

@@ -17,7 +17,7 @@ use Rattle.set_program.specs.Disks.{DisksRan}
 use Rattle.set_program.specs.Headline.{BreaksIn}
 use Rattle.set_program.specs.Orders.{ComesNext, Follows, FollowsInPart, IsInBlock, IsInBlockOrBehind, IsOrderOf}
 use Rattle.set_program.specs.Steps.{GoesOn, line_of}
-use Rattle.set_program.specs.declared.words.Task.{Task}
+use Rattle.task_words.specs.declared.words.Task.{Task}
 
 -- a block has at most so many threads
 abbrev pub has_few_threads : Part → Bool

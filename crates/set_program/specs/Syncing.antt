@@ -19,8 +19,8 @@ use Rattle.transcript.specs.Replies.{text}
 use Rattle.set_program.specs.declared.outcome.Left.{Left}
 use Rattle.set_program.specs.declared.outcome.Left.TheVariants.{World, Parts}
 use Rattle.set_program.specs.declared.stop.Stop.{Stop}
-use Rattle.set_program.specs.declared.words.Task.{Task}
-use Rattle.set_program.specs.declared.words.Task.TheVariants.{Sync}
+use Rattle.task_words.specs.declared.words.Task.{Task}
+use Rattle.task_words.specs.declared.words.Task.TheVariants.{Sync}
 use Rattle.set_program.specs.Causes.{of_sync}
 use Rattle.set_program.specs.Counts.{FailuresCount, FaultsAreArmed, FaultsHaveCauses, OrdersCount}
 use Rattle.set_program.specs.Disks.{DisksPlayed, IsUnarmed}

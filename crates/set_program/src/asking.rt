@@ -14,12 +14,12 @@ ghost use Rattle.set_program.specs.Plays.{PutsText};
 ghost use Rattle.trace_laws.specs.Said.{AreSaid};
 
 use crate::stop::Stop;
-use crate::words::{Task, read_task};
 use bson_doc::Mem;
 use fault_script::{Script, ScriptError, ScriptFault, generate, parse};
 use rs_io::{Sink, Source, read_all};
 use script_laws::generated_is_script;
 use std::alloc::{AllocError, Global};
+use task_words::{Task, read_task};
 use transcript::write_fault;
 
 /// How many bytes a script may have.

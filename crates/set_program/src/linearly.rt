@@ -6,7 +6,7 @@ ghost use Rattle.fault_script.specs.Script.{lines_in, sizes_of};
 ghost use Rattle.fault_script.specs.Lines.{MOST_LINES};
 ghost use Rattle.set_world.specs.Went.{WentOn};
 ghost use Rattle.set_program.specs.Behind.{EndsBehind};
-ghost use Rattle.set_program.specs.declared.words.Task.TheVariants.{Linear as IsLinear};
+ghost use Rattle.task_words.specs.declared.words.Task.TheVariants.{Linear as IsLinear};
 ghost use Rattle.set_program.specs.Parts.{can_be_run, DisksEnd};
 ghost use Rattle.set_program.specs.ReadingLinearly.{ReadsLinearly};
 

@@ -6,7 +6,7 @@ ghost use Rattle.rs_io.specs.Fault.{HasCause};
 ghost use Rattle.fault_script.specs.Script.{lines_in, sizes_of};
 ghost use Rattle.fault_script.specs.Lines.{MOST_LINES};
 ghost use Rattle.set_program.specs.Behind.{EndsBehind};
-ghost use Rattle.set_program.specs.declared.words.Task.TheVariants.{Sync as IsSync};
+ghost use Rattle.task_words.specs.declared.words.Task.TheVariants.{Sync as IsSync};
 ghost use Rattle.set_program.specs.Left.{IfParts, IfSet};
 ghost use Rattle.set_program.specs.Parts.{can_be_run, DisksEnd};
 ghost use Rattle.set_program.specs.Syncing.{MakesMember, SyncsInVain, ended_so, left_so};

@@ -23,7 +23,6 @@ use crate::summary::summary;
 use crate::synced::play_synced;
 use crate::traced::play_traced;
 use crate::watched::play_watched;
-use crate::words::Task;
 use batch_applier::Gate;
 use fault_script::{Parts, Script};
 use rs_disk::Disk;
@@ -33,6 +32,7 @@ use set_world::World;
 use std::alloc::Global;
 use std::sync::Wait;
 use std::thread::Threads;
+use task_words::Task;
 use transcript::{Summary, write_summary};
 
 /// Plays a script as a task asks: it puts each reply, or each and then what a new member begins with, what a

@@ -1,6 +1,6 @@
 use Rattle.std.proofs.Common.{◌≡◌, ◌∙◌, IsErrOf, inl, inr, length, refl, rules, subst, sym}
 use Rattle.std.specs.Prelude.{map, string_bytes}
-use Rattle.set_program.specs.declared.words.Task.TheVariants.{Chaos}
+use Rattle.task_words.specs.declared.words.Task.TheVariants.{Chaos}
 use Rattle.trace_check.specs.declared.stop.CheckStop.TheVariants.{ReadFault, WriteFault}
 use Rattle.set_program.proofs.CheckLemmas.{check_completes, is_read_fault, is_write_fault, no_disk, no_task}
 use Rattle.set_program.proofs.CopiedLemmas.{copy_failed, none_copied}

@@ -1,8 +1,8 @@
 use Rattle.std.proofs.Common.{◌≡◌, true, sym, arith}
 use Rattle.std.specs.Char.{is_ascii_digit}
 use Rattle.std.specs.List.{list_all}
-use Rattle.set_program.proofs.NumberLemmas.{no_number}
-use Rattle.set_program.proofs.words.number.Goals as goal
+use Rattle.task_words.proofs.NumberLemmas.{no_number}
+use Rattle.task_words.proofs.words.number.Goals as goal
 
 pub returns-in_default : goal.returns-in_default
 returns-in_default c =

@@ -2,7 +2,8 @@
 ghost use Rattle.std.specs.Prelude.{◌≡◌, IfOk, IfSome, map, string_bytes};
 ghost use Rattle.std.specs.Char.{is_ascii_digit};
 ghost use Rattle.std.specs.List.{list_all};
-ghost use Rattle.set_program.specs.Tasks.{IsBounded, alone, chaos_of, chaos_task, is_check, linear_task, number_word, sync_task, task_of, watch_task, word_task};
+ghost use Rattle.task_words.specs.declared.words.Task.TheVariants.{Chaos};
+ghost use Rattle.task_words.specs.Tasks.{IsBounded, alone, chaos_task, is_check, linear_task, number_word, sync_task, task_of, wanted_of, watch_task, word_task};
 
 use bson_doc::Mem;
 use change_words::{Watch, node_of, read_watch};
@@ -12,6 +13,15 @@ use std::alloc::Global;
 /// The events of a generated script times the nodes of its set are at most so many, so that its lines are
 /// fewer than a script may have.
 const MOST_PRODUCT: u32 = 50_000;
+
+/// A script that is to be generated: that of a seed, with at most so many events, up to 5,000, in a set of
+/// so many nodes, 1 to 50. The product of the two is at most 50,000.
+#[derive(Clone, Copy)]
+pub struct Wanted {
+    pub seed: u64,
+    pub events: u32,
+    pub nodes: u32,
+}
 
 /// What is to be done.
 #[derive(Drop)]
@@ -119,18 +129,27 @@ fn chaos_task(words: &[String]) -> Option<Task>
     ensures bounds { IfSome result IsBounded }
 {
     match words {
-        [seed, events, nodes] => chaos(seed.as_str(), events.as_str(), nodes.as_str()),
+        [seed, events, nodes] => {
+            let wanted = read_wanted(seed.as_str(), events.as_str(), nodes.as_str())?;
+            Some(Task::Chaos {
+                seed: wanted.seed,
+                events: wanted.events,
+                nodes: wanted.nodes,
+            })
+        }
         _ => None,
     }
 }
 
-fn chaos(seed: &str, events: &str, nodes: &str) -> Option<Task>
-    ensures { result ≡ chaos_of seed.now events.now nodes.now }
+/// The generated script that SEED, EVENTS and NODES ask for; none where they ask for nothing.
+pub fn read_wanted(seed: &str, events: &str, nodes: &str) -> Option<Wanted>
+    ensures asked { result ≡ wanted_of seed.now events.now nodes.now }
+    ensures bounds { IfSome result (λ wanted. IsBounded (Chaos wanted.seed wanted.events wanted.nodes)) }
 {
     let seed = number(seed, 0, u64::MAX)?;
     let events = number(events, 0, 5_000)? as u32;
     let nodes = number(nodes, 1, 50)? as u32;
-    (events.saturating_mul(nodes) <= MOST_PRODUCT).then_some(Task::Chaos {
+    (events.saturating_mul(nodes) <= MOST_PRODUCT).then_some(Wanted {
         seed,
         events,
         nodes,
