@@ -34,7 +34,8 @@ number_word least most word =
 
 abbrev pub with_numbers : Option ℕ → Option ℕ → Option ℕ → Option Wanted
 with_numbers (Some seed) (Some events) (Some nodes) =
-    if nat_le (events * nodes) 50000 then Some (record { seed = seed; events = events; nodes = nodes }) else None
+    if nat_le (events * nodes) 50000 then Some (record { seed = seed; events = events; nodes = nodes })
+    else None
 with_numbers (Some seed) (Some events) None = None
 with_numbers (Some seed) None nodes = None
 with_numbers None events nodes = None
@@ -57,7 +58,8 @@ chaos_task [] = None
 chaos_task (seed ∷ []) = None
 chaos_task (seed ∷ events ∷ []) = None
 chaos_task (seed ∷ events ∷ nodes ∷ []) =
-    option_map (λ (wanted : Wanted). Chaos wanted.seed wanted.events wanted.nodes) (wanted_of seed events nodes)
+    option_map (λ (wanted : Wanted). Chaos wanted.seed wanted.events wanted.nodes)
+    (wanted_of seed events nodes)
 chaos_task (seed ∷ events ∷ nodes ∷ more ∷ others) = None
 
 abbrev pub watch_task : List (List ℕ) → Option Task
