@@ -25,7 +25,7 @@ class Page(unittest.TestCase):
 
     def test_each_refusal_and_reason_of_the_examples_is_explained(self) -> None:
         entries = read_reference()
-        for kept in sorted((TOP / "crates" / "scenarios" / "data").glob("*.out")):
+        for kept in sorted((TOP / "examples").glob("*.out")):
             for reply in re.findall(r"^\d+: (.*)", kept.read_text(encoding="utf-8"), re.M):
                 with self.subTest(reply):
                     self.assertTrue(find(entries, reply), reply)

@@ -62,7 +62,7 @@ class Messages(unittest.TestCase):
     """Whom each message goes to, which the replies don't tell of a candidate's."""
 
     def test_the_numbers_are_those_of_the_replies(self) -> None:
-        examples = [path.read_text(encoding="utf-8") for path in (TOP / "crates" / "scenarios" / "data").glob("*.replset")]
+        examples = [path.read_text(encoding="utf-8") for path in (TOP / "examples").glob("*.replset")]
         members = [example.splitlines() for example in examples if "reconfig" in example]
         self.assertGreater(len(members), 3)
         for lines in [*members, script_by_chance(5, 1500)]:
