@@ -1,0 +1,92 @@
+"""Scripts with a block, whose lines are done in another order each time, and what is the same in every order."""
+from __future__ import annotations
+
+from functools import partial
+from typing import Iterator, List, NamedTuple
+
+from lab.transcript import Reply, read_transcript
+
+from .folder import read, table
+from .playing import Program, Task, hold, said
+
+#: Each script is run so often.
+RUNS = 20
+
+
+class Block(NamedTuple):
+    """A row of the table: how many writes a script does, how many of its last replies are as written, and what its reads may
+    tell, the oldest first."""
+
+    name: str
+    written: int
+    ending: int
+    states: List[str]
+
+
+def blocks() -> Iterator[Block]:
+    """The blocks of the table."""
+    for row in table("blocks"):
+        name, _, written, _, ending = row.heading.split(" ")
+        yield Block(name, int(written), int(ending), row.text.splitlines())
+
+
+def block_names() -> List[str]:
+    """The scripts with a block."""
+    return [block.name for block in blocks()]
+
+
+def tasks() -> Iterator[Task]:
+    """Each script with a block."""
+    for block in blocks():
+        yield Task(f"{block.name}, in any order", partial(holds, block))
+
+
+def holds(block: Block, program: Program) -> None:
+    """Each run is one of the script's lines in some order, and what is the same in every order is so."""
+    script = read(block.name, "replset")
+    lines = script.split("\n")
+    written = read_transcript(read(block.name, "out")).replies
+    for _ in range(RUNS):
+        told = program.replies(script)
+        is_as_written(block, lines, written, told)
+        never_goes_back(block, lines, told)
+        writes_rise(block, told)
+        is_a_run_of_its_order(lines, told, program)
+
+
+def is_as_written(block: Block, lines: List[str], written: List[Reply], told: List[Reply]) -> None:
+    """The replies before the block and the last ones are as written."""
+    begin = lines.index("par")
+    before = sum(reply.line <= begin for reply in written)
+    behind = len(written) - block.ending
+    hold(len(told) == len(written), f"{len(told)} replies, of {len(written)}")
+    for reply, other in [*zip(written[:before], told[:before]), *zip(written[behind:], told[behind:])]:
+        hold(other == reply, f"line {reply.line} is answered {said(other)!r}, and not {said(reply)!r}")
+
+
+def never_goes_back(block: Block, lines: List[str], told: List[Reply]) -> None:
+    """Each read tells one of the states, and none an older one behind a newer one."""
+    newest = 0
+    for reply in told:
+        if lines[reply.line - 1].startswith("read "):
+            hold(said(reply) in block.states, f"line {reply.line} reads {said(reply)!r}, which the document never was")
+            place = block.states.index(said(reply))
+            hold(newest <= place, f"line {reply.line} reads {said(reply)!r}, behind a newer one")
+            newest = place
+
+
+def writes_rise(block: Block, told: List[Reply]) -> None:
+    """So many writes are done, each behind the one before it in the log."""
+    places = [int(reply.text.rpartition("/")[2]) for reply in told if reply.text.startswith("written 1/0/")]
+    hold(len(places) == block.written, f"{len(places)} writes are done, of {block.written}")
+    hold(all(place < later for place, later in zip([0, *places], places)), f"the writes are done at {places}")
+
+
+def is_a_run_of_its_order(lines: List[str], told: List[Reply], program: Program) -> None:
+    """The same lines without a block, in the order that the replies show, are answered so."""
+    sizes = next(line for line in lines if line.startswith("set "))
+    ordered = [sizes, *(lines[reply.line - 1] for reply in told)]
+    alone = program.replies("\n".join(ordered) + "\n")
+    hold(len(alone) == len(told), f"{len(told)} replies, and without a block {len(alone)}")
+    for reply, other in zip(told, alone):
+        hold(said(reply) == said(other), f"line {reply.line} is answered {said(reply)!r}, and without a block {said(other)!r}")
