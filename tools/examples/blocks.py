@@ -2,12 +2,12 @@
 from __future__ import annotations
 
 from functools import partial
-from typing import Iterator, List, NamedTuple
+from typing import Dict, Iterator, List, NamedTuple
 
 from lab.transcript import Reply, read_transcript
 
 from .folder import read, table
-from .playing import Program, Task, hold, said
+from .playing import SHOWN, Program, Task, hold, said
 
 #: Each script is run so often.
 RUNS = 20
@@ -49,6 +49,7 @@ def holds(block: Block, program: Program) -> None:
     for _ in range(RUNS):
         told = program.replies(script)
         is_as_written(block, lines, written, told)
+        is_merged(lines, told)
         never_goes_back(block, lines, told)
         writes_rise(block, told)
         is_a_run_of_its_order(lines, told, program)
@@ -62,6 +63,24 @@ def is_as_written(block: Block, lines: List[str], written: List[Reply], told: Li
     hold(len(told) == len(written), f"{len(told)} replies, of {len(written)}")
     for reply, other in [*zip(written[:before], told[:before]), *zip(written[behind:], told[behind:])]:
         hold(other == reply, f"line {reply.line} is answered {said(other)!r}, and not {said(reply)!r}")
+
+
+def lists_of(lines: List[str]) -> Dict[int, int]:
+    """For the number of each line of a block, from the first to the last, which list the line is of."""
+    begin, lists, own = lines.index("par") + 1, {}, -1
+    for number, line in enumerate(lines[begin:lines.index("end")], begin + 1):
+        if line == "thread":
+            own += 1
+        elif line and not line.startswith("#"):
+            lists[number] = own
+    return lists
+
+
+def is_merged(lines: List[str], told: List[Reply]) -> None:
+    """Each line of the block is done once, and those of each list in their order."""
+    lists = lists_of(lines)
+    done = [reply.line for reply in told if reply.line in lists]
+    hold(sorted(done, key=lists.__getitem__) == list(lists), f"the lines of the block are done in the order {str(done)[:SHOWN]}")
 
 
 def never_goes_back(block: Block, lines: List[str], told: List[Reply]) -> None:

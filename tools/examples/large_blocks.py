@@ -3,8 +3,8 @@ from __future__ import annotations
 
 from typing import Iterator, List
 
-from .blocks import is_a_run_of_its_order
-from .playing import Fault, Program, Task, hold
+from .blocks import is_a_run_of_its_order, is_merged, lists_of
+from .playing import Fault, Program, Task
 
 #: How many lists a large block has, and how many lines each. So many take longer than a thread is left alone on one processor.
 LISTS, LINES = 16, 2000
@@ -34,14 +34,11 @@ def stretches(is_one: bool, program: Program) -> int:
     """How many stretches of lines of the same list a run of a large block has."""
     lines = large(is_one)
     told = program.replies("\n".join(lines) + "\n")
+    is_merged(lines, told)
     is_a_run_of_its_order(lines, told, program)
-    # Each list begins with its `thread`.
-    first = len(OPENING) + 2
-    places = [divmod(reply.line - first, LINES + 1) for reply in told if reply.line > first]
-    for own in range(LISTS):
-        done = [place for found, place in places if found == own]
-        hold(done == list(range(1, LINES + 1)), f"the lines of list {own} aren't each done once and in their order")
-    return 1 + sum(one[0] != other[0] for one, other in zip(places, places[1:]))
+    lists = lists_of(lines)
+    order = [lists[reply.line] for reply in told if reply.line in lists]
+    return 1 + sum(own != other for own, other in zip(order, order[1:]))
 
 
 def large(is_one: bool) -> List[str]:
