@@ -1,1 +1,1 @@
-"""Plays the example scripts on the built program, and compares what it prints with what is written beside them."""
+"""Plays the example scripts on the built program, and compares what it prints with what is written."""

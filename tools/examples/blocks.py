@@ -1,4 +1,4 @@
-"""Scripts with a block, whose lines are done in another order each time, and what is the same in every order."""
+"""Scripts with a block, whose lines are done in another order each time; what is the same in every order."""
 from __future__ import annotations
 
 from functools import partial
@@ -14,8 +14,8 @@ RUNS = 20
 
 
 class Block(NamedTuple):
-    """A row of the table: how many writes a script does, how many of its last replies are as written, and what its reads may
-    tell, the oldest first."""
+    """A row of the table: how many writes a script does, how many of its last replies are as written, and
+    what its reads may tell, the oldest first."""
 
     name: str
     written: int
@@ -80,7 +80,8 @@ def is_merged(lines: List[str], told: List[Reply]) -> None:
     """Each line of the block is done once, and those of each list in their order."""
     lists = lists_of(lines)
     done = [reply.line for reply in told if reply.line in lists]
-    hold(sorted(done, key=lists.__getitem__) == list(lists), f"the lines of the block are done in the order {str(done)[:SHOWN]}")
+    in_order = sorted(done, key=lists.__getitem__) == list(lists)
+    hold(in_order, f"the lines of the block are done in the order {str(done)[:SHOWN]}")
 
 
 def never_goes_back(block: Block, lines: List[str], told: List[Reply]) -> None:
@@ -88,9 +89,10 @@ def never_goes_back(block: Block, lines: List[str], told: List[Reply]) -> None:
     newest = 0
     for reply in told:
         if lines[reply.line - 1].startswith("read "):
-            hold(said(reply) in block.states, f"line {reply.line} reads {said(reply)!r}, which the document never was")
+            shown = f"line {reply.line} reads {said(reply)!r}"
+            hold(said(reply) in block.states, f"{shown}, which the document never was")
             place = block.states.index(said(reply))
-            hold(newest <= place, f"line {reply.line} reads {said(reply)!r}, behind a newer one")
+            hold(newest <= place, f"{shown}, behind a newer one")
             newest = place
 
 
@@ -108,4 +110,5 @@ def is_a_run_of_its_order(lines: List[str], told: List[Reply], program: Program)
     alone = program.replies("\n".join(ordered) + "\n")
     hold(len(alone) == len(told), f"{len(told)} replies, and without a block {len(alone)}")
     for reply, other in zip(told, alone):
-        hold(said(reply) == said(other), f"line {reply.line} is answered {said(reply)!r}, and without a block {said(other)!r}")
+        answered = f"line {reply.line} is answered {said(reply)!r}"
+        hold(said(reply) == said(other), f"{answered}, and without a block {said(other)!r}")

@@ -1,4 +1,4 @@
-"""The folder of the examples: its scripts, and what is written beside them. Its README.md says what each file holds."""
+"""The folder of the examples: its scripts, and what is written beside them, as its README.md says."""
 from __future__ import annotations
 
 import re

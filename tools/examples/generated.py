@@ -1,4 +1,4 @@
-"""Generated scripts, by their summaries, which a generator and a simulator in Python gave that were written apart."""
+"""Generated scripts, by their summaries. Those with events were found by a simulator that is not here."""
 from __future__ import annotations
 
 from functools import partial
@@ -9,7 +9,13 @@ from .playing import Program, Task, expect, hold
 from .programs import printer_of_scripts
 
 #: How the replies begin that a line of a summary counts.
-COUNTED = {"events": "", "written": "written ", "won": "won ", "rolled back": "rolled back to ", "refused": "refused "}
+COUNTED = {
+    "events": "",
+    "written": "written ",
+    "won": "won ",
+    "rolled back": "rolled back to ",
+    "refused": "refused ",
+}
 
 
 def tasks() -> Iterator[Task]:

@@ -6,7 +6,8 @@ from typing import Iterator, List
 from .blocks import is_a_run_of_its_order, is_merged, lists_of
 from .playing import Fault, Program, Task
 
-#: How many lists a large block has, and how many lines each. So many take longer than a thread is left alone on one processor.
+#: How many lists a large block has, and how many lines each. So many take longer than a thread is left alone
+#: on one processor.
 LISTS, LINES = 16, 2000
 
 #: What stands before a large block.
@@ -22,8 +23,8 @@ def tasks() -> Iterator[Task]:
 
 
 def run_side_by_side(program: Program) -> None:
-    """Each run of a large block is one of its lines in the order that it shows; and one goes from list to list more often
-    than one whole list after another does."""
+    """Each run of a large block is one of its lines in the order that it shows; and one goes from list to
+    list more often than one whole list after another does."""
     for _ in range(TRIES):
         if max([stretches(is_one, program) for is_one in (True, False)]) > LISTS:
             return
@@ -45,6 +46,7 @@ def large(is_one: bool) -> List[str]:
     """A block of inserts, or of updates of one document."""
     lines = [*OPENING, "par"]
     for own in range(LISTS):
-        keys = range(own * LINES + 1, (own + 1) * LINES + 1)
-        lines += ["thread", *("update n0 t 0 {$inc: {n: 1}}" if is_one else f"insert n0 t {{_id: {key}}}" for key in keys)]
+        first = own * LINES + 1
+        inserts = [f"insert n0 t {{_id: {key}}}" for key in range(first, first + LINES)]
+        lines += ["thread", *(["update n0 t 0 {$inc: {n: 1}}"] * LINES if is_one else inserts)]
     return [*lines, "end"]

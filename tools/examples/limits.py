@@ -1,4 +1,4 @@
-"""Scripts at the limits, which are made here: the largest document, more than a batch, too many lines, letters and bytes."""
+"""Scripts at the limits, which are made here: the largest document, too many lines and bytes, two batches."""
 from __future__ import annotations
 
 from functools import partial
@@ -64,7 +64,7 @@ PAST, UPDATED = 4_701, 300
 #: Node 1 fetches from node 0 what comes next.
 FETCH = "heartbeat n0 n1\ndeliver n0 n1\nfetch n1\ndeliver n1 n0\ndeliver n0 n1\n"
 
-#: Node 0 leads, with the no-op of its term, in these sets: of three members, and of one with a node beside it.
+#: Node 0 leads, with the no-op of its term, a set of three members, and one of one with a node beside it.
 THREE = "set 3\ncampaign n0\ndeliver m0\ndeliver m2\ndrain n0\n"
 ONE = "set 2 1\ncampaign n0\ndrain n0\n"
 
@@ -94,7 +94,7 @@ ONE_ENDS = """\
 
 
 def comes_in_batches(opening: str, ending: str, workers: int, program: Program) -> None:
-    """The primary writes 5,000 entries behind its no-op, and node 1 fetches and applies them in two batches."""
+    """The primary writes 5,000 entries behind its no-op; node 1 fetches and applies them in two batches."""
     lines = [f"insert n0 t {{_id: {key}, n: 0}}\n" for key in range(1, PAST)]
     lines += ["update n0 t 1 {$inc: {n: 1}}\n"] * UPDATED
     batches = f"apply n1 {workers}\napply n1 {workers}\nread n1 local t 1\n"

@@ -40,7 +40,7 @@ class Program:
         self.name = os.path.relpath(path)
 
     def ask(self, words: Sequence[str], given: str = "") -> Ended:
-        """How a run on these words and this input ends. A lone surrogate in it stands for a byte that isn't UTF-8."""
+        """How a run on these words and this input ends. A lone surrogate is a byte that isn't UTF-8."""
         return self._ended(words, input=given.encode("utf-8", "surrogateescape"))
 
     def ask_from(self, words: Sequence[str], source: int) -> Ended:
@@ -55,7 +55,7 @@ class Program:
         return read_transcript(ended.put).replies
 
     def _ended(self, words: Sequence[str], **how: object) -> Ended:
-        ended = subprocess.run([self.path, *words], stdout=subprocess.PIPE, stderr=subprocess.PIPE, timeout=LONGEST, **how)
+        ended = subprocess.run([self.path, *words], capture_output=True, timeout=LONGEST, **how)
         return Ended(ended.returncode, ended.stdout.decode("utf-8", "backslashreplace"))
 
 

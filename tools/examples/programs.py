@@ -3,12 +3,15 @@ from __future__ import annotations
 
 import os
 from pathlib import Path
-from typing import List, Optional
+from typing import List, Optional, Union
 
 import program as checkout
 
-#: The gate leaves the program twice: as LLVM compiles it, and so as the compiler that is written in Rattle does.
+#: The gate leaves the program as LLVM compiles it, and so as the compiler that is written in Rattle does.
 BY_RATTLE = checkout.PROVED + ".by-rattle"
+
+#: Each crate's folders whose change makes a proved program old.
+PARTS = ("src", "specs", "proofs")
 
 
 class Missing(Exception):
@@ -16,13 +19,13 @@ class Missing(Exception):
 
 
 def found() -> List[str]:
-    """What the environment names, else the proved programs of the present sources, else one that is built without proofs."""
+    """What the environment names; else proved ones of the present sources; else one without proofs."""
     named = os.environ.get("REPLSET")
     if named:
         if not is_program(named):
             raise Missing(f"REPLSET names {named}, which is no program")
         return [os.path.abspath(named)]
-    proved = [place for place in (checkout.PROVED, BY_RATTLE) if checkout.is_current(place, ("src", "specs", "proofs"))]
+    proved = [place for place in (checkout.PROVED, BY_RATTLE) if checkout.is_current(place, PARTS)]
     return proved or [checkout.unproved() or built()]
 
 
@@ -34,7 +37,7 @@ def printer_of_scripts() -> Optional[str]:
     return next((str(place) for place in places if is_program(place)), None)
 
 
-def is_program(place: "str | Path") -> bool:
+def is_program(place: Union[str, Path]) -> bool:
     """Whether the file is one that can be run."""
     return os.path.isfile(place) and os.access(place, os.X_OK)
 

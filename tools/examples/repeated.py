@@ -18,7 +18,7 @@ def tasks() -> Iterator[Task]:
 
 
 def changes_nothing(row: Row, program: Program) -> None:
-    """A heading names a message, the node that it goes to and the answer to its first delivery; the script brings it there."""
+    """A heading names a message, the node that it goes to and the answer to its first delivery."""
     message, node, answer = row.heading.split(" ", 2)
     replies = program.replies(row.text + f"deliver {message}\nstate {node}\n" * TIMES)
     replies = replies[row.text.count("\n") - 1:]

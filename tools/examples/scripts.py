@@ -1,4 +1,4 @@
-"""Each script of the folder with its transcript and its trace, what is asked behind it, and what is no script or no trace."""
+"""Each script with its transcript and its trace, what is asked behind it; what is no script or no trace."""
 from __future__ import annotations
 
 from functools import partial
@@ -18,7 +18,8 @@ def tasks() -> Iterator[Task]:
     for ending, what in QUESTIONS.items():
         for name in names(ending):
             for question in questions(name, ending):
-                yield Task(f"{what} behind {name}, {' '.join(question.words)}", partial(is_told, name, question))
+                asked = f"{what} behind {name}, {' '.join(question.words)}"
+                yield Task(asked, partial(is_told, name, question))
     for row in table("refused"):
         yield Task(f"a script that is refused with {row.heading}", partial(is_refused, row))
     for row in table("checked"):

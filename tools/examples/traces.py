@@ -16,7 +16,7 @@ def tasks() -> Iterator[Task]:
 
 
 def is_a_trace(name: str, program: Program) -> None:
-    """A trace is answered with the number of its events, and as none where a line is missing or a reply is another."""
+    """A trace is answered with the number of its events; as none where it is cut or a reply is another."""
     traced = program.ask(TRACE, read(name, "replset"))
     if traced.status == NO_SCRIPT:
         return
@@ -40,7 +40,7 @@ def is_refused_without_its_last_line(lines: List[str], program: Program) -> None
 
 
 def with_another_digit(line: str) -> Optional[str]:
-    """The first line of a reply with another last digit; None, where it is no such line, or has no digit behind its number."""
+    """The first line of a reply with another last digit; None where it is no such line, or has none."""
     found = re.fullmatch(r"([0-9]+: .*)([0-9])([^0-9]*)", line)
     if not found:
         return None
