@@ -1,13 +1,17 @@
 // Blocks of a script: their lists run on threads.
-use crate::running::ran_with;
+use crate::running::{NOTHING, RUN, ran};
 use batch_applier::Gate;
+use set_model::Event;
 use std::alloc::{AllocError, Global};
 use std::sync::atomic::{AtomicU64, Ordering};
 use std::test::Fail;
 use std::thread;
 
 /// As many lists as a block can have.
-pub const LISTS: u32 = 16;
+const LISTS: u32 = 16;
+
+/// How many lines each has.
+const LINES: u32 = 50;
 
 // A bit for the place of each.
 const PLACES: u64 = 0xffff;
@@ -17,14 +21,14 @@ const TURNS: u32 = 1_000_000;
 
 /// Holds each list until all have passed, for a number of turns.
 #[derive(Drop)]
-pub struct Held {
+struct Held {
     places: AtomicU64,
     passed: AtomicU64,
     in_time: AtomicU64,
 }
 
 impl Held {
-    pub fn new() -> Self {
+    fn new() -> Self {
         Held {
             places: AtomicU64::new(0),
             passed: AtomicU64::new(0),
@@ -33,7 +37,7 @@ impl Held {
     }
 
     /// Whether each list passed once, with the place of its own, and saw that all had.
-    pub fn passed_in_time(&self) -> bool {
+    fn passed_in_time(&self) -> bool {
         let lists = u64::from(LISTS);
         self.places.load(Ordering::SeqCst) == PLACES
             && self.passed.load(Ordering::SeqCst) == lists
@@ -57,12 +61,12 @@ impl Gate for Held {
     }
 }
 
-/// A block alone, of all lists, with so many lines each.
-pub fn block(alloc: Global, lines: u32) -> Result<String, AllocError> {
+/// A block alone, of all lists.
+fn block(alloc: Global) -> Result<String, AllocError> {
     let mut script = String::from_str(alloc, "set 1\npar\n")?;
     for _ in 0..LISTS {
         script.push_str("thread\n")?;
-        for _ in 0..lines {
+        for _ in 0..LINES {
             script.push_str("clock n0 1\n")?;
         }
     }
@@ -70,21 +74,26 @@ pub fn block(alloc: Global, lines: u32) -> Result<String, AllocError> {
     Ok(script)
 }
 
-// Where two lists run one after another the first never sees that all have passed.
+/// Whether as many events as there are lists are each of the line that some list begins with: the first of
+/// them stands behind `set 1`, `par` and `thread`, and each list has a line `thread` of its own.
+fn are_first(events: &[Event]) -> bool {
+    for event in events.iter().take(LISTS as usize) {
+        if event.line % (LINES + 1) != 4 {
+            return false;
+        }
+    }
+    true
+}
+
+// Where two lists run one after another the first never sees that all have passed. Where a list passed the
+// gate behind its first line, those of all lists would be done before any second one.
 #[test]
 fn lists_run_side_by_side(rt: HostRuntime) -> Result<(), Fail> {
     let held = Held::new();
-    let script = block(rt.alloc(), 1)?;
-    let (outcome, _) = ran_with(
-        &rt,
-        rt.alloc(),
-        &["run"],
-        script.as_bytes(),
-        &[],
-        &[],
-        &held,
-    )?;
+    let script = block(rt.alloc())?;
+    let (outcome, _) = ran(&rt, rt.alloc(), RUN, &script, NOTHING, &held)?;
     assert_eq!(rt; outcome.status, 0);
     assert!(rt; held.passed_in_time());
+    assert!(rt; !are_first(outcome.events()));
     Ok(())
 }

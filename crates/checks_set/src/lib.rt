@@ -1,5 +1,5 @@
-//! What no clause says of whole sets: that a run succeeds with ample memory, what it puts then, what the set
-//! that is left lends, and what change streams and linear reads give, alone and beside one another.
+//! What no clause says of whole sets: how a run ends with ample memory, in which call a disk or a sink fails,
+//! that lists, callers and readers run side by side, and that a stream is told all that is committed.
 #![tactic(auto)]
 
 #[cfg(test)]
@@ -9,18 +9,14 @@ mod callers;
 #[cfg(test)]
 mod copies;
 #[cfg(test)]
-mod documents;
+mod failing_disks;
 #[cfg(test)]
-mod ends;
+mod failing_sinks;
 #[cfg(test)]
 mod failover;
-#[cfg(test)]
-mod linear;
 #[cfg(test)]
 mod readers;
 #[cfg(test)]
 mod running;
 #[cfg(test)]
 mod shared;
-#[cfg(test)]
-mod streams;

@@ -1,13 +1,11 @@
 // Two threads that read linearly beside one that writes, over one set.
-ghost use Rattle.std.specs.Prelude.{◌≡◌, true};
-ghost use Rattle.std.specs.List.{list_all};
-ghost use Rattle.fault_script.specs.Script.{is_part_for};
+ghost use Rattle.std.specs.Prelude.{◌≡◌};
 ghost use Rattle.shared_set.specs.Passes.{IsPass, sizes_of};
 ghost use Rattle.turn_board.specs.Passes.{IsFree};
 
-use crate::shared::{shared, step_lines};
+use crate::shared::{are_stepped, shared};
 use bson_doc::Value;
-use fault_script::{Part, parse};
+use fault_script::parse;
 use linear_read::{LinearAnswer, linear_read};
 use rs_disk::MemDisk;
 use set_model::{AckConcern, Command, Refusal, Reply, Target};
@@ -43,10 +41,10 @@ fn play<R: Threads + Wait + Sync>(
     ensures pass { IsPass set.now pass.new × IsFree pass.new }
 {
     let script = parse(alloc, script.as_bytes())?;
-    if script.nodes != 3 {
-        return Err(Fail::new("the script is of another set"));
+    if script.nodes != 3 || !are_stepped(rt, set, pass, script.parts.as_slice()) {
+        return Err(Fail::new("the script isn't played"));
     }
-    step_lines(rt, set, pass, script.parts.as_slice())
+    Ok(())
 }
 
 // What a linear read of the document at the first node answers.
@@ -108,27 +106,6 @@ fn reads<R: Threads + Wait + Sync>(
     requires nodes { (sizes_of set.now).nodes ≡ 3 }
 {
     may_be(&read(rt, alloc, set, &mut pass))
-}
-
-// Whether each line of these parts is answered.
-fn are_stepped<R: Threads + Wait + Sync>(
-    rt: &R,
-    set: &SharedSet<MemDisk>,
-    pass: &mut Pass<MemDisk>,
-    parts: &[Part],
-) -> bool
-    requires pass { IsPass set.now pass.old × IsFree pass.old }
-    requires fits { list_all (is_part_for (sizes_of set.now).nodes) parts.now ≡ true }
-    ensures pass { IsPass set.now pass.new × IsFree pass.new }
-{
-    for part in parts {
-        if let Part::Line(line, command) = part {
-            if set.step(rt, pass, *line, command).is_err() {
-                return false;
-            }
-        }
-    }
-    true
 }
 
 // Whether a read shows the document, once others let it end: one that misses it shows that it isn't there.
