@@ -95,8 +95,9 @@ fn disk(alloc: Global, is_armed: bool, call: u32, pick: Option<u64>) -> MemDisk
     ensures { IsEmpty (state_of result).file }
 {
     let mut disk = MemDisk::new(alloc);
-    if is_armed {
-        disk.arm(call, pick);
+    if !is_armed {
+        return disk;
     }
+    disk.arm(call, pick);
     disk
 }
