@@ -9,14 +9,10 @@ const AT: OpTime = OpTime { term: 1, ts: 2 };
 
 /// Whether one message was sent, which asks what comes after an optime.
 fn asks(sent: &[Message]) -> bool {
-    match sent {
-        [message] => is_fetch(&message.body),
-        _ => false,
-    }
-}
-
-fn is_fetch(body: &Body) -> bool {
-    match body {
+    let [message] = sent else {
+        return false;
+    };
+    match &message.body {
         Body::Fetch { base } => *base == AT,
         _ => false,
     }
