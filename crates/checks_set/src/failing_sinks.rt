@@ -100,7 +100,7 @@ fn is_borne<R: Threads + Wait + Sync>(rt: &R, alloc: Global, into: IntoSink) -> 
 #[test]
 fn a_sink_that_fails_ends_the_run(rt: HostRuntime) -> Result<(), Fail> {
     for into in SINKS {
-        assert!(rt; is_borne(&rt, rt.alloc(), into)?, "{:?}", into.0);
+        assert!(rt; is_borne(&rt, rt.alloc(), into)?, "{}", into.1);
     }
     Ok(())
 }
