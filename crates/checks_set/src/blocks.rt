@@ -8,10 +8,10 @@ use std::test::Fail;
 use std::thread;
 
 /// As many lists as a block can have.
-const LISTS: u32 = 16;
+pub const LISTS: u32 = 16;
 
 /// How many lines each has.
-const LINES: u32 = 50;
+pub const LINES: u32 = 50;
 
 // A bit for the place of each.
 const PLACES: u64 = 0xffff;
@@ -21,14 +21,14 @@ const TURNS: u32 = 1_000_000;
 
 /// Holds each list until all have passed, for a number of turns.
 #[derive(Drop)]
-struct Held {
+pub struct Held {
     places: AtomicU64,
     passed: AtomicU64,
     in_time: AtomicU64,
 }
 
 impl Held {
-    fn new() -> Self {
+    pub fn new() -> Self {
         Held {
             places: AtomicU64::new(0),
             passed: AtomicU64::new(0),
@@ -37,7 +37,7 @@ impl Held {
     }
 
     /// Whether each list passed once, with the place of its own, and saw that all had.
-    fn passed_in_time(&self) -> bool {
+    pub fn passed_in_time(&self) -> bool {
         let lists = u64::from(LISTS);
         self.places.load(Ordering::SeqCst) == PLACES
             && self.passed.load(Ordering::SeqCst) == lists
@@ -62,7 +62,7 @@ impl Gate for Held {
 }
 
 /// A block alone, of all lists.
-fn block(alloc: Global) -> Result<String, AllocError> {
+pub fn block(alloc: Global) -> Result<String, AllocError> {
     let mut script = String::from_str(alloc, "set 1\npar\n")?;
     for _ in 0..LISTS {
         script.push_str("thread\n")?;
