@@ -5,4 +5,4 @@ use Rattle.checks_set.proofs.Sends.{disk_send}
 use Rattle.checks_set.proofs.readers.meet.Goals as goal
 
 pub join-first-requires-send-F : goal.join-first-requires-send-F
-join-first-requires-send-F g c κs within = search (disk_send, set_sync, pass_send, heap.send, heap.sync, heap.crosses, sendable) depth 60 fits 20000
+join-first-requires-send-F g c κs within = search (disk_send, set_sync, pass_send, heap.sync, heap.crosses, sendable) depth 60 fits 20000
