@@ -4,11 +4,13 @@ ghost use Rattle.std.specs.List.{list_all};
 ghost use Rattle.fault_script.specs.Script.{is_part_for};
 
 use crate::shared::set_of;
+use bson_doc::{Doc, Text};
 use change_stream::{ChangeStream, next, open};
 use fault_script::{Part, parse};
-use oplog_entry::Entry;
+use oplog_entry::{Entry, Op};
 use rs_disk::MemDisk;
 use rs_optime::OpTime;
+use set_model::{Command, Reply};
 use set_world::World;
 use std::alloc::Global;
 use std::sync::Wait;
@@ -59,15 +61,18 @@ fn follow<R: Threads + Wait + Sync>(
     Ok(())
 }
 
-// All that the stream gave.
-fn followed<R: Threads + Wait + Sync>(rt: &R, alloc: Global) -> Result<Vec<Entry>, Fail> {
+// The set behind the script, and all that the stream gave.
+fn followed<R: Threads + Wait + Sync>(
+    rt: &R,
+    alloc: Global,
+) -> Result<(World<MemDisk>, Vec<Entry>), Fail> {
     let script = parse(alloc, FAILOVER.as_bytes())?;
     let mut world = set_of(alloc, script.nodes, script.voters, script.members)?;
     let mut stream = open(OpTime::ZERO);
     let mut joined = Vec::new(alloc);
     let parts = script.parts.as_slice();
     follow(rt, &mut world, &mut stream, &mut joined, parts)?;
-    Ok(joined)
+    Ok((world, joined))
 }
 
 const EXPECTED: [OpTime; 3] = [
@@ -77,14 +82,65 @@ const EXPECTED: [OpTime; 3] = [
 ];
 
 fn are_expected(entries: &[Entry]) -> bool {
-    match entries {
-        [first, second, third] => [first.optime, second.optime, third.optime] == EXPECTED,
+    entries
+        .iter()
+        .map(|entry| entry.optime)
+        .eq(EXPECTED.iter().copied())
+}
+
+fn is_insert(op: &Op, collection: &Text, document: &Doc) -> bool {
+    match op {
+        Op::Insert { ns, o } => ns == collection && o == document,
         _ => false,
+    }
+}
+
+// Whether two ops are one. This script logs only inserts and no-ops.
+fn does_the_same(one: &Op, other: &Op) -> bool {
+    match one {
+        Op::Insert { ns, o } => is_insert(other, ns, o),
+        Op::Noop => matches!(other, Op::Noop),
+        _ => false,
+    }
+}
+
+fn is_same(one: &Entry, other: &Entry) -> bool {
+    one.optime == other.optime
+        && one.session == other.session
+        && does_the_same(one.op.or(&Op::Noop), other.op.or(&Op::Noop))
+}
+
+fn are_same(some: &[Entry], others: &[Entry]) -> bool {
+    some.len() == others.len()
+        && some
+            .iter()
+            .zip(others.iter())
+            .all(|(one, other)| is_same(one, other))
+}
+
+// Whether the log of a node has these entries and no others.
+fn has_all<R: Threads + Sync>(
+    rt: &R,
+    world: &mut World<MemDisk>,
+    node: u32,
+    entries: &[Entry],
+) -> Result<bool, Fail>
+    ensures sizes { world.new.sizes ≡ world.old.sizes }
+{
+    if node >= world.size() {
+        return Ok(false);
+    }
+    match world.take(rt, 0, Command::Log { node })? {
+        Reply::Entries(log) => Ok(are_same(log.as_slice(), entries)),
+        _ => Ok(false),
     }
 }
 
 #[test]
 fn each_committed_entry_is_told_once(rt: HostRuntime) -> Result<(), Fail> {
-    assert!(rt; are_expected(&followed(&rt, rt.alloc())?));
+    let (mut world, joined) = followed(&rt, rt.alloc())?;
+    assert!(rt; are_expected(&joined));
+    assert!(rt; has_all(&rt, &mut world, 1, &joined)?);
+    assert!(rt; has_all(&rt, &mut world, 2, &joined)?);
     Ok(())
 }
