@@ -8,6 +8,7 @@ use rs_disk::{Disk, MemDisk};
 use rs_io::{MemSink, MemSource};
 use set_program::{Outcome, run_set};
 use std::alloc::{AllocError, Global};
+use std::str::from_utf8;
 use std::sync::Wait;
 use std::test::Fail;
 use std::thread::Threads;
@@ -73,8 +74,15 @@ pub fn ended<R: Threads + Wait + Sync>(
     failing: Failing<'_>,
 ) -> Result<(u8, String), Fail> {
     let (outcome, sink) = ran(rt, alloc, words, script, failing, &NoGate)?;
-    let put = String::from_utf8(sink.bytes().to_vec(alloc)?)?;
-    Ok((outcome.status, put))
+    Ok((outcome.status, text_of(alloc, &sink)?))
+}
+
+/// What a sink got, which is text.
+fn text_of(alloc: Global, sink: &MemSink) -> Result<String, Fail> {
+    match from_utf8(sink.bytes()) {
+        Ok(text) => Ok(String::from_str(alloc, text)?),
+        Err(_) => Err(Fail::new("no text")),
+    }
 }
 
 /// As many empty disks as a set is given, of which one may fail.

@@ -1,5 +1,5 @@
 use Rattle.std.proofs.Common.{◌≡◌}
-use Rattle.checks_set.proofs.readers.is_shown.Given as goal
+use Rattle.checks_shared.proofs.readers.is_shown.Given as goal
 
 abbrev pub invariant-loop : goal.invariant-loop
 invariant-loop g l = g.S.Stepper.sizes l.set ≡ g.S.Stepper.sizes l.initial.set

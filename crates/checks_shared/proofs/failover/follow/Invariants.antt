@@ -1,5 +1,5 @@
 use Rattle.std.proofs.Common.{◌≡◌}
-use Rattle.checks_set.proofs.failover.follow.Given as goal
+use Rattle.checks_shared.proofs.failover.follow.Given as goal
 
 abbrev pub invariant-loop-part : goal.invariant-loop-part
 invariant-loop-part g l = l.world.sizes ≡ l.initial.world.sizes

@@ -1,5 +1,6 @@
 // Two threads that read linearly beside one that writes, over one set.
-ghost use Rattle.std.specs.Prelude.{◌≡◌};
+ghost use Rattle.std.specs.Prelude.{◌≡◌, true};
+ghost use Rattle.set_model.specs.Limits.{is_for};
 ghost use Rattle.shared_set.specs.Passes.{IsPass, sizes_of};
 ghost use Rattle.turn_board.specs.Passes.{IsFree};
 
@@ -132,10 +133,19 @@ fn is_acked<R: Threads + Wait + Sync, S: Stepper>(rt: &R, set: &mut S) -> bool
         target: Target::Writer(1),
         concern: AckConcern::Majority,
     };
-    match set.step(rt, 0, &ack) {
-        Ok(Reply::Acked(_)) => true,
-        _ => false,
-    }
+    is_answered_so(rt, set, &ack)
+}
+
+// Whether a command is answered by an acknowledgement.
+fn is_answered_so<R: Threads + Wait + Sync, S: Stepper>(
+    rt: &R,
+    set: &mut S,
+    command: &Command,
+) -> bool
+    requires command { is_for (S.sizes set.old).nodes command.now ≡ true }
+    ensures sizes { S.sizes set.new ≡ S.sizes set.old }
+{
+    matches!(set.step(rt, 0, command), Ok(Reply::Acked(_)))
 }
 
 // The writer: whether it writes and a read brings that to the others, a majority then acknowledges it, and a

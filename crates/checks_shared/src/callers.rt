@@ -1,5 +1,6 @@
 // Two threads that step one set: each sees steps of the other between its own.
-ghost use Rattle.std.specs.Prelude.{◌≡◌, ◌<◌};
+ghost use Rattle.std.specs.Prelude.{◌≡◌, ◌<◌, true};
+ghost use Rattle.set_model.specs.Limits.{is_for};
 ghost use Rattle.shared_set.specs.Passes.{IsPass, sizes_of};
 ghost use Rattle.turn_board.specs.Passes.{IsFree};
 
@@ -29,8 +30,26 @@ fn set_clock<R: Threads + Wait + Sync>(
     ensures pass { IsPass set.now pass.new × IsFree pass.new }
 {
     let clock = Command::Clock { node: 0, seconds };
-    match set.step(rt, pass, caller, &clock) {
-        Ok((place, Reply::Clock(told))) if told == seconds => Some(place),
+    match clock_told(rt, set, pass, caller, &clock) {
+        Some((place, told)) if told == seconds => Some(place),
+        _ => None,
+    }
+}
+
+// The place of the event and the time that is told, where a command sets a clock.
+fn clock_told<R: Threads + Wait + Sync>(
+    rt: &R,
+    set: &SharedSet<MemDisk>,
+    pass: &mut Pass<MemDisk>,
+    caller: u32,
+    command: &Command,
+) -> Option<(u32, u32)>
+    requires pass { IsPass set.now pass.old × IsFree pass.old }
+    requires command { is_for (sizes_of set.now).nodes command.now ≡ true }
+    ensures pass { IsPass set.now pass.new × IsFree pass.new }
+{
+    match set.step(rt, pass, caller, command) {
+        Ok((place, Reply::Clock(told))) => Some((place, told)),
         _ => None,
     }
 }

@@ -1,8 +1,8 @@
 use denote.Param.Send.{sendable}
 use Rattle.std.proofs.Crossing as heap
 use Rattle.set_program.proofs.Crosses.{pass_send, set_sync}
-use Rattle.checks_set.proofs.Sends.{disk_send}
-use Rattle.checks_set.proofs.readers.meet.Goals as goal
+use Rattle.checks_shared.proofs.Sends.{disk_send}
+use Rattle.checks_shared.proofs.readers.two_read.Goals as goal
 
 pub join-first-requires-send-F : goal.join-first-requires-send-F
 join-first-requires-send-F g c κs within = search (disk_send, set_sync, pass_send, heap.sync, heap.crosses, sendable) depth 60 fits 20000

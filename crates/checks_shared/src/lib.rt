@@ -1,0 +1,14 @@
+//! What no clause says of one set that callers and readers step: that they run side by side, and that a
+//! stream is told all that is committed.
+#![tactic(auto)]
+
+#[cfg(test)]
+mod callers;
+#[cfg(test)]
+mod copies;
+#[cfg(test)]
+mod failover;
+#[cfg(test)]
+mod readers;
+#[cfg(test)]
+mod shared;
