@@ -1,7 +1,7 @@
 // What a write comes to on a node.
 ghost use Rattle.std.specs.Prelude.{◌≡◌, IfOk};
 ghost use Rattle.set_model.specs.Admitted.{admitted};
-ghost use Rattle.node_commands.specs.Admits.{IsRefusal};
+ghost use Rattle.node_answers.specs.Admits.{IsRefusal};
 ghost use Rattle.checker_node.specs.Admits.{LogsSuch, MayBeLogged, op_to_log};
 ghost use Rattle.safety_laws.specs.Sound.{IsSoundNode};
 

@@ -18,7 +18,7 @@ use set_model::{Refusal, Reply, Role, Writer};
 
 impl Node {
     /// Opens a slot for a write.
-    #[tactic(auto, using(node_commands::proofs::AdmitLemmas::closed_writers, crate::proofs::WriteLemmas::logging))]
+    #[tactic(auto, using(node_answers::proofs::AdmitLemmas::closed_writers, crate::proofs::WriteLemmas::logging))]
     pub fn begin(&mut self, writer: u32, op: &WriteOp) -> Mem<Reply>
         requires ready { IsReady self.old }
         ensures { IfOk result (λ reply. writers.begin self.old writer op.now ≡ replied reply self.new) }

@@ -10,7 +10,6 @@ ghost use Rattle.node_state.specs.Ready.{IsCheckpoint, IsFlush, IsReadyTurn};
 ghost use Rattle.node_state.specs.Turns.{Means, rest_of};
 ghost use Rattle.node_state.specs.declared.turn.Continuation.TheVariants as continuations;
 
-use crate::reads::applied_point;
 use bson_doc::Mem;
 use node_data::NodeData;
 use node_state::{Continuation, State, Turn, earlier};
@@ -183,7 +182,7 @@ pub(crate) fn start_checkpoint(state: &mut State) -> Turn
 fn next_stable(state: &State) -> OpTime
     ensures { result ≡ disk.next_stable state.now.node }
 {
-    earlier(state.commit, applied_point(state))
+    earlier(state.commit, state.applied_point())
 }
 
 /// Goes on once the checkpoint has the documents as of this optime.

@@ -11,7 +11,7 @@ use Rattle.set_model.specs.Rows.{row}
 use Rattle.set_model.specs.Stores.{Plan, finished}
 use Rattle.std.specs.Prelude.{None}
 use Rattle.node_state.specs.Bounds.{is_own, is_plain}
-use Rattle.node_commands.specs.Plain.{plain_row}
+use Rattle.node_answers.specs.Plain.{plain_row}
 use Rattle.node_core.specs.Acting.{Took}
 use Rattle.node_core.specs.Down.{DownState, seen_node}
 use Rattle.node_core.specs.OnDisks.{IsOnDisks, UpOnDisks}

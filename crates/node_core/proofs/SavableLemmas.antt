@@ -29,7 +29,7 @@ use Rattle.node_data.proofs.FollowLemmas.{small_up_to}
 use Rattle.node_data.proofs.OwnLemmas.{IsOwn, own_docs}
 use Rattle.node_data.specs.Sound.{IsSound}
 use Rattle.node_data.specs.Versions.{IsSmall}
-use Rattle.node_commands.proofs.AdmitLemmas.{small_docs}
+use Rattle.node_answers.proofs.AdmitLemmas.{small_docs}
 
 -- ---- the name of its collection
 

@@ -1,7 +1,9 @@
 // A node's two disks.
-ghost use Rattle.std.specs.Prelude.{◌≡◌, ◌≢◌, ◌+◌, ◌≤◌, List, length, Err, OnOk, IsErrOf};
+ghost use Rattle.std.specs.Prelude.{◌≡◌, ◌≢◌, ◌+◌, ◌≤◌, ℕ, List, length, Ok, Err, IfOk, OnOk, IsErrOf, MatchResult};
+ghost use Rattle.rs_disk.specs.File.{IsEmpty};
 ghost use Rattle.rs_disk.specs.State.{IsCut};
 ghost use Rattle.record_file.specs.Files.{spare};
+ghost use Rattle.member_config.specs.declared.config.Config.{Config};
 ghost use Rattle.repl_msg.specs.declared.record.Record.{Record as ARecord};
 ghost use Rattle.node_journal.specs.Bounds.{CanBeKept};
 ghost use Rattle.node_journal.specs.Files.{IsAtRest as JournalAtRest};
@@ -9,7 +11,9 @@ ghost use Rattle.node_journal.specs.Room.{IsShort};
 ghost use Rattle.node_core.specs.Acting.{AreSame, Arms, RunsWithoutOrders};
 ghost use Rattle.node_core.specs.Putting.{CanBePut, IsKeepable, IsShortStore, Puts, SHORT};
 ghost use Rattle.node_core.specs.OnDisks.{UpOnDisks};
-ghost use Rattle.set_model.specs.Node.{Node};
+ghost use Rattle.node_core.specs.Opening.{OpensInTurn, unopened_node};
+ghost use Rattle.node_core.specs.Stands.{StandsSince};
+ghost use Rattle.set_model.specs.Node.{Node, opening_node};
 
 use bson_doc::Mem;
 use checkpoint_store::Checkpoints;
@@ -19,6 +23,7 @@ use record_file::FileError;
 use repl_msg::Record;
 use rs_disk::Disk;
 use set_model::{DiskName, Store};
+use std::alloc::Global;
 
 /// How many bytes a record without entries may take in the journal.
 pub(crate) const SHORT_RECORD: u64 = 473;
@@ -33,6 +38,50 @@ pub(crate) struct Disks<D: Disk> {
 }
 
 impl<D: Disk> Disks<D> {
+    /// Opens both, which are empty, the journal first.
+    ///
+    /// # Errors
+    /// `Memory`, or `Disk` where one of them failed. They are handed back in the same order.
+    pub(crate) fn open(
+        alloc: Global,
+        journal: D,
+        checkpoint: D,
+    ) -> Result<Disks<D>, (D, D, FileError)>
+        requires journal { IsEmpty (D.state journal).file }
+        requires checkpoint { IsEmpty (D.state checkpoint).file }
+        ensures rests { (config : Config) (number : ℕ)
+            → IfOk result (λ disks. UpOnDisks (opening_node config number) disks.count
+            (D.state disks.journal.0) (D.state disks.checkpoints)) }
+        ensures any_moment { (config : Config) (number : ℕ) → MatchResult result
+            (λ disks. StandsSince (unopened_node config number) (D.state journal)
+            (D.state disks.journal.0) (D.state checkpoint) (D.state disks.checkpoints))
+            (λ failed. StandsSince (unopened_node config number) (D.state journal) (D.state failed.0)
+            (D.state checkpoint) (D.state failed.1)) }
+        ensures calls { MatchResult result
+            (λ disks. OpensInTurn {T = Unit {0}} (Ok tt) (D.state journal) (D.state disks.journal.0)
+            (D.state checkpoint) (D.state disks.checkpoints))
+            (λ failed. OpensInTurn {T = Unit {0}} (Err failed.2) (D.state journal) (D.state failed.0)
+            (D.state checkpoint) (D.state failed.1)) }
+        ensures runs { MatchResult result
+            (λ disks. RunsWithoutOrders ⊥ (D.state journal) (D.state disks.journal.0)
+            (D.state checkpoint) (D.state disks.checkpoints))
+            (λ failed. RunsWithoutOrders (failed.2 ≡ FileError.Disk) (D.state journal) (D.state failed.0)
+            (D.state checkpoint) (D.state failed.1)) }
+    {
+        let (journal, count) = match Journal::open(alloc, journal) {
+            Ok((journal, kept)) => (journal, kept.count),
+            Err((journal, error)) => return Err((journal, checkpoint, error)),
+        };
+        match Checkpoints::open(alloc, checkpoint) {
+            Ok((checkpoints, _)) => Ok(Disks {
+                journal,
+                checkpoints,
+                count,
+            }),
+            Err((checkpoint, error)) => Err((journal.close(), checkpoint, error)),
+        }
+    }
+
     /// Puts this on its disk, for the node of this state.
     pub(crate) fn put(&mut self, item: &Store, state: &State) -> Result<(), FileError>
         requires rests { UpOnDisks state.now.node self.old.count (D.state self.old.journal.0)

@@ -30,10 +30,8 @@ use crate::disks::Disks;
 use crate::down::{DownState, left_of, told};
 use crate::storing::{act_own, take_in};
 use bson_doc::Mem;
-use checkpoint_store::Checkpoints;
 use member_config::Config;
-use node_commands::{answer, is_plain};
-use node_journal::Journal;
+use node_answers::{answer, is_plain};
 use node_state::State;
 use record_file::FileError;
 use repl_msg::Message;
@@ -129,26 +127,19 @@ impl<D: Disk> Node<D> {
         let Ok(state) = State::open(alloc, number, config) else {
             return Err((journal, checkpoint, FileError::Memory));
         };
-        let (journal, count) = match Journal::open(alloc, journal) {
-            Ok((journal, kept)) => (journal, kept.count),
-            Err((journal, error)) => return Err((journal, checkpoint, error)),
-        };
-        let checkpoints = match Checkpoints::open(alloc, checkpoint) {
-            Ok((checkpoints, _)) => checkpoints,
-            Err((checkpoint, error)) => return Err((journal.close(), checkpoint, error)),
-        };
-        let left = left_of(&state, None);
-        Ok(Node {
-            alloc,
-            state,
-            disks: Disks {
-                journal,
-                checkpoints,
-                count,
-            },
-            up: true,
-            left,
-        })
+        match Disks::open(alloc, journal, checkpoint) {
+            Ok(disks) => {
+                let left = left_of(&state, None);
+                Ok(Node {
+                    alloc,
+                    state,
+                    disks,
+                    up: true,
+                    left,
+                })
+            }
+            Err(failed) => Err(failed),
+        }
     }
 
     /// Does what a command asks of this node, in a set of so many nodes, where the next message gets this

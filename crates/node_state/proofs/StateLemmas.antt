@@ -13,7 +13,7 @@ use Rattle.oplog_store.proofs.Keeps.{all_with_entry}
 use Rattle.optime_slots.proofs.SlotLemmas.{open_with, open_without}
 use Rattle.set_model.specs.Node.{Node}
 use Rattle.set_model.specs.Changes.{stepped_down}
-use Rattle.set_model.specs.Points.{if_primary, last_point, next_optime}
+use Rattle.set_model.specs.Points.{applied_point, if_primary, last_point, next_optime, visible_point}
 use Rattle.set_model.specs.Reads.{local_documents}
 use Rattle.set_model.specs.Roles.{is_primary}
 use Rattle.set_model.specs.declared.role.Role.{Role}
@@ -40,6 +40,10 @@ if_again Draining of_primary of_others = refl
 -- what is told of a primary is told where the data is writable
 pub if_seen : {A : Type 0} (own role : Role) (of_primary of_others : A) → own ≡ data_role (is_primary role) → if_primary own of_primary of_others ≡ if_primary role of_primary of_others
 if_seen own role of_primary of_others is = ap (λ r. if_primary r of_primary of_others) is ∙ if_again role of_primary of_others
+
+-- what the data has applied is what the node has
+pub applied_seen : (n : Node) (rest : BesideData) → n.role ≡ data_role (is_primary rest.role) → applied_point n ≡ applied_point (seen_node n rest)
+applied_seen n rest writable = if_seen n.role rest.role (visible_point n) n.applied writable
 
 pub primary_seen : (own role : Role) → own ≡ data_role (is_primary role) → is_primary own ≡ is_primary role
 primary_seen own role is = ap is_primary is ∙ primary_again role

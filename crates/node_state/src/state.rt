@@ -8,7 +8,7 @@ ghost use Rattle.version_store.specs.Past.{latest_of};
 ghost use Rattle.version_store.specs.Store.{shown_at, versions_at};
 ghost use Rattle.member_config.specs.Rule.{rule};
 ghost use Rattle.set_model.specs.Node.{opening_node};
-ghost use Rattle.set_model.specs.Points.{last_point, next_optime};
+ghost use Rattle.set_model.specs.Points.{applied_point, last_point, next_optime};
 ghost use Rattle.set_model.specs.Reads.{local_documents};
 ghost use Rattle.node_data.specs.NodeData.{IsNext, IsReadable};
 ghost use Rattle.node_state.specs.Turns.{FinishesWith};
@@ -265,6 +265,13 @@ impl State {
         ensures { result ≡ (last_point self.now.node, self.now.node.commit) }
     {
         (self.node_data.last(), self.commit)
+    }
+
+    /// How far its log is applied: on a primary, as far as it is visible.
+    pub fn applied_point(&self) -> OpTime
+        ensures { result ≡ applied_point self.now.node }
+    {
+        self.node_data.applied_point()
     }
 
     /// How many entries of its log stand up to its commit point.

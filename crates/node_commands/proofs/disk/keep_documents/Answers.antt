@@ -8,7 +8,7 @@ use Rattle.node_state.specs.StateView.{StateView}
 use Rattle.node_state.proofs.StoredLemmas.{sound_seen}
 use Rattle.node_state.proofs.Inside.{rest_in}
 use Rattle.node_commands.proofs.KeepLemmas.{checkpoint-coherent, checkpoint-later, checkpoint-applied}
-use Rattle.node_commands.proofs.ReadingLemmas.{applied_seen}
+use Rattle.node_state.proofs.StateLemmas.{applied_seen}
 use Rattle.node_commands.proofs.disk.keep_documents.Goals as goal
 
 pub prune-requires : goal.prune-requires

@@ -1,0 +1,3 @@
+pub mod AdmitLemmas
+pub mod ListingLemmas
+pub mod ReadingLemmas

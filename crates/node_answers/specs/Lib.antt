@@ -1,0 +1,4 @@
+pub mod Admits
+pub mod Listing
+pub mod Plain
+pub mod Reading
