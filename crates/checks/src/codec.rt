@@ -60,6 +60,31 @@ fn other_bytes_are_refused(rt: HostRuntime) -> Result<(), Fail> {
     Ok(())
 }
 
+/// The bytes of documents within each other, so many in all.
+fn nested(alloc: Global, levels: u32) -> Result<Vec<u8>, Fail> {
+    let mut bytes = Vec::from_slice(alloc, b"\x05\0\0\0\0")?;
+    for _ in 1..levels {
+        let length = bytes.len().saturating_add(8) as u32;
+        let mut outer = Vec::from_slice(alloc, length.to_le_bytes().as_slice())?;
+        outer.extend_from_slice(b"\x03a\0")?;
+        outer.extend_from_slice(bytes.as_slice())?;
+        outer.push(0)?;
+        bytes = outer;
+    }
+    Ok(bytes)
+}
+
+#[test]
+fn a_document_has_a_hundred_levels(rt: HostRuntime) -> Result<(), Fail> {
+    let alloc = rt.alloc();
+    assert_eq!(rt; refusal(alloc, &nested(alloc, 100)?), None);
+    assert_eq!(rt;
+        refusal(alloc, &nested(alloc, 101)?),
+        Some(DecodeError::TooDeep)
+    );
+    Ok(())
+}
+
 /// A document with a value of every kind, as the standard has its bytes.
 const EVERY_KIND: &[u8] =
     b"}\0\0\0\x10_id\0\x01\0\0\0\x12n\0\x05\0\0\0\0\0\0\0\x02s\0\x03\0\0\0hi\0\

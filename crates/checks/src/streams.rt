@@ -1,5 +1,6 @@
 // Sources and sinks.
 use rs_io::{MemSink, MemSource, ReadAllError, Sink, SinkError, StdSink, StdSource, read_all};
+use std::io::Cursor;
 use std::test::Fail;
 
 #[test]
@@ -32,5 +33,13 @@ fn a_reader_and_a_writer_are_a_source_and_a_sink(rt: HostRuntime) -> Result<(), 
     );
     let mut sink = StdSink::new(Vec::new(alloc));
     sink.put(b"abc")?;
+    Ok(())
+}
+
+#[test]
+fn a_writer_that_takes_nothing_is_a_fault(rt: HostRuntime) -> Result<(), Fail> {
+    let mut sink = StdSink::new(Cursor::new([0_u8; 2]));
+    sink.put(b"ab")?;
+    assert_eq!(rt; sink.put(b"c"), Err(SinkError::Failed));
     Ok(())
 }
