@@ -62,9 +62,10 @@ fn other_bytes_are_refused(rt: HostRuntime) -> Result<(), Fail> {
 
 /// The bytes of documents within each other, so many in all.
 fn nested(alloc: Global, levels: u32) -> Result<Vec<u8>, Fail> {
+    let mut length = 5_u32;
     let mut bytes = Vec::from_slice(alloc, b"\x05\0\0\0\0")?;
     for _ in 1..levels {
-        let length = bytes.len().saturating_add(8) as u32;
+        length = length.saturating_add(8);
         let mut outer = Vec::from_slice(alloc, length.to_le_bytes().as_slice())?;
         outer.extend_from_slice(b"\x03a\0")?;
         outer.extend_from_slice(bytes.as_slice())?;
