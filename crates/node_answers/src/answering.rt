@@ -1,4 +1,4 @@
-// The commands that store nothing and send nothing: writes, and what a node shows of itself.
+// The commands that are answered at once: writes, and what a node shows of itself.
 ghost use Rattle.std.specs.Prelude.{◌≡◌, true, IfOk, OnErr};
 ghost use Rattle.set_model.specs.Clock.{set_clock};
 ghost use Rattle.set_model.specs.Limits.{is_within};
@@ -15,8 +15,8 @@ use doc_update::BorrowedWrite;
 use node_state::State;
 use set_model::{Command, Reply};
 
-/// Whether a command stores nothing and sends nothing: a write, a step of a writer, or what a node shows of
-/// itself.
+/// Whether a command is answered at once: a write, a step of a writer, or what a node shows of itself. None
+/// of these stores or sends anything.
 pub fn is_plain(command: &Command) -> bool
     ensures { result ≡ is_plain command.now }
 {
@@ -56,8 +56,8 @@ fn is_show(command: &Command) -> bool
     )
 }
 
-/// Does what a command asks that stores nothing and sends nothing. Out of memory is the one error, and
-/// leaves the node as it was.
+/// Does what a command asks that is answered at once. Out of memory is the one error, and leaves the node as
+/// it was.
 pub fn answer(state: &mut State, command: &Command) -> Mem<Reply>
     requires bounds { IsBounded state.old.node }
     requires plain { is_plain command.now ≡ true }

@@ -1,5 +1,5 @@
-//! What a node in memory does with a command of its own that stores or sends something: elections, messages
-//! to others, batches, flushes, checkpoints and new configurations, and what it says of an acknowledgement.
+//! What a node in memory does with each command of its own that isn't answered at once (`node_answers`):
+//! elections, messages to others, batches, flushes, checkpoints, new configurations and acknowledgements.
 //!
 //! `start` begins the turn of such a command. What is called `go_on_..` goes on with a turn once that which
 //! it stores is on disk.

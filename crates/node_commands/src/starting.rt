@@ -1,4 +1,4 @@
-// The commands that store or send something.
+// The commands that aren't answered at once.
 ghost use Rattle.std.specs.Prelude.{◌≡◌, true, false, IfOk, OnErr};
 ghost use Rattle.set_model.specs.Limits.{is_within};
 ghost use Rattle.set_model.specs.Rows.{row};
@@ -17,9 +17,9 @@ use set_model::Command;
 use std::thread::Threads;
 
 /// Begins what a command asks of a node. `nodes` is how many nodes the set has, and `next` the number
-/// that the next message gets. For a command that stores and sends nothing there is
-/// `node_answers::answer`. Out of memory is the one error, and leaves the node as it was. A command that may
-/// run out of memory as it stores (`is_long`) has changed nothing by then.
+/// that the next message gets. For a plain command there is `node_answers::answer`. Out of memory is the one
+/// error, and leaves the node as it was. A command that may run out of memory as it stores (`is_long`) has
+/// changed nothing by then.
 #[tactic(auto, using(node_state::proofs::TurnLemmas::while_up))]
 pub fn start<R: Threads + Sync>(
     state: &mut State,
