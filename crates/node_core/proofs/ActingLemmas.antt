@@ -19,7 +19,7 @@ use Rattle.set_model.specs.Limits.{is_restart, passes_first, is_in_doubt}
 use Rattle.set_model.specs.Node.{Node}
 use Rattle.set_model.specs.Stores.{Plan, finished, done as comes_to, reaches, if_up}
 use Rattle.set_model.specs.World.{is_delivery}
-use Rattle.node_core.specs.Acting.{Acted, AreSame, ArmsBy, DisksLeft, Follows, RunsWithoutOrders, Took, Unchanged, orders_after}
+use Rattle.node_core.specs.Acting.{Acted, AreSame, DisksLeft, Follows, RunsWithoutOrders, Took, Unchanged, UnstoredBy, orders_after}
 use Rattle.node_state.specs.Bounds.{is_own}
 use Rattle.node_core.specs.Down.{DownState, down_node, seen_node}
 use Rattle.node_core.specs.OnDisks.{IsOnDisks, UpOnDisks}
@@ -51,9 +51,10 @@ own_orders name (Restart node) answer orders own = absurd (own_not own)
 own_orders name (DiskFail node disk call pick) answer orders own = absurd (own_not own)
 own_orders name _ answer orders own = refl
 
-own_arms : (command : Command) (j j' c c' : State) → is_own command ≡ true → ArmsBy command j j' c c'
-own_arms (DiskFail node disk call pick) j j' c c' own = absurd (own_not own)
-own_arms _ j j' c c' own = tt
+own_unstored : (command : Command) (answer : Reply) (j j' c c' : State) → is_own command ≡ true → AreSame j j' c c' → UnstoredBy command answer j j' c c'
+own_unstored (Crash node pick) answer j j' c c' own same = absurd (own_not own)
+own_unstored (DiskFail node disk call pick) answer j j' c c' own same = absurd (own_not own)
+own_unstored _ answer j j' c c' own same = same
 
 own_stays : (command : Command) → is_own command ≡ true → is_restart command ≡ true → ⊥
 own_stays (Deliver message) own is = absurd (own_not own)
@@ -84,15 +85,17 @@ acted_own plan command old new j j' c c' done own kept took = record {
   settles = unkept old command done kept;
   stands = took.stands;
   disks = record {
-    fails = took.runs.fails;
-    arms = own_arms command j j' c c' own;
-    journal_armed = λ _. took.runs.journal_armed;
-    checkpoints_armed = λ _. took.runs.checkpoints_armed;
-    journal_orders = took.runs.journal_orders ∙ sym (own_orders disks.Journal command done.reply j.orders own);
-    checkpoints_orders = took.runs.checkpoints_orders ∙ sym (own_orders disks.Checkpoint command done.reply c.orders own);
+    acted = record {
+      fails = took.runs.fails;
+      journal_armed = λ _. took.runs.journal_armed;
+      checkpoints_armed = λ _. took.runs.checkpoints_armed;
+      journal_orders = took.runs.journal_orders ∙ sym (own_orders disks.Journal command done.reply j.orders own);
+      checkpoints_orders = took.runs.checkpoints_orders ∙ sym (own_orders disks.Checkpoint command done.reply c.orders own);
+    };
+    unstored = λ none. own_unstored command done.reply j j' c c' own (took.unstored none);
+    opening = λ is. absurd (own_stays command own is);
+    found = λ is. absurd (own_stays command own is);
   };
-  unstored = λ _. took.unstored;
-  opening = λ is. absurd (own_stays command own is);
 }
 
 -- as a result where memory may have run out

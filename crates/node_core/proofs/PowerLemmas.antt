@@ -21,12 +21,13 @@ use Rattle.set_model.specs.Outcome.{refused, replied}
 use Rattle.set_model.specs.Rows.{row}
 use Rattle.set_model.specs.Stores.{finished}
 use Rattle.node_state.specs.WellKept.{IsWellKept}
-use Rattle.node_core.specs.Acting.{Acted, Arms, ArmedBefore, DisksActed, Fails, orders_after}
+use Rattle.node_core.specs.Acting.{Acted, Arms, ArmedBefore, DisksActed, Fails, UnstoredBy, orders_after}
 use Rattle.node_core.specs.Down.{DownState, down_node, seen_node}
 use Rattle.node_core.specs.OnDisks.{IsOnDisks, DownOnDisks, UpOnDisks}
 use Rattle.node_core.specs.Stands.{HasDocumentsOf, HasRecordsOf, Stands, documents_at}
 use Rattle.node_core.specs.declared.done.Done.{Done}
-use Rattle.node_core.proofs.ActingLemmas.{answered_follows, resting_stands, unfailed, unkept}
+use Rattle.node_core.proofs.ActingLemmas.{answered_follows, answered_runs, resting_stands, unfailed, unkept}
+use Rattle.node_core.proofs.PuttingLemmas.{same_none}
 
 -- ---- disks that were given orders
 
@@ -87,15 +88,17 @@ module _ (pick : ℕ) (node : Node) (left : DownState) (j j' c c' : State) (one 
     settles = unkept node (Crash number pick) done kept;
     stands = subst (λ (n : Node). Stands n j' c') (sym is) (cut_stands count rests);
     disks = record {
-      fails = fails_not (IsSome done.failed) j j' c c' (unfailed done.failed failed) (cut_faulty pick j j' one) (cut_faulty pick c c' two);
-      arms = tt;
-      journal_armed = λ _. same_armed j j' (ap (λ (s : State). s.is_armed) one.rest);
-      checkpoints_armed = λ _. same_armed c c' (ap (λ (s : State). s.is_armed) two.rest);
-      journal_orders = ap (λ (s : State). s.orders) one.rest ∙ sym (ap (λ (r : Reply). orders_after disks.Journal (Crash number pick) r j.orders) answer);
-      checkpoints_orders = ap (λ (s : State). s.orders) two.rest ∙ sym (ap (λ (r : Reply). orders_after disks.Checkpoint (Crash number pick) r c.orders) answer);
+      acted = record {
+        fails = fails_not (IsSome done.failed) j j' c c' (unfailed done.failed failed) (cut_faulty pick j j' one) (cut_faulty pick c c' two);
+        journal_armed = λ _. same_armed j j' (ap (λ (s : State). s.is_armed) one.rest);
+        checkpoints_armed = λ _. same_armed c c' (ap (λ (s : State). s.is_armed) two.rest);
+        journal_orders = ap (λ (s : State). s.orders) one.rest ∙ sym (ap (λ (r : Reply). orders_after disks.Journal (Crash number pick) r j.orders) answer);
+        checkpoints_orders = ap (λ (s : State). s.orders) two.rest ∙ sym (ap (λ (r : Reply). orders_after disks.Checkpoint (Crash number pick) r c.orders) answer);
+      };
+      unstored = λ _. subst (λ (r : Reply). UnstoredBy (Crash number pick) r j j' c c') (sym answer) (one, two);
+      opening = λ is. absurd (up_not is);
+      found = λ is. absurd (up_not is);
     };
-    unstored = λ not. absurd (orders_not not);
-    opening = λ is. absurd (up_not is);
   }
     where
       plan_is : row nodes next false node (Crash number pick) ≡ finished (replied reply.Down (down_node node left))
@@ -103,6 +106,31 @@ module _ (pick : ℕ) (node : Node) (left : DownState) (j j' c c' : State) (one 
           ap (λ (b : Bool). if b then finished (crash node) else finished (refused NodeDown node)) up
           ∙ (λ i. finished (replied reply.Down (record (down node) { doubt = settled i })))
           ∙ ap (λ (n : Node). finished (replied reply.Down n)) (sym is)
+
+-- a node that is down refuses, and its disks are as they were
+pub crash_refused : (up : Bool) (node : Node) (left : DownState) (count : ℕ) (j c : State) → up ≡ false → IsOnDisks up node left count j c → (nodes next number pick : ℕ) (done : Done)
+    → done.reply ≡ reply.Refused NodeDown → done.sent.items ≡ [] → done.failed ≡ None → done.kept ≡ false
+    → Acted (row nodes next false (seen_node up node left) (Crash number pick)) (Crash number pick) (seen_node up node left) (seen_node up node left) j j c c done
+crash_refused true node left count j c down rests nodes next number pick done answer sent failed kept = absurd (orders_not down)
+crash_refused false node left count j c down lies nodes next number pick done answer sent failed kept =
+    let seen = down_node node left in
+    record {
+      follows = answered_follows (row nodes next false seen (Crash number pick)) seen (reply.Refused NodeDown) done refl answer sent failed;
+      settles = unkept seen (Crash number pick) done kept;
+      stands = lies.stands;
+      disks = record {
+        acted = record {
+          fails = (answered_runs j c done failed).fails;
+          journal_armed = λ _ is. is;
+          checkpoints_armed = λ _ is. is;
+          journal_orders = sym (ap (λ (r : Reply). orders_after disks.Journal (Crash number pick) r j.orders) answer);
+          checkpoints_orders = sym (ap (λ (r : Reply). orders_after disks.Checkpoint (Crash number pick) r c.orders) answer);
+        };
+        unstored = λ _. subst (λ (r : Reply). UnstoredBy (Crash number pick) r j j c c) (sym answer) (same_none j c);
+        opening = λ is. absurd (up_not is);
+        found = λ is. absurd (up_not is);
+      };
+    }
 
 -- ---- a disk is told to fail
 
@@ -146,9 +174,12 @@ module _ (disk : DiskName) (call : ℕ) (pick : Option ℕ) (node : Node) (left 
     follows = answered_follows (row nodes next false seen (DiskFail number disk call pick)) seen reply.Armed done refl answer sent failed;
     settles = unkept seen (DiskFail number disk call pick) done kept;
     stands = resting_stands up node left count j' c' (armed_rests up count refl resting);
-    disks = go disk arms;
-    unstored = λ not. absurd (orders_not not);
-    opening = λ is. absurd (up_not is);
+    disks = record {
+      acted = go disk arms;
+      unstored = λ _. subst (λ (r : Reply). UnstoredBy (DiskFail number disk call pick) r j j' c c') (sym answer) arms;
+      opening = λ is. absurd (up_not is);
+      found = λ is. absurd (up_not is);
+    };
   }
     where
       seen : Node
@@ -161,7 +192,6 @@ module _ (disk : DiskName) (call : ℕ) (pick : Option ℕ) (node : Node) (left 
       go disks.Journal arms = record {
         fails = fails_not (IsSome done.failed) j j' c c' (unfailed done.failed failed) (armed_faulty call pick j j' arms.0)
             (record { faults = ap (λ (s : State). s.faults) arms.1; steady = ap (λ (s : State). s.is_steady) arms.1 });
-        arms = arms;
         journal_armed = λ not. absurd (not_so not);
         checkpoints_armed = λ not. absurd (not_so not);
         journal_orders = ap (λ (s : State). s.orders) arms.0 ∙ sym (ap (λ (r : Reply). orders_after disks.Journal (DiskFail number disks.Journal call pick) r j.orders) answer);
@@ -170,7 +200,6 @@ module _ (disk : DiskName) (call : ℕ) (pick : Option ℕ) (node : Node) (left 
       go disks.Checkpoint arms = record {
         fails = fails_not (IsSome done.failed) j j' c c' (unfailed done.failed failed)
             (record { faults = ap (λ (s : State). s.faults) arms.0; steady = ap (λ (s : State). s.is_steady) arms.0 }) (armed_faulty call pick c c' arms.1);
-        arms = arms;
         journal_armed = λ not. absurd (not_so not);
         checkpoints_armed = λ not. absurd (not_so not);
         journal_orders = ap (λ (s : State). s.orders) arms.0 ∙ sym (ap (λ (r : Reply). orders_after disks.Journal (DiskFail number disks.Checkpoint call pick) r j.orders) answer);

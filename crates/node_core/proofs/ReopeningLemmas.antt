@@ -1,6 +1,6 @@
 -- What stands on a node's two disks while they are opened anew, and what is then known of what was in doubt.
 use Rattle.std.proofs.Common.{◌≡◌, ◌∙◌, ⊎_elim, inl, inr, ap, sym, subst, refl, ℕ, ◌+◌, Bool, true, false, nat_lt, List, [], ◌∷◌, ◌++◌, Option, Some, None, Ok, Err, IfSome, length, length-append, arith}
-use Rattle.std.specs.Prelude.{◌⊎◌}
+use Rattle.std.specs.Prelude.{◌⊎◌, ◌↔◌}
 use Rattle.rs_disk.specs.File.{LeavesOnly, contents}
 use Rattle.rs_disk.specs.Images.{read_is_image}
 use Rattle.rs_disk.specs.Moments.{EachMoment, starts, weakens}
@@ -26,7 +26,7 @@ use Rattle.set_model.specs.declared.store.Store.TheVariants as stores
 use Rattle.set_model.specs.Disk.{settled_doubt}
 use Rattle.set_model.specs.Node.{Node}
 use Rattle.set_model.specs.Stores.{stored}
-use Rattle.node_core.specs.Acting.{AreReopened, RunsWithoutOrders}
+use Rattle.node_core.specs.Acting.{AreReopened, IsThere, RunsWithoutOrders}
 use Rattle.node_core.specs.Coming.{IsFound, IsRead, is_there, settled}
 use Rattle.node_core.specs.Down.{DownState, down_node}
 use Rattle.node_core.specs.Opening.{ReopensInTurn}
@@ -162,6 +162,9 @@ module _ (node : Node) (count : ℕ) (j j' c c' : State) (found : Found) (lies :
   with_doubt : (item : Store) → node.doubt ≡ Some item → IsWellKeptWith node item
   with_doubt item is = subst (λ (d : Option Store). IfSome d (λ s. IsWellKeptWith node s)) is lies.doubtful
 
+  longer : (item : Record) → HasJournal (contents j.file) (node.records ++ item ∷ []) → count + 1 ≡ found.kept.count
+  longer item has = omega (arith, lies.counted, counted_so (node.records ++ item ∷ []) has, length-append node.records (item ∷ []))
+
   -- a record is in doubt
   record_settles : (item : Record) → node.doubt ≡ Some (stores.Record item) → Settles (settled_doubt node (Some (stores.Record item)) (is_there (Some (stores.Record item)) count found))
   record_settles item is =
@@ -173,13 +176,25 @@ module _ (node : Node) (count : ℕ) (j j' c c' : State) (found : Found) (lies :
       (λ more.
       let has : HasJournal (contents j.file) (node.records ++ item ∷ []) =
       subst (λ (r : Record). HasJournal (contents j.file) (node.records ++ r ∷ [])) (same_record more.0 item (sym more.1 ∙ is)) more.2 in
-      subst (λ (b : Bool). Settles (settled_doubt node (Some (stores.Record item)) b)) (sym (one_more count found.kept.count (longer has)))
+      subst (λ (b : Bool). Settles (settled_doubt node (Some (stores.Record item)) b)) (sym (one_more count found.kept.count (longer item has)))
       (settles (record (stored node (stores.Record item)) { doubt = None }) has
       (stable ∙ (λ i. record { at = node.stable; documents = docs (sym well.1 i) })) well.0))
       (lies.stands.records (contents j.file) (read_is_image j.file))
-    where
-      longer : HasJournal (contents j.file) (node.records ++ item ∷ []) → count + 1 ≡ found.kept.count
-      longer has = omega (arith, lies.counted, counted_so (node.records ++ item ∷ []) has, length-append node.records (item ∷ []))
+
+  -- what was read is the checkpoint before, or the new one
+  either : (at : OpTime) → node.doubt ≡ Some (stores.Checkpoint at) → (found.stable ≡ documents_at node node.stable) ⊎ (found.stable ≡ documents_at node at)
+  either at is = ⊎_elim
+      (λ old. inl (is_read (documents_at node node.stable) old))
+      (λ other. inr (is_read (documents_at node at) (subst (λ (o : OpTime). HasCheckpoint (contents c.file) (documents_at node o)) (same_checkpoint other.0 at (sym other.1 ∙ is)) other.2)))
+      (lies.stands.documents (contents c.file) (read_is_image c.file))
+
+  -- it is the new one, if it has its optime
+  new_there : (at : OpTime) → node.doubt ≡ Some (stores.Checkpoint at) → found.stable.at ≡ at → found.stable ≡ documents_at node at
+  new_there at is found_at =
+      ⊎_elim (λ old. old ∙ ap (λ (o : OpTime). documents_at node o) (sym (ap (λ (s : Stable). s.at) old) ∙ found_at)) (λ new. new) (either at is)
+
+  at_there : (at : OpTime) → found.stable ≡ documents_at node at → same_optime found.stable.at at ≡ true
+  at_there at new = ap (λ (s : Stable). same_optime s.at at) new ∙ same_itself at
 
   -- a checkpoint is in doubt
   checkpoint_settles : (at : OpTime) → node.doubt ≡ Some (stores.Checkpoint at) → Settles (settled_doubt node (Some (stores.Checkpoint at)) (is_there (Some (stores.Checkpoint at)) count found))
@@ -188,22 +203,15 @@ module _ (node : Node) (count : ℕ) (j j' c c' : State) (found : Found) (lies :
       has : HasJournal (contents j.file) node.records
       has = only_records (λ item other. not_both item at (sym other ∙ is))
 
-      -- it is the one before, or the new one
-      either : (found.stable ≡ documents_at node node.stable) ⊎ (found.stable ≡ documents_at node at)
-      either = ⊎_elim
-          (λ old. inl (is_read (documents_at node node.stable) old))
-          (λ other. inr (is_read (documents_at node at) (subst (λ (o : OpTime). HasCheckpoint (contents c.file) (documents_at node o)) (same_checkpoint other.0 at (sym other.1 ∙ is)) other.2)))
-          (lies.stands.documents (contents c.file) (read_is_image c.file))
-
       go : (b : Bool) → same_optime found.stable.at at ≡ b → Settles (settled_doubt node (Some (stores.Checkpoint at)) b)
       go true same =
           let found_at : found.stable.at ≡ at = same_is found.stable.at at same in
           settles (record (stored node (stores.Checkpoint at)) { doubt = None }) has
-          (⊎_elim (λ old. old ∙ ap (λ (o : OpTime). documents_at node o) (sym (ap (λ (s : Stable). s.at) old) ∙ found_at)) (λ new. new) either)
+          (new_there at is found_at)
           (with_doubt (stores.Checkpoint at) is).0
       go false other =
           settles (record node { doubt = None }) has
-          (⊎_elim (λ old. old) (λ new. absurd (not_so (sym other ∙ ap (λ (s : Stable). same_optime s.at at) new ∙ same_itself at))) either)
+          (⊎_elim (λ old. old) (λ new. absurd (not_so (sym other ∙ at_there at new))) (either at is))
           lies.well
 
   -- by what was found the node is settled
@@ -216,6 +224,30 @@ module _ (node : Node) (count : ℕ) (j j' c c' : State) (found : Found) (lies :
           (only_documents (λ at other. not_none (stores.Checkpoint at) (sym is ∙ other))) lies.well
       go (Some (stores.Record item)) is = record_settles item is
       go (Some (stores.Checkpoint at)) is = checkpoint_settles at is
+
+  -- and what was in doubt is told to be there exactly where it is
+  record_there : (item : Record) → node.doubt ≡ Some (stores.Record item) → (nat_lt count found.kept.count ≡ true ↔ HasJournal (contents j.file) (node.records ++ item ∷ []))
+  record_there item is = (
+    λ more. ⊎_elim
+        (λ has. absurd (not_so (sym (no_more count found.kept.count (lies.counted ∙ sym (counted_so node.records has))) ∙ more)))
+        (λ new. subst (λ (r : Record). HasJournal (contents j.file) (node.records ++ r ∷ [])) (same_record new.0 item (sym new.1 ∙ is)) new.2)
+        (lies.stands.records (contents j.file) (read_is_image j.file)),
+    λ has. one_more count found.kept.count (longer item has),
+  )
+
+  checkpoint_there : (at : OpTime) → node.doubt ≡ Some (stores.Checkpoint at) → (same_optime found.stable.at at ≡ true ↔ HasCheckpoint (contents c.file) (documents_at node at))
+  checkpoint_there at is = (
+    λ same. subst (λ (s : Stable). HasCheckpoint (contents c.file) s) (new_there at is (same_is found.stable.at at same)) read.stable_is,
+    λ has. at_there at (is_read (documents_at node at) has),
+  )
+
+  pub found_there : IfSome node.doubt (λ item. is_there node.doubt count found ≡ true ↔ IsThere node item j c)
+  found_there = go node.doubt refl
+    where
+      go : (d : Option Store) → node.doubt ≡ d → IfSome d (λ item. is_there d count found ≡ true ↔ IsThere node item j c)
+      go None is = tt
+      go (Some (stores.Record item)) is = record_there item is
+      go (Some (stores.Checkpoint at)) is = checkpoint_there at is
 
 -- ---- a node that comes up, or stays as it was
 

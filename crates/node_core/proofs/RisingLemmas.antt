@@ -1,6 +1,6 @@
 -- What a node that comes up does of its row, and how its disks then are.
-use Rattle.std.proofs.Common.{◌≡◌, ◌∙◌, ap, sym, subst, refl, ℕ, Bool, true, false, not, ◌&&◌, ◌||◌, cond, [], Option, Some, None}
-use Rattle.std.specs.Prelude.{IfOk, IsSome, OnErr, is_some, if◌then◌else◌, Result, Ok, Err}
+use Rattle.std.proofs.Common.{◌≡◌, ◌↔◌, ◌∙◌, ap, sym, subst, refl, ℕ, Bool, true, false, not, ◌&&◌, ◌||◌, cond, [], Option, Some, None}
+use Rattle.std.specs.Prelude.{IfOk, IfSome, IsSome, OnErr, is_some, if◌then◌else◌, Result, Ok, Err}
 use Rattle.rs_disk.specs.State.{State}
 use Rattle.rs_optime.specs.declared.optime.OpTime.{OpTime}
 use Rattle.oplog_entry.specs.Docs.{docs}
@@ -20,7 +20,7 @@ use Rattle.set_model.specs.Outcome.{refused}
 use Rattle.set_model.specs.Rollback.{cut_record}
 use Rattle.set_model.specs.Rows.{row}
 use Rattle.set_model.specs.Stores.{Plan, finished, storing, done as comes_to, reaches, in_doubt, stored}
-use Rattle.node_core.specs.Acting.{Acted, AreReopened, Follows, IsFinished, RunsWithoutOrders, Unchanged}
+use Rattle.node_core.specs.Acting.{Acted, AreReopened, Follows, IsFinished, IsThere, RunsWithoutOrders, Unchanged}
 use Rattle.node_core.specs.Coming.{IsPrepared, cut_node, cut_point}
 use Rattle.node_core.specs.Down.{DownState, down_node, seen_node}
 use Rattle.node_core.specs.Opening.{ReopensInTurn}
@@ -131,21 +131,24 @@ module _ (up : Bool) (memory : Node) (left doubting : DownState) (at : OpTime) (
 pub acted_restart : (nodes next number : ℕ) (old new : Node) (j j' c c' : State) (done : Done) → old.up ≡ false → Follows (restart old done.kept) new done
     → (done.kept ≡ true → IsSome old.doubt × (passes_first done.failed ≡ true)) → Stands new j' c' → RunsWithoutOrders (IsSome done.failed) j j' c c'
     → (done.failed ≡ Some 0 → ReopensInTurn {T = Unit {0}} (Err Disk) j j' c c')
+    → (passes_first done.failed ≡ true → IfSome old.doubt (λ item. done.kept ≡ true ↔ IsThere old item j c))
     → Acted (row nodes next done.kept old (Restart number)) (Restart number) old new j j' c c' done
-acted_restart nodes next number old new j j' c c' done down follows settles stands runs opening = record {
+acted_restart nodes next number old new j j' c c' done down follows settles stands runs opening found = record {
   follows = follows;
   settles = may_settle done.kept settles;
   stands = stands;
   disks = record {
-    fails = runs.fails;
-    arms = tt;
-    journal_armed = λ _. runs.journal_armed;
-    checkpoints_armed = λ _. runs.checkpoints_armed;
-    journal_orders = runs.journal_orders;
-    checkpoints_orders = runs.checkpoints_orders;
+    acted = record {
+      fails = runs.fails;
+      journal_armed = λ _. runs.journal_armed;
+      checkpoints_armed = λ _. runs.checkpoints_armed;
+      journal_orders = runs.journal_orders;
+      checkpoints_orders = runs.checkpoints_orders;
+    };
+    unstored = λ none. absurd (subst (λ (b : Bool). IsFinished (if b then finished (refused NotDown old) else storing old (recovered (settled_doubt old old.doubt done.kept)))) down none);
+    opening = λ _. opening;
+    found = λ _. found;
   };
-  unstored = λ _ none. absurd (subst (λ (b : Bool). IsFinished (if b then finished (refused NotDown old) else storing old (recovered (settled_doubt old old.doubt done.kept)))) down none);
-  opening = λ _. opening;
 }
   where
     may_settle : (kept : Bool) → (kept ≡ true → IsSome old.doubt × (passes_first done.failed ≡ true))
@@ -157,22 +160,24 @@ acted_restart nodes next number old new j j' c c' done down follows settles stan
 
 -- a node that is up refuses
 pub acted_not_down : (nodes next number : ℕ) (old : Node) (j c : State) (done : Done) → old.up ≡ true → done.reply ≡ reply.Refused NotDown → done.sent.items ≡ [] → done.failed ≡ None
-    → done.kept ≡ false → Stands old j c → Acted (row nodes next done.kept old (Restart number)) (Restart number) old old j j c c done
-acted_not_down nodes next number old j c done up answer sent failed kept stands = record {
+    → done.kept ≡ false → old.doubt ≡ None → Stands old j c → Acted (row nodes next done.kept old (Restart number)) (Restart number) old old j j c c done
+acted_not_down nodes next number old j c done up answer sent failed kept settled stands = record {
   follows = answered_follows (restart old done.kept) old (reply.Refused NotDown) done
       (ap (λ (b : Bool). if b then finished (refused NotDown old) else storing old (recovered (settled_doubt old old.doubt done.kept))) up) answer sent failed;
   settles = ap (λ (k : Bool). not k || (is_restart (Restart number) && passes_first done.failed && is_in_doubt old)) kept;
   stands = stands;
   disks = record {
-    fails = (answered_runs j c done failed).fails;
-    arms = tt;
-    journal_armed = λ _ is. is;
-    checkpoints_armed = λ _ is. is;
-    journal_orders = refl;
-    checkpoints_orders = refl;
+    acted = record {
+      fails = (answered_runs j c done failed).fails;
+      journal_armed = λ _ is. is;
+      checkpoints_armed = λ _ is. is;
+      journal_orders = refl;
+      checkpoints_orders = refl;
+    };
+    unstored = λ _. same_none j c;
+    opening = λ _ first. absurd (first_not done.failed failed first);
+    found = λ _ _. subst (λ (d : Option Store). IfSome d (λ item. done.kept ≡ true ↔ IsThere old item j c)) (sym settled) tt;
   };
-  unstored = λ _ _. same_none j c;
-  opening = λ _ first. absurd (first_not done.failed failed first);
 }
 
 module _ (up up' : Bool) (memory memory' : Node) (left left' : DownState) (count' : ℕ) (j j' c c' : State) (down : up ≡ false) where
@@ -183,13 +188,14 @@ module _ (up up' : Bool) (memory memory' : Node) (left left' : DownState) (count
       → IfOk result (λ done. IsOnDisks up' memory' left' count' j' c')
       → IfOk result (λ done. RunsWithoutOrders (IsSome done.failed) j j' c c')
       → IfOk result (λ done. done.failed ≡ Some 0 → ReopensInTurn {T = Unit {0}} (Err Disk) j j' c c')
+      → IfOk result (λ done. passes_first done.failed ≡ true → IfSome left.doubt (λ item. done.kept ≡ true ↔ IsThere (down_node memory left) item j c))
       → (nodes next number : ℕ)
       → IfOk result (λ done. Acted (row nodes next done.kept (seen_node up memory left) (Restart number)) (Restart number) (seen_node up memory left) (seen_node up' memory' left') j j' c c' done)
-  acted_come (Err error) follows settles rests runs opening nodes next number = tt
-  acted_come (Ok done) follows settles rests runs opening nodes next number =
+  acted_come (Err error) follows settles rests runs opening found nodes next number = tt
+  acted_come (Ok done) follows settles rests runs opening found nodes next number =
       subst (λ (b : Bool). Acted (row nodes next done.kept (seen_node b memory left) (Restart number)) (Restart number) (seen_node b memory left) (seen_node up' memory' left') j j' c c' done) (sym down)
       (acted_restart nodes next number (down_node memory left) (seen_node up' memory' left') j j' c c' done refl follows settles
-      (resting_stands up' memory' left' count' j' c' rests) runs opening)
+      (resting_stands up' memory' left' count' j' c' rests) runs opening found)
 
   -- memory ran out
   pub unchanged_come : {T E : Type 0} (result : Result T E) → OnErr result (seen_node up' memory' left' ≡ down_node memory left) → OnErr result (IsOnDisks up' memory' left' count' j' c')
@@ -202,9 +208,10 @@ module _ (up up' : Bool) (memory memory' : Node) (left left' : DownState) (count
   }
 
 -- it was up
-pub acted_up : (up : Bool) (memory : Node) (left : DownState) (count : ℕ) (j c : State) (done : Done) → up ≡ true → memory.up ≡ true → IsOnDisks up memory left count j c
+pub acted_up : (up : Bool) (memory : Node) (left : DownState) (count : ℕ) (j c : State) (done : Done) → up ≡ true → memory.up ≡ true → memory.doubt ≡ None → IsOnDisks up memory left count j c
     → done.reply ≡ reply.Refused NotDown → done.sent.items ≡ [] → done.failed ≡ None → done.kept ≡ false → (nodes next number : ℕ)
     → Acted (row nodes next done.kept (seen_node up memory left) (Restart number)) (Restart number) (seen_node up memory left) (seen_node up memory left) j j c c done
-acted_up up memory left count j c done is memory_up rests answer sent failed kept nodes next number =
+acted_up up memory left count j c done is memory_up settled rests answer sent failed kept nodes next number =
     acted_not_down nodes next number (seen_node up memory left) j c done (ap (λ (b : Bool). (seen_node b memory left).up) is ∙ memory_up) answer sent failed kept
+    (ap (λ (b : Bool). (seen_node b memory left).doubt) is ∙ settled)
     (resting_stands up memory left count j c rests)

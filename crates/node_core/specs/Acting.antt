@@ -1,23 +1,26 @@
 -- What a command or a message does to a node and to its disks.
-use Rattle.std.specs.Prelude.{◌≡◌, ◌⊎◌, ◌≤◌, ℕ, Bool, true, false, not, ◌&&◌, ◌||◌, ⊤, IsTrue, IsSome, Option, Some, Err}
+use Rattle.std.specs.Prelude.{◌≡◌, ◌⊎◌, ◌↔◌, ◌≤◌, ◌++◌, ◌∷◌, [], ℕ, Bool, true, false, not, ◌&&◌, ◌||◌, ⊤, IsTrue, IfSome, IsSome, Option, Some, Err}
 use Rattle.rs_io.specs.Fault.{CountRose}
+use Rattle.rs_disk.specs.File.{contents}
 use Rattle.rs_disk.specs.Orders.{Orders, ordered, arm, power_cut}
 use Rattle.rs_disk.specs.Moments.{EachMoment}
-use Rattle.rs_disk.specs.State.{State, IsArmed, SameButRoom}
+use Rattle.rs_disk.specs.State.{State, IsArmed, IsCut, SameButRoom}
 use Rattle.record_file.specs.declared.error.FileError.TheVariants.{Disk, Memory}
-use Rattle.node_journal.specs.Files.{IsOneOf as IsOneJournal}
-use Rattle.checkpoint_store.specs.Files.{IsOneOf as IsOneCheckpoint}
+use Rattle.node_journal.specs.Files.{HasJournal, IsOneOf as IsOneJournal}
+use Rattle.checkpoint_store.specs.Files.{HasCheckpoint, IsOneOf as IsOneCheckpoint}
 use Rattle.set_model.specs.declared.command.Command.{Command}
 use Rattle.set_model.specs.declared.command.Command.TheVariants.{Crash, Restart, DiskFail}
 use Rattle.set_model.specs.declared.command.DiskName.{DiskName}
 use Rattle.set_model.specs.declared.command.DiskName.TheVariants as disks
 use Rattle.set_model.specs.declared.reply.Reply.{Reply}
 use Rattle.set_model.specs.declared.reply.Reply.TheVariants as reply
+use Rattle.set_model.specs.declared.store.Store.{Store}
+use Rattle.set_model.specs.declared.store.Store.TheVariants as stores
 use Rattle.set_model.specs.Limits.{is_restart, passes_first, is_in_doubt}
 use Rattle.set_model.specs.Node.{Node}
 use Rattle.set_model.specs.Stores.{Plan, finished, storing, done, reaches}
 use Rattle.node_core.specs.Opening.{ReopensInTurn}
-use Rattle.node_core.specs.Stands.{Stands}
+use Rattle.node_core.specs.Stands.{Stands, documents_at}
 use Rattle.node_core.specs.declared.done.Done.{Done}
 
 -- what was answered is the plan, up to the store that failed, if one did
@@ -66,16 +69,10 @@ abbrev pub Arms : DiskName → ℕ → Option ℕ → State → State → State 
 Arms disks.Journal call pick j j' c c' = IsArmed call pick j j' × (c' ≡ c)
 Arms disks.Checkpoint call pick j j' c c' = (j' ≡ j) × IsArmed call pick c c'
 
--- a `diskfail` arms the disk that it names
-abbrev pub ArmsBy : Command → State → State → State → State → Type 0
-ArmsBy (DiskFail node disk call pick) j j' c c' = Arms disk call pick j j' c c'
-ArmsBy _ j j' c c' = ⊤
-
 -- The two disks of a node, across a command with this reply: a fault comes only where one of their counts
 -- rose, only a `diskfail` arms them, and only a crash and a `diskfail` give them orders.
 pub record DisksActed (command : Command) (reply : Reply) (Fault : Type 0) (j j' c c' : State) : Type 0 where
   pub fails : Fails Fault j j' c c'
-  pub arms : ArmsBy command j j' c c'
   pub journal_armed : is_disk_fail command ≡ false → ArmedBefore j j'
   pub checkpoints_armed : is_disk_fail command ≡ false → ArmedBefore c c'
   pub journal_orders : j'.orders ≡ orders_after disks.Journal command reply j.orders
@@ -101,11 +98,31 @@ abbrev pub IsFinished : Plan → Type 0
 IsFinished (finished outcome) = ⊤
 IsFinished (storing broken rest) = ⊥
 
--- the commands that change a node's disks and store nothing
-abbrev pub gives_orders : Command → Bool
-gives_orders (Crash node pick) = true
-gives_orders (DiskFail node disk call pick) = true
-gives_orders _ = false
+-- How a command that stores nothing leaves the two disks, by its reply: a crash that is answered `down` cuts
+-- the power of both, and does nothing else to them; a `diskfail` arms the one that it names; any other leaves
+-- both as they were.
+abbrev pub UnstoredBy : Command → Reply → State → State → State → State → Type 0
+UnstoredBy (Crash node pick) reply.Down j j' c c' = IsCut pick j j' × IsCut pick c c'
+UnstoredBy (DiskFail node disk call pick) reply.Armed j j' c c' = Arms disk call pick j j' c c'
+UnstoredBy command answer j j' c c' = AreSame j j' c c'
+
+-- what was being stored is on the disks: the journal holds that record too, or the last checkpoint is the one
+-- of that optime
+abbrev pub IsThere : Node → Store → State → State → Type 0
+IsThere node (stores.Record item) j c = HasJournal (contents j.file) (node.records ++ item ∷ [])
+IsThere node (stores.Checkpoint at) j c = HasCheckpoint (contents c.file) (documents_at node at)
+
+-- What a command with this plan, which was answered so, did to the two disks of a node that was such before.
+pub record DidToDisks (node : Node) (plan : Plan) (command : Command) (reply : Reply) (failed : Option ℕ)
+    (kept : Bool) (j j' c c' : State) : Type 0 where
+  pub acted : DisksActed command reply (IsSome failed) j j' c c'
+  pub unstored : IsFinished plan → UnstoredBy command reply j j' c c'
+  -- a restart opens both disks first: where that failed, nothing else was done
+  pub opening : is_restart command ≡ true → failed ≡ Some 0
+      → ReopensInTurn {T = Unit {0}} (Err Disk) j j' c c'
+  -- where it didn't fail, `kept` is true exactly where what was in doubt is there
+  pub found : is_restart command ≡ true → passes_first failed ≡ true
+      → IfSome node.doubt (λ item. kept ≡ true ↔ IsThere node item j c)
 
 -- A command was done at a node with these two disks, which had been such before.
 pub record Acted (plan : Plan) (command : Command) (old new : Node) (j j' c c' : State)
@@ -113,11 +130,7 @@ pub record Acted (plan : Plan) (command : Command) (old new : Node) (j j' c c' :
   pub follows : Follows plan new done
   pub settles : MaySettle old command done
   pub stands : Stands new j' c'
-  pub disks : DisksActed command done.reply (IsSome done.failed) j j' c c'
-  pub unstored : gives_orders command ≡ false → IsFinished plan → AreSame j j' c c'
-  -- a restart opens both disks first: where that failed, nothing else was done
-  pub opening : is_restart command ≡ true → done.failed ≡ Some 0
-      → ReopensInTurn {T = Unit {0}} (Err Disk) j j' c c'
+  pub disks : DidToDisks old plan command done.reply done.failed done.kept j j' c c'
 
 -- A message was taken.
 pub record Took (plan : Plan) (new : Node) (j j' c c' : State) (done : Done) : Type 0 where

@@ -1,6 +1,6 @@
 // A node that is down opens its disks anew, learns what is there of what was in doubt, and comes
 // up with that.
-ghost use Rattle.std.specs.Prelude.{◌≡◌, ◌<◌, ◌≤◌, ◌-◌, ◌^◌, [], Err, None, Some, true, false, IfOk, OnOk, OnErr, IsErrOf, IsSome};
+ghost use Rattle.std.specs.Prelude.{◌≡◌, ◌↔◌, ◌<◌, ◌≤◌, ◌-◌, ◌^◌, [], Err, None, Some, true, false, IfOk, IfSome, OnOk, OnErr, IsErrOf, IsSome};
 ghost use Rattle.record_file.specs.Files.{spare};
 ghost use Rattle.rs_disk.specs.Moments.{EachMoment};
 ghost use Rattle.node_journal.specs.Files.{IsJournalDisk, IsOneOf as IsOneJournal};
@@ -10,7 +10,7 @@ ghost use Rattle.set_model.specs.Limits.{passes_first};
 ghost use Rattle.set_model.specs.Node.{Node};
 ghost use Rattle.set_model.specs.Stores.{storing};
 ghost use Rattle.node_state.specs.WellKept.{IsWellKept};
-ghost use Rattle.node_core.specs.Acting.{AreReopened, Follows, RunsWithoutOrders};
+ghost use Rattle.node_core.specs.Acting.{AreReopened, Follows, IsThere, RunsWithoutOrders};
 ghost use Rattle.node_core.specs.Coming.{IsFound, IsPrepared, IsRead, cut_point, cut_records, is_there as is_kept, settled as settled_node};
 ghost use Rattle.node_core.specs.Opening.{ReopensInTurn};
 ghost use Rattle.node_core.specs.Down.{down_node, down_state, seen_node};
@@ -75,6 +75,9 @@ pub(crate) fn come_up<D: Disk, R: Threads + Sync>(
         (seen_node up.new state.new.node (down_state left.new)) done) }
     ensures settles { IfOk result (λ done.
         done.kept ≡ true → (IsSome left.old.doubt × (passes_first done.failed ≡ true))) }
+    ensures found { IfOk result (λ done. passes_first done.failed ≡ true → IfSome left.old.doubt (λ item.
+        done.kept ≡ true ↔ IsThere (down_node state.old.node (down_state left.old)) item
+        (D.state disks.old.journal.0) (D.state disks.old.checkpoints))) }
     ensures rests { IfOk result (λ done. IsOnDisks up.new state.new.node (down_state left.new) disks.new.count
         (D.state disks.new.journal.0) (D.state disks.new.checkpoints)) }
     ensures runs { IfOk result (λ done. RunsWithoutOrders (IsSome done.failed) (D.state disks.old.journal.0)

@@ -17,8 +17,8 @@ use Rattle.set_model.specs.Run.{Run, after}
 use Rattle.set_model.specs.World.{World, Task, acts, takes, nothing, actor, is_delivery, step, task, touched_node}
 use Rattle.node_core.specs.Acting.{DisksActed, DisksLeft, RunsWithoutOrders, orders_after}
 use Rattle.node_core.proofs.PuttingLemmas.{left_runs, runs_none, runs_then}
-use Rattle.set_world.specs.Disks.{AtTouchedNode, DisksUndone, OneChanged}
-use Rattle.set_world.specs.Went.{AllUndone, DisksPlay, DisksRun, DisksStep}
+use Rattle.set_world.specs.Disks.{AtTouchedNode, DisksStep, DisksTouched, DisksUndone, OneChanged}
+use Rattle.set_world.specs.Went.{AllUndone, DisksPlay, DisksRun}
 use Rattle.set_world.proofs.DiskLemmas.{delivered_disks}
 use Rattle.set_world.proofs.FaultLemmas.{only_broken}
 use Rattle.set_program.specs.Counts.{FailedAtLeast, EitherFaultCounted, OrdersAre, failures_at, orders_behind}
@@ -149,12 +149,12 @@ module _ {D : Type 0} (state : D → State) (world : World) (event : Event) (old
 
   -- at the node that acts
   by_one : (touched : ℕ) → touched_node world event.command ≡ touched
-      → OneChanged state (DisksActed event.command (step world event).reply (IsSome event.failed)) touched old new → NodeSteps
+      → OneChanged state (DisksTouched world event) touched old new → NodeSteps
   by_one touched is one = elim (cases_order touched number) [
     | inl same ↦
-        let here = changed_here state (DisksActed event.command (step world event).reply (IsSome event.failed)) touched number old new j c one has same in
-        (here.0, here.1, here.2, inl (is ∙ same, here.3))
-    | inr other ↦ (j, c, unchanged_there state (DisksActed event.command (step world event).reply (IsSome event.failed)) touched number old new j c one has (apart touched number other), inr (λ same. apart touched number other (sym is ∙ same), refl, refl))
+        let here = changed_here state (DisksTouched world event) touched number old new j c one has same in
+        (here.0, here.1, here.2, inl (is ∙ same, here.3.did.acted))
+    | inr other ↦ (j, c, unchanged_there state (DisksTouched world event) touched number old new j c one has (apart touched number other), inr (λ same. apart touched number other (sym is ∙ same), refl, refl))
   ]
 
   -- at none
@@ -170,7 +170,7 @@ module _ {D : Type 0} (state : D → State) (world : World) (event : Event) (old
   )
 
   by_task : (what : Task) → task world event.command ≡ what
-      → AtTouchedNode what event.failed old new (λ n. OneChanged state (DisksActed event.command (step world event).reply (IsSome event.failed)) n old new) → NodeSteps
+      → AtTouchedNode what event.failed old new (λ n. OneChanged state (DisksTouched world event) n old new) → NodeSteps
   by_task (acts touched) is one = by_one touched (ap actor is) one
   by_task (takes message) is one = by_one message.to (ap actor is) one
   by_task nothing is none = by_none is none.0 none.1

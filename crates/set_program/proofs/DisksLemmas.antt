@@ -8,7 +8,6 @@ use Rattle.set_model.specs.Run.{Run, Sizes, after, opening, run}
 use Rattle.set_world.specs.World.{Set}
 use Rattle.set_world.specs.Disks.{IsStep}
 use Rattle.set_world.specs.Went.{DisksPlay}
-use Rattle.set_world.proofs.WentLemmas.{of_event}
 use Rattle.set_program.specs.Disks.{DisksPlayed}
 
 -- events behind events
@@ -29,8 +28,4 @@ played_on state first old new added sizes history more played =
 -- by one step
 pub one_played : {D : Type 0} (state : D → State) (old new : Set D) (line : ℕ) (command : Command) (reply : Reply) (is : IsStep state old new line command reply)
     → DisksPlay state (run old.sizes old.history).world (is.event ∷ []) old.disks new.disks
-one_played state old new line command reply is = (
-  new.disks,
-  of_event state (run old.sizes old.history).world is.event command reply old.disks new.disks (sym is.command_is) is.reply_is is.disks,
-  refl,
-)
+one_played state old new line command reply is = (new.disks, is.disks, refl)

@@ -1,26 +1,27 @@
 -- What a node came to is the model's step of the event.
 use Rattle.std.proofs.Common.{◌≡◌, ◌∙◌, ap, sym, subst, refl, append-nil, is_none, ℕ, true, false, not, ◌&&◌, ◌||◌, Option, None, Some, Result, Ok, Err, length, List, [], ◌++◌, slice_get, slice_set}
-use Rattle.std.specs.Prelude.{IfOk, OnErr, IsSome, option_and_then}
+use Rattle.std.specs.Prelude.{IfOk, OnErr, option_and_then}
 use Rattle.std.specs.declared.alloc.AllocError.{AllocError}
 use Rattle.std.specs.Option.{option_map_or}
 use Rattle.repl_msg.specs.declared.message.Message.{Message}
 use Rattle.set_model.specs.declared.command.Command.{Command}
 use Rattle.set_model.specs.declared.command.Event.{Event}
 use Rattle.set_model.specs.declared.reply.Refusal.TheVariants.{NoSuchMessage}
+use Rattle.set_model.specs.declared.reply.Reply.{Reply}
 use Rattle.set_model.specs.declared.reply.Reply.TheVariants.{Refused}
 use Rattle.set_model.specs.Limits.{plan_reaches, is_restart, passes_first, is_in_doubt, settles_doubt}
 use Rattle.set_model.specs.Node.{Node}
 use Rattle.set_model.specs.Rows.{row}
 use Rattle.set_model.specs.Deliver.{deliver}
 use Rattle.set_model.specs.Stores.{Plan, done}
-use Rattle.set_model.specs.World.{World, Task, acts, takes, nothing, actor, is_delivery, task, plan_of, event_plan, with_outcome, by_plan, step}
+use Rattle.set_model.specs.World.{World, Step, Task, acts, takes, nothing, actor, is_delivery, task, plan_of, event_plan, with_outcome, by_plan, step}
 use Rattle.node_core.specs.declared.done.Done.{Done}
-use Rattle.node_core.specs.Acting.{AreSame, DisksActed, DisksLeft, Follows}
+use Rattle.node_core.specs.Acting.{AreSame, DidToDisks, DisksLeft, Follows}
 use Rattle.rs_disk.specs.State.{State}
 use Rattle.set_world.specs.Acting.{ChangesAt, NodeDisks, NodeActed, NodeTook, NodeUnchanged}
-use Rattle.set_world.specs.Disks.{AtTouchedNode}
+use Rattle.set_world.specs.Disks.{AtTouchedNode, DisksTouched}
 use Rattle.set_world.specs.World.{Acts, event_of, nodes_in}
-use Rattle.set_world.proofs.DiskLemmas.{disks_of_acted, disks_of_took, undelivered}
+use Rattle.set_world.proofs.DiskLemmas.{TouchesSo, delivered_so, undelivered}
 use Rattle.set_world.proofs.NodesLemmas.{get_in, nodes_set, nodes_long, same_nodes}
 
 -- an event's plan, by its task
@@ -91,6 +92,50 @@ acts_nothing world command came is reply sent failed kept = record {
     same : world.messages ≡ world.messages ++ came.sent.items
     same = sym (append-nil world.messages) ∙ ap (λ l. world.messages ++ l) (sym sent)
 
+-- ---- what the disks of that node came to
+
+module _ {D : Type 0} (state : D → State) (messages : List Message) (command : Command) (old new : List (Node × D × D)) (came : Done) where
+  abbrev met : World
+  met = record { nodes = nodes_in old; messages = messages }
+
+  answered : Acts met command (nodes_in new) came → (line : ℕ) → came.reply ≡ (step met (event_of line command came)).reply
+  answered did line = ap (λ (s : Step). s.reply) (sym (did.stepped line))
+
+  pub touched_acted : (number : ℕ) → task met command ≡ acts number → ChangesAt number (NodeActed state (length old) (length messages) command came) old new
+      → (line : ℕ) → ChangesAt number (NodeDisks state (DisksTouched met (event_of line command came))) old new
+  touched_acted number is one line = record {
+    before = one.before;
+    after = one.after;
+    there = one.there;
+    list = one.list;
+    so = record {
+      node = one.before.0;
+      plan = row (length old) (length messages) came.kept one.before.0 command;
+      node_is = ap (λ t. slice_get (nodes_in old) (actor t)) is ∙ get_in old number one.before one.there;
+      plan_is = plan_is met (event_of line command came) (acts number) one.before.0 is (get_in old number one.before one.there)
+          ∙ ap (λ size. Some (row size (length messages) came.kept one.before.0 command)) (nodes_long old);
+      did = subst (λ (r : Reply). DidToDisks one.before.0 (row (length old) (length messages) came.kept one.before.0 command) command r came.failed came.kept (state one.before.1) (state one.after.1) (state one.before.2) (state one.after.2))
+          (answered (acts_of state number messages command old new came is one) line) one.so.disks;
+    };
+  }
+
+  pub touched_took : (message : Message) → task met command ≡ takes message → is_delivery command ≡ true → ChangesAt message.to (NodeTook state (length messages) message came) old new
+      → (line : ℕ) → ChangesAt message.to (NodeDisks state (DisksTouched met (event_of line command came))) old new
+  touched_took message is none one line = record {
+    before = one.before;
+    after = one.after;
+    there = one.there;
+    list = one.list;
+    so = record {
+      node = one.before.0;
+      plan = deliver (length messages) one.before.0 message;
+      node_is = ap (λ t. slice_get (nodes_in old) (actor t)) is ∙ get_in old message.to one.before one.there;
+      plan_is = plan_is met (event_of line command came) (takes message) one.before.0 is (get_in old message.to one.before one.there);
+      did = delivered_so one.before.0 (deliver (length messages) one.before.0 message) command (step met (event_of line command came)).reply came.failed came.kept
+          (state one.before.1) (state one.after.1) (state one.before.2) (state one.after.2) none one.so.runs one.so.unstored;
+    };
+  }
+
 -- ---- what a call of a node answers
 
 pub own_acts : {D : Type 0} (state : D → State) (number next : ℕ) (messages : List Message) (command : Command) (old new : List (Node × D × D)) (result : Result Done AllocError)
@@ -101,12 +146,12 @@ own_acts state number next messages command old new (Ok done) is long acted =
     acts_of state number messages command old new done is (subst (λ n. ChangesAt number (NodeActed state (length old) n command done) old new) long acted)
 
 pub own_disks : {D : Type 0} (state : D → State) (number next : ℕ) (messages : List Message) (command : Command) (old new : List (Node × D × D)) (result : Result Done AllocError)
-    → task (record { nodes = nodes_in old; messages = messages }) command ≡ acts number → IfOk result (λ done. ChangesAt number (NodeActed state (length old) next command done) old new)
-    → IfOk result (λ done. AtTouchedNode (task (record { nodes = nodes_in old; messages = messages }) command) done.failed old new (λ n. ChangesAt n (NodeDisks state (DisksActed command done.reply (IsSome done.failed))) old new))
-own_disks state number next messages command old new (Err why) is acted = tt
-own_disks state number next messages command old new (Ok done) is acted =
-    subst (λ t. AtTouchedNode t done.failed old new (λ n. ChangesAt n (NodeDisks state (DisksActed command done.reply (IsSome done.failed))) old new)) (sym is)
-    (disks_of_acted state number (length old) next command old new done acted)
+    → task (record { nodes = nodes_in old; messages = messages }) command ≡ acts number → next ≡ length messages → IfOk result (λ done. ChangesAt number (NodeActed state (length old) next command done) old new)
+    → IfOk result (λ done. TouchesSo state (record { nodes = nodes_in old; messages = messages }) command done old new)
+own_disks state number next messages command old new (Err why) is long acted = tt
+own_disks state number next messages command old new (Ok done) is long acted = λ line.
+    subst (λ t. AtTouchedNode t done.failed old new (λ n. ChangesAt n (NodeDisks state (DisksTouched (record { nodes = nodes_in old; messages = messages }) (event_of line command done))) old new)) (sym is)
+    (touched_acted state messages command old new done number is (subst (λ n. ChangesAt number (NodeActed state (length old) n command done) old new) long acted) line)
 
 pub taken_acts : {D : Type 0} (state : D → State) (next : ℕ) (messages : List Message) (message : Message) (command : Command) (old new : List (Node × D × D)) (result : Result Done AllocError)
     → task (record { nodes = nodes_in old; messages = messages }) command ≡ takes message → next ≡ length messages → IfOk result (λ done. done.kept ≡ false)
@@ -117,12 +162,13 @@ taken_acts state next messages message command old new (Ok done) is long kept to
     acts_taken state messages message command old new done is kept (subst (λ n. ChangesAt message.to (NodeTook state n message done) old new) long took)
 
 pub taken_disks : {D : Type 0} (state : D → State) (next : ℕ) (messages : List Message) (message : Message) (command : Command) (old new : List (Node × D × D)) (result : Result Done AllocError)
-    → task (record { nodes = nodes_in old; messages = messages }) command ≡ takes message → is_delivery command ≡ true → IfOk result (λ done. ChangesAt message.to (NodeTook state next message done) old new)
-    → IfOk result (λ done. AtTouchedNode (task (record { nodes = nodes_in old; messages = messages }) command) done.failed old new (λ n. ChangesAt n (NodeDisks state (DisksActed command done.reply (IsSome done.failed))) old new))
-taken_disks state next messages message command old new (Err why) is none took = tt
-taken_disks state next messages message command old new (Ok done) is none took =
-    subst (λ t. AtTouchedNode t done.failed old new (λ n. ChangesAt n (NodeDisks state (DisksActed command done.reply (IsSome done.failed))) old new)) (sym is)
-    (disks_of_took state message.to next message command old new done none took)
+    → task (record { nodes = nodes_in old; messages = messages }) command ≡ takes message → next ≡ length messages → is_delivery command ≡ true
+    → IfOk result (λ done. ChangesAt message.to (NodeTook state next message done) old new)
+    → IfOk result (λ done. TouchesSo state (record { nodes = nodes_in old; messages = messages }) command done old new)
+taken_disks state next messages message command old new (Err why) is long none took = tt
+taken_disks state next messages message command old new (Ok done) is long none took = λ line.
+    subst (λ t. AtTouchedNode t done.failed old new (λ n. ChangesAt n (NodeDisks state (DisksTouched (record { nodes = nodes_in old; messages = messages }) (event_of line command done))) old new)) (sym is)
+    (touched_took state messages command old new done message is none (subst (λ n. ChangesAt message.to (NodeTook state n message done) old new) long took) line)
 
 -- no such message was sent
 pub nobody_disks : {A : Type 0} (world : World) (command : Command) (came : Done) (old : List A) (At : ℕ → Type 0) → task world command ≡ nothing → came.failed ≡ None → AtTouchedNode (task world command) came.failed old old At

@@ -10,14 +10,16 @@ use Rattle.set_model.specs.declared.command.Command.TheVariants as commands
 use Rattle.set_model.specs.declared.command.DiskName.TheVariants as names
 use Rattle.set_model.specs.declared.reply.Reply.{Reply}
 use Rattle.set_model.specs.declared.command.Event.{Event}
+use Rattle.set_model.specs.Limits.{is_restart}
 use Rattle.set_model.specs.Node.{Node}
 use Rattle.set_model.specs.Run.{Sizes, run}
+use Rattle.set_model.specs.Stores.{Plan}
 use Rattle.set_model.specs.World.{World, Task, acts, takes, nothing, is_delivery, step, task}
 use Rattle.repl_msg.specs.declared.message.Message.{Message}
 use Rattle.node_core.specs.declared.done.Done.{Done}
-use Rattle.node_core.specs.Acting.{AreSame, ArmsBy, DisksActed, DisksLeft, RunsWithoutOrders, orders_after}
+use Rattle.node_core.specs.Acting.{AreSame, DidToDisks, DisksActed, DisksLeft, IsFinished, RunsWithoutOrders, UnstoredBy, orders_after}
 use Rattle.set_world.specs.Acting.{ChangesAt, NodeDisks, NodeActed, NodeTook, NodeUnchanged, NodeStands, EachNodeStands}
-use Rattle.set_world.specs.Disks.{OneChanged, AtTouchedNode, IsStep, NothingDone, StandsAtNumber, AllStand}
+use Rattle.set_world.specs.Disks.{OneChanged, AtTouchedNode, DisksStep, DisksTouched, IsStep, NothingDone, StandsAtNumber, AllStand}
 use Rattle.set_world.specs.World.{Set, disks_in, nodes_in, event_of}
 
 two_more : (k : ℕ) → 2 * suc k ≡ suc (suc (2 * k))
@@ -152,19 +154,32 @@ checkpoint_quiet (commands.Deliver message) reply orders none = refl
 checkpoint_quiet (commands.DeliverLatest from to) reply orders none = refl
 checkpoint_quiet command reply orders none = absurd (cc none)
 
-quiet_arms : (command : Command) (j j' c c' : State) → is_delivery command ≡ true → ArmsBy command j j' c c'
-quiet_arms (commands.Deliver message) j j' c c' none = tt
-quiet_arms (commands.DeliverLatest from to) j j' c c' none = tt
-quiet_arms command j j' c c' none = absurd (cc none)
+quiet_unstored : (command : Command) (reply : Reply) (j j' c c' : State) → is_delivery command ≡ true → AreSame j j' c c' → UnstoredBy command reply j j' c c'
+quiet_unstored (commands.Deliver message) reply j j' c c' none same = same
+quiet_unstored (commands.DeliverLatest from to) reply j j' c c' none same = same
+quiet_unstored command reply j j' c c' none same = absurd (cc none)
+
+no_restart : (command : Command) → is_delivery command ≡ true → is_restart command ≡ true → ⊥
+no_restart (commands.Deliver message) none is = cc is
+no_restart (commands.DeliverLatest from to) none is = cc is
+no_restart command none is = cc none
 
 pub delivered_disks : (command : Command) (reply : Reply) (Fault : Type 0) (j j' c c' : State) → is_delivery command ≡ true → RunsWithoutOrders Fault j j' c c' → DisksActed command reply Fault j j' c c'
 delivered_disks command reply Fault j j' c c' none runs = record {
   fails = runs.fails;
-  arms = quiet_arms command j j' c c' none;
   journal_armed = λ other. runs.journal_armed;
   checkpoints_armed = λ other. runs.checkpoints_armed;
   journal_orders = runs.journal_orders ∙ sym (journal_quiet command reply j.orders none);
   checkpoints_orders = runs.checkpoints_orders ∙ sym (checkpoint_quiet command reply c.orders none);
+}
+
+pub delivered_so : (node : Node) (plan : Plan) (command : Command) (reply : Reply) (failed : Option ℕ) (kept : Bool) (j j' c c' : State) → is_delivery command ≡ true → RunsWithoutOrders (IsSome failed) j j' c c'
+    → (IsFinished plan → AreSame j j' c c') → DidToDisks node plan command reply failed kept j j' c c'
+delivered_so node plan command reply failed kept j j' c c' none runs unstored = record {
+  acted = delivered_disks command reply (IsSome failed) j j' c c' none runs;
+  unstored = λ finished. quiet_unstored command reply j j' c c' none (unstored finished);
+  opening = λ is. absurd (no_restart command none is);
+  found = λ is. absurd (no_restart command none is);
 }
 
 left_delivered : (command : Command) (j j' c c' : State) → is_delivery command ≡ true → AreSame j j' c c' → DisksLeft command j j' c c'
@@ -182,18 +197,12 @@ undelivered state number command old new none one =
       disks = left_delivered command (state before.1) (state after.1) (state before.2) (state after.2) none so.disks;
     }) one
 
-pub disks_of_acted : {D : Type 0} (state : D → State) (number size next : ℕ) (command : Command) (old new : List (Node × D × D)) (done : Done) → ChangesAt number (NodeActed state size next command done) old new
-    → ChangesAt number (NodeDisks state (DisksActed command done.reply (IsSome done.failed))) old new
-disks_of_acted state number size next command old new done one =
-    changed_so (NodeActed state size next command done) (NodeDisks state (DisksActed command done.reply (IsSome done.failed))) number old new (λ before after so. so.disks) one
-
-pub disks_of_took : {D : Type 0} (state : D → State) (number next : ℕ) (message : Message) (command : Command) (old new : List (Node × D × D)) (done : Done) → is_delivery command ≡ true → ChangesAt number (NodeTook state next message done) old new
-    → ChangesAt number (NodeDisks state (DisksActed command done.reply (IsSome done.failed))) old new
-disks_of_took state number next message command old new done none one =
-    changed_so (NodeTook state next message done) (NodeDisks state (DisksActed command done.reply (IsSome done.failed))) number old new
-    (λ before after so. delivered_disks command done.reply (IsSome done.failed) (state before.1) (state after.1) (state before.2) (state after.2) none so.runs) one
-
 -- ---- the disks of the set
+
+-- a command that came to this did so to the disks of its node, whatever its line
+abbrev pub TouchesSo : {D : Type 0} → (D → State) → World → Command → Done → List (Node × D × D) → List (Node × D × D) → Type 0
+TouchesSo state world command came old new =
+    (line : ℕ) → AtTouchedNode (task world command) came.failed old new (λ n. ChangesAt n (NodeDisks state (DisksTouched world (event_of line command came))) old new)
 
 module _ {D : Type 0} (state : D → State) (sizes : Sizes) (history : List Event) (items new : List (Node × D × D)) (idle opened : List D) (kept : Bool) (messages : List Message) (command : Command)
     (is : (run sizes history).world ≡ record { nodes = nodes_in items; messages = messages }) where
@@ -207,7 +216,7 @@ module _ {D : Type 0} (state : D → State) (sizes : Sizes) (history : List Even
       (all_touched state Changed (task (record { nodes = nodes_in items; messages = messages }) command) failed items new idle changed)
 
   pub is_step : (later : List Event) (line : ℕ) (came : Done) → later ≡ history ++ event_of line command came ∷ [] → came.reply ≡ (step (run sizes history).world (event_of line command came)).reply
-      → AtTouchedNode (task (record { nodes = nodes_in items; messages = messages }) command) came.failed items new (λ n. ChangesAt n (NodeDisks state (DisksActed command came.reply (IsSome came.failed))) items new)
+      → TouchesSo state (record { nodes = nodes_in items; messages = messages }) command came items new
       → IsStep state (record { sizes = sizes; history = history; disks = disks_in items ++ idle; opened = opened; whole = kept }) (record { sizes = sizes; history = later; disks = disks_in new ++ idle; opened = opened; whole = kept }) line command came.reply
   is_step later line came more reply changed = record {
     event = event_of line command came;
@@ -215,7 +224,9 @@ module _ {D : Type 0} (state : D → State) (sizes : Sizes) (history : List Even
     command_is = refl;
     history = more;
     reply_is = reply;
-    disks = touched came.failed (DisksActed command came.reply (IsSome came.failed)) changed;
+    disks = subst (λ w. DisksStep state w (event_of line command came) (disks_in items ++ idle) (disks_in new ++ idle)) (sym is)
+        (all_touched state (DisksTouched (record { nodes = nodes_in items; messages = messages }) (event_of line command came)) (task (record { nodes = nodes_in items; messages = messages }) command) came.failed items new idle
+        (changed line));
   }
 
   pub is_undone : (later : List Event) → later ≡ history
@@ -237,7 +248,7 @@ module _ {D : Type 0} (state : D → State) (sizes : Sizes) (history : List Even
   world_is = is ∙ (λ i. record { nodes = nodes_in (sym same i); messages = sym same_messages i })
 
   pub stepped : (later : List Event) (line : ℕ) (came : Done) → later ≡ history ++ event_of line command came ∷ [] → came.reply ≡ (step (run sizes history).world (event_of line command came)).reply
-      → AtTouchedNode (task (record { nodes = nodes_in nodes; messages = now }) command) came.failed nodes new (λ n. ChangesAt n (NodeDisks state (DisksActed command came.reply (IsSome came.failed))) nodes new)
+      → TouchesSo state (record { nodes = nodes_in nodes; messages = now }) command came nodes new
       → IsStep state (record { sizes = sizes; history = history; disks = disks_in items ++ idle; opened = opened; whole = kept }) (record { sizes = sizes; history = later; disks = disks_in new ++ idle; opened = opened; whole = kept }) line command came.reply
   stepped later line came more reply changed =
       subst (λ (l : List (Node × D × D)). IsStep state (record { sizes = sizes; history = history; disks = disks_in l ++ idle; opened = opened; whole = kept }) (record { sizes = sizes; history = later; disks = disks_in new ++ idle; opened = opened; whole = kept }) line command came.reply) same

@@ -1,6 +1,6 @@
 -- How the disks of a set go on, event by event.
 use Rattle.std.proofs.Common.{◌≡◌, ◌∙◌, ap, sym, subst, refl, append_assoc, ℕ, Bool, true, false, List, [], ◌∷◌, ◌++◌, fold, length}
-use Rattle.std.specs.Prelude.{IfOk, IsSome, OnErr, OnOk, Result, Ok, Err}
+use Rattle.std.specs.Prelude.{IfOk, OnErr, OnOk, Result, Ok, Err}
 use Rattle.std.proofs.lemmas.List.{append-nil}
 use Rattle.std.proofs.lemmas.List.Sums.{fold-append}
 use Rattle.rs_disk.specs.State.{State}
@@ -9,12 +9,11 @@ use Rattle.set_model.specs.declared.command.Event.{Event}
 use Rattle.set_model.specs.declared.reply.Reply.{Reply}
 use Rattle.set_model.specs.Limits.{is_for}
 use Rattle.set_model.specs.Run.{Run, Sizes, after, opening, run}
-use Rattle.set_model.specs.World.{World, step, task}
-use Rattle.node_core.specs.Acting.{DisksActed}
+use Rattle.set_model.specs.World.{World, step}
 use Rattle.set_world.specs.declared.error.StepError.{StepError}
 use Rattle.set_world.specs.World.{Set}
-use Rattle.set_world.specs.Disks.{AtTouchedNode, DisksUndone, IsStep, NothingDone, OneChanged}
-use Rattle.set_world.specs.Went.{DisksPlay, DisksRun, DisksStep, AllUndone, DisksWent, WentOn}
+use Rattle.set_world.specs.Disks.{DisksStep, DisksUndone, IsStep, NothingDone}
+use Rattle.set_world.specs.Went.{DisksPlay, DisksRun, AllUndone, DisksWent, WentOn}
 
 -- an event more is played
 pub play_more : {D : Type 0} (state : D → State) (so_far : Run) (events : List Event) (event : Event) (first old new : List D)
@@ -49,15 +48,6 @@ run_more state so_far [] event first old new ran more = (ran.0, old, new, ran.1,
 run_more state so_far (earlier ∷ events) event first old new (undone, before, behind, used, stepped, rest) more =
     (undone, before, behind, used, stepped, run_more state (after so_far earlier) events event behind old new rest more)
 
--- the disks of a command are those of its event
-pub of_event : {D : Type 0} (state : D → State) (world : World) (event : Event) (command : Command) (reply : Reply) (old new : List D)
-    → command ≡ event.command → reply ≡ (step world event).reply
-    → AtTouchedNode (task world command) event.failed old new (λ n. OneChanged state (DisksActed command reply (IsSome event.failed)) n old new)
-    → DisksStep state world event old new
-of_event state world event command reply old new command_is reply_is changed =
-    subst (λ (r : Reply). AtTouchedNode (task world event.command) event.failed old new (λ n. OneChanged state (DisksActed event.command r (IsSome event.failed)) n old new)) reply_is
-    (subst (λ (c : Command). AtTouchedNode (task world c) event.failed old new (λ n. OneChanged state (DisksActed c reply (IsSome event.failed)) n old new)) command_is changed)
-
 -- a set that is opened
 pub went_first : {D : Type 0} (state : D → State) (sizes : Sizes) (history : List Event) (disks opened : List D) (kept : Bool) → history ≡ [] → opened ≡ disks
     → DisksWent state (record { sizes = sizes; history = history; disks = disks; opened = opened; whole = kept })
@@ -75,7 +65,7 @@ went_step {D} state old new line command reply is sizes opened kept went = recor
 }
   where
     changed : DisksStep state (run old.sizes old.history).world is.event old.disks new.disks
-    changed = of_event state (run old.sizes old.history).world is.event command reply old.disks new.disks (sym is.command_is) is.reply_is is.disks
+    changed = is.disks
 
     on : (So : World → List Event → List D → List D → Type 0) → So (opening old.sizes).world (old.history ++ is.event ∷ []) old.opened new.disks
         → So (opening new.sizes).world new.history new.opened new.disks
@@ -122,8 +112,7 @@ module _ {D : Type 0} (state : D → State) (begun old new : Set D) (so_far : We
   }
     where
       changed : DisksStep state (fold after then so_far.added).world is.event old.disks new.disks
-      changed = subst (λ (w : World). DisksStep state w is.event old.disks new.disks) (sym here)
-          (of_event state (run old.sizes old.history).world is.event command reply old.disks new.disks (sym is.command_is) is.reply_is is.disks)
+      changed = subst (λ (w : World). DisksStep state w is.event old.disks new.disks) (sym here) is.disks
 
   -- by a command that wasn't done
   pub went_on_undone : (command : Command) → NothingDone state old new command → is_for (length (run old.sizes old.history).world.nodes) command ≡ true

@@ -1,5 +1,5 @@
 -- What opening a set and each of its steps do to its disks.
-use Rattle.std.specs.Prelude.{◌≡◌, ◌⊎◌, ◌<◌, ◌≤◌, ◌+◌, ◌*◌, ◌++◌, ◌∷◌, [], ℕ, IsSome, IsTrue, List, Option, None, Some, Result, Ok, Err, length, drop, slice_get, slice_set}
+use Rattle.std.specs.Prelude.{◌≡◌, ◌⊎◌, ◌<◌, ◌≤◌, ◌+◌, ◌*◌, ◌++◌, ◌∷◌, [], ℕ, IsTrue, List, Option, None, Some, Result, Ok, Err, length, drop, slice_get, slice_set}
 use Rattle.rs_io.specs.Fault.{CountRose}
 use Rattle.rs_disk.specs.State.{State}
 use Rattle.record_file.specs.declared.error.FileError.{FileError}
@@ -10,8 +10,9 @@ use Rattle.set_model.specs.declared.command.Event.{Event}
 use Rattle.set_model.specs.declared.reply.Reply.{Reply}
 use Rattle.set_model.specs.Node.{Node}
 use Rattle.set_model.specs.Run.{run}
-use Rattle.set_model.specs.World.{Task, World, acts, takes, nothing, step, task}
-use Rattle.node_core.specs.Acting.{DisksActed, DisksLeft, RunsWithoutOrders}
+use Rattle.set_model.specs.Stores.{Plan}
+use Rattle.set_model.specs.World.{Task, World, acts, takes, nothing, event_plan, step, task, touched_node}
+use Rattle.node_core.specs.Acting.{DidToDisks, DisksLeft, RunsWithoutOrders}
 use Rattle.node_core.specs.Nodes.{HasFailed}
 use Rattle.node_core.specs.Opening.{OpensInTurn, unopened_node}
 use Rattle.node_core.specs.Stands.{Stands}
@@ -55,8 +56,22 @@ AllStand state set =
 
 -- ---- a step
 
--- One event more stands in the history, of this line and command. It is answered as the model says. Of all
--- disks only those of the node that it touches changed, and as their calls say.
+-- What an event did to the two disks of the node that it touches, by its plan and its reply.
+pub record DisksTouched (world : World) (event : Event) (j j' c c' : State) : Type 0 where
+  pub node : Node
+  pub plan : Plan
+  pub node_is : slice_get world.nodes (touched_node world event.command) ≡ Some node
+  pub plan_is : event_plan world event ≡ Some plan
+  pub did : DidToDisks node plan event.command (step world event).reply event.failed event.kept j j' c c'
+
+-- An event changes the two disks of the node that it touches, and no others. One without a node changes none.
+abbrev pub DisksStep : {D : Type 0} → (D → State) → World → Event → List D → List D → Type 0
+DisksStep state world event old new =
+    AtTouchedNode (task world event.command) event.failed old new
+    (λ number. OneChanged state (DisksTouched world event) number old new)
+
+-- One event more stands in the history, of this line and command. It is answered as the model says, and the
+-- disks are as it leaves them.
 pub record IsStep {D : Type 0} (state : D → State) (old new : Set D) (line : ℕ) (command : Command)
     (reply : Reply) : Type 0 where
   pub event : Event
@@ -64,8 +79,7 @@ pub record IsStep {D : Type 0} (state : D → State) (old new : Set D) (line : �
   pub command_is : event.command ≡ command
   pub history : new.history ≡ old.history ++ event ∷ []
   pub reply_is : reply ≡ (step (run old.sizes old.history).world event).reply
-  pub disks : AtTouchedNode (task (run old.sizes old.history).world command) event.failed old.disks new.disks
-      (λ number. OneChanged state (DisksActed command reply (IsSome event.failed)) number old.disks new.disks)
+  pub disks : DisksStep state (run old.sizes old.history).world event old.disks new.disks
 
 -- A command that wasn't done used at most the disks of the node that it would have touched, and leaves them
 -- as such a command does.

@@ -1,22 +1,13 @@
 -- What a run does to the disks of a set.
-use Rattle.std.specs.Prelude.{◌≡◌, true, IsSome, List, [], ◌∷◌, ◌++◌, length}
+use Rattle.std.specs.Prelude.{◌≡◌, true, List, [], ◌∷◌, ◌++◌, length}
 use Rattle.rs_disk.specs.State.{State}
 use Rattle.set_model.specs.declared.command.Command.{Command}
 use Rattle.set_model.specs.declared.command.Event.{Event}
 use Rattle.set_model.specs.Limits.{is_for}
 use Rattle.set_model.specs.Run.{opening, run}
-use Rattle.set_model.specs.World.{World, step, task}
-use Rattle.node_core.specs.Acting.{DisksActed}
+use Rattle.set_model.specs.World.{World, step}
 use Rattle.set_world.specs.World.{Set}
-use Rattle.set_world.specs.Disks.{AtTouchedNode, DisksUndone, OneChanged}
-
--- An event changes the two disks of its node, and no others: a store fails only where one of them does, and
--- only a crash and a `diskfail` give them orders. An event without a node changes none.
-abbrev pub DisksStep : {D : Type 0} → (D → State) → World → Event → List D → List D → Type 0
-DisksStep state world event old new =
-    AtTouchedNode (task world event.command) event.failed old new
-    (λ number.
-    OneChanged state (DisksActed event.command (step world event).reply (IsSome event.failed)) number old new)
+use Rattle.set_world.specs.Disks.{DisksStep, DisksUndone}
 
 -- events, each at the world that it meets
 abbrev pub DisksPlay : {D : Type 0} → (D → State) → World → List Event → List D → List D → Type 0

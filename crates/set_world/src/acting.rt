@@ -1,13 +1,13 @@
-ghost use Rattle.std.specs.Prelude.{◌≡◌, ◌<◌, ◌^◌, ℕ, [], true, false, length, IfOk, IsSome, OnErr, None, Some, slice_get};
+ghost use Rattle.std.specs.Prelude.{◌≡◌, ◌<◌, ◌^◌, ℕ, [], true, false, length, IfOk, OnErr, None, Some, slice_get};
 ghost use Rattle.set_model.specs.Limits.{is_for, is_within};
 ghost use Rattle.set_model.specs.Node.{Node as Standing};
 ghost use Rattle.set_model.specs.Taking.{CanTake};
 ghost use Rattle.set_model.specs.World.{is_delivery, task};
 ghost use Rattle.node_state.specs.Bounds.{IsBounded, IsNumbered};
-ghost use Rattle.node_core.specs.Acting.{AreSame, DisksActed, DisksLeft};
+ghost use Rattle.node_core.specs.Acting.{AreSame, DisksLeft};
 ghost use Rattle.set_world.specs.Acting.{NodeActed, NodeDisks, MayAct, EachNodeStands, ChangesAt, NodeTook, NodeUnchanged};
-ghost use Rattle.set_world.specs.Disks.{AtTouchedNode};
-ghost use Rattle.set_world.specs.World.{Acts, nodes_in};
+ghost use Rattle.set_world.specs.Disks.{AtTouchedNode, DisksTouched};
+ghost use Rattle.set_world.specs.World.{Acts, event_of, nodes_in};
 
 use crate::command::delivered;
 use crate::pool::Pool;
@@ -33,10 +33,11 @@ pub(crate) fn act<D: Disk, R: Threads + Sync>(
     ensures ok { IfOk result (λ done.
         Acts (record { nodes = nodes_in nodes.old; messages = pool.now.messages }) command.now
         (nodes_in nodes.new) done) }
-    ensures disks { IfOk result (λ done.
+    ensures disks { IfOk result (λ done. (line : ℕ) →
         AtTouchedNode (task (record { nodes = nodes_in nodes.old; messages = pool.now.messages }) command.now)
-        done.failed nodes.old nodes.new (λ number. ChangesAt number
-        (NodeDisks D.state (DisksActed command.now done.reply (IsSome done.failed))) nodes.old nodes.new)) }
+        done.failed nodes.old nodes.new (λ number. ChangesAt number (NodeDisks D.state (DisksTouched
+        (record { nodes = nodes_in nodes.old; messages = pool.now.messages })
+        (event_of line command.now done))) nodes.old nodes.new)) }
     ensures err { OnErr result (AtTouchedNode
         (task (record { nodes = nodes_in nodes.old; messages = pool.now.messages }) command.now) None
         nodes.old nodes.new

@@ -1,13 +1,13 @@
 // How many entries each node has had committed.
-ghost use Rattle.std.specs.Prelude.{◌≡◌, ◌≢◌, ◌<◌, ℕ, length, max, All, Contains, IfOk, IsSome, OnErr, OnOk, None, slice_index, true};
+ghost use Rattle.std.specs.Prelude.{◌≡◌, ◌≢◌, ◌<◌, ℕ, length, max, All, Contains, IfOk, OnErr, OnOk, None, slice_index, true};
 ghost use Rattle.repl_msg.specs.declared.message.Message.{Message};
 ghost use Rattle.set_model.specs.Limits.{is_for};
 ghost use Rattle.set_model.specs.World.{World, task, touched_node};
-ghost use Rattle.node_core.specs.Acting.{DisksActed, DisksLeft};
+ghost use Rattle.node_core.specs.Acting.{DisksLeft};
 ghost use Rattle.set_world.specs.Acting.{NodeDisks, MayAct, EachNodeStands, ChangesAt, NodeUnchanged};
-ghost use Rattle.set_world.specs.Disks.{AtTouchedNode};
+ghost use Rattle.set_world.specs.Disks.{AtTouchedNode, DisksTouched};
 ghost use Rattle.set_world.specs.Points.{IsRaised};
-ghost use Rattle.set_world.specs.World.{Acts, nodes_in};
+ghost use Rattle.set_world.specs.World.{Acts, event_of, nodes_in};
 
 use crate::acting;
 use crate::command::delivered;
@@ -118,12 +118,14 @@ pub(crate) fn act<D: Disk, R: Threads + Sync>(
           messages = pool.now.messages;
         }) command.now (nodes_in nodes.new) done) }
     ensures disks { IfOk result
-        (λ done. AtTouchedNode (task (record {
+        (λ done. (line : ℕ) → AtTouchedNode (task (record {
           nodes = nodes_in nodes.old;
           messages = pool.now.messages;
         }) command.now) done.failed nodes.old nodes.new
-        (λ number. ChangesAt number (NodeDisks D.state (DisksActed command.now done.reply
-        (IsSome done.failed))) nodes.old nodes.new)) }
+        (λ number. ChangesAt number (NodeDisks D.state (DisksTouched (record {
+          nodes = nodes_in nodes.old;
+          messages = pool.now.messages;
+        }) (event_of line command.now done))) nodes.old nodes.new)) }
     ensures err { OnErr result (AtTouchedNode
         (task (record { nodes = nodes_in nodes.old; messages = pool.now.messages }) command.now) None
         nodes.old nodes.new

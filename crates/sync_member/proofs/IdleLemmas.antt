@@ -15,8 +15,8 @@ use Rattle.set_model.specs.Run.{Run, Sizes, after, opening, run}
 use Rattle.set_model.specs.World.{World, Task, acts, takes, nothing, latest_between, taking, task}
 use Rattle.safety_laws.specs.Bounds.{NumbersStaySmall}
 use Rattle.safety_laws.proofs.Frame.{task_sent}
-use Rattle.set_world.specs.Disks.{AtTouchedNode, OneChanged}
-use Rattle.set_world.specs.Went.{DisksPlay, DisksStep}
+use Rattle.set_world.specs.Disks.{AtTouchedNode, DisksStep, OneChanged}
+use Rattle.set_world.specs.Went.{DisksPlay}
 use Rattle.set_model.proofs.LimitLemmas.{named}
 
 -- ---- an event touches a node of the set

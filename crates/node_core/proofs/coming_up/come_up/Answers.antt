@@ -1,19 +1,19 @@
 use Rattle.std.proofs.Common.{◌≡◌, ◌∙◌, ap, inr, refl, sym, subst, ℕ, Bool, true, Option, None, Some, Ok, Err}
-use Rattle.std.specs.Prelude.{IsErrOf, IsSome, OnErr, Result}
+use Rattle.std.specs.Prelude.{◌↔◌, IfSome, IsErrOf, IsSome, OnErr, Result}
 use Rattle.set_model.specs.Disk.{recovered, settled_doubt}
 use Rattle.set_model.specs.Node.{Node}
 use Rattle.set_model.specs.Stores.{storing}
 use Rattle.record_file.specs.declared.error.FileError.{FileError}
 use Rattle.record_file.specs.declared.error.FileError.TheVariants.{Disk}
 use Rattle.set_model.specs.declared.store.Store.{Store}
-use Rattle.node_core.specs.Acting.{Follows}
+use Rattle.node_core.specs.Acting.{Follows, IsThere}
 use Rattle.node_core.specs.declared.coming_up.Found.{Found}
 use Rattle.node_core.specs.Coming.{IsFound, is_there, settled}
 use Rattle.node_core.specs.Down.{down_node, down_state, seen_node}
 use Rattle.node_core.specs.Opening.{ReopensInTurn}
 use Rattle.node_core.proofs.ActingLemmas.{past_first}
 use Rattle.node_core.proofs.PuttingLemmas.{runs_as, runs_then}
-use Rattle.node_core.proofs.ReopeningLemmas.{found_settles, goes_up, lies_on, opened_both, reopened, stands_checkpoints}
+use Rattle.node_core.proofs.ReopeningLemmas.{found_settles, found_there, goes_up, lies_on, opened_both, reopened, stands_checkpoints}
 use Rattle.node_core.proofs.coming_up.come_up.Goals as goal
 
 -- what is there was in doubt
@@ -129,6 +129,20 @@ returns-in_ok-prepared-in-Ok-clause-settles g c = λ is. (
       (sym c.in_ok-prepared-in-Ok.ensures.kept ∙ sym c.go_up.ensures.kept ∙ is),
   c.go_up.ensures.passes,
 )
+
+pub returns-in_ok-prepared-in-Ok-clause-found : goal.returns-in_ok-prepared-in-Ok-clause-found
+returns-in_ok-prepared-in-Ok-clause-found g c = λ passes.
+    let node = down_node c.args.state.now.node (down_state c.args.left.now) in
+    let j = g.D.Disk.state c.args.disks.now.journal.0 in
+    let k = g.D.Disk.state c.args.disks.now.checkpoints in
+    let told : c.go_up.result.kept ≡ is_there c.args.left.now.doubt c.args.disks.now.count c.in-Ok.found =
+    c.go_up.ensures.kept ∙ c.in_ok-prepared-in-Ok.ensures.kept ∙ ap (λ (n : ℕ). is_there c.args.left.now.doubt n c.in-Ok.found) c.open_both.ensures.count in
+    subst (λ (b : Bool). IfSome c.args.left.now.doubt (λ item. b ≡ true ↔ IsThere node item j k)) (sym told)
+    (found_there node c.args.disks.now.count j (g.D.Disk.state c.open_both.new.disks.journal.0) k (g.D.Disk.state c.open_both.new.disks.checkpoints)
+    c.in-Ok.found c.requires.lies c.in-Ok.ensures.read)
+
+pub returns-in-Err-Disk-clause-found : goal.returns-in-Err-Disk-clause-found
+returns-in-Err-Disk-clause-found g c = λ passes. absurd (past_first c.disk_failed.result.failed passes c.disk_failed.ensures.failed)
 
 pub returns-in-Err-Disk-clause-runs : goal.returns-in-Err-Disk-clause-runs
 returns-in-Err-Disk-clause-runs g c =

@@ -21,7 +21,8 @@ returns-in-Some-clause-ok g c =
 pub returns-in-Some-clause-disks : goal.returns-in-Some-clause-disks
 returns-in-Some-clause-disks g c =
     let world : World = record { nodes = nodes_in c.args.nodes.now; messages = c.args.pool.now.messages } in
-    own_disks g.D.Disk.state c.in-Some.number c.len-next.result c.args.pool.now.messages c.args.command.now c.args.nodes.now c.act_on.new.nodes c.act_on.result (c.in-Some.ensures.some world) c.act_on.ensures.ok
+    own_disks g.D.Disk.state c.in-Some.number c.len-next.result c.args.pool.now.messages c.args.command.now c.args.nodes.now c.act_on.new.nodes c.act_on.result (c.in-Some.ensures.some world)
+    c.len-next.ensures c.act_on.ensures.ok
 
 pub returns-in-Some-clause-err : goal.returns-in-Some-clause-err
 returns-in-Some-clause-err g c =
@@ -44,7 +45,7 @@ returns-in-Some-delivered-clause-disks g c =
     let world : World = record { nodes = nodes_in c.args.nodes.now; messages = c.args.pool.now.messages } in
     let none : is_delivery c.args.command.now ≡ true = c.in-None.ensures.none in
     taken_disks g.D.Disk.state c.len-next.result c.args.pool.now.messages c.in-Some-delivered.message.now c.args.command.now c.args.nodes.now c.take_at.new.nodes c.take_at.result
-    (c.in-Some-delivered.ensures.some world refl none) none c.take_at.ensures.ok
+    (c.in-Some-delivered.ensures.some world refl none) c.len-next.ensures none c.take_at.ensures.ok
 
 pub returns-in-Some-delivered-clause-err : goal.returns-in-Some-delivered-clause-err
 returns-in-Some-delivered-clause-err g c =
@@ -66,4 +67,4 @@ returns-in-None-delivered-clause-ok g c =
 pub returns-in-None-delivered-clause-disks : goal.returns-in-None-delivered-clause-disks
 returns-in-None-delivered-clause-disks g c =
     let world : World = record { nodes = nodes_in c.args.nodes.now; messages = c.args.pool.now.messages } in
-    nobody_disks world c.args.command.now c.nothing.result c.args.nodes.now _ (c.in-None-delivered.ensures.none world refl c.in-None.ensures.none) c.nothing.ensures.failed
+    λ line. nobody_disks world c.args.command.now c.nothing.result c.args.nodes.now _ (c.in-None-delivered.ensures.none world refl c.in-None.ensures.none) c.nothing.ensures.failed

@@ -18,7 +18,7 @@ returns-then-not-self-clause-ok g c =
     c.self.view_is
     (λ nodes next number. acted_come s.up n.up s.state.node n.state.node (down_state s.left) (down_state n.left) n.disks.count
     (g.D.Disk.state s.disks.journal.0) (g.D.Disk.state n.disks.journal.0) (g.D.Disk.state s.disks.checkpoints) (g.D.Disk.state n.disks.checkpoints) down
-    c.come_up.result c.come_up.ensures.follows c.come_up.ensures.settles c.come_up.ensures.rests c.come_up.ensures.runs c.come_up.ensures.opening nodes next number)
+    c.come_up.result c.come_up.ensures.follows c.come_up.ensures.settles c.come_up.ensures.rests c.come_up.ensures.runs c.come_up.ensures.opening c.come_up.ensures.found nodes next number)
 
 pub returns-then-not-self-clause-err : goal.returns-then-not-self-clause-err
 returns-then-not-self-clause-err g c =
@@ -38,4 +38,4 @@ returns-clause-ok g c =
     (g.D.Disk.state v.1) (g.D.Disk.state v.1) (g.D.Disk.state v.2) (g.D.Disk.state v.2) c.answered.result)
     c.self.view_is
     (λ nodes next number. acted_up s.up s.state.node (down_state s.left) s.disks.count (g.D.Disk.state s.disks.journal.0) (g.D.Disk.state s.disks.checkpoints) c.answered.result up
-    c.recall_sound.ensures.up c.self.invariant c.answered.ensures.reply c.answered.ensures.sent c.answered.ensures.failed c.answered.ensures.unkept nodes next number)
+    c.recall_sound.ensures.up c.recall_sound.ensures.settled c.self.invariant c.answered.ensures.reply c.answered.ensures.sent c.answered.ensures.failed c.answered.ensures.unkept nodes next number)
