@@ -1,5 +1,6 @@
 -- The events of one call of a stream, and what it comes to.
-use Rattle.std.specs.Prelude.{◌≡◌, ◌⊎◌, ℕ, Bool, List, Result, Ok, Err, Some, length}
+use Rattle.std.specs.Prelude.{◌≡◌, ◌⊎◌, ℕ, Bool, List, [], ◌∷◌, ◌++◌, Result, Ok, Err, Some, length}
+use mathlib.Core.Logic.{inl, inr}
 use Rattle.rs_optime.specs.declared.optime.OpTime.{OpTime}
 use Rattle.oplog_entry.specs.declared.entry.Entry.{Entry}
 use Rattle.set_model.specs.declared.command.Command.{Command}
@@ -72,3 +73,48 @@ module _ (alone : Bool) (sizes : Sizes) (old new : List Event) where
   Fails token node most HistoryFull = Breaks node HistoryFull
   Fails token node most Memory =
       Breaks node Memory ⊎ ((entries : List Entry) × Tells token node most (Ok entries))
+
+  -- ---- with whoever steps the set
+
+  -- the two events of a call
+  abbrev pub both : {node term : ℕ} {commit : OpTime} {log : List Entry} → Asks node term commit log
+      → List Event
+  both asks = asks.first.event ∷ asks.second.event ∷ []
+
+  -- those of a call that was refused, and of one that was broken off
+  abbrev pub did_refused : (node : ℕ) → IsRefused node → List Event
+  did_refused node (inl first) = first.event ∷ []
+  did_refused node (inr begun) = begun.first.event ∷ begun.on.event ∷ []
+
+  abbrev pub did_before : (node : ℕ) → IsBrokenOff node → List Event
+  did_before node (inl learns) = []
+  did_before node (inr begun) = begun.first.event ∷ []
+
+  abbrev pub did : (node : ℕ) (error : WatchError) → Breaks node error → List Event
+  did node NodeDown refused = did_refused node refused
+  did node UnknownToken none = []
+  did node HistoryFull broken = did_before node broken.0
+  did node Memory broken = did_before node broken
+
+  abbrev pub did_failing : (token : OpTime) (node most : ℕ) (error : WatchError)
+      → Fails token node most error → List Event
+  did_failing token node most NodeDown refused = did_refused node refused
+  did_failing token node most UnknownToken tells = both tells.asks
+  did_failing token node most HistoryFull broken = did_before node broken.0
+  did_failing token node most Memory (inl broken) = did_before node broken
+  did_failing token node most Memory (inr told) = both told.1.asks
+
+  -- The same, and these events and no others are its own, in their order.
+  module _ (own own' : List Event) where
+    abbrev pub OwnReads : ℕ → OpTime → List Entry → Type 0
+    OwnReads node commit log = (reads : Reads node commit log) × (own' ≡ own ++ both reads.1)
+
+    abbrev pub OwnTells : OpTime → ℕ → ℕ → Result (List Entry) WatchError → Type 0
+    OwnTells token node most told = (tells : Tells token node most told) × (own' ≡ own ++ both tells.asks)
+
+    abbrev pub OwnBreaks : ℕ → WatchError → Type 0
+    OwnBreaks node error = (breaks : Breaks node error) × (own' ≡ own ++ did node error breaks)
+
+    abbrev pub OwnFails : OpTime → ℕ → ℕ → WatchError → Type 0
+    OwnFails token node most error =
+        (fails : Fails token node most error) × (own' ≡ own ++ did_failing token node most error fails)

@@ -2,9 +2,9 @@ ghost use Rattle.std.specs.Prelude.{◌≡◌, ◌≢◌, ◌<◌, ◌≤◌, le
 ghost use Rattle.oplog_entry.specs.Lawful.{IsLawful};
 ghost use Rattle.oplog_entry.specs.Log.{IsOplog};
 ghost use Rattle.set_world.specs.declared.error.StepError.{StepError as AStepError};
-ghost use Rattle.set_world.specs.Stepper.{IsDefined, Learns};
+ghost use Rattle.set_world.specs.Stepper.{AddsOne, IsDefined, Learns};
 ghost use Rattle.change_stream.specs.declared.error.WatchError.{WatchError as AWatchError};
-ghost use Rattle.change_stream.specs.Asking.{Breaks, Does, Fails, Reads, Tells};
+ghost use Rattle.change_stream.specs.Asking.{Does, OwnBreaks, OwnFails, OwnReads, OwnTells};
 ghost use Rattle.change_stream.specs.Calls.{token_behind};
 ghost use Rattle.change_stream.specs.Shown.{shown_log, shown_state};
 ghost use Rattle.set_model.specs.Run.{HISTORY_LIMIT};
@@ -57,10 +57,10 @@ pub fn next<R: Threads + Wait + Sync, S: Stepper>(
     requires node { node < (S.sizes set.old).nodes }
     requires max { 1 ≤ max }
     requires most { max ≤ 1000 }
-    ensures ok { IfOk result (λ entries. Tells S.is_alone (S.sizes set.old) (S.known set.old)
-        (S.known set.new) stream.old.token node max (Ok entries.items)) }
-    ensures err { IfErr result (λ error. Fails S.is_alone (S.sizes set.old) (S.known set.old)
-        (S.known set.new) stream.old.token node max error) }
+    ensures ok { IfOk result (λ entries. OwnTells S.is_alone (S.sizes set.old) (S.known set.old)
+        (S.known set.new) (S.own set.old) (S.own set.new) stream.old.token node max (Ok entries.items)) }
+    ensures err { IfErr result (λ error. OwnFails S.is_alone (S.sizes set.old) (S.known set.old)
+        (S.known set.new) (S.own set.old) (S.own set.new) stream.old.token node max error) }
     ensures lawful { IfOk result (λ entries. All IsLawful entries.items) }
     ensures start { stream.new.start ≡ stream.old.start }
     ensures token { IfOk result (λ entries. stream.new.token
@@ -87,11 +87,11 @@ fn read<R: Threads + Wait + Sync, S: Stepper>(
     node: u32,
 ) -> Result<(OpTime, Vec<Entry>), WatchError>
     requires { node < (S.sizes set.old).nodes }
-    ensures ok { IfOk result (λ shown. Reads S.is_alone (S.sizes set.old) (S.known set.old) (S.known set.new)
-        node shown.0 shown.1.items) }
+    ensures ok { IfOk result (λ shown. OwnReads S.is_alone (S.sizes set.old) (S.known set.old)
+        (S.known set.new) (S.own set.old) (S.own set.new) node shown.0 shown.1.items) }
     ensures oplog { IfOk result (λ shown. IsOplog shown.1.items) }
-    ensures err { IfErr result (λ error. Breaks S.is_alone (S.sizes set.old) (S.known set.old)
-        (S.known set.new) node error) }
+    ensures err { IfErr result (λ error. OwnBreaks S.is_alone (S.sizes set.old) (S.known set.old)
+        (S.known set.new) (S.own set.old) (S.own set.new) node error) }
     ensures sizes { S.sizes set.new ≡ S.sizes set.old }
     ensures stays { S.stays set.old set.new }
     ensures whole { S.is_whole set.old → result ≢ Err AWatchError.Memory → S.is_whole set.new }
@@ -120,6 +120,8 @@ fn ask_state<R: Threads + Wait + Sync, S: Stepper>(
     ensures step { IfOk result (λ reply. Does S.is_alone (S.sizes set.old) (S.known set.old) (S.known set.new)
         (Command.State node) reply) }
     ensures err { OnErr result (Learns S.is_alone (S.known set.old) (S.known set.new)) }
+    ensures own { IfOk result (λ reply. AddsOne (S.known set.new) (S.own set.old) (S.own set.new)) }
+    ensures idle { OnErr result (S.own set.new ≡ S.own set.old) }
     ensures full { IsErrOf result AStepError.HistoryFull → length (S.known set.new) ≡ HISTORY_LIMIT }
     ensures sizes { S.sizes set.new ≡ S.sizes set.old }
     ensures stays { S.stays set.old set.new }
@@ -140,6 +142,8 @@ fn ask_log<R: Threads + Wait + Sync, S: Stepper>(
     ensures step { IfOk result (λ reply. Does S.is_alone (S.sizes set.old) (S.known set.old) (S.known set.new)
         (Command.Log node) reply) }
     ensures err { OnErr result (Learns S.is_alone (S.known set.old) (S.known set.new)) }
+    ensures own { IfOk result (λ reply. AddsOne (S.known set.new) (S.own set.old) (S.own set.new)) }
+    ensures idle { OnErr result (S.own set.new ≡ S.own set.old) }
     ensures full { IsErrOf result AStepError.HistoryFull → length (S.known set.new) ≡ HISTORY_LIMIT }
     ensures sizes { S.sizes set.new ≡ S.sizes set.old }
     ensures stays { S.stays set.old set.new }

@@ -317,9 +317,9 @@ module _ (alone : Bool) (sizes : Sizes) (old new : List Event) (stays : Primarie
 
 -- ---- the call
 
-pub went_shown : {S : Type 0} (alone : Bool) (sizes : S → Sizes) (known : S → List Event) (stays : S → S → Type 0) (is_whole : S → Type 0) (old new : S) (number nodes : ℕ) (collection : List ℕ) (id : Value)
-    → PrimariesStay (sizes old) (known new) → (result : Result LinearAnswer StepError) → Went alone sizes known stays is_whole old new (linear number nodes collection id) result
+pub went_shown : {S : Type 0} (alone : Bool) (sizes : S → Sizes) (known own : S → List Event) (stays : S → S → Type 0) (is_whole : S → Type 0) (old new : S) (number nodes : ℕ) (collection : List ℕ) (id : Value)
+    → PrimariesStay (sizes old) (known new) → (result : Result LinearAnswer StepError) → Went alone sizes known own stays is_whole old new (linear number nodes collection id) result
     → IfOk result (λ answer. IsShown (sizes old) (known new) (length (known old)) number collection id answer)
-went_shown alone sizes known stays is_whole old new number nodes collection id law (Ok answer) went =
-    shows alone (sizes old) (known old) (known new) law number nodes collection id answer went.held
-went_shown alone sizes known stays is_whole old new number nodes collection id law (Err error) went = tt
+went_shown alone sizes known own stays is_whole old new number nodes collection id law (Ok answer) went =
+    shows alone (sizes old) (known old) (known new) law number nodes collection id answer went.held.0
+went_shown alone sizes known own stays is_whole old new number nodes collection id law (Err error) went = tt

@@ -1,5 +1,6 @@
 -- A talk that is held with a set, which others may step too: each command of it is one event.
-use Rattle.std.specs.Prelude.{◌≡◌, ◌⊎◌, Bool, List}
+use Rattle.std.specs.Prelude.{◌≡◌, ◌⊎◌, Bool, List, [], ◌∷◌, ◌++◌}
+use mathlib.Core.Logic.{inl, inr}
 use Rattle.set_model.specs.declared.command.Event.{Event}
 use Rattle.set_model.specs.declared.reply.Reply.{Reply}
 use Rattle.set_model.specs.Run.{Sizes}
@@ -21,3 +22,30 @@ module _ (alone : Bool) (sizes : Sizes) where
       Learns alone old new
       ⊎ ((between : List Event) × (reply : Reply) × StepsOnce alone sizes old between 0 command reply
       × IsBrokenOff between new (next reply))
+
+  -- ---- with whoever steps the set
+
+  -- the events of the commands of a talk that was held
+  abbrev pub did : {A : Type 0} (old new : List Event) (talk : Talk A) (told : A) → IsHeld old new talk told
+      → List Event
+  did old new (tells answer) told held = []
+  did old new (asks command next) told held =
+      held.2.event ∷ did held.0 new (next held.1) told held.3
+
+  -- and of one that was broken off
+  abbrev pub did_before : {A : Type 0} (old new : List Event) (talk : Talk A) → IsBrokenOff old new talk
+      → List Event
+  did_before old new (tells answer) broken = []
+  did_before old new (asks command next) (inl learns) = []
+  did_before old new (asks command next) (inr on) =
+      on.2.event ∷ did_before on.0 new (next on.1) on.3
+
+  -- The whole talk was held. Its own events are one for each command, in their order, and no others.
+  abbrev pub Holds : {A : Type 0} → List Event → List Event → List Event → List Event → Talk A → A → Type 0
+  Holds old new own own' talk told =
+      (held : IsHeld old new talk told) × (own' ≡ own ++ did old new talk told held)
+
+  -- A front of the talk was held, by its own events in the same way.
+  abbrev pub BreaksOff : {A : Type 0} → List Event → List Event → List Event → List Event → Talk A → Type 0
+  BreaksOff old new own own' talk =
+      (broken : IsBrokenOff old new talk) × (own' ≡ own ++ did_before old new talk broken)

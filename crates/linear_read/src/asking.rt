@@ -22,7 +22,7 @@ pub(crate) fn ask<R: Threads + Wait + Sync, S: Stepper>(
     command: Command,
 ) -> Result<Reply, StepError>
     requires { is_for (S.sizes set.old).nodes command ≡ true }
-    ensures went { Went S.is_alone S.sizes S.known S.stays S.is_whole set.old set.new
+    ensures went { Went S.is_alone S.sizes S.known S.own S.stays S.is_whole set.old set.new
         (asks command tells) result }
     ensures stays { S.stays set.old set.new }
     ensures defined { IsDefined (S.sizes set.new) (S.known set.new) }
@@ -36,7 +36,7 @@ pub(crate) fn deliver<R: Threads + Wait + Sync, S: Stepper>(
     set: &mut S,
     message: Option<u64>,
 ) -> Result<Option<Reply>, StepError>
-    ensures { Went S.is_alone S.sizes S.known S.stays S.is_whole set.old set.new
+    ensures { Went S.is_alone S.sizes S.known S.own S.stays S.is_whole set.old set.new
         (delivers message) result }
 {
     let Some(message) = message else {
@@ -53,7 +53,7 @@ pub(crate) fn carry<R: Threads + Wait + Sync, S: Stepper>(
     command: Command,
 ) -> Result<Option<Reply>, StepError>
     requires { is_for (S.sizes set.old).nodes command ≡ true }
-    ensures { Went S.is_alone S.sizes S.known S.stays S.is_whole set.old set.new
+    ensures { Went S.is_alone S.sizes S.known S.own S.stays S.is_whole set.old set.new
         (carries command) result }
 {
     let message = message_sent(&ask(rt, set, command)?);

@@ -5,7 +5,7 @@ ghost use Rattle.set_model.specs.Limits.{is_collection, is_for};
 ghost use Rattle.set_model.specs.Run.{HISTORY_LIMIT};
 ghost use Rattle.set_world.specs.declared.error.StepError.{StepError as AStepError};
 ghost use Rattle.set_world.specs.Stepper.{IsDefined};
-ghost use Rattle.linear_read.specs.Asking.{IsBrokenOff, IsHeld};
+ghost use Rattle.linear_read.specs.Asking.{BreaksOff, Holds};
 ghost use Rattle.linear_read.specs.Going.{Went};
 ghost use Rattle.linear_read.specs.Linear.{IsShown};
 ghost use Rattle.linear_read.specs.Points.{acknowledges, confirms, in_term, linear};
@@ -43,12 +43,12 @@ pub fn linear_read<R: Threads + Wait + Sync, S: Stepper>(
     requires nodes { nodes ≡ (S.sizes set.old).nodes }
     requires node { node < nodes }
     requires collection { is_collection coll.now ≡ true }
-    ensures ok { IfOk result (λ answer. IsHeld S.is_alone (S.sizes set.old) (S.known set.old)
-        (S.known set.new) (linear node nodes coll.now id.now) answer) }
+    ensures ok { IfOk result (λ answer. Holds S.is_alone (S.sizes set.old) (S.known set.old)
+        (S.known set.new) (S.own set.old) (S.own set.new) (linear node nodes coll.now id.now) answer) }
     ensures shown { IfOk result (λ answer. IsShown (S.sizes set.old) (S.known set.new)
         (length (S.known set.old)) node coll.now id.now answer) }
-    ensures err { OnErr result (IsBrokenOff S.is_alone (S.sizes set.old) (S.known set.old)
-        (S.known set.new) (linear node nodes coll.now id.now)) }
+    ensures err { OnErr result (BreaksOff S.is_alone (S.sizes set.old) (S.known set.old)
+        (S.known set.new) (S.own set.old) (S.own set.new) (linear node nodes coll.now id.now)) }
     ensures full { IsErrOf result AStepError.HistoryFull → length (S.known set.new) ≡ HISTORY_LIMIT }
     ensures sizes { S.sizes set.new ≡ S.sizes set.old }
     ensures stays { S.stays set.old set.new }
@@ -72,7 +72,7 @@ fn ask_points<R: Threads + Wait + Sync, S: Stepper>(
     requires nodes { nodes ≡ (S.sizes set.old).nodes }
     requires node { node < nodes }
     requires collection { is_collection coll.now ≡ true }
-    ensures went { Went S.is_alone S.sizes S.known S.stays S.is_whole set.old set.new
+    ensures went { Went S.is_alone S.sizes S.known S.own S.stays S.is_whole set.old set.new
         (linear node nodes coll.now id.now) result }
     ensures stays { S.stays set.old set.new }
     ensures defined { IsDefined (S.sizes set.new) (S.known set.new) }
@@ -109,7 +109,7 @@ fn read_in_term<R: Threads + Wait + Sync, S: Stepper>(
     requires nodes { nodes ≡ (S.sizes set.old).nodes }
     requires node { node < nodes }
     requires read { is_for nodes read ≡ true }
-    ensures { Went S.is_alone S.sizes S.known S.stays S.is_whole set.old set.new
+    ensures { Went S.is_alone S.sizes S.known S.own S.stays S.is_whole set.old set.new
         (in_term node nodes read term) result }
 {
     let shown = match document_shown(ask(rt, set, read)?) {
@@ -133,7 +133,7 @@ fn confirm<R: Threads + Wait + Sync, S: Stepper>(
 ) -> Result<Option<Refusal>, StepError>
     requires nodes { nodes ≡ (S.sizes set.old).nodes }
     requires node { node < nodes }
-    ensures { Went S.is_alone S.sizes S.known S.stays S.is_whole set.old set.new
+    ensures { Went S.is_alone S.sizes S.known S.own S.stays S.is_whole set.old set.new
         (confirms node nodes term) result }
 {
     match note_written(term, &ask(rt, set, Command::Note { node })?) {
@@ -152,7 +152,7 @@ fn acknowledge<R: Threads + Wait + Sync, S: Stepper>(
 ) -> Result<Option<Refusal>, StepError>
     requires nodes { nodes ≡ (S.sizes set.old).nodes }
     requires node { node < nodes }
-    ensures { Went S.is_alone S.sizes S.known S.stays S.is_whole set.old set.new
+    ensures { Went S.is_alone S.sizes S.known S.own S.stays S.is_whole set.old set.new
         (acknowledges node nodes at) result }
 {
     flush(rt, set, node, MOST_FLUSHES)?;

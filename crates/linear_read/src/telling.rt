@@ -25,7 +25,7 @@ pub(crate) fn flush<R: Threads + Wait + Sync, S: Stepper>(
     most: u32,
 ) -> Result<(), StepError>
     requires node { node < (S.sizes set.old).nodes }
-    ensures { Went S.is_alone S.sizes S.known S.stays S.is_whole set.old set.new
+    ensures { Went S.is_alone S.sizes S.known S.own S.stays S.is_whole set.old set.new
         (flushes node most) result }
 {
     for _ in 0..most {
@@ -46,7 +46,7 @@ pub(crate) fn tell_others<R: Threads + Wait + Sync, S: Stepper>(
 ) -> Result<(), StepError>
     requires nodes { nodes ≡ (S.sizes set.old).nodes }
     requires node { node < nodes }
-    ensures { Went S.is_alone S.sizes S.known S.stays S.is_whole set.old set.new
+    ensures { Went S.is_alone S.sizes S.known S.own S.stays S.is_whole set.old set.new
         (others_told node at 0 nodes) result }
 {
     for other in 0..nodes {
@@ -65,7 +65,7 @@ fn tell<R: Threads + Wait + Sync, S: Stepper>(
 ) -> Result<(), StepError>
     requires node { node < (S.sizes set.old).nodes }
     requires other { other < (S.sizes set.old).nodes }
-    ensures { Went S.is_alone S.sizes S.known S.stays S.is_whole set.old set.new
+    ensures { Went S.is_alone S.sizes S.known S.own S.stays S.is_whole set.old set.new
         (told node other at) result }
 {
     if other == node {
@@ -90,7 +90,7 @@ fn repeat_rounds<R: Threads + Wait + Sync, S: Stepper>(
 ) -> Result<(), StepError>
     requires node { node < (S.sizes set.old).nodes }
     requires other { other < (S.sizes set.old).nodes }
-    ensures { Went S.is_alone S.sizes S.known S.stays S.is_whole set.old set.new
+    ensures { Went S.is_alone S.sizes S.known S.own S.stays S.is_whole set.old set.new
         (rounds node other at 50) result }
 {
     for _ in 0..MOST_ROUNDS {
@@ -112,7 +112,7 @@ fn has_round<R: Threads + Wait + Sync, S: Stepper>(
 ) -> Result<bool, StepError>
     requires node { node < (S.sizes set.old).nodes }
     requires other { other < (S.sizes set.old).nodes }
-    ensures { Went S.is_alone S.sizes S.known S.stays S.is_whole set.old set.new
+    ensures { Went S.is_alone S.sizes S.known S.own S.stays S.is_whole set.old set.new
         (round node other at) result }
 {
     let is_heard = message_replied(&carry(

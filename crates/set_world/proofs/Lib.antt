@@ -8,6 +8,6 @@ pub mod NodesLemmas
 mod OpenLemmas
 pub mod PointedLemmas
 mod PoolLemmas
-mod StepperLemmas
+pub mod StepperLemmas
 pub mod WentLemmas
 mod WorldLemmas

@@ -28,3 +28,10 @@ pub record StepsOnce (alone : Bool) (sizes : Sizes) (old new : List Event) (line
   pub command_is : event.command ≡ command
   pub new_is : new ≡ met ++ event ∷ []
   pub reply_is : reply ≡ (step (run sizes met).world event).reply
+
+-- The last event is one of its own, and it added no other.
+pub record AddsOne (known own own' : List Event) : Type 0 where
+  pub earlier : List Event
+  pub event : Event
+  pub known_is : known ≡ earlier ++ event ∷ []
+  pub own_is : own' ≡ own ++ event ∷ []

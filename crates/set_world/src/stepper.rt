@@ -3,7 +3,7 @@ ghost use Rattle.std.specs.Thread.{IsSync};
 ghost use Rattle.set_model.specs.Limits.{is_for};
 ghost use Rattle.set_model.specs.Run.{HISTORY_LIMIT};
 ghost use Rattle.set_world.specs.declared.error.StepError.{StepError as AStepError};
-ghost use Rattle.set_world.specs.Stepper.{IsDefined, Learns, StepsOnce};
+ghost use Rattle.set_world.specs.Stepper.{AddsOne, IsDefined, Learns, StepsOnce};
 
 use crate::{StepError, World};
 use rs_disk::Disk;
@@ -22,6 +22,9 @@ pub trait Stepper {
 
     // The events that it knows, oldest first.
     ghost known: { Self → List Event };
+
+    // The events that it added itself, oldest first.
+    ghost own: { Self → List Event };
 
     // Whether no one else steps the set.
     ghost is_alone: { Bool };
@@ -48,6 +51,8 @@ pub trait Stepper {
         ensures step { IfOk result (λ reply.
             StepsOnce is_alone (sizes self.old) (known self.old) (known self.new) line command.now reply) }
         ensures err { OnErr result (Learns is_alone (known self.old) (known self.new)) }
+        ensures own { IfOk result (λ reply. AddsOne (known self.new) (own self.old) (own self.new)) }
+        ensures idle { OnErr result (own self.new ≡ own self.old) }
         ensures full { IsErrOf result AStepError.HistoryFull → length (known self.new) ≡ HISTORY_LIMIT }
         ensures sizes { sizes self.new ≡ sizes self.old }
         ensures stays { stays self.old self.new }
@@ -65,6 +70,8 @@ impl<D: Disk> Stepper for World<D> {
     ghost sizes = { λ set. set.sizes };
 
     ghost known = { λ set. set.history };
+
+    ghost own = { λ set. set.history };
 
     ghost is_alone = { true };
 

@@ -1,16 +1,16 @@
 -- What a call tells of the events that a pass has seen.
-use Rattle.std.proofs.Common.{◌∙◌, ap, sym, subst, ℕ, false, List, [], ◌∷◌, ◌++◌, append_assoc}
+use Rattle.std.proofs.Common.{◌≡◌, ◌∙◌, ap, drop, sym, subst, ℕ, false, List, [], ◌∷◌, ◌++◌, append_assoc}
 use mathlib.Core.List.{IsPrefix}
 use Rattle.set_model.specs.declared.command.Command.{Command}
 use Rattle.set_model.specs.declared.command.Event.{Event}
 use Rattle.set_model.specs.declared.reply.Reply.{Reply}
 use Rattle.set_model.specs.Run.{Sizes}
-use Rattle.set_world.specs.Stepper.{Learns, StepsOnce}
+use Rattle.set_world.specs.Stepper.{AddsOne, Learns, StepsOnce}
 use Rattle.turn_board.specs.declared.view.View.{View}
-use Rattle.turn_board.specs.History.{events}
+use Rattle.turn_board.specs.History.{events, names}
 use Rattle.turn_board.specs.Views.{seen}
 use Rattle.turn_board.proofs.Sums.{events_append}
-use Rattle.shared_set.specs.Calls.{Steps, Waits}
+use Rattle.shared_set.specs.Calls.{Keeps, Steps, Waits, own_calls}
 
 module _ {F : Type 0} (sizes : Sizes) (v w : View Event F) where
   -- what was seen later goes on what was seen
@@ -34,4 +34,42 @@ module _ {F : Type 0} (sizes : Sizes) (v w : View Event F) where
     new_is = ap (λ (u : View Event F). seen u) steps.now
         ∙ ap (λ l. v.begun ++ l) (events_append steps.turns ((steps.pass, steps.event) ∷ [])) ∙ sym (append_assoc v.begun (events steps.turns) (steps.event ∷ []));
     reply_is = steps.reply_is;
+  }
+
+  -- ---- its own events
+
+  pub adds_one : (line : ℕ) (command : Command) (place : ℕ) (answer : Reply) → Steps sizes v w line command place answer → AddsOne (seen w) (own_calls v.calls) (own_calls w.calls)
+  adds_one line command place answer steps = record {
+    earlier = v.begun ++ events steps.turns;
+    event = steps.event;
+    known_is = ap (λ (u : View Event F). seen u) steps.now
+        ∙ ap (λ l. v.begun ++ l) (events_append steps.turns ((steps.pass, steps.event) ∷ [])) ∙ sym (append_assoc v.begun (events steps.turns) (steps.event ∷ []));
+    own_is = ap (λ (u : View Event F). own_calls u.calls) steps.now ∙ ap (λ (cs : List (ℕ × List Event)). own_calls cs ++ steps.event ∷ []) (sym steps.calls);
+  }
+
+  pub same_own : Waits sizes v w → own_calls w.calls ≡ own_calls v.calls
+  same_own waits = ap (λ (u : View Event F). own_calls u.calls) waits.now
+
+  -- ---- and what stays of its pass
+
+  pub keeps_stepped : (line : ℕ) (command : Command) (place : ℕ) (answer : Reply) → Steps sizes v w line command place answer → Keeps v w
+  keeps_stepped line command place answer steps = record {
+    parts = ap (λ (u : View Event F). u.parts) steps.now;
+    numbers = ap (λ (u : View Event F). names u.calls) steps.now ∙ ap (λ (cs : List (ℕ × List Event)). names cs) (sym steps.calls);
+    others = ap (λ (u : View Event F). drop 1 u.calls) steps.now ∙ ap (λ (cs : List (ℕ × List Event)). drop 1 cs) (sym steps.calls);
+    begins = (
+      steps.meets.begins.0 ++ (steps.pass, steps.event) ∷ [],
+      sym (append_assoc v.turns steps.meets.begins.0 ((steps.pass, steps.event) ∷ [])) ∙ ap (λ (l : List (ℕ × Event)). l ++ (steps.pass, steps.event) ∷ []) steps.meets.begins.1
+          ∙ ap (λ (u : View Event F). u.turns) (sym steps.now),
+    );
+    answers = ap (λ (u : View Event F). u.answers) steps.now;
+  }
+
+  pub keeps_waited : Waits sizes v w → Keeps v w
+  keeps_waited waits = record {
+    parts = ap (λ (u : View Event F). u.parts) waits.now;
+    numbers = ap (λ (u : View Event F). names u.calls) waits.now;
+    others = ap (λ (u : View Event F). drop 1 u.calls) waits.now;
+    begins = (waits.meets.begins.0, waits.meets.begins.1 ∙ ap (λ (u : View Event F). u.turns) (sym waits.now));
+    answers = ap (λ (u : View Event F). u.answers) waits.now;
   }

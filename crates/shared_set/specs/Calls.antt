@@ -1,6 +1,7 @@
 -- What the calls on a shared set tell a pass. A turn is an event, with the number of the pass whose call it
 -- was.
-use Rattle.std.specs.Prelude.{◌≡◌, ◌≤◌, ◌++◌, ◌∷◌, [], ℕ, List, Result, Ok, Err, length}
+use Rattle.std.specs.Prelude.{◌≡◌, ◌≤◌, ◌++◌, ◌∷◌, [], ℕ, List, Result, Ok, Err, drop, length}
+use Rattle.std.proofs.Common.{◌∙◌, ap, sym, append_assoc}
 use mathlib.Core.List.{IsPrefix}
 use Rattle.set_model.specs.declared.command.Command.{Command}
 use Rattle.set_model.specs.declared.command.Event.{Event}
@@ -52,6 +53,33 @@ pub record Waits {F : Type 0} (sizes : Sizes) (v w : View Event F) : Type 0 wher
   pub turns : List (ℕ × Event)
   pub meets : Meets sizes v turns
   pub now : w ≡ saw v turns
+
+-- the calls of the pass itself: not those of the passes that were joined into it
+abbrev pub own_calls : List (ℕ × List Event) → List Event
+own_calls [] = []
+own_calls (first ∷ others) = first.1
+
+-- The pass has seen more of the history and done more calls, and nothing else of it has changed.
+pub record Keeps {F : Type 0} (v w : View Event F) : Type 0 where
+  pub parts : w.parts ≡ v.parts
+  pub numbers : names w.calls ≡ names v.calls
+  pub others : drop 1 w.calls ≡ drop 1 v.calls
+  pub begins : IsPrefix v.turns w.turns
+  pub answers : w.answers ≡ v.answers
+
+-- what two steps keep
+pub keeps_on : {F : Type 0} (one two three : View Event F) → Keeps one two → Keeps two three → Keeps one three
+keeps_on one two three first second = record {
+  parts = second.parts ∙ first.parts;
+  numbers = second.numbers ∙ first.numbers;
+  others = second.others ∙ first.others;
+  begins = (
+    first.begins.0 ++ second.begins.0,
+    sym (append_assoc one.turns first.begins.0 second.begins.0)
+        ∙ ap (λ (l : List (ℕ × Event)). l ++ second.begins.0) first.begins.1 ∙ second.begins.1,
+  );
+  answers = second.answers ∙ first.answers;
+}
 
 -- the number is that of the node after some history which begins with all that the pass has seen, and no
 -- number that the pass saw of it was above

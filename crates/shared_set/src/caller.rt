@@ -10,7 +10,8 @@ use set_world::{StepError, Stepper};
 use std::sync::Wait;
 use std::thread::Threads;
 
-/// A shared set with the pass of one thread, which waits for no turn and has none.
+/// A shared set with the pass of one thread, which waits for no turn and has none. Its own events are the
+/// calls of the pass, which keeps its parts: with all of them it closes the set later.
 pub struct Caller<'a, D: Disk> {
     pub set: &'a SharedSet<D>,
     pub pass: &'a mut Pass<D>,
@@ -22,19 +23,27 @@ impl<'a, D: Disk> Stepper for Caller<'a, D> {
     ghost use Rattle.std.proofs.Common.{◌∙◌};
     ghost use Rattle.turn_board.specs.Passes.{view};
     ghost use Rattle.turn_board.specs.Views.{seen};
+    ghost use Rattle.shared_set.specs.Calls.{Keeps, keeps_on, own_calls};
     ghost use Rattle.shared_set.specs.Passes.{sizes_of};
 
     ghost sizes = { λ caller. sizes_of caller.set.now };
 
     ghost known = { λ caller. seen (view caller.pass.now) };
 
+    ghost own = { λ caller. own_calls (view caller.pass.now).calls };
+
     ghost is_alone = { false };
 
-    ghost stays = { λ old new. (new.set ≡ old.set) × (new.pass.ghost_name ≡ old.pass.ghost_name) };
+    ghost stays = { λ old new. (new.set ≡ old.set) × (new.pass.ghost_name ≡ old.pass.ghost_name)
+        × Keeps (view old.pass.now) (view new.pass.now) };
 
     ghost is_whole = { λ _. Unit {0} };
 
-    ghost stays_on = { λ one two three first second. (second.0 ∙ first.0, second.1 ∙ first.1) };
+    ghost stays_on = { λ one two three first second. (
+      second.0 ∙ first.0,
+      second.1 ∙ first.1,
+      keeps_on (view one.pass.now) (view two.pass.now) (view three.pass.now) first.2 second.2,
+    ) };
 
     fn step<R: Threads + Wait + Sync>(
         &mut self,

@@ -1,4 +1,4 @@
-use Rattle.linear_read.proofs.Exits.{in_term_went, state_refused, unmade, went_leads}
+use Rattle.linear_read.proofs.Exits.{in_term_went, state_breaks, state_refused, unmade, went_leads}
 use Rattle.linear_read.specs.Points.{in_term}
 use Rattle.linear_read.proofs.reading.ask_points.Goals as goal
 
@@ -17,10 +17,14 @@ returns-clause-went g c =
 
 pub returns-clause-stays : goal.returns-clause-stays
 returns-clause-stays g c =
-    (went_leads g.S.Stepper.is_alone g.S.Stepper.sizes g.S.Stepper.known g.S.Stepper.stays g.S.Stepper.is_whole c.ask.new.set c.read_in_term.new.set
+    (went_leads g.S.Stepper.is_alone g.S.Stepper.sizes g.S.Stepper.known g.S.Stepper.own g.S.Stepper.stays g.S.Stepper.is_whole c.ask.new.set c.read_in_term.new.set
     (in_term c.args.node c.args.nodes c.in_ok-read.read c.in-Ok.term) c.read_in_term.result c.read_in_term.ensures).stays_so c.args.set.now c.in_ok-ask.ensures.stays
 
 pub returns-clause-defined : goal.returns-clause-defined
 returns-clause-defined g c =
-    (went_leads g.S.Stepper.is_alone g.S.Stepper.sizes g.S.Stepper.known g.S.Stepper.stays g.S.Stepper.is_whole c.ask.new.set c.read_in_term.new.set
+    (went_leads g.S.Stepper.is_alone g.S.Stepper.sizes g.S.Stepper.known g.S.Stepper.own g.S.Stepper.stays g.S.Stepper.is_whole c.ask.new.set c.read_in_term.new.set
     (in_term c.args.node c.args.nodes c.in_ok-read.read c.in-Ok.term) c.read_in_term.result c.read_in_term.ensures).defined c.in_ok-ask.ensures.defined
+
+pub returns-in_err-ask-clause-went : goal.returns-in_err-ask-clause-went
+returns-in_err-ask-clause-went g c =
+    state_breaks c.args.node c.args.nodes c.args.coll.now c.args.id.now c.in_err-ask.ensures.went c.from_residual.result c.from_residual.ensures

@@ -1,5 +1,6 @@
 use Rattle.std.proofs.Common.{rules}
-use Rattle.linear_read.proofs.Loops.{flushes_repeat, repeat_breaks, repeat_ends, repeat_next}
+use Rattle.linear_read.specs.Points.{flushes}
+use Rattle.linear_read.proofs.Loops.{flushes_repeat, repeat_begins, repeat_breaks, repeat_done, repeat_ends, repeat_next}
 use Rattle.linear_read.proofs.telling.flush.Goals as goal
 
 pub returns-in_err-ask : goal.returns-in_err-ask
@@ -13,3 +14,9 @@ returns-then-not-is_flushed g c =
 pub loop-preserved : goal.loop-preserved
 loop-preserved g c =
     repeat_next (flushes_repeat c.args.node) c.args.most c.loop.counter c.loop.invariant c.loop-test.true c.in_ok-ask.field-0 c.in_ok-ask.ensures.went (search rules)
+
+pub returns : goal.returns
+returns g c = repeat_done (flushes_repeat c.args.node) c.args.most c.loop.counter c.loop.invariant c.loop-test.false
+
+pub loop-init : goal.loop-init
+loop-init g c = repeat_begins (flushes c.args.node) c.args.most
