@@ -103,6 +103,7 @@ pub record Grows (before after : Kept) (list : List Entry) : Type 0 where
   pub entries : after.entries ≡ before.entries ++ some
   pub point : after.point ≡ last_of after.entries
   pub vote : after.vote ≡ before.vote
+  pub config : after.config ≡ before.config
 
 same_head : (x y : Record) (xs ys : List Record) → x ∷ xs ≡ y ∷ ys → x ≡ y
 same_head x y xs ys same = cc
@@ -127,7 +128,7 @@ pub fronts : (n : ℕ) (before : Kept) (list : List Entry) (f g : List Record) �
     → AllPairs StandsBefore (before.entries ++ list) → before.point ≡ last_of before.entries
     → (grows : Grows before (fold with_record before f) list) × (g ≡ [] → grows.behind ≡ [])
 fronts n before list [] g few is order point = (
-  record { some = []; behind = list; is = refl; entries = sym (append-nil before.entries); point = point; vote = refl },
+  record { some = []; behind = list; is = refl; entries = sym (append-nil before.entries); point = point; vote = refl; config = refl },
   λ none. none_behind list (is ∙ none),
 )
 fronts n before [] (r ∷ f) g few is order point = absurd (no_records r (f ++ g) is)
@@ -157,6 +158,7 @@ fronts (suc n) before (e ∷ list) (r ∷ f) g few is order point =
       entries = grows.entries ∙ ap (λ (l : List Entry). l ++ grows.some) added ∙ append_assoc before.entries some grows.some;
       point = grows.point;
       vote = grows.vote;
+      config = grows.config;
     } in
     subst (λ (x : Record). (grown : Grows before (fold with_record (with_record before x) f) all) × (g ≡ [] → grown.behind ≡ [])) this
     (mine, more.1)

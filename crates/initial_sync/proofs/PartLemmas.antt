@@ -34,6 +34,7 @@ missing_renewed copy items = ap (missing copy) (same_but_form items)
 pub of_renewed : (term : ℕ) (log : List Entry) (items : List Record) → IsOf term log (kept items) → IsOf term log (kept (renewed items))
 of_renewed term log items is = record {
   vote = ap (λ (k : Kept). k.vote) (same_but_form items) ∙ is.vote;
+  config = ap (λ (k : Kept). k.config) (same_but_form items) ∙ is.config;
   entries = ap (λ (k : Kept). k.entries) (same_but_form items) ∙ is.entries;
   point = ap (λ (k : Kept). k.point) (same_but_form items) ∙ is.point;
 }
@@ -58,6 +59,7 @@ pub record IsBase (copy : Copy) (found : Kept) (stable : Stable) : Type 0 where
 is_of_itself : (term : ℕ) (log : List Entry) (found : Kept) → IsOf term log found → IsOf found.vote.term found.entries found
 is_of_itself term log found is = record {
   vote = is.vote ∙ ap (λ (t : ℕ). vote_of t) (sym (ap (λ (v : Vote). v.term) is.vote));
+  config = is.config;
   entries = refl;
   point = is.point ∙ ap last_of (sym is.entries);
 }
@@ -100,10 +102,10 @@ pub record HasCome (copy : Copy) (found after : Kept) : Type 0 where
   pub is : IsOf copy.term log after
 
 module _ (copy : Copy) (found : Kept) (is : IsOf found.vote.term found.entries found) (begins : Begins found.entries copy.entries) (order : AllPairs StandsBefore copy.entries) where
-  grown : (before : Kept) (f g : List Record) → before.entries ≡ found.entries → before.point ≡ found.point → before.vote ≡ record { term = copy.term; candidate = None }
+  grown : (before : Kept) (f g : List Record) → before.entries ≡ found.entries → before.point ≡ found.point → before.config ≡ None → before.vote ≡ record { term = copy.term; candidate = None }
       → batches (drop (length found.entries) copy.entries) ≡ f ++ g
       → (come : HasCome copy found (fold with_record before f)) × (g ≡ [] → come.log ≡ copy.entries)
-  grown before f g same point vote split =
+  grown before f g same point config vote split =
       let rest = begins.0 in
       let behind : drop (length found.entries) copy.entries ≡ rest = ap (drop (length found.entries)) begins.1 ∙ drop_at found.entries rest _ refl in
       let ordered : AllPairs StandsBefore (before.entries ++ rest) = subst (λ (l : List Entry). AllPairs StandsBefore (l ++ rest)) (sym same) (subst (AllPairs StandsBefore) begins.1 order) in
@@ -116,7 +118,7 @@ module _ (copy : Copy) (found : Kept) (is : IsOf found.vote.term found.entries f
           log = found.entries ++ grows.some;
           longer = (grows.some, refl);
           begins = (grows.behind, whole);
-          is = record { vote = grows.vote ∙ vote; entries = entries; point = grows.point ∙ ap last_of entries };
+          is = record { vote = grows.vote ∙ vote; config = grows.config ∙ config; entries = entries; point = grows.point ∙ ap last_of entries };
         },
         λ none. sym (whole ∙ ap (λ (l : List Entry). (found.entries ++ grows.some) ++ l) (both.1 none) ∙ append-nil (found.entries ++ grows.some)),
       )
@@ -129,7 +131,7 @@ module _ (copy : Copy) (found : Kept) (is : IsOf found.vote.term found.entries f
           → (f ≡ []) ⊎ HasCome copy found (fold with_record found f)
       by_test true same f split =
           let terms : found.vote.term ≡ copy.term = grind (arith, nat_tests) in
-          inr (grown found f g refl refl (is.vote ∙ ap (λ (t : ℕ). new_vote t) terms) split).0
+          inr (grown found f g refl refl is.config (is.vote ∙ ap (λ (t : ℕ). new_vote t) terms) split).0
         where
           new_vote : ℕ → Vote
           new_vote t = record { term = t; candidate = None }
@@ -138,7 +140,7 @@ module _ (copy : Copy) (found : Kept) (is : IsOf found.vote.term found.entries f
           let vote : Record = records.Vote (record { term = copy.term; candidate = None }) in
           let first : vote ≡ r = cc in
           let rest : batches (drop (length found.entries) copy.entries) ≡ f ++ g = cc in
-          inr (subst (λ (x : Record). HasCome copy found (fold with_record (with_record found x) f)) first (grown (with_record found vote) f g refl refl refl rest).0)
+          inr (subst (λ (x : Record). HasCome copy found (fold with_record (with_record found x) f)) first (grown (with_record found vote) f g refl refl is.config refl rest).0)
 
   pub come_whole : (items f : List Record) → missing copy found ≡ f → IsOf copy.term copy.entries (fold with_record found f)
   come_whole items f split = by_test (nat_eq found.vote.term copy.term) refl f (split ∙ sym (append-nil f))
@@ -150,7 +152,7 @@ module _ (copy : Copy) (found : Kept) (is : IsOf found.vote.term found.entries f
           → IsOf copy.term copy.entries (fold with_record found f)
       by_test true same f split =
           let terms : found.vote.term ≡ copy.term = grind (arith, nat_tests) in
-          let both = grown found f [] refl refl (is.vote ∙ ap (λ (t : ℕ). new_vote t) terms) split in
+          let both = grown found f [] refl refl is.config (is.vote ∙ ap (λ (t : ℕ). new_vote t) terms) split in
           done (fold with_record found f) both.0 (both.1 refl)
         where
           new_vote : ℕ → Vote
@@ -160,7 +162,7 @@ module _ (copy : Copy) (found : Kept) (is : IsOf found.vote.term found.entries f
           let vote : Record = records.Vote (record { term = copy.term; candidate = None }) in
           let first : vote ≡ r = cc in
           let rest : batches (drop (length found.entries) copy.entries) ≡ f ++ [] = cc in
-          let both = grown (with_record found vote) f [] refl refl refl rest in
+          let both = grown (with_record found vote) f [] refl refl is.config refl rest in
           subst (λ (x : Record). IsOf copy.term copy.entries (fold with_record (with_record found x) f)) first (done (fold with_record (with_record found vote) f) both.0 (both.1 refl))
 
 -- ---- a part or the whole

@@ -22,9 +22,10 @@ pub record Copy : Type 0 where
   pub term : ℕ
   pub entries : List Entry
 
--- this term without a vote, and these entries up to the last one
+-- this term without a vote, no configuration, and these entries up to the last one
 pub record IsOf (term : ℕ) (log : List Entry) (state : Kept) : Type 0 where
   pub vote : state.vote ≡ record { term = term; candidate = None }
+  pub config : state.config ≡ None
   pub entries : state.entries ≡ log
   pub point : state.point ≡ last_of log
 
@@ -87,7 +88,7 @@ empty_part copy j c no_journal no_checkpoints journal left checkpoints here = in
       spelled = tt;
       has = inl (omega (arith, ap length (no_journal.leaves journal left)), refl);
     };
-    is = record { vote = refl; entries = refl; point = refl };
+    is = record { vote = refl; config = refl; entries = refl; point = refl };
   };
   none = record {
     records = [];
