@@ -6,6 +6,12 @@ class Fault(Exception):
     """A transcript that isn't as it should be."""
 
 
+def ask(program, words, text):
+    """With which status the program ends on these words and this input, and what it puts."""
+    done = subprocess.run([program, *words], input=text.encode(), capture_output=True, timeout=600)
+    return done.returncode, done.stdout.decode()
+
+
 class Player:
     """Has the lines of a script, and the answers of the program by the number of their line."""
 
@@ -17,9 +23,11 @@ class Player:
         self.transcript = ""
         self.answers = {}
 
+    def script(self):
+        return "\n".join(self.lines) + "\n"
+
     def run(self):
-        script = ("\n".join(self.lines) + "\n").encode()
-        done = subprocess.run([self.program, "run"], input=script, capture_output=True, timeout=600)
+        done = subprocess.run([self.program, "run"], input=self.script().encode(), capture_output=True, timeout=600)
         told = done.stdout.decode()
         if done.returncode != 0:
             raise Fault(f"status {done.returncode}: {told[-200:]} {done.stderr.decode()[-300:]}")

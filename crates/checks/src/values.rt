@@ -1,5 +1,6 @@
-// Documents compared, walked and shown in debugging.
+// Documents compared, changed, walked and shown in debugging; an optime's text.
 use bson_doc::{Doc, Items, Mem, Text, Value};
+use rs_optime::OpTime;
 use std::alloc::Global;
 use std::test::Fail;
 
@@ -37,6 +38,27 @@ fn a_name_stands_once(rt: HostRuntime) -> Result<(), Fail> {
     let mut document = document(alloc, Value::Int32(5))?;
     let again = document.push(Text::from_str(alloc, "n")?, Value::Int32(6));
     assert!(rt; again.is_err());
+    Ok(())
+}
+
+#[test]
+fn a_field_is_set_in_its_place(rt: HostRuntime) -> Result<(), Fail> {
+    let alloc = rt.alloc();
+    let mut changed = document(alloc, Value::Int32(5))?;
+    changed.set(Text::from_str(alloc, "n")?, Value::Int32(6))?;
+    assert!(rt; changed == document(alloc, Value::Int32(6))?);
+    Ok(())
+}
+
+#[test]
+fn an_optime_is_appended(rt: HostRuntime) -> Result<(), Fail> {
+    let mut text = String::from_str(rt.alloc(), "at ")?;
+    let at = OpTime {
+        term: 1,
+        ts: (2 << 32) + 3,
+    };
+    at.write_text(&mut text)?;
+    assert!(rt; text.as_str() == "at 1/2/3");
     Ok(())
 }
 

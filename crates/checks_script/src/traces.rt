@@ -1,7 +1,11 @@
-// Traces: what is written of each command is read back, and other spellings are read as well.
+// Traces: what is written of each command is read back, other spellings are read as well, and texts are
+// checked.
 use crate::found::is_text;
 use fault_script::{CommandError, parse_command};
-use run_checker::{next_line, read_event, read_header, set_entry, write_trace};
+use run_checker::{
+    CheckError, check, next_line, read_event, read_header, set_entry, write_count, write_no_trace,
+    write_trace,
+};
 use set_model::Reply;
 use std::alloc::Global;
 use std::fmt::Write;
@@ -141,6 +145,15 @@ read n0 snapshot t 1|BadWord
 reconfig n0 {}|BadConfigText
 delete n0 t 1 |BadText(Unexpected)";
 
+/// Texts of events and replies behind a header, after what is printed of a check of them. `$` stands for a
+/// line feed.
+const CHECKED: &str =
+    r"yes 4|trace 1 1 1$event 2 - 0 campaign n0$2: won 1$event 3 - 0 drain n0$3: primary 1 noop 1/0/1$event 4 - 0 insert n0 t {_id: 1}$4: written 1/0/2$event 5 - 0 read n0 local t 1$5: found {_id: 1}$
+line 7: OtherReply|trace 1 1 1$event 2 - 0 campaign n0$2: won 1$event 3 - 0 drain n0$3: primary 1 noop 1/0/1$event 4 - 0 insert n0 t {_id: 1}$4: written 1/0/3$event 5 - 0 read n0 local t 1$5: found {_id: 1}$
+line 3: OtherReply|trace 1 1 1$event 2 0 0 campaign n0$2: won 1$event 3 - 0 drain n0$3: primary 1 noop 1/0/1$
+line 2: NoFit|trace 1 1 1$event 2 1 0 campaign n0$2: won 1$event 3 - 0 drain n0$3: primary 1 noop 1/0/1$
+line 1: BadHeader|";
+
 /// What is written of the event that a line is, with a reply behind it, or `BadEvent`.
 fn written(alloc: Global, line: &[u8]) -> Result<String, Fail> {
     let mut text = String::new(alloc);
@@ -241,6 +254,28 @@ fn other_texts_are_no_command(rt: HostRuntime) -> Result<(), Fail> {
     for row in REFUSED.lines() {
         if let Some((text, rule)) = row.split_once('|') {
             is_text(rule_of(rt.alloc(), text)?, rule)?;
+        }
+    }
+    Ok(())
+}
+
+/// What is printed of a check, without a line feed.
+fn verdict_of(alloc: Global, text: &str) -> Result<String, Fail> {
+    let bytes = text.replace(alloc, "$", "\n")?;
+    let mut out = String::new(alloc);
+    match check(alloc, bytes.as_bytes()) {
+        Ok(count) => write_count(count, &mut out)?,
+        Err(CheckError::Memory) => return Err(Fail::new("out of memory")),
+        Err(why) => write_no_trace(why, &mut out)?,
+    }
+    Ok(String::from_str(alloc, out.trim_end())?)
+}
+
+#[test]
+fn texts_are_checked(rt: HostRuntime) -> Result<(), Fail> {
+    for row in CHECKED.lines() {
+        if let Some((verdict, text)) = row.split_once('|') {
+            is_text(verdict_of(rt.alloc(), text)?, verdict)?;
         }
     }
     Ok(())

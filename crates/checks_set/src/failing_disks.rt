@@ -1,4 +1,5 @@
 // Disks that fail: each of a run's, in each of its calls in turn and in each way.
+use crate::restarts::{are_answered, is_brought_back};
 use crate::running::{Failing, NOTHING, RUN, WRITTEN, ended};
 use std::alloc::Global;
 use std::sync::Wait;
@@ -45,7 +46,7 @@ begin n0 w2 insert t {_id: 2}\ncommit n0 w2\nflush n0\ncrash n0\nrestart n0\ncam
 crash n0\nrestart n0\nrestart n0\nlog n0\n";
 
 /// A primary rolls back what it wrote while another was elected.
-const TWO_LOST: &str =
+pub const TWO_LOST: &str =
     "set 3\ncampaign n0\ndeliver m0\ndeliver m2\ndrain n0\nheartbeat n0 n1\ndeliver n0 n1
 fetch n1\ndeliver n1 n0\ndeliver n0 n1\ninsert n0 t {_id: 1}\ninsert n0 t {_id: 2}\ncampaign n1\ndeliver m8
 deliver m9\ndrain n1\ncommon n0 n1\ndeliver m10\ndeliver m11\nrolled n0
@@ -93,6 +94,21 @@ fn is_refused_once(put: &str, whole: &str) -> bool {
     }
 }
 
+/// The same, and whether the node comes back then, and each added restart is answered.
+fn is_refused<R: Threads + Wait + Sync>(
+    rt: &R,
+    alloc: Global,
+    script: &str,
+    put: &str,
+    whole: &str,
+    failing: Failing<'_>,
+) -> Result<bool, Fail> {
+    if !is_refused_once(put, whole) || !are_answered(script, put) {
+        return Ok(false);
+    }
+    is_brought_back(rt, alloc, script, put, failing)
+}
+
 /// Whether the run ends as it is to, whichever of the disk's calls fails, and in whichever way. Behind the
 /// last call there is none to fail.
 fn is_borne<R: Threads + Wait + Sync>(rt: &R, alloc: Global, on: OnDisk) -> Result<bool, Fail> {
@@ -110,7 +126,7 @@ fn is_borne<R: Threads + Wait + Sync>(rt: &R, alloc: Global, on: OnDisk) -> Resu
             let is_so = if call > calls {
                 status == 0 && put == whole
             } else if call > opening.calls {
-                status == 0 && is_refused_once(&put, &whole)
+                status == 0 && is_refused(rt, alloc, script, &put, &whole, failing)?
             } else {
                 status == opening.status && put.as_str() == opening.put
             };

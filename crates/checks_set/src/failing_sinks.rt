@@ -1,4 +1,5 @@
 // Sinks and a source that fail in a call of theirs.
+use crate::failing_disks::TWO_LOST;
 use crate::running::{Failing, NOTHING, RUN, WRITTEN, ended};
 use std::alloc::Global;
 use std::sync::Wait;
@@ -20,7 +21,7 @@ type IntoSink = (
     &'static [&'static str],
 );
 
-const SINKS: [IntoSink; 6] = [
+const SINKS: [IntoSink; 7] = [
     (
         RUN,
         "set 1\ncampaign n0\ndrain n0\nlog n0\ncrash n0",
@@ -29,6 +30,37 @@ const SINKS: [IntoSink; 6] = [
             DRAINED,
             "4: entries 1\n  1/0/1 n {msg: \"new primary\"}\n",
             "5: down\n",
+        ],
+    ),
+    (
+        RUN,
+        TWO_LOST,
+        &[
+            "2: candidate 1 sent m0 2\n",
+            "3: replied m2\n",
+            "4: won 1\n",
+            "5: primary 1 noop 1/0/1\n",
+            "6: sent m3\n",
+            "7: replied m4\n",
+            "8: sent m5 to n0\n",
+            "9: replied m6\n",
+            "10: took 1 last 1/0/1\n",
+            "11: written 1/0/2\n",
+            "12: written 1/0/3\n",
+            "13: candidate 2 sent m7 2\n",
+            "14: replied m9\n",
+            "15: won 2\n",
+            "16: primary 2 noop 2/0/2\n",
+            "17: sent m10\n",
+            "18: replied m11\n",
+            "19: rolled back to 1/0/1 removed 2\n",
+            "20: documents 2\n  t {_id: 1}\n  t {_id: 2}\n",
+            "21: refused 30 NotDown\n",
+            "22: entries 1\n  1/0/1 n {msg: \"new primary\"}\n",
+            "23: refused 30 NotDown\n",
+            "24: entries 2\n  1/0/1 n {msg: \"new primary\"}\n  2/0/2 n {msg: \"new primary\"}\n",
+            "25: refused 30 NotDown\n",
+            "26: entries 0\n",
         ],
     ),
     (

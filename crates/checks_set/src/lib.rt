@@ -11,4 +11,10 @@ mod failing_disks;
 #[cfg(test)]
 mod failing_sinks;
 #[cfg(test)]
+mod members;
+#[cfg(test)]
+mod restarts;
+#[cfg(test)]
 mod running;
+#[cfg(test)]
+mod traces;

@@ -11,4 +11,6 @@ mod failover;
 #[cfg(test)]
 mod readers;
 #[cfg(test)]
+mod sessions;
+#[cfg(test)]
 mod shared;
