@@ -18,7 +18,7 @@ use Rattle.set_world.specs.World.{event_of, nodes_in}
 use Rattle.set_world.proofs.NodesLemmas.{node_at}
 use Rattle.set_model.proofs.RunLemmas.{world_of-append}
 use Rattle.set_model.specs.Pointed.{committed, committed_among, most_from, pointed}
-use Rattle.set_world.specs.Points.{ArePointed, IsRaised}
+use Rattle.set_world.specs.Points.{ArePointed, IsRaised, RaisesOnly}
 
 max_of_three : (a b c : ℕ) → max a (max b c) ≡ max (max a b) c
 max_of_three a b c = omega arith
@@ -75,6 +75,12 @@ module _ (sizes : Sizes) (events : List Event) (event : Event) (number : ℕ) wh
       let left = le-max_left (pointed sizes events number) (committed_among (run sizes (events ++ event ∷ [])).world.nodes number) in
       let same = pointed_more in
       omega (arith, left, same)
+
+pub raises_only : (sizes : Sizes) (history later : List Event) (event : Event) → later ≡ history ++ event ∷ [] → RaisesOnly (touched_node (run sizes history).world event.command) sizes history later
+raises_only sizes history later event more = subst (RaisesOnly (touched_node (run sizes history).world event.command) sizes history) (sym more) (record {
+  others = λ number other. pointed_other sizes history event number other;
+  none_falls = λ number. pointed_rises sizes history event number;
+})
 
 -- ---- the numbers that a set keeps
 

@@ -1,5 +1,5 @@
 -- The numbers that a set keeps of what its nodes have had committed.
-use Rattle.std.specs.Prelude.{◌≡◌, ◌≢◌, ℕ, max, List, length, slice_index}
+use Rattle.std.specs.Prelude.{◌≡◌, ◌≢◌, ◌≤◌, ℕ, max, List, length, slice_index}
 use Rattle.set_model.specs.declared.command.Event.{Event}
 use Rattle.set_model.specs.Node.{Node}
 use Rattle.set_model.specs.Pointed.{committed_among, pointed}
@@ -15,3 +15,8 @@ pub record IsRaised (number : ℕ) (nodes : List Node) (old new : List ℕ) : Ty
   pub size : length new ≡ length old
   pub here : slice_index new number ≡ max (slice_index old number) (committed_among nodes number)
   pub others : (other : ℕ) → other ≢ number → slice_index new other ≡ slice_index old other
+
+-- From these events to those, the number of no node but this one changed, and none fell.
+pub record RaisesOnly (touched : ℕ) (sizes : Sizes) (old new : List Event) : Type 0 where
+  pub others : (number : ℕ) → number ≢ touched → pointed sizes new number ≡ pointed sizes old number
+  pub none_falls : (number : ℕ) → pointed sizes old number ≤ pointed sizes new number

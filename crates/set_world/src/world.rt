@@ -7,6 +7,7 @@ ghost use Rattle.set_model.specs.Run.{HISTORY_LIMIT, AreSizes, run};
 ghost use Rattle.set_model.specs.World.{touched_node};
 ghost use Rattle.set_world.specs.declared.error.StepError.{StepError as AStepError};
 ghost use Rattle.set_world.specs.Disks.{AllBegin, AllStand, IsStep, NothingDone, Opens};
+ghost use Rattle.set_world.specs.Points.{RaisesOnly};
 ghost use Rattle.set_world.specs.Pool.{IsBetweenNodes};
 ghost use Rattle.set_world.specs.Went.{DisksWent};
 ghost use Rattle.set_world.specs.World.{event_of, nodes_in};
@@ -180,6 +181,8 @@ impl<D: Disk> World<D> {
         ensures full { IsErrOf result AStepError.HistoryFull ↔ length self.old.history ≡ HISTORY_LIMIT }
         ensures untouched { IsErrOf result AStepError.HistoryFull → self.new ≡ self.old }
         ensures err { OnErr result (NothingDone D.state self.old self.new command.now) }
+        ensures points { OnOk result (RaisesOnly (touched_node (run self.old.sizes self.old.history).world
+            command.now) self.old.sizes self.old.history self.new.history) }
         ensures sizes { self.new.sizes ≡ self.old.sizes }
         ensures opened { self.new.opened ≡ self.old.opened }
         ensures whole { OnOk result (self.new.whole ≡ self.old.whole) }
@@ -209,6 +212,8 @@ impl<D: Disk> World<D> {
         ensures full { IsErrOf result AStepError.HistoryFull ↔ length self.old.history ≡ HISTORY_LIMIT }
         ensures untouched { IsErrOf result AStepError.HistoryFull → self.new ≡ self.old }
         ensures err { OnErr result (NothingDone D.state self.old self.new command) }
+        ensures points { OnOk result (RaisesOnly (touched_node (run self.old.sizes self.old.history).world
+            command) self.old.sizes self.old.history self.new.history) }
         ensures sizes { self.new.sizes ≡ self.old.sizes }
         ensures opened { self.new.opened ≡ self.old.opened }
         ensures whole { OnOk result (self.new.whole ≡ self.old.whole) }

@@ -1,14 +1,15 @@
 use Rattle.std.proofs.Common.{◌≡◌, ◌∙◌, ◌<◌, ◌≤◌, ◌++◌, ◌∷◌, [], false, true, List, ap, refl, sym, subst, rules, arith, length, take, drop}
 use Rattle.set_model.specs.Limits.{is_for}
-use Rattle.set_model.specs.Run.{Sizes}
-use Rattle.set_model.specs.World.{task}
+use Rattle.set_model.specs.Run.{Sizes, run}
+use Rattle.set_model.specs.World.{task, touched_node}
 use Rattle.node_core.specs.Acting.{DisksLeft}
 use Rattle.set_world.specs.Acting.{EachNodeStands}
 use Rattle.set_world.specs.Disks.{IsStep, NothingDone}
+use Rattle.set_world.specs.Points.{RaisesOnly}
 use Rattle.set_world.specs.World.{Set, disks_in, event_of, nodes_in}
 use Rattle.set_world.proofs.DiskLemmas.{stepped, undone, untouched}
 use Rattle.set_world.proofs.NodesLemmas.{nodes_long, whole}
-use Rattle.set_world.proofs.PointedLemmas.{kept_on, raised_on}
+use Rattle.set_world.proofs.PointedLemmas.{kept_on, raised_on, raises_only}
 use Rattle.set_world.proofs.WentLemmas.{went_step, went_undone}
 use Rattle.set_world.proofs.WorldLemmas.{GoesOn, acts_now, as_many, goes_on, named_there, stands_still}
 use Rattle.set_world.proofs.world.World.take.Goals as goal
@@ -148,6 +149,13 @@ returns-clause-step g c =
     (rw same (stepped g.D.Disk.state (record { nodes = c.self.inside.size; voters = c.self.inside.voters; members = c.self.inside.members }) c.self.inside.history.items c.self.inside.nodes.items c.deref_mut.result.now
     c.act.new.nodes c.self.inside.idle.items (disks_in c.self.inside.first_nodes.value.items ++ c.self.inside.first_idle.value.items) c.self.inside.whole c.self.inside.pool.messages c.make_room.new.pool.messages c.args.command c.self.invariant.0.reached.world c.deref_mut.ensures.value
     c.make_room.ensures.messages c.put.new.history.items c.args.line c.in-Ok-act.done items on.reply c.in-Ok-act.ensures.disks)))
+
+pub returns-clause-points : goal.returns-clause-points
+returns-clause-points g c =
+    let items : c.put.new.history.items ≡ c.self.inside.history.items ++ event_of c.args.line c.args.command c.in-Ok-act.done ∷ [] = search rules in
+    subst (λ (s : Set g.row.D.Denot). RaisesOnly (touched_node (run s.sizes s.history).world c.args.command) s.sizes s.history c.put.new.history.items) c.self.view_is
+    (raises_only (record { nodes = c.self.inside.size; voters = c.self.inside.voters; members = c.self.inside.members }) c.self.inside.history.items c.put.new.history.items
+    (event_of c.args.line c.args.command c.in-Ok-act.done) items)
 
 pub returns-in-Err-clause-unused : goal.returns-in-Err-clause-unused
 returns-in-Err-clause-unused g c = λ still.
