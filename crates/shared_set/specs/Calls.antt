@@ -54,6 +54,11 @@ pub record Waits {F : Type 0} (sizes : Sizes) (v w : View Event F) : Type 0 wher
   pub meets : Meets sizes v turns
   pub now : w ≡ saw v turns
 
+-- the reply alone
+abbrev pub reply_in : Result (ℕ × Reply) StepError → Result Reply StepError
+reply_in (Ok done) = Ok done.1
+reply_in (Err error) = Err error
+
 -- the calls of the pass itself: not those of the passes that were joined into it
 abbrev pub own_calls : List (ℕ × List Event) → List Event
 own_calls [] = []

@@ -1,6 +1,7 @@
 // One of several that step a set.
 ghost use Rattle.std.specs.Prelude.{◌≡◌};
 ghost use Rattle.turn_board.specs.Passes.{IsFree};
+ghost use Rattle.shared_set.specs.Calls.{reply_in};
 ghost use Rattle.shared_set.specs.Passes.{IsPass};
 
 use crate::shared::{Pass, SharedSet};
@@ -51,7 +52,15 @@ impl<'a, D: Disk> Stepper for Caller<'a, D> {
         line: u32,
         command: &Command,
     ) -> Result<Reply, StepError> {
-        let (_, reply) = self.set.step(rt, self.pass, line, command)?;
-        Ok(reply)
+        let answer = self.set.step(rt, self.pass, line, command);
+        reply_in(answer)
     }
+}
+
+/// What a step answers, without the place of its event.
+fn reply_in(answer: Result<(u32, Reply), StepError>) -> Result<Reply, StepError>
+    ensures { result ≡ reply_in answer }
+{
+    let (_, reply) = answer?;
+    Ok(reply)
 }
