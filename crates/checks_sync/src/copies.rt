@@ -1,9 +1,11 @@
-// Copies of a log of 4,001 entries: the power goes at each call of a disk, and a second copy goes on.
+// Copies of a log of 4,001 entries, and of one with documents: the power goes at each call of a disk, and a
+// second copy goes on.
 ghost use Rattle.std.specs.Prelude.{◌<◌, ◌^◌};
 ghost use Rattle.rs_disk.specs.Memory.{state_of};
 ghost use Rattle.initial_sync.specs.Copies.{AreCopyDisks};
 ghost use Rattle.initial_sync.specs.Pinned.{IsPinned};
 
+use crate::documents::{DOCUMENTS, documents};
 use crate::noops::noops;
 use checkpoint_store::Checkpoints;
 use initial_sync::{CopyError, Pinned, copy};
@@ -84,6 +86,7 @@ struct Contents {
     entries: u64,
     point: OpTime,
     at: OpTime,
+    documents: u64,
 }
 
 fn contents_of(alloc: Global, target: Target) -> Result<Contents, Fail>
@@ -101,6 +104,7 @@ fn contents_of(alloc: Global, target: Target) -> Result<Contents, Fail>
         entries: kept.entries.as_slice().len() as u64,
         point: kept.point,
         at: stable.at,
+        documents: stable.documents.into_map().len() as u64,
     })
 }
 
@@ -111,6 +115,7 @@ const WHOLE: Contents = Contents {
     entries: COUNT,
     point: OpTime { term: 1, ts: COUNT },
     at: OpTime { term: 1, ts: COUNT },
+    documents: 0,
 };
 
 #[test]
@@ -173,6 +178,41 @@ fn a_copy_goes_on_where_the_checkpoints_were_cut_off(rt: HostRuntime) -> Result<
             assert_eq!(rt; cut, Some(CopyError::Disk), "armed for call {call}");
             assert_eq!(rt; end, None, "armed for call {call}");
             assert_eq!(rt; contents, WHOLE, "armed for call {call}");
+        }
+    }
+    Ok(())
+}
+
+// The form, a term, one record of a no-op and all inserts, and a checkpoint of the last.
+const ALL_DOCUMENTS: Contents = Contents {
+    records: 3,
+    term: 1,
+    entries: DOCUMENTS + 1,
+    point: OpTime {
+        term: 1,
+        ts: DOCUMENTS + 1,
+    },
+    at: OpTime {
+        term: 1,
+        ts: DOCUMENTS + 1,
+    },
+    documents: DOCUMENTS,
+};
+
+// The opening of an empty disk makes 3 calls, and each record 4: the checkpoint has four, one for each of
+// its two pieces, one before them and one behind.
+#[test]
+fn a_copy_of_documents_goes_on_where_it_was_cut_off(rt: HostRuntime) -> Result<(), Fail> {
+    let alloc = rt.alloc();
+    let pinned = documents(&rt, alloc)?;
+    for (name, calls) in [(Name::Journal, 15), (Name::Checkpoints, 19)] {
+        for pick in [None, Some(0), Some(1), Some(2)] {
+            for call in 1..=calls {
+                let (cut, end, contents) = cut_and_gone_on(alloc, &pinned, name, call, pick)?;
+                assert_eq!(rt; cut, Some(CopyError::Disk), "armed for call {call}");
+                assert_eq!(rt; end, None, "armed for call {call}");
+                assert_eq!(rt; contents, ALL_DOCUMENTS, "armed for call {call}");
+            }
         }
     }
     Ok(())

@@ -5,6 +5,8 @@
 #[cfg(test)]
 mod copies;
 #[cfg(test)]
+mod documents;
+#[cfg(test)]
 mod noops;
 #[cfg(test)]
 mod stable;
