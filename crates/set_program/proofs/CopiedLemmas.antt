@@ -4,7 +4,6 @@ use Rattle.std.specs.Prelude.{All}
 use Rattle.std.specs.declared.alloc.Global.{Global}
 use Rattle.rs_disk.specs.State.{State}
 use Rattle.fault_script.specs.declared.script.Part.{Part}
-use Rattle.fault_script.specs.declared.script.Script.{Script}
 use Rattle.set_model.specs.declared.command.Event.{Event}
 use Rattle.set_model.specs.Run.{Sizes}
 use Rattle.set_world.specs.Disks.{OneChanged}
@@ -22,7 +21,8 @@ use Rattle.set_program.specs.declared.stop.Stop.TheVariants.{Memory, Usage, Scri
 use Rattle.task_words.specs.declared.words.Task.{Task}
 use Rattle.task_words.specs.declared.words.Task.TheVariants.{Run, Trace, Chaos, Sync, Linear as ReadsLinear, Watch as Watches}
 use Rattle.set_program.specs.Disks.{IsUnarmed}
-use Rattle.set_program.specs.Headline.{Ends, EndsTask, EndsWithoutRun, IsAsked, status_of}
+use Rattle.set_program.specs.Calls.{Call, IsAsked}
+use Rattle.set_program.specs.Headline.{Ends, EndsTask, EndsWithoutRun, status_of}
 use Rattle.set_program.specs.Left.{disks_of}
 use Rattle.set_program.specs.Syncing.{EndsWithMember, MemberFaultCounted, ended_so}
 use Rattle.set_program.proofs.OpenLemmas.{unarmed_at}
@@ -50,8 +50,8 @@ record MemberDisks {D : Type 0} (state : D → State) (nodes : ℕ) (handed left
   checkpoints_is : slice_get left (2 * nodes + 1) ≡ Some checkpoints'
   ran : RanBoth (made ≡ Err syncs.DiskFault) (state journal) (state journal') (state checkpoints) (state checkpoints')
 
-module _ {D : Type 0} (state : D → State) (handed : List D) (task : Task) (read : Script) (old new : Option (List ℕ)) (ended : Result (Unit {0}) Stop) (events : List Event) (disks : List D)
-    (ends : EndsWithMember state handed task read old new ended events disks) where
+module _ {D : Type 0} (state : D → State) (handed : List D) (call : Call D) (old new : Option (List ℕ)) (ended : Result (Unit {0}) Stop) (events : List Event) (disks : List D)
+    (ends : EndsWithMember state handed call old new ended events disks) where
   abbrev closed : Set D
   closed = ends.member.adds.set
 
@@ -65,7 +65,7 @@ module _ {D : Type 0} (state : D → State) (handed : List D) (task : Task) (rea
   one : OneChanged state (DisksOfMember (copy_of ends.member.adds.pinned) ends.member.made) count closed.disks disks
   one = ends.member.adds.member
 
-  member_disks : MemberDisks state read.nodes handed disks ends.member.made
+  member_disks : MemberDisks state call.read.nodes handed disks ends.member.made
   member_disks = subst (λ n. MemberDisks state n handed disks ends.member.made) (ap (λ (s : Sizes). s.nodes) ends.member.sizes_are) (record {
     journal = one.journal;
     journal' = one.journal';
@@ -82,16 +82,16 @@ module _ {D : Type 0} (state : D → State) (handed : List D) (task : Task) (rea
     ran = one.changed.1;
   })
 
-  counted : ends.member.made ≡ Err syncs.DiskFault → MemberFaultCounted state read.nodes handed disks
+  counted : ends.member.made ≡ Err syncs.DiskFault → MemberFaultCounted state call.read.nodes handed disks
   counted fault = elim (member_disks.ran.cause fault) [
-    | inl rose ↦ (2 * read.nodes, member_disks.journal, member_disks.journal', omega arith, omega arith, member_disks.journal_was, member_disks.journal_is, rose)
-    | inr rose ↦ (2 * read.nodes + 1, member_disks.checkpoints, member_disks.checkpoints', omega arith, omega arith, member_disks.checkpoints_was, member_disks.checkpoints_is, rose)
+    | inl rose ↦ (2 * call.read.nodes, member_disks.journal, member_disks.journal', omega arith, omega arith, member_disks.journal_was, member_disks.journal_is, rose)
+    | inr rose ↦ (2 * call.read.nodes + 1, member_disks.checkpoints, member_disks.checkpoints', omega arith, omega arith, member_disks.checkpoints_was, member_disks.checkpoints_is, rose)
   ]
 
   unarmed : All (λ (disk : D). IsUnarmed (state disk)) handed → ends.member.made ≢ Err syncs.DiskFault
   unarmed all fault =
-      let first : IsUnarmed (state member_disks.journal) = unarmed_at state handed all (2 * read.nodes) member_disks.journal member_disks.journal_was in
-      let second : IsUnarmed (state member_disks.checkpoints) = unarmed_at state handed all (2 * read.nodes + 1) member_disks.checkpoints member_disks.checkpoints_was in
+      let first : IsUnarmed (state member_disks.journal) = unarmed_at state handed all (2 * call.read.nodes) member_disks.journal member_disks.journal_was in
+      let second : IsUnarmed (state member_disks.checkpoints) = unarmed_at state handed all (2 * call.read.nodes + 1) member_disks.checkpoints member_disks.checkpoints_was in
       elim (member_disks.ran.only_armed fault first.0 second.0) [ inl armed ↦ first.1 armed | inr armed ↦ second.1 armed ]
 
 -- ---- by the status
@@ -120,28 +120,28 @@ no_copy (Sync node) parts old new (Err CopyFault) set ends eight = ends
 no_copy Trace parts old new (Err CopyFault) set ends eight = ends
 no_copy (Chaos seed events nodes) parts old new (Err CopyFault) set ends eight = ends
 
-no_copy_unrun : (words : List (String Global)) (left rest old new : Option (List ℕ)) (ended : Result (Unit {0}) Stop) → EndsWithoutRun words left rest old new ended → status_of ended ≢ 8
-no_copy_unrun words left rest old new (Ok done) ends eight = ends
-no_copy_unrun words left rest old new (Err Memory) ends eight = cc eight
-no_copy_unrun words left rest old new (Err WriteFault) ends eight = cc eight
-no_copy_unrun words left rest old new (Err Usage) ends eight = cc eight
-no_copy_unrun words left rest old new (Err NoScript) ends eight = cc eight
-no_copy_unrun words left rest old new (Err ReadFault) ends eight = cc eight
-no_copy_unrun words left rest old new (Err TooLong) ends eight = cc eight
-no_copy_unrun words left rest old new (Err DiskFault) ends eight = cc eight
-no_copy_unrun words left rest old new (Err Refused) ends eight = cc eight
-no_copy_unrun words left rest old new (Err CopyFault) ends eight = ends
+no_copy_unrun : (Asked : Type 0) (words : List (String Global)) (left rest old new : Option (List ℕ)) (ended : Result (Unit {0}) Stop) → EndsWithoutRun Asked words left rest old new ended → status_of ended ≢ 8
+no_copy_unrun Asked words left rest old new (Ok done) ends eight = ends
+no_copy_unrun Asked words left rest old new (Err Memory) ends eight = cc eight
+no_copy_unrun Asked words left rest old new (Err WriteFault) ends eight = cc eight
+no_copy_unrun Asked words left rest old new (Err Usage) ends eight = cc eight
+no_copy_unrun Asked words left rest old new (Err NoScript) ends eight = cc eight
+no_copy_unrun Asked words left rest old new (Err ReadFault) ends eight = cc eight
+no_copy_unrun Asked words left rest old new (Err TooLong) ends eight = cc eight
+no_copy_unrun Asked words left rest old new (Err DiskFault) ends eight = cc eight
+no_copy_unrun Asked words left rest old new (Err Refused) ends eight = cc eight
+no_copy_unrun Asked words left rest old new (Err CopyFault) ends eight = ends
 
-module _ {D : Type 0} (state : D → State) (handed : List D) (words : List (String Global)) (left rest old new : Option (List ℕ)) (ended : Result (Unit {0}) Stop) where
-  pub copy_failed : (outcome : Left D) → Ends state handed words left rest old new ended outcome → status_of ended ≡ 8
-      → (read : Script) × IsAsked words left rest read × MemberFaultCounted state read.nodes handed (disks_of outcome)
-  copy_failed (World set) (task, asks, (read, is, sizes, ends)) eight = absurd (no_copy task read.parts old new ended set ends eight)
-  copy_failed (Parts events disks) (inl (none, ends)) eight = absurd (no_copy_unrun words left rest old new ended ends eight)
-  copy_failed (Parts events disks) (inr (task, asks, (read, is, ends))) eight =
-      (read, (task, asks, is), counted state handed task read old new ended events.items disks.items ends (made_so ends.member.made (ap (λ (e : Result (Unit {0}) Stop). status_of e) (sym ends.member.ends) ∙ eight)))
+module _ {D : Type 0} (state : D → State) (call : Call D) (handed : List D) (words : List (String Global)) (left rest old new : Option (List ℕ)) (ended : Result (Unit {0}) Stop) where
+  pub copy_failed : (outcome : Left D) → Ends state call handed words left rest old new ended outcome → status_of ended ≡ 8
+      → IsAsked call words left rest × MemberFaultCounted state call.read.nodes handed (disks_of outcome)
+  copy_failed (World set) (asked, sizes, ends) eight = absurd (no_copy call.task call.read.parts old new ended set ends eight)
+  copy_failed (Parts events disks) (inl (none, ends)) eight = absurd (no_copy_unrun (IsAsked call words left rest) words left rest old new ended ends eight)
+  copy_failed (Parts events disks) (inr (asked, ends)) eight =
+      (asked, counted state handed call old new ended events.items disks.items ends (made_so ends.member.made (ap (λ (e : Result (Unit {0}) Stop). status_of e) (sym ends.member.ends) ∙ eight)))
 
-  pub none_copied : (outcome : Left D) → Ends state handed words left rest old new ended outcome → All (λ (disk : D). IsUnarmed (state disk)) handed → status_of ended ≢ 8
-  none_copied (World set) (task, asks, (read, is, sizes, ends)) all eight = no_copy task read.parts old new ended set ends eight
-  none_copied (Parts events disks) (inl (none, ends)) all eight = no_copy_unrun words left rest old new ended ends eight
-  none_copied (Parts events disks) (inr (task, asks, (read, is, ends))) all eight =
-      unarmed state handed task read old new ended events.items disks.items ends all (made_so ends.member.made (ap (λ (e : Result (Unit {0}) Stop). status_of e) (sym ends.member.ends) ∙ eight))
+  pub none_copied : (outcome : Left D) → Ends state call handed words left rest old new ended outcome → All (λ (disk : D). IsUnarmed (state disk)) handed → status_of ended ≢ 8
+  none_copied (World set) (asked, sizes, ends) all eight = no_copy call.task call.read.parts old new ended set ends eight
+  none_copied (Parts events disks) (inl (none, ends)) all eight = no_copy_unrun (IsAsked call words left rest) words left rest old new ended ends eight
+  none_copied (Parts events disks) (inr (asked, ends)) all eight =
+      unarmed state handed call old new ended events.items disks.items ends all (made_so ends.member.made (ap (λ (e : Result (Unit {0}) Stop). status_of e) (sym ends.member.ends) ∙ eight))

@@ -1,7 +1,7 @@
 -- What the disks of a node went through in a whole run: they were opened, then each event did its part, and maybe commands that
 -- weren't done.
 use Rattle.std.proofs.Common.{◌≡◌, ◌∙◌, ◌<◌, ◌≤◌, ◌+◌, ◌*◌, ◌&&◌, inl, inr, ap, sym, subst, refl, arith, ℕ, zero, suc, Bool, true, nat_lt, Some, IsTrue, IsSome, List, [], ◌∷◌, Option, String, length, slice_get}
-use Rattle.std.specs.Prelude.{All, Ok}
+use Rattle.std.specs.Prelude.{All, Ok, Result, Vec}
 use Rattle.std.specs.declared.alloc.Global.{Global}
 use Rattle.std.proofs.lemmas.Bool.{cases_Bool}
 use Rattle.std.proofs.lemmas.Option.{same_Some, slice_get_cases}
@@ -26,15 +26,24 @@ use Rattle.set_world.specs.World.{Set}
 use Rattle.set_world.proofs.ActingLemmas.{plan_is, step_is}
 use Rattle.set_world.proofs.DisksOpenLemmas.{there_too}
 use Rattle.set_model.proofs.LimitLemmas.{named}
+use Rattle.set_program.specs.Calls.{AsksCheck, Call}
 use Rattle.set_program.specs.Counts.{FailedAtLeast, FailuresCount, FaultsAreArmed, FaultsHaveCauses, OfNode, EitherFaultCounted, OrdersAre, OrdersCount, failures_at}
 use Rattle.set_program.specs.Disks.{DisksPlayed, DisksRan, IsUnarmed}
-use Rattle.set_program.specs.Headline.{BreaksIn, LeavesDisks}
+use Rattle.set_program.specs.Headline.{BreaksIn, ComesTo, Ends, LeavesDisks, status_of, status_of_check}
 use Rattle.set_program.specs.Orders.{ComesNext}
-use Rattle.set_program.specs.Left.{IfSet}
+use Rattle.set_program.specs.Left.{IfSet, disks_of}
 use Rattle.set_program.specs.Syncing.{IsRunSafely}
+use Rattle.set_program.specs.Written.{GoesAsWritten, NoFaultCounted}
+use Rattle.trace_check.specs.Ends.{Ends as EndsCheck}
+use Rattle.trace_check.specs.declared.stop.CheckStop.{CheckStop}
+use Rattle.set_program.specs.declared.stop.Stop.{Stop}
 use Rattle.set_program.specs.declared.outcome.Left.{Left}
 use Rattle.set_program.specs.declared.outcome.Left.TheVariants.{World as Ran, Parts}
-use Rattle.set_program.proofs.OpenLemmas.{unarmed_at}
+use Rattle.set_program.proofs.CheckLemmas.{no_disk}
+use Rattle.set_program.proofs.CopiedLemmas.{copy_failed}
+use Rattle.set_program.proofs.EndLemmas.{no_call}
+use Rattle.set_program.proofs.OpenLemmas.{disk_failed, unarmed_at}
+use Rattle.set_program.proofs.WrittenLemmas.{goes_as_written, nothing_failed}
 use Rattle.set_program.proofs.CountLemmas.{AnswersHere, NodeHas, NodePlay, NodeStep, PlaysOn, broke, failed_wider, failures_counted, fault_caused, node_played, node_run, one_event_back, one_event_on, orders_told, plays_behind, rose_wider, undone_there, used_behind}
 
 -- ---- who armed a disk
@@ -278,29 +287,56 @@ module _ {D : Type 0} (state : D → State) (handed : List D) (many : length han
         failures = failures_of opened set sizes opens ran;
         causes = causes_of opened set sizes opens ran;
         armed = armed_of opened set sizes opens ran is_run;
+        unfailed = nothing_failed state handed set is_run (failures_of opened set sizes opens ran);
       }
 
-  module _ (words : List (String Global)) (left rest : Option (List ℕ)) (status : ℕ) where
+  module _ (call : Call D) (words : List (String Global)) (left rest old new : Option (List ℕ)) (ended : Result (Unit {0}) Stop) where
     abbrev Leaves : Left D → Type 0
-    Leaves outcome = LeavesDisks state words left rest handed status outcome
+    Leaves outcome = LeavesDisks state call words left rest handed (status_of ended) outcome
+
+    ran_set : (set : Set D) → Leaves (Ran set) → RanTo state call.opened set
+    ran_set set (asked, opens, ran) = ran_to state (status_of ended ≡ 1) (ComesNext call.read.parts set.history) (BreaksIn call.task call.read.parts) call.opened set ran
 
     pub failures_left : (outcome : Left D) → IfSet outcome (λ set. AreSizes set.sizes) → Leaves outcome → IfSet outcome (FailuresCount state handed)
     failures_left (Parts events disks) sizes leaves = tt
-    failures_left (Ran set) sizes (task, read, asked, is, (opened, opens, ran)) =
-        failures_of opened set sizes opens (ran_to state (status ≡ 1) (ComesNext read.parts set.history) (BreaksIn task read.parts) opened set ran)
+    failures_left (Ran set) sizes leaves = failures_of call.opened set sizes leaves.1 (ran_set set leaves)
 
     pub orders_left : (outcome : Left D) → IfSet outcome (λ set. AreSizes set.sizes) → Leaves outcome → IfSet outcome (OrdersCount state handed)
     orders_left (Parts events disks) sizes leaves = tt
-    orders_left (Ran set) sizes (task, read, asked, is, (opened, opens, ran)) =
-        orders_of opened set sizes opens (ran_to state (status ≡ 1) (ComesNext read.parts set.history) (BreaksIn task read.parts) opened set ran)
+    orders_left (Ran set) sizes leaves = orders_of call.opened set sizes leaves.1 (ran_set set leaves)
 
     pub causes_left : (outcome : Left D) → IfSet outcome (λ set. AreSizes set.sizes) → Leaves outcome → IfSet outcome (FaultsHaveCauses state handed)
     causes_left (Parts events disks) sizes leaves = tt
-    causes_left (Ran set) sizes (task, read, asked, from, (opened, opens, ran)) =
-        causes_of opened set sizes opens (ran_to state (status ≡ 1) (ComesNext read.parts set.history) (BreaksIn task read.parts) opened set ran)
+    causes_left (Ran set) sizes leaves = causes_of call.opened set sizes leaves.1 (ran_set set leaves)
 
     pub armed_left : (outcome : Left D) → IfSet outcome (λ set. AreSizes set.sizes) → IfSet outcome (λ set. IsRun set.sizes set.history) → Leaves outcome
         → All (λ (disk : D). IsUnarmed (state disk)) handed → IfSet outcome (λ set. FaultsAreArmed set.sizes set.history)
     armed_left (Parts events disks) sizes is_run leaves unarmed = tt
-    armed_left (Ran set) sizes is_run (task, read, asked, from, (opened, opens, ran)) unarmed =
-        armed_of opened set sizes opens (ran_to state (status ≡ 1) (ComesNext read.parts set.history) (BreaksIn task read.parts) opened set ran) is_run unarmed
+    armed_left (Ran set) sizes is_run leaves unarmed = armed_of call.opened set sizes leaves.1 (ran_set set leaves) is_run unarmed
+
+    written_left : (outcome : Left D) → IfSet outcome (λ set. AreSizes set.sizes) → IfSet outcome (λ set. IsRun set.sizes set.history) → Ends state call handed words left rest old new ended outcome → Leaves outcome
+        → NoFaultCounted state handed (disks_of outcome) → IfSet outcome (GoesAsWritten call (status_of ended))
+    written_left (Parts events disks) sizes is_run ends leaves still = tt
+    written_left (Ran set) sizes is_run ends leaves still =
+        goes_as_written call ended old new set ends.2 (nothing_failed state handed set is_run (failures_of call.opened set sizes leaves.1 (ran_set set leaves)) still)
+
+    pub comes_to : (outcome : Left D) → ¬ AsksCheck words → IfSet outcome (λ set. AreSizes set.sizes) → IfSet outcome (λ set. IsRun set.sizes set.history) → Ends state call handed words left rest old new ended outcome → Leaves outcome
+        → ComesTo state call handed words left rest old new (status_of ended) outcome
+    comes_to outcome other sizes is_run ends leaves = record {
+      answer = inr (other, (ended, refl, ends));
+      disks = leaves;
+      open_fault = disk_failed state call words left rest old new handed ended outcome ends leaves;
+      copy_fault = copy_failed state call handed words left rest old new ended outcome ends;
+      as_written = written_left outcome sizes is_run ends leaves;
+    }
+
+-- where bytes are checked nothing is run
+pub check_comes : {D : Type 0} (state : D → State) (handed : List D) (words : List (String Global)) (left rest old new : Option (List ℕ)) (ended : Result (Unit {0}) CheckStop) (events : Vec Event Global) (disks : Vec D Global)
+    → AsksCheck words → events.items ≡ [] → disks.items ≡ handed → EndsCheck left rest old new ended → ComesTo state no_call handed words left rest old new (status_of_check ended) (Parts events disks)
+check_comes state handed words left rest old new ended events disks asks none same ends = record {
+  answer = inl (asks, (none, same, (ended, refl, ends)));
+  disks = inl ((no_disk ended).0, same);
+  open_fault = λ seven. absurd ((no_disk ended).0 seven);
+  copy_fault = λ eight. absurd ((no_disk ended).1 eight);
+  as_written = λ still. tt;
+}

@@ -31,7 +31,7 @@ use Rattle.set_program.specs.declared.stop.Stop.{Stop}
 use Rattle.set_program.specs.declared.stop.Stop.TheVariants.{Memory, WriteFault}
 use Rattle.task_words.specs.declared.words.Task.{Task}
 use Rattle.task_words.specs.declared.words.Task.TheVariants.{Sync}
-use Rattle.set_program.specs.Asking.{OpensScript, RunsScript}
+use Rattle.set_program.specs.Asking.{OpensScript, PlaysScript, RunsScript, call_of}
 use Rattle.set_program.specs.Behind.{Behind, EndsBehind}
 use Rattle.set_program.specs.Causes.{of_sync}
 use Rattle.set_program.specs.Disks.{DisksPlayed}
@@ -189,9 +189,9 @@ has_events : {D : Type 0} (state : D → State) (node : ℕ) (mid : Set D) (told
 has_events state node mid told new made events disks adds none =
     let last = adds.pins.1.asks_documents in never_empty last.met last.event (sym last.new_is ∙ sym adds.events_are ∙ none)
 
-pub task_leaves : {D : Type 0} (state : D → State) (task : Task) (read : Script) (handed : List D) (begun : Set D) (left : Left D) (held now : Option (List ℕ)) (result : Result (Unit {0}) Stop)
+task_leaves : {D : Type 0} (state : D → State) (task : Task) (read : Script) (handed : List D) (begun : Set D) (left : Left D) (held now : Option (List ℕ)) (result : Result (Unit {0}) Stop)
     → begun.sizes ≡ sizes_of read → Opens state read.nodes (Ok tt) handed begun.disks → IfSet left (λ set. set.sizes ≡ begun.sizes) → IfSet left (λ set. DisksEnd state task read.parts begun.disks set (result ≡ Err Memory))
-    → IfParts left (λ events disks. MadeMember state task read.parts begun.sizes begun.disks held now result events disks) → OpensScript state task read handed (status_of result) left
+    → IfParts left (λ events disks. MadeMember state task read.parts begun.sizes begun.disks held now result events disks) → OpensScript state (call_of task read begun.disks) handed (status_of result) left
 task_leaves state task read handed begun (World set) held now result sizes opens same goes made = set_leaves state task read handed begun set result sizes same opens goes
 task_leaves state task read handed begun (Parts events disks) held now result sizes opens same goes (node, is, made) =
     inr (subst (λ r. status_of r ≢ 7) (sym made.ends) (not_opened made.made), has_events state node made.scripted made.told now made.made events.items disks.items made.adds)
@@ -226,10 +226,10 @@ module _ {D : Type 0} (state : D → State) (handed : List D) (many : length han
           (played_idle state closed.sizes closed.history (small closed.sizes closed.history sizes_there made.adds.defined) made.adds.defined first closed.disks played_closed) ∙ opens.idle;
     }
 
-  pub task_runs : (task : Task) (read : Script) (begun : Set D) (left : Left D) (held now : Option (List ℕ)) (result : Result (Unit {0}) Stop)
+  task_runs : (task : Task) (read : Script) (begun : Set D) (left : Left D) (held now : Option (List ℕ)) (result : Result (Unit {0}) Stop)
       → AreSizes (sizes_of read) → begun.sizes ≡ sizes_of read → Opens state read.nodes (Ok tt) handed begun.disks
       → IfSet left (λ set. set.sizes ≡ begun.sizes) → IfSet left (λ set. EndsTask task read.parts held now result set)
-      → IfParts left (λ events disks. MadeMember state task read.parts begun.sizes begun.disks held now result events disks) → RunsScript state handed task read held now result left
+      → IfParts left (λ events disks. MadeMember state task read.parts begun.sizes begun.disks held now result events disks) → RunsScript state (call_of task read begun.disks) handed held now result left
   task_runs task read begun (World set) held now result are sizes opens same ends made = (same ∙ sizes, ends)
   task_runs task read begun (Parts events disks) held now result are sizes opens same ends (node, is, made) =
       let soundly = made_soundly node read.parts begun.disks held now result events.items disks.items (sizes_of read) are opens
@@ -237,9 +237,19 @@ module _ {D : Type 0} (state : D → State) (handed : List D) (many : length han
       inr (record {
         node = node;
         task_is = is;
-        opened = begun.disks;
         opens = opens;
         member = soundly.made;
         sound = soundly.sound;
         idle = soundly.idle;
       })
+
+  pub task_plays : (task : Task) (read : Script) (begun : Set D) (left : Left D) (held now : Option (List ℕ)) (result : Result (Unit {0}) Stop)
+      → AreSizes (sizes_of read) → begun.sizes ≡ sizes_of read → Opens state read.nodes (Ok tt) handed begun.disks
+      → IfSet left (λ set. set.sizes ≡ begun.sizes) → IfSet left (λ set. EndsTask task read.parts held now result set)
+      → IfSet left (λ set. DisksEnd state task read.parts begun.disks set (result ≡ Err Memory))
+      → IfParts left (λ events disks. MadeMember state task read.parts begun.sizes begun.disks held now result events disks) → PlaysScript state handed task read held now result left
+  task_plays task read begun left held now result are sizes opens same ends goes made = (
+    begun.disks,
+    task_runs task read begun left held now result are sizes opens same ends made,
+    task_leaves state task read handed begun left held now result sizes opens same goes made,
+  )

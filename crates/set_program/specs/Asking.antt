@@ -14,7 +14,8 @@ use Rattle.set_program.specs.declared.outcome.Left.TheVariants.{World, Parts}
 use Rattle.set_program.specs.declared.stop.Stop.{Stop}
 use Rattle.set_program.specs.declared.stop.Stop.TheVariants.{Memory, Usage, Script as NoScript, ReadFault, WriteFault, TooLong, DiskFault, CopyFault, Refused}
 use Rattle.task_words.specs.declared.words.Task.{Task}
-use Rattle.set_program.specs.Headline.{Asks, EndsTask, EndsWithoutRun, IsFaulty, IsOneOf, IsRead, IsScriptOf, limit, opening_error}
+use Rattle.set_program.specs.Calls.{Asks, Call, IsFaulty, IsRead, IsScriptOf, limit}
+use Rattle.set_program.specs.Headline.{EndsTask, EndsWithoutRun, IsOneOf, opening_error, status_of}
 use Rattle.set_program.specs.Orders.{AnyPrefix, PutsPrefix}
 use Rattle.set_program.specs.Parts.{DisksEnd}
 use Rattle.set_program.specs.Syncing.{EndsWithMember}
@@ -23,7 +24,7 @@ use Rattle.set_program.specs.Syncing.{EndsWithMember}
 abbrev pub Reads : List (String Global) → Option (List ℕ) → Option (List ℕ) → Option (List ℕ)
     → Option (List ℕ) → Result (Task × Script) Stop → Type 0
 Reads words left rest old new (Ok (task, read)) = Asks words task × IsScriptOf task left rest read
-Reads words left rest old new (Err stop) = EndsWithoutRun words left rest old new (Err stop)
+Reads words left rest old new (Err stop) = EndsWithoutRun ⊥ words left rest old new (Err stop)
 
 -- the source's script, or why there is none
 abbrev pub ReadsSource : Option (List ℕ) → Option (List ℕ) → Option (List ℕ) → Option (List ℕ)
@@ -42,20 +43,31 @@ ReadsSource left rest old new (Err WriteFault) =
     (fault : ScriptFault) × IsFaulty left rest fault × PutsPrefix AnyPrefix old new [] (fault_text fault)
 
 -- a set of the script's sizes was run, or it couldn't be opened; or it was closed, and a new member made
-abbrev pub RunsScript : {D : Type 0} → (D → State) → List D → Task → Script → Option (List ℕ)
-    → Option (List ℕ) → Result (Unit {0}) Stop → Left D → Type 0
-RunsScript state handed task read old new ended (World set) =
-    (set.sizes ≡ sizes_of read) × EndsTask task read.parts old new ended set
-RunsScript state handed task read old new ended (Parts events disks) =
+abbrev pub RunsScript : {D : Type 0} → (D → State) → Call D → List D → Option (List ℕ) → Option (List ℕ)
+    → Result (Unit {0}) Stop → Left D → Type 0
+RunsScript state call handed old new ended (World set) =
+    (set.sizes ≡ sizes_of call.read) × EndsTask call.task call.read.parts old new ended set
+RunsScript state call handed old new ended (Parts events disks) =
     ((events.items ≡ []) × Keeps old new × ((ended ≡ Err Memory) ⊎ (ended ≡ Err DiskFault)))
-    ⊎ EndsWithMember state handed task read old new ended events.items disks.items
+    ⊎ EndsWithMember state handed call old new ended events.items disks.items
 
 -- and these disks are left
-abbrev pub OpensScript : {D : Type 0} → (D → State) → Task → Script → List D → ℕ → Left D → Type 0
-OpensScript {D} state task read handed status (World set) =
-    (opened : List D) × Opens state set.sizes.nodes (Ok tt) handed opened
-    × DisksEnd state task read.parts opened set (status ≡ 1)
-OpensScript {D} state task read handed status (Parts events disks) =
-    (IsOneOf (1 ∷ 7 ∷ []) status × Opens state read.nodes (Err (opening_error status)) handed disks.items
-    × AllBegin state (first_config read.voters read.members) read.nodes disks.items)
+abbrev pub OpensScript : {D : Type 0} → (D → State) → Call D → List D → ℕ → Left D → Type 0
+OpensScript state call handed status (World set) =
+    Opens state set.sizes.nodes (Ok tt) handed call.opened
+    × DisksEnd state call.task call.read.parts call.opened set (status ≡ 1)
+OpensScript state call handed status (Parts events disks) =
+    (IsOneOf (1 ∷ 7 ∷ []) status × Opens state call.read.nodes (Err (opening_error status)) handed disks.items
+    × AllBegin state (first_config call.read.voters call.read.members) call.read.nodes disks.items)
     ⊎ ((status ≢ 7) × (events.items ≢ []))
+
+-- the call of a script, on disks on which its set was opened
+abbrev pub call_of : {D : Type 0} → Task → Script → List D → Call D
+call_of task read opened = record { task = task; read = read; opened = opened }
+
+-- the script is run, on some disks on which its set was opened
+abbrev pub PlaysScript : {D : Type 0} → (D → State) → List D → Task → Script → Option (List ℕ)
+    → Option (List ℕ) → Result (Unit {0}) Stop → Left D → Type 0
+PlaysScript {D} state handed task read old new ended outcome =
+    (opened : List D) × RunsScript state (call_of task read opened) handed old new ended outcome
+    × OpensScript state (call_of task read opened) handed (status_of ended) outcome

@@ -1,11 +1,11 @@
 -- What a sync does behind a script: a node is asked, the set is closed, and a new member is made.
 use Rattle.std.specs.Prelude.{◌≡◌, ◌≤◌, ◌<◌, ◌+◌, ◌*◌, ℕ, All, List, Option, Result, Ok, Err, Some, Vec, drop, slice_get}
+use Rattle.std.specs.List.{AllByRecursion}
 use Rattle.std.specs.Io.KnownBytes.{Appends}
 use Rattle.std.specs.declared.alloc.Global.{Global}
 use Rattle.rs_disk.specs.State.{State}
 use Rattle.rs_io.specs.Fault.{CountRose}
 use Rattle.fault_script.specs.declared.script.Part.{Part}
-use Rattle.fault_script.specs.declared.script.Script.{Script}
 use Rattle.fault_script.specs.Script.{sizes_of}
 use Rattle.set_model.specs.declared.command.Event.{Event}
 use Rattle.set_model.specs.Run.{Sizes, run}
@@ -21,10 +21,12 @@ use Rattle.set_program.specs.declared.outcome.Left.TheVariants.{World, Parts}
 use Rattle.set_program.specs.declared.stop.Stop.{Stop}
 use Rattle.task_words.specs.declared.words.Task.{Task}
 use Rattle.task_words.specs.declared.words.Task.TheVariants.{Sync}
+use Rattle.set_program.specs.Calls.{Call}
 use Rattle.set_program.specs.Causes.{of_sync}
 use Rattle.set_program.specs.Counts.{FailuresCount, FaultsAreArmed, FaultsHaveCauses, OrdersCount}
 use Rattle.set_program.specs.Disks.{DisksPlayed, IsUnarmed}
 use Rattle.set_program.specs.Orders.{Follows}
+use Rattle.set_program.specs.Written.{NoFaultCounted, NothingFailed}
 
 -- how a member was made, or that none was, as the end of a call
 abbrev pub ended_so : Result (Unit {0}) SyncStop → Result (Unit {0}) Stop
@@ -73,19 +75,20 @@ pub record IsRunSafely {D : Type 0} (state : D → State) (handed : List D) (set
   pub failures : FailuresCount state handed set
   pub causes : FaultsHaveCauses state handed set
   pub armed : All (λ (disk : D). IsUnarmed (state disk)) handed → FaultsAreArmed set.sizes set.history
+  pub unfailed : NoFaultCounted state handed set.disks → AllByRecursion NothingFailed set.history
 
 -- the set of a script was opened on the disks that were handed in, and a new member made
-pub record EndsWithMember {D : Type 0} (state : D → State) (handed : List D) (task : Task) (read : Script)
+pub record EndsWithMember {D : Type 0} (state : D → State) (handed : List D) (call : Call D)
     (old new : Option (List ℕ)) (ended : Result (Unit {0}) Stop) (events : List Event) (disks : List D)
     : Type 0 where
   pub node : ℕ
-  pub task_is : task ≡ Sync node
-  pub opened : List D
-  pub opens : Opens state read.nodes (Ok tt) handed opened
-  pub member : MakesMember state node read.parts (sizes_of read) opened old new ended events disks
+  pub task_is : call.task ≡ Sync node
+  pub opens : Opens state call.read.nodes (Ok tt) handed call.opened
+  pub member :
+      MakesMember state node call.read.parts (sizes_of call.read) call.opened old new ended events disks
   pub sound : IsRunSafely state handed member.adds.set
   -- those without a node, of which the new member gets two, are then as they were handed in
-  pub idle : drop (2 * read.nodes) member.adds.set.disks ≡ drop (2 * read.nodes) handed
+  pub idle : drop (2 * call.read.nodes) member.adds.set.disks ≡ drop (2 * call.read.nodes) handed
 
 -- the count of one of the two disks behind those of so many nodes rose
 abbrev pub MemberFaultCounted : {D : Type 0} → (D → State) → ℕ → List D → List D → Type 0

@@ -12,6 +12,15 @@ is_of_source (Watches watch) = true
 is_of_source (Sync node) = true
 is_of_source (Chaos seed events nodes) = false
 
+-- nothing of a task comes behind its script
+abbrev pub is_script_alone : Task → Bool
+is_script_alone Run = true
+is_script_alone Trace = true
+is_script_alone (ReadsLinear linear) = false
+is_script_alone (Watches watch) = false
+is_script_alone (Sync node) = false
+is_script_alone (Chaos seed events nodes) = true
+
 -- the statuses in which a task may end where the source and the sink have no fault and a script is read
 abbrev pub may_end_in : Task → List ℕ
 may_end_in Run = 0 ∷ 1 ∷ 7 ∷ []

@@ -5,8 +5,8 @@ use Rattle.set_program.specs.Parts.{can_be_run}
 use Rattle.fault_script.specs.Script.{sizes_of}
 use Rattle.set_model.specs.Run.{Sizes}
 use Rattle.set_world.specs.Disks.{Opens}
-use Rattle.set_program.proofs.OpenLemmas.{refused_leaves, refused_runs}
-use Rattle.set_program.proofs.SyncedLemmas.{spare_first, task_leaves, task_runs}
+use Rattle.set_program.proofs.OpenLemmas.{refused}
+use Rattle.set_program.proofs.SyncedLemmas.{spare_first, task_plays}
 use Rattle.set_program.proofs.set.run_script.Goals as goal
 
 pub play_task-requires-clause-fits : goal.play_task-requires-clause-fits
@@ -25,23 +25,14 @@ play_task-requires-clause-spare g c κs within =
     let opened : Opens g.D.Disk.state c.args.script.nodes (Ok tt) c.args.disks.items c.in-Ok.world.disks = search rules in
     spare_first g.D.Disk.state c.args.disks.items c.in-Ok.world (sizes_of c.args.script) c.in-Ok.ensures.sizes opened c.requires.empty
 
-pub returns-in-Ok-clause-runs : goal.returns-in-Ok-clause-runs
-returns-in-Ok-clause-runs g c =
+pub returns-in-Ok-clause-plays : goal.returns-in-Ok-clause-plays
+returns-in-Ok-clause-plays g c =
     let many : length c.args.disks.items ≡ 100 = search rules in
     let opened : Opens g.D.Disk.state c.args.script.nodes (Ok tt) c.args.disks.items c.in-Ok.world.disks = search rules in
-    task_runs g.D.Disk.state c.args.disks.items many c.safe.ensures c.numbers_stay_small.ensures c.args.task c.args.script c.in-Ok.world c.play_task.result.1 (g.K.Sink.held c.args.sink.now) (g.K.Sink.held c.play_task.new.sink)
-    c.play_task.result.0 c.requires.sizes c.in-Ok.ensures.sizes opened c.play_task.ensures.sizes c.play_task.ensures.ends c.play_task.ensures.member
+    task_plays g.D.Disk.state c.args.disks.items many c.safe.ensures c.numbers_stay_small.ensures c.args.task c.args.script c.in-Ok.world c.play_task.result.1 (g.K.Sink.held c.args.sink.now) (g.K.Sink.held c.play_task.new.sink)
+    c.play_task.result.0 c.requires.sizes c.in-Ok.ensures.sizes opened c.play_task.ensures.sizes c.play_task.ensures.ends c.play_task.ensures.disks c.play_task.ensures.member
 
-pub returns-in-Ok-clause-disks : goal.returns-in-Ok-clause-disks
-returns-in-Ok-clause-disks g c =
-    let opened : Opens g.D.Disk.state c.args.script.nodes (Ok tt) c.args.disks.items c.in-Ok.world.disks = search rules in
-    task_leaves g.D.Disk.state c.args.task c.args.script c.args.disks.items c.in-Ok.world c.play_task.result.1 (g.K.Sink.held c.args.sink.now) (g.K.Sink.held c.play_task.new.sink) c.play_task.result.0
-    c.in-Ok.ensures.sizes opened c.play_task.ensures.sizes c.play_task.ensures.disks c.play_task.ensures.member
-
-pub returns-in-Err-clause-runs : goal.returns-in-Err-clause-runs
-returns-in-Err-clause-runs g c =
-    refused_runs g.D.Disk.state c.args.disks.items c.args.task c.args.script (g.K.Sink.held c.args.sink.now) c.in-Err.error c.from.result c.new.result c.in-Err.disks c.from.ensures c.new.ensures.items
-
-pub returns-in-Err-clause-disks : goal.returns-in-Err-clause-disks
-returns-in-Err-clause-disks g c =
-    refused_leaves g.D.Disk.state c.args.task c.args.script c.args.disks.items c.in-Err.error c.from.result c.new.result c.in-Err.disks c.from.ensures c.in-Err.ensures.refused c.in-Err.ensures.handed_back
+pub returns-in-Err-clause-plays : goal.returns-in-Err-clause-plays
+returns-in-Err-clause-plays g c =
+    refused g.D.Disk.state c.args.disks.items c.args.task c.args.script (g.K.Sink.held c.args.sink.now) c.in-Err.error c.from.result c.new.result c.in-Err.disks c.from.ensures c.new.ensures.items
+    c.in-Err.ensures.refused c.in-Err.ensures.handed_back

@@ -1,19 +1,23 @@
-use Rattle.std.proofs.Common.{◌≡◌, ◌∙◌, IsErrOf, inl, inr, length, refl, rules, subst, sym}
+use Rattle.std.proofs.Common.{◌≡◌, ◌∙◌, IsErrOf, length, refl, rules, subst, sym}
 use Rattle.std.specs.Prelude.{map, string_bytes}
 use Rattle.task_words.specs.declared.words.Task.TheVariants.{Chaos}
 use Rattle.trace_check.specs.declared.stop.CheckStop.TheVariants.{ReadFault, WriteFault}
 use Rattle.set_program.proofs.CheckLemmas.{check_completes, is_read_fault, is_write_fault, no_disk, no_task}
-use Rattle.set_program.proofs.CopiedLemmas.{copy_failed, none_copied}
-use Rattle.set_program.proofs.EndLemmas.{completes, completes_chaos}
-use Rattle.set_program.proofs.OpenLemmas.{disk_failed, none_failed}
-use Rattle.set_program.proofs.RanLemmas.{armed_left, causes_left, failures_left, orders_left}
+use Rattle.set_program.proofs.CopiedLemmas.{none_copied}
+use Rattle.set_program.proofs.EndLemmas.{completes, completes_chaos, no_call}
+use Rattle.set_program.proofs.OpenLemmas.{none_failed}
+use Rattle.set_program.proofs.RanLemmas.{armed_left, causes_left, check_comes, comes_to, failures_left, orders_left}
 use Rattle.set_program.proofs.set.run_set.Goals as goal
 
 -- ---- a check
 
-pub returns-then-asks_check-clause-answer : goal.returns-then-asks_check-clause-answer
-returns-then-asks_check-clause-answer g c =
-    inl (sym c.asks_check.ensures ∙ c.if-asks_check.true, (search rules, refl, (c.check_source.result, c.check_status.ensures, c.check_source.ensures.ends)))
+pub returns-then-asks_check-clause-call : goal.returns-then-asks_check-clause-call
+returns-then-asks_check-clause-call g c =
+    rw c.check_status.ensures (
+      no_call,
+      check_comes g.D.Disk.state c.args.disks.items c.args.words.now (g.S.Source.left c.args.source.now) (g.S.Source.left c.check_source.new.source) (g.K.Sink.held c.args.sink.now) (g.K.Sink.held c.check_source.new.sink)
+          c.check_source.result c.new.result c.args.disks (sym c.asks_check.ensures ∙ c.if-asks_check.true) c.new.ensures.items refl c.check_source.ensures.ends,
+    )
 
 pub returns-then-asks_check-clause-unread : goal.returns-then-asks_check-clause-unread
 returns-then-asks_check-clause-unread g c = λ source none. absurd (none (sym c.asks_check.ensures ∙ c.if-asks_check.true))
@@ -28,12 +32,6 @@ returns-then-asks_check-clause-write_fault g c =
     rw c.check_status.ensures
     (λ five. c.check_source.ensures.write_cause.rose (subst (λ ended. IsErrOf ended WriteFault) (sym (is_write_fault c.check_source.result five)) refl))
 
-pub returns-then-asks_check-clause-open_fault : goal.returns-then-asks_check-clause-open_fault
-returns-then-asks_check-clause-open_fault g c = rw c.check_status.ensures (λ seven. absurd ((no_disk c.check_source.result).0 seven))
-
-pub returns-then-asks_check-clause-copy_fault : goal.returns-then-asks_check-clause-copy_fault
-returns-then-asks_check-clause-copy_fault g c = rw c.check_status.ensures (λ eight. absurd ((no_disk c.check_source.result).1 eight))
-
 pub returns-then-asks_check-clause-steady_source : goal.returns-then-asks_check-clause-steady_source
 returns-then-asks_check-clause-steady_source g c =
     rw c.check_status.ensures (λ steady four. (c.check_source.ensures.steady_source steady).1 (is_read_fault c.check_source.result four))
@@ -44,9 +42,6 @@ returns-then-asks_check-clause-steady_sink g c =
 
 pub returns-then-asks_check-clause-steady_disks : goal.returns-then-asks_check-clause-steady_disks
 returns-then-asks_check-clause-steady_disks g c = rw c.check_status.ensures (λ unarmed. no_disk c.check_source.result)
-
-pub returns-then-asks_check-clause-disks : goal.returns-then-asks_check-clause-disks
-returns-then-asks_check-clause-disks g c = rw c.check_status.ensures (inl ((no_disk c.check_source.result).0, refl))
 
 pub returns-then-asks_check-clause-complete : goal.returns-then-asks_check-clause-complete
 returns-then-asks_check-clause-complete g c =
@@ -67,9 +62,15 @@ returns-then-asks_check-clause-complete_check g c =
 
 -- ---- a script
 
-pub returns-clause-answer : goal.returns-clause-answer
-returns-clause-answer g c =
-    inr (λ checks. absurd (cc (c.asks_check.ensures, c.if-asks_check.false, checks)), (c.run-ended.result.0, c.status.ensures, c.run-ended.ensures.ends))
+pub returns-clause-call : goal.returns-clause-call
+returns-clause-call g c =
+    let many : length c.args.disks.items ≡ 100 = search rules in
+    let call = c.run-ended.ensures.call in
+    rw c.status.ensures (
+      call.0,
+      comes_to g.D.Disk.state c.args.disks.items many call.0 c.args.words.now (g.S.Source.left c.args.source.now) (g.S.Source.left c.run-ended.new.source) (g.K.Sink.held c.args.sink.now) (g.K.Sink.held c.run-ended.new.sink)
+          c.run-ended.result.0 c.run-ended.result.1 (λ checks. absurd (cc (c.asks_check.ensures, c.if-asks_check.false, checks))) c.recall_sound.ensures.sizes c.recall_sound.ensures.run call.1 call.2,
+    )
 
 pub returns-clause-unread : goal.returns-clause-unread
 returns-clause-unread g c = λ source none. c.run-ended.ensures.unread source
@@ -77,59 +78,58 @@ returns-clause-unread g c = λ source none. c.run-ended.ensures.unread source
 pub returns-clause-complete_check : goal.returns-clause-complete_check
 returns-clause-complete_check g c = λ checks source sink. absurd (cc (c.asks_check.ensures, c.if-asks_check.false, checks))
 
-pub returns-clause-open_fault : goal.returns-clause-open_fault
-returns-clause-open_fault g c =
-    rw c.status.ensures
-    (disk_failed g.D.Disk.state c.args.words.now (g.S.Source.left c.args.source.now) (g.S.Source.left c.run-ended.new.source) (g.K.Sink.held c.args.sink.now) (g.K.Sink.held c.run-ended.new.sink)
-    c.args.disks.items c.run-ended.result.0 c.run-ended.result.1 c.run-ended.ensures.ends c.run-ended.ensures.disks)
-
 pub returns-clause-steady_disks : goal.returns-clause-steady_disks
 returns-clause-steady_disks g c =
+    let call = c.run-ended.ensures.call in
     rw c.status.ensures
     (λ unarmed. (
-      none_failed g.D.Disk.state c.args.words.now (g.S.Source.left c.args.source.now) (g.S.Source.left c.run-ended.new.source) (g.K.Sink.held c.args.sink.now) (g.K.Sink.held c.run-ended.new.sink)
-          c.args.disks.items c.run-ended.result.0 c.run-ended.result.1 c.run-ended.ensures.ends c.run-ended.ensures.disks unarmed,
-      none_copied g.D.Disk.state c.args.disks.items c.args.words.now (g.S.Source.left c.args.source.now) (g.S.Source.left c.run-ended.new.source) (g.K.Sink.held c.args.sink.now)
-          (g.K.Sink.held c.run-ended.new.sink) c.run-ended.result.0 c.run-ended.result.1 c.run-ended.ensures.ends unarmed,
+      none_failed g.D.Disk.state call.0 c.args.words.now (g.S.Source.left c.args.source.now) (g.S.Source.left c.run-ended.new.source) (g.K.Sink.held c.args.sink.now) (g.K.Sink.held c.run-ended.new.sink)
+          c.args.disks.items c.run-ended.result.0 c.run-ended.result.1 call.1 call.2 unarmed,
+      none_copied g.D.Disk.state call.0 c.args.disks.items c.args.words.now (g.S.Source.left c.args.source.now) (g.S.Source.left c.run-ended.new.source) (g.K.Sink.held c.args.sink.now)
+          (g.K.Sink.held c.run-ended.new.sink) c.run-ended.result.0 c.run-ended.result.1 call.1 unarmed,
     ))
-
-pub returns-clause-copy_fault : goal.returns-clause-copy_fault
-returns-clause-copy_fault g c =
-    rw c.status.ensures
-    (copy_failed g.D.Disk.state c.args.disks.items c.args.words.now (g.S.Source.left c.args.source.now) (g.S.Source.left c.run-ended.new.source) (g.K.Sink.held c.args.sink.now)
-    (g.K.Sink.held c.run-ended.new.sink) c.run-ended.result.0 c.run-ended.result.1 c.run-ended.ensures.ends)
 
 pub returns-clause-complete : goal.returns-clause-complete
 returns-clause-complete g c =
+    let call = c.run-ended.ensures.call in
     rw c.status.ensures
-    (completes g.D.Disk.state c.args.disks.items c.args.words.now (g.S.Source.left c.args.source.now) (g.S.Source.left c.run-ended.new.source) (g.K.Sink.held c.args.sink.now) (g.K.Sink.held c.run-ended.new.sink)
+    (completes g.D.Disk.state call.0 c.args.disks.items c.args.words.now (g.S.Source.left c.args.source.now) (g.S.Source.left c.run-ended.new.source) (g.K.Sink.held c.args.sink.now) (g.K.Sink.held c.run-ended.new.sink)
     c.run-ended.result.0 c.run-ended.result.1 (g.S.Source.steady c.args.source.now) (g.K.Sink.steady c.args.sink.now)
     (g.S.Source.faults c.args.source.now) (g.S.Source.faults c.run-ended.new.source) (g.K.Sink.faults c.args.sink.now) (g.K.Sink.faults c.run-ended.new.sink)
-    c.run-ended.ensures.ends c.run-ended.ensures.read_fault c.run-ended.ensures.write_fault c.run-ended.ensures.steady_source c.run-ended.ensures.steady_sink)
+    call.1 c.run-ended.ensures.read_fault c.run-ended.ensures.write_fault c.run-ended.ensures.steady_source c.run-ended.ensures.steady_sink)
 
 pub returns-clause-complete_chaos : goal.returns-clause-complete_chaos
 returns-clause-complete_chaos g c =
+    let call = c.run-ended.ensures.call in
     rw c.status.ensures
-    (completes_chaos g.D.Disk.state c.args.disks.items c.args.words.now (g.S.Source.left c.args.source.now) (g.S.Source.left c.run-ended.new.source) (g.K.Sink.held c.args.sink.now) (g.K.Sink.held c.run-ended.new.sink)
+    (completes_chaos g.D.Disk.state call.0 c.args.disks.items c.args.words.now (g.S.Source.left c.args.source.now) (g.S.Source.left c.run-ended.new.source) (g.K.Sink.held c.args.sink.now) (g.K.Sink.held c.run-ended.new.sink)
     c.run-ended.result.0 c.run-ended.result.1 (g.K.Sink.steady c.args.sink.now) (g.K.Sink.faults c.args.sink.now) (g.K.Sink.faults c.run-ended.new.sink)
-    c.run-ended.ensures.ends c.run-ended.ensures.write_fault c.run-ended.ensures.steady_sink)
+    call.1 c.run-ended.ensures.write_fault c.run-ended.ensures.steady_sink)
 
 pub returns-clause-orders : goal.returns-clause-orders
 returns-clause-orders g c =
     let many : length c.args.disks.items ≡ 100 = search rules in
-    orders_left g.D.Disk.state c.args.disks.items many c.args.words.now (g.S.Source.left c.args.source.now) (g.S.Source.left c.run-ended.new.source) _ c.run-ended.result.1 c.recall_sound.ensures.sizes c.run-ended.ensures.disks
+    let call = c.run-ended.ensures.call in
+    orders_left g.D.Disk.state c.args.disks.items many call.0 c.args.words.now (g.S.Source.left c.args.source.now) (g.S.Source.left c.run-ended.new.source) (g.K.Sink.held c.args.sink.now) (g.K.Sink.held c.run-ended.new.sink)
+    c.run-ended.result.0 c.run-ended.result.1 c.recall_sound.ensures.sizes call.2
 
 pub returns-clause-failures : goal.returns-clause-failures
 returns-clause-failures g c =
     let many : length c.args.disks.items ≡ 100 = search rules in
-    failures_left g.D.Disk.state c.args.disks.items many c.args.words.now (g.S.Source.left c.args.source.now) (g.S.Source.left c.run-ended.new.source) _ c.run-ended.result.1 c.recall_sound.ensures.sizes c.run-ended.ensures.disks
+    let call = c.run-ended.ensures.call in
+    failures_left g.D.Disk.state c.args.disks.items many call.0 c.args.words.now (g.S.Source.left c.args.source.now) (g.S.Source.left c.run-ended.new.source) (g.K.Sink.held c.args.sink.now) (g.K.Sink.held c.run-ended.new.sink)
+    c.run-ended.result.0 c.run-ended.result.1 c.recall_sound.ensures.sizes call.2
 
 pub returns-clause-fault_cause : goal.returns-clause-fault_cause
 returns-clause-fault_cause g c =
     let many : length c.args.disks.items ≡ 100 = search rules in
-    causes_left g.D.Disk.state c.args.disks.items many c.args.words.now (g.S.Source.left c.args.source.now) (g.S.Source.left c.run-ended.new.source) _ c.run-ended.result.1 c.recall_sound.ensures.sizes c.run-ended.ensures.disks
+    let call = c.run-ended.ensures.call in
+    causes_left g.D.Disk.state c.args.disks.items many call.0 c.args.words.now (g.S.Source.left c.args.source.now) (g.S.Source.left c.run-ended.new.source) (g.K.Sink.held c.args.sink.now) (g.K.Sink.held c.run-ended.new.sink)
+    c.run-ended.result.0 c.run-ended.result.1 c.recall_sound.ensures.sizes call.2
 
 pub returns-clause-fault_armed : goal.returns-clause-fault_armed
 returns-clause-fault_armed g c =
     let many : length c.args.disks.items ≡ 100 = search rules in
-    armed_left g.D.Disk.state c.args.disks.items many c.args.words.now (g.S.Source.left c.args.source.now) (g.S.Source.left c.run-ended.new.source) _ c.run-ended.result.1 c.recall_sound.ensures.sizes c.recall_sound.ensures.run c.run-ended.ensures.disks
+    let call = c.run-ended.ensures.call in
+    armed_left g.D.Disk.state c.args.disks.items many call.0 c.args.words.now (g.S.Source.left c.args.source.now) (g.S.Source.left c.run-ended.new.source) (g.K.Sink.held c.args.sink.now) (g.K.Sink.held c.run-ended.new.sink)
+    c.run-ended.result.0 c.run-ended.result.1 c.recall_sound.ensures.sizes c.recall_sound.ensures.run call.2
