@@ -1,4 +1,4 @@
-// A job on a thread of its own, beside what the caller does.
+// A job beside what the caller does, on a thread of its own or after it.
 
 use std::thread::{Threads, join};
 
@@ -17,10 +17,11 @@ pub trait Job {
         ensures { ends self result };
 }
 
-/// Does the job on a thread of its own, and the rest in this one. Where no thread can be started the job is
-/// done last.
+/// Does the job on a thread of its own, if that is wanted, and the rest in this one. Where no thread is wanted,
+/// or none can be started, the job is done last.
 pub fn beside<R: Threads, J: Job<End = E> + Send + Drop, F: FnOnce() -> B, E: Send, B>(
     rt: &R,
+    wants_thread: bool,
     job: J,
     rest: F,
 ) -> (E, B)
@@ -29,6 +30,10 @@ pub fn beside<R: Threads, J: Job<End = E> + Send + Drop, F: FnOnce() -> B, E: Se
     ensures job { J.ends job result.0 }
     ensures rest { F.post rest result.1 }
 {
+    if !wants_thread {
+        let others = rest();
+        return (job.run(), others);
+    }
     join(
         rt,
         move || -> E

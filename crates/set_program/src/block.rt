@@ -1,4 +1,4 @@
-// The lists of a block, each run on a thread of its own.
+// The lists of a block, run side by side.
 ghost use Rattle.std.specs.Prelude.{◌≡◌, ◌<◌, ◌++◌, ◌∷◌, [], length, IfOk, IsErrOf, OnErr, OnOk};
 ghost use Rattle.std.specs.List.{list_all, AllPass};
 ghost use Rattle.std.specs.Thread.{IsSync};
@@ -23,10 +23,11 @@ use std::alloc::Global;
 use std::sync::Wait;
 use std::thread::Threads;
 
-/// Runs each list on a thread of its own, with a pass that is split from this one and joined into it at the
-/// end. Each thread passes the gate, with the place of its list counted from 0, before its first line. Where
-/// a thread can't be started the caller runs its list. It gives the place in the history, the line and the
-/// reply of each event, by rising place.
+/// Runs each list with a pass that is split from this one and joined into it at the end. The caller runs one
+/// list, and each other of two lines and more runs on a thread of its own; the caller runs those that are
+/// shorter, and those for which no thread can be started. Each list passes the gate, with its place counted
+/// from 0, before its first line. It gives the place in the history, the line and the reply of each event, by
+/// rising place.
 ///
 /// # Errors
 /// Those of `SharedSet::step`, and out of memory for what it gives. Each list was then run up to some line.
@@ -89,6 +90,7 @@ fn run_lists<'a, D: Disk + Send, G: Gate + Sync, R: Threads + Wait + Sync>(
     };
     let (ended, (pass, earlier)) = beside(
         rt,
+        pays_for_thread(lines, others),
         job,
         move || -> (&mut Pass<D>, Result<Vec<Told>, StepError>)
             requires { IsSync R.row × IsSync G.row × IsPass set.now pass.now × IsFree pass.now
@@ -105,6 +107,11 @@ fn run_lists<'a, D: Disk + Send, G: Gate + Sync, R: Threads + Wait + Sync>(
     let ListEnd { pass: own, told } = ended;
     set.join(pass, own);
     (pass, both(alloc, earlier, told))
+}
+
+/// Whether a list is worth a thread of its own: it has two lines, and others have any.
+fn pays_for_thread(lines: &Lines, others: &[Lines]) -> bool {
+    lines.as_slice().len() >= 2 && others.iter().any(|other| !other.as_slice().is_empty())
 }
 
 /// Ends a loan.
