@@ -5,6 +5,8 @@
 #[cfg(test)]
 mod callers;
 #[cfg(test)]
+mod closing;
+#[cfg(test)]
 mod copies;
 #[cfg(test)]
 mod failover;
