@@ -17,8 +17,8 @@ pub trait Job {
         ensures { ends self result };
 }
 
-/// Does the job on a thread of its own, if that is wanted, and the rest in this one. Where no thread is wanted,
-/// or none can be started, the job is done last.
+/// Does the job on a thread of its own, if that is wanted, and the rest in this one. Where no thread is
+/// wanted, or none can be started, the job is done last.
 pub fn beside<R: Threads, J: Job<End = E> + Send + Drop, F: FnOnce() -> B, E: Send, B>(
     rt: &R,
     wants_thread: bool,
