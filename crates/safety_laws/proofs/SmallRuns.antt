@@ -229,7 +229,7 @@ first_lawful sizes are = record {
   members = ap first_of (first_known sizes.voters 0 sizes.members sizes.nodes (let within : 0 + sizes.members ≤ sizes.nodes = omega (arith, are.within) in within));
 }
 
-count_from : (first : Config) (from count : ℕ) → length (nodes_from first from count) ≡ count
+pub count_from : (first : Config) (from count : ℕ) → length (nodes_from first from count) ≡ count
 count_from first from zero = refl
 count_from first from (suc count) = ap suc (count_from first (from + 1) count)
 

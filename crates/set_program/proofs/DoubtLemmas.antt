@@ -64,6 +64,7 @@ use Rattle.set_model.specs.declared.session.LastWrite.{LastWrite}
 use Rattle.set_model.specs.Sessions.{last_write}
 use Rattle.set_model.specs.Write.{note, retried, retry, write, write_in, written}
 use Rattle.set_model.specs.Writers.{begin, begun, unless_open, with_open}
+use Rattle.safety_laws.proofs.SmallRuns.{count_from}
 
 -- ---- no store in doubt
 
@@ -315,12 +316,8 @@ from_certain first from (suc count) (suc number) node there = from_certain first
 pub certain_first : (sizes : Sizes) → AreCertain (opening sizes).world
 certain_first sizes = from_certain (first_config sizes.voters sizes.members) 0 sizes.nodes
 
-from_many : (first : Config) (from count : ℕ) → length (nodes_from first from count) ≡ count
-from_many first from zero = refl
-from_many first from (suc count) = ap suc (from_many first (from + 1) count)
-
 pub many_first : (sizes : Sizes) → length (opening sizes).world.nodes ≡ sizes.nodes
-many_first sizes = from_many (first_config sizes.voters sizes.members) 0 sizes.nodes
+many_first sizes = count_from (first_config sizes.voters sizes.members) 0 sizes.nodes
 
 -- ---- what was kept
 
