@@ -267,6 +267,16 @@ def listed(lists, n):
     return OPENING + ["par", *block, "end"], OPENING + [line for own in each for line in own]
 
 
+def blocks_of_one(n):
+    """Blocks of one list of one line."""
+    return ["set 1"] + ["par", "thread", "clock n0 1", "end"] * n
+
+
+def empty_blocks(n):
+    """Blocks of sixteen lists without a line."""
+    return ["set 1"] + ["par", *["thread"] * 16, "end"] * n
+
+
 def chaos(n):
     """A generated script has no lines here."""
     return []
@@ -305,6 +315,8 @@ CASES = {
     "flushes": Case(flushes, 20, 40),
     "deep": Case(deep, 300, 600),
     "parse": Case(parse, 100_000, 200_000, status=3),
+    "blocks_of_one": Case(blocks_of_one, 24_000, 24_000),
+    "empty_blocks": Case(empty_blocks, 5_500, 5_500),
     # a set
     "pulls": Case(pulls, 10_000, 2_000),
     "pulls_of_one": Case(pulls_of_one, 2_000, 4_000),
