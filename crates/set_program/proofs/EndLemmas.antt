@@ -110,7 +110,7 @@ run_ends state call handed words left rest old new ended (Parts events disks) as
 -- and these disks are left
 asked_leaves : {D : Type 0} (state : D → State) (call : Call D) (words : List (String Global)) (left rest : Option (List ℕ)) (handed : List D) (status : ℕ) (outcome : Left D)
     → IsAsked call words left rest → OpensScript state call handed status outcome → LeavesDisks state call words left rest handed status outcome
-asked_leaves state call words left rest handed status (World set) asked opens = (asked, opens)
+asked_leaves state call words left rest handed status (World set) asked opens = (asked, opens.0, opens.1)
 asked_leaves state call words left rest handed status (Parts events disks) asked (inl (one, opens, stand)) = inr (inl (one, asked, opens, stand))
 asked_leaves state call words left rest handed status (Parts events disks) asked (inr member) = inr (inr member)
 
