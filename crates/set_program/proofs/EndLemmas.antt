@@ -121,10 +121,12 @@ CallEnds {D} state handed words left rest old new ended outcome =
 
 pub script_played : {D : Type 0} (state : D → State) (handed : List D) (words : List (String Global)) (left rest old new : Option (List ℕ)) (task : Task) (read : Script) (ended : Result (Unit {0}) Stop) (outcome : Left D)
     → Asks words task → IsScriptOf task left rest read → PlaysScript state handed task read old new ended outcome → CallEnds state handed words left rest old new ended outcome
-script_played {D} state handed words left rest old new task read ended outcome asks is (opened, runs, opens) =
-    let call : Call D = call_of task read opened in
-    let asked : IsAsked call words left rest = record { asks = asks; script_is = is } in
-    (call, run_ends state call handed words left rest old new ended outcome asked runs, asked_leaves state call words left rest handed (status_of ended) outcome asked opens)
+script_played {D} state handed words left rest old new task read ended outcome asks is (opened, runs, opens) = of_call (call_of task read opened) (record { asks = asks; script_is = is }) runs opens
+  where
+    of_call : (call : Call D) → IsAsked call words left rest → RunsScript state call handed old new ended outcome → OpensScript state call handed (status_of ended) outcome
+        → CallEnds state handed words left rest old new ended outcome
+    of_call call asked ran left_so =
+        (call, run_ends state call handed words left rest old new ended outcome asked ran, asked_leaves state call words left rest handed (status_of ended) outcome asked left_so)
 
 -- ---- nothing is run
 

@@ -66,7 +66,7 @@ unfailed world event reached none = go event.failed refl (slice_get world.nodes 
 
 -- a number is 0 where each part is
 none_of_both : (b : Bool) (others : ℕ) → (if b then 1 else 0) + others ≡ 0 → (b ≡ false) × (others ≡ 0)
-none_of_both true others is = absurd (omega (arith, is))
+none_of_both true others is = let one : 1 + others ≡ 0 = is in absurd (omega (arith, one))
 none_of_both false others is = (refl, let rest : 0 + others ≡ 0 = is in omega (arith, rest))
 
 all_unfailed : (world : World) (events : List Event) → AllFit world events → AreCertain world → ((number : ℕ) → number < length world.nodes → failures_at number world events ≡ 0)
