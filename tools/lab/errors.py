@@ -1,6 +1,8 @@
 """What ends the lab early: one sentence for the user, and a status that says of which kind it is."""
 from __future__ import annotations
 
+from typing import Callable, Tuple
+
 #: A test isn't met, or a variation changes what is watched.
 DIFFERENT = 1
 #: The words are wrong.
@@ -28,6 +30,10 @@ class LabError(Exception):
         super().__init__(sentence)
         self.status = status
         self.sentence = sentence
+
+    def __reduce__(self) -> Tuple[Callable[[int, str], "LabError"], Tuple[int, str]]:
+        # One of a worker's comes to the process that forked it as a plain one.
+        return LabError, (self.status, self.sentence)
 
 
 class ScriptFault(LabError):

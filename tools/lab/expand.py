@@ -17,6 +17,11 @@ class Expanded:
     lines: List[str] = field(default_factory=list)
     source: List[int] = field(default_factory=list)
 
+    def number(self, line: int) -> str:
+        """A plain line's number: that of the short script's line, with its own in brackets where the two differ."""
+        origin = self.source[line - 1] if 0 < line <= len(self.source) else line
+        return str(line) if origin == line else f"{origin} ({line})"
+
 
 class Expander:
     """Takes the lines of a short script one by one."""
@@ -82,6 +87,11 @@ def expand(lines: List[str]) -> Expanded:
     return expanded
 
 
+def read_expanded(name: str) -> Expanded:
+    """The plain script that a file comes to, short or not."""
+    return expand(read_lines(name))
+
+
 def read_script(name: str) -> List[str]:
     """The plain lines of a script's file, short or not."""
-    return expand(read_lines(name)).lines
+    return read_expanded(name).lines

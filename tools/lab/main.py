@@ -10,7 +10,7 @@ from typing import List, NoReturn, Optional, Sequence
 from .errors import INTERRUPT, WORDS, LabError
 
 #: The words, in the order in which help shows them.
-WORD_NAMES = ("run", "picture", "shell", "expand", "test", "shrink", "vary", "sweep", "seed", "explain")
+WORD_NAMES = ("run", "picture", "shell", "verdict", "expand", "test", "shrink", "vary", "sweep", "seed", "explain")
 
 ABOUT = """\
 Asks "what happens to my data if .." of a replica set, and shows the answer: a transcript beside its script, a picture,

@@ -3,9 +3,13 @@ from __future__ import annotations
 
 import shutil
 import sys
+import time
 from typing import Dict, List, Sequence
 
 from .transcript import Transcript
+
+#: What takes fewer seconds shows no progress.
+UNSEEN = 2.0
 
 #: A script's line of more than so many characters has its reply below it.
 WIDEST = 56
@@ -45,15 +49,17 @@ def table(rows: Sequence[Sequence[str]]) -> List[str]:
 
 
 class Progress:
-    """A bar on standard error, where that is a terminal."""
+    """A bar on standard error, where that is a terminal and the work takes more than two seconds."""
 
     def __init__(self, total: int, what: str):
         self._total, self._what, self._done = total, what, 0
-        self._shown = sys.stderr.isatty()
+        self._begun = time.monotonic()
+        self._may_show, self._shown = sys.stderr.isatty(), False
 
     def step(self, count: int = 1) -> None:
         """So many more are done."""
         self._done += count
+        self._shown = self._shown or self._may_show and time.monotonic() - self._begun > UNSEEN
         if not self._shown:
             return
         room = max(10, min(40, shutil.get_terminal_size().columns - len(self._what) - 24))

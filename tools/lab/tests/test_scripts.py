@@ -13,7 +13,7 @@ class Run(LabTest):
         told = self.told("run", self.file(["set 1", "campaign n0", "drain n0", "insert n0 t {_id: 1}", "dump n0 local"]))
         self.assertIn("2  campaign n0            won 1\n", told)
         self.assertIn("documents 1\n", told)
-        self.assertTrue(told.rstrip().endswith("t {_id: 1}"))
+        self.assertTrue(told.split("\n\nwhat happened to the data:")[0].endswith("t {_id: 1}"))
 
     def test_state_shows_a_step_down_that_the_reply_hides(self) -> None:
         lines = [*COMMITTED, "partition n0 | n1 n2", "elect n1", "heal", "heartbeat n1 n0", "deliver n1 n0"]

@@ -23,7 +23,7 @@ a caret and the likely cause; of one that is, what may not be what was meant.
 
 The texts are those of docs/REFERENCE.md."""
 
-SECTIONS = {"Commands": "command", "Messages": "message", "Replies": "reply", "Refusals": "refusal", "Reasons": "reason"}
+SECTIONS = {"Commands": "command", "Messages": "message", "Replies": "reply", "Refusals": "refusal", "Reasons": "reason", "Verdicts": "verdict"}
 
 
 def add_arguments(parser: argparse.ArgumentParser) -> None:

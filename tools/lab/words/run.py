@@ -4,10 +4,11 @@ from __future__ import annotations
 import argparse
 from typing import Dict, List
 
-from ..expand import read_script
+from ..expand import read_expanded
 from ..observe import observe
 from ..program import play
 from ..show import beside
+from ..telling import what_happened
 
 SUMMARY = "plays a script and prints each line beside its reply"
 DETAILS = """\
@@ -16,7 +17,9 @@ followed by what it changed at which node, such as
 
     · n0: Primary→Secondary, term 1→2
 
-which the replies alone don't show: a delivery that makes a node step down answers 'replied mK' or 'ignored ..'."""
+which the replies alone don't show: a delivery that makes a node step down answers 'replied mK' or 'ignored ..'.
+
+Then comes what happened to the data: what became of each write, and the verdicts ('lab verdict --help' names them)."""
 
 
 def add_arguments(parser: argparse.ArgumentParser) -> None:
@@ -27,7 +30,8 @@ def add_arguments(parser: argparse.ArgumentParser) -> None:
 
 def main(arguments: argparse.Namespace) -> int:
     """Prints the run."""
-    lines = read_script(arguments.file)
+    script = read_expanded(arguments.file)
+    lines = script.lines
     transcript = play(lines)
     notes: Dict[int, List[str]] = {}
     if arguments.state:
@@ -35,5 +39,5 @@ def main(arguments: argparse.Namespace) -> int:
             change = step.told_change()
             if change:
                 notes.setdefault(step.line, []).append(change)
-    print("\n".join(beside(lines, transcript, notes)))
+    print("\n".join([*beside(lines, transcript, notes), "", *what_happened(script)]))
     return 0
