@@ -59,6 +59,9 @@ def cause_of(line: str, rule: str, nodes: Optional[int]) -> Cause:
     """Where a faulty line is likely at fault, and why."""
     line = line.rstrip("\r")
     found = _spacing(line)
+    odd = _odd_character(line)
+    if odd is not None:
+        return odd
     if found is not None and rule.split(" ")[0] in ("UnknownCommand", "WordCount", "BadWord", "BadNode", "BadNumber", "NoSetLine"):
         return found
     if rule in ("UnknownCommand", "NoSetLine") and line:
@@ -72,6 +75,17 @@ def cause_of(line: str, rule: str, nodes: Optional[int]) -> Cause:
     if rule == "WordCount":
         return Cause(None, f"'{line.split(' ')[0]}' has another number of words; write it as below")
     return Cause(None, "")
+
+
+def _odd_character(line: str) -> Optional[Cause]:
+    """Characters that nobody sees."""
+    if line.startswith("\ufeff"):
+        return Cause(0, "a byte order mark stands here, which some editors put in front: save the file as UTF-8 without one")
+    if "\r" in line:
+        return Cause(line.index("\r"), "a carriage return stands here, and only one right before the line's end is passed over")
+    if "\u00a0" in line.split('"')[0]:
+        return Cause(line.index("\u00a0"), "a space that doesn't break stands here; words are parted by a plain one")
+    return None
 
 
 def _spacing(line: str) -> Optional[Cause]:
@@ -96,7 +110,7 @@ def _command(line: str) -> Cause:
         return Cause(0, "a set is made once, by the first line")
     if word in FORMS:
         return Cause(0, f"'{word}' is a macro of short scripts: play it by 'lab run', or 'lab expand' it")
-    near = difflib.get_close_matches(word.lower(), COMMANDS, 1)
+    near = difflib.get_close_matches(word.lower(), [*COMMANDS, *FORMS], 1)
     if word in COMMANDS:
         return Cause(0, "the first command must be 'set NODES [VOTERS [MEMBERS]]'")
     return Cause(0, f"did you mean '{near[0]}'?" if near else f"there is no command '{word}'")
@@ -145,6 +159,8 @@ def _document(line: str) -> Cause:
             except NotationFault as fault:
                 return Cause(fault.place, _meant(line, fault))
         fault = fault_of(line, begins)
+        if fault is not None and line.endswith(" ") and fault.place == len(line.rstrip(" ")):
+            return Cause(fault.place, "the line ends with a space")
         if fault is not None:
             return Cause(fault.place, _meant(line, fault))
         if not line[begins:].startswith("{") and kind not in ("delete", "read"):

@@ -34,6 +34,8 @@ class CannotGoOn(LabError):
 
     def __init__(self, sentence: str):
         super().__init__(MACRO, sentence)
+        #: The script with what the macro had played.
+        self.lines: List[str] = []
 
 
 class Macros:
@@ -59,8 +61,11 @@ class Macros:
         self.player.add(f"# {line}")
         try:
             self._by_word[words[0]](words[1:])
-        except LabError:
+        except LabError as fault:
+            if isinstance(fault, CannotGoOn):
+                fault.lines = list(self.player.lines)
             del self.player.lines[before:]
+            self.player.forget()
             raise
 
     def linked(self, one: int, other: int) -> bool:

@@ -7,10 +7,10 @@ import os
 import sys
 from typing import List, NoReturn, Optional, Sequence
 
-from .errors import INTERRUPT, WORDS, LabError
+from .errors import INTERRUPT, WORDS, LabError, StoppedMacro
 
 #: The words, in the order in which help shows them.
-WORD_NAMES = ("run", "picture", "shell", "verdict", "expand", "test", "shrink", "vary", "sweep", "seed", "explain")
+WORD_NAMES = ("run", "picture", "shell", "verdict", "check", "expand", "test", "shrink", "vary", "sweep", "seed", "explain")
 
 ABOUT = """\
 Asks "what happens to my data if .." of a replica set, and shows the answer: a transcript beside its script, a picture,
@@ -75,6 +75,10 @@ def main(words: Optional[List[str]] = None) -> int:
         sys.stdout.flush()
         return status
     except LabError as fault:
+        if isinstance(fault, StoppedMacro):
+            from .expand import up_to
+
+            print("\n".join(up_to(fault)))
         sys.stdout.flush()
         print(f"lab: {fault.sentence}", file=sys.stderr)
         return fault.status

@@ -36,6 +36,8 @@ def random_script(program: str, dice: random.Random) -> Tuple[List[str], int]:
         if dice.random() < 0.5:
             author.look()
         write_and_read(author, dice, number)
+        if dice.random() < 0.1:
+            acknowledged_and_left(author, dice)
     return player.lines[: dice.randint(len(player.lines) // 2, len(player.lines))], sizes[0]
 
 
@@ -53,6 +55,18 @@ def write_and_read(author: Author, dice: random.Random, number: int) -> None:
     author.put(*(f"ack n{leader} {at} {concern}" for at in author.optimes[-2:]))
     for _ in range(4):
         author.put(f"read n{author.some()} {author.level()} t {100 + dice.randint(0, number)}")
+
+
+def acknowledged_and_left(author: Author, dice: random.Random) -> None:
+    """A write that two have is acknowledged, and then those who lack it elect one of theirs."""
+    leader = author.leader()
+    rest = [node for node in range(author.nodes) if node != leader]
+    dice.shuffle(rest)
+    author.put(f"insert n{leader} t {{_id: {dice.randint(200, 299)}}}", f"flush n{leader}")
+    author.follow(rest[0], leader)
+    author.look()
+    author.put(f"ack n{leader} {author.optimes[-1]} 2")
+    author.elect(rest[-1], rest[1:])
 
 
 def key(verdict: Verdict) -> Tuple[Any, ...]:

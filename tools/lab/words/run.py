@@ -6,13 +6,13 @@ from typing import Dict, List
 
 from ..expand import read_expanded
 from ..observe import observe
-from ..program import play
 from ..show import beside
 from ..telling import what_happened
 
 SUMMARY = "plays a script and prints each line beside its reply"
 DETAILS = """\
-A short script is shown as the plain one that it comes to, each macro as a comment. With --state each line is
+A short script is shown as the plain one that it comes to, each macro as a comment; in front of each line stands the number
+of the file's line that it came from. Where a macro can't go on, what it did is shown up to there. With --state each line is
 followed by what it changed at which node, such as
 
     · n0: Primary→Secondary, term 1→2
@@ -32,12 +32,12 @@ def main(arguments: argparse.Namespace) -> int:
     """Prints the run."""
     script = read_expanded(arguments.file)
     lines = script.lines
-    transcript = play(lines)
+    transcript = script.play()
     notes: Dict[int, List[str]] = {}
     if arguments.state:
         for step in observe(lines).steps:
             change = step.told_change()
             if change:
                 notes.setdefault(step.line, []).append(change)
-    print("\n".join([*beside(lines, transcript, notes), "", *what_happened(script)]))
+    print("\n".join([*beside(lines, transcript, notes, script.source if script.short else None), "", *what_happened(script)]))
     return 0

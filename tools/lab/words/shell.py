@@ -12,10 +12,10 @@ from ..drawing import svg_file
 from ..errors import FILE, WORDS, LabError, ScriptFault
 from ..expand import Expander
 from ..layout import picture_of, window
-from ..macros import FORMS
+from ..macros import FORMS, CannotGoOn
 from ..observe import observe
 from ..player import Player
-from ..program import script_bytes
+from ..program import play, script_bytes
 from ..script import COMMANDS, is_silent, read_lines
 from ..show import printable
 from ..status import status_table
@@ -88,8 +88,10 @@ class Shell:
         try:
             self._expander.take(line)
             replies = self.player.transcript() if self.player.open_block() is None else None
-        except LabError:
+        except LabError as fault:
             del self.player.lines[before[0]:]
+            if isinstance(fault, CannotGoOn):
+                self._show_tried(fault.lines, before[0])
             raise
         self._typed.append(before)
         if replies is None:
@@ -103,6 +105,12 @@ class Shell:
                 self._put(printable(front + reply.text))
                 for more in reply.more:
                     self._put("    " + printable(more))
+
+    def _show_tried(self, lines: List[str], count: int) -> None:
+        """What a macro did that can't go on. None of it stays."""
+        for reply in play(lines).replies if len(lines) > count + 1 else []:
+            if reply.line > count:
+                self._put(printable(f"  {lines[reply.line - 1]:42} {reply.text}"))
 
     def _block_start(self) -> int:
         return max(place for place, line in enumerate(self.player.lines) if line == "par")

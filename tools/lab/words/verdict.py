@@ -4,7 +4,6 @@ from __future__ import annotations
 import argparse
 
 from ..expand import read_expanded
-from ..program import play
 from ..telling import what_happened
 from ..verdicts import MEANINGS
 
@@ -34,6 +33,6 @@ def main(arguments: argparse.Namespace) -> int:
     """Tells what happened."""
     script = read_expanded(arguments.file)
     # A fault of the script is told as such, before restarts are put behind its end.
-    play(script.lines)
+    script.play()
     print("\n".join(what_happened(script, everything=True)))
     return 0
