@@ -45,7 +45,7 @@ class Expander:
 
     def __init__(self, player: Player):
         self.player = player
-        self.macros = Macros(player)
+        self.macros = Macros(player, self.take)
 
     def take(self, line: str) -> None:
         """Puts a line of a short script into the plain one."""

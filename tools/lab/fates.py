@@ -188,7 +188,7 @@ class _Reader:
             self._take_read(step, node)
 
     def _take_write(self, step: Step, node: int, words: List[str]) -> None:
-        name = words_of(step.text)[2]
+        name = words_of(step.text)[2] if words[0] != "written" else ""
         if words[0] == "aborted":
             self._writers.pop((node, name), None)
             return

@@ -45,6 +45,7 @@ def write_and_read(author: Author, dice: random.Random, number: int) -> None:
     """A write or two, of which some get around and are acknowledged, and reads of them here and there."""
     leader = author.leader()
     author.put(f"insert n{leader} t {{_id: {100 + number}}}", f"update n{leader} t {100 + dice.randint(0, number)} {{$inc: {{n: 1}}}}")
+    author.put(*[f"note n{leader}"] * dice.randint(0, 1))
     if dice.random() < 0.5:
         author.put(f"flush n{leader}")
     for node in dice.sample(range(author.nodes), dice.randint(0, author.nodes - 1)):
