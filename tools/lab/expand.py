@@ -11,6 +11,7 @@ from .program import play
 from .script import is_silent, node_number, read_lines, words_of
 from .show import Progress, beside
 from .transcript import Transcript
+from .typed import is_foreign, translated
 
 
 @dataclass
@@ -62,7 +63,9 @@ class Expander:
             self.player.add(self._plain(line, words))
 
     def _plain(self, line: str, words: List[str]) -> str:
-        """The line with `last` of an `ack` made an optime."""
+        """The line with `last` of an `ack` made an optime, and a document of mongosh's one of a script."""
+        if self.macros.foreign or is_foreign(line):
+            return translated(line)
         if words[0] != "ack" or len(words) < 3 or words[2] != "last":
             return line
         node = node_number(words[1])
@@ -86,7 +89,9 @@ class Expander:
 def is_short(lines: List[str]) -> bool:
     """Whether a script has macros in it."""
     words = [words_of(line) for line in lines if not is_silent(line)]
-    return any(line[0] in FORMS or line[0] == "ack" and line[2:3] == ["last"] for line in words)
+    if any(line[0] in FORMS or line[0] == "ack" and line[2:3] == ["last"] for line in words):
+        return True
+    return any(map(is_foreign, lines))
 
 
 def expand(lines: List[str]) -> Expanded:

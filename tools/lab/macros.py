@@ -14,6 +14,7 @@ from .living import Living
 from .player import Player
 from .script import node_number
 from .state import Optime
+from .typed import is_foreign, translated
 
 #: How often a candidate tries, where a voter was in a later term.
 CAMPAIGNS = 3
@@ -38,11 +39,12 @@ FORMS = {
     "sync": "sync A",
     "status": "status",
     "tick": "tick COUNT SEED",
+    "notation": "notation own | mongosh",
 }
 
 
-#: The sides of a partition, and up to where each named stream has told.
-Kept = Tuple[Optional[List[List[int]]], Dict[str, Optime]]
+#: The sides of a partition, up to where each named stream has told, and whether documents are mongosh's.
+Kept = Tuple[Optional[List[List[int]]], Dict[str, Optime], bool]
 
 
 class CannotGoOn(LabError):
@@ -61,6 +63,8 @@ class Macros:
         self.player = player
         self._take = take
         self.groups: Optional[List[List[int]]] = None
+        #: Whether documents are read as mongosh has them from here on, also those that a script may have.
+        self.foreign = False
         self.asking = Asking(player, self.linked)
         self._living = Living(player, self.linked, lambda node: self._elect([f"n{node}"]), self._fetch)
         self._by_word: Dict[str, Callable[[List[str]], None]] = {
@@ -76,15 +80,16 @@ class Macros:
             "sync": self._sync,
             "status": self._status,
             "tick": self._tick,
+            "notation": self._notation,
         }
 
     def kept(self) -> "Kept":
         """What macros leave for later ones, for `restore`."""
-        return self.groups, dict(self.asking.tokens)
+        return self.groups, dict(self.asking.tokens), self.foreign
 
     def restore(self, kept: "Kept") -> None:
         """Goes back to what was left then."""
-        self.groups, self.asking.tokens = kept[0], dict(kept[1])
+        self.groups, self.asking.tokens, self.foreign = kept[0], dict(kept[1]), kept[2]
 
     def play(self, line: str) -> None:
         """Puts a macro into the script: itself as a comment, and its lines."""
@@ -207,7 +212,9 @@ class Macros:
     def _linear(self, words: List[str]) -> None:
         if len(words) != 3 or not is_document(words[1], words[2]):
             raise CannotGoOn(f"the macro reads '{FORMS['linear']}'")
-        self.asking.linear(self._nodes("linear", words[:1])[0], words[1], words[2])
+        read = f"read {words[0]} local {words[1]} {words[2]}"
+        key = translated(read).split(" ", 4)[4] if self.foreign or is_foreign(read) else words[2]
+        self.asking.linear(self._nodes("linear", words[:1])[0], words[1], key)
 
     def _watch(self, words: List[str]) -> None:
         nodes = [node_number(word) for word in words[2:]]
@@ -231,6 +238,11 @@ class Macros:
         if len(words) != 2 or not all(map(str.isdecimal, words)) or not 1 <= int(words[0]) <= MOST_TICKS or int(words[1]) >= 2**64:
             raise CannotGoOn(f"the macro reads '{FORMS['tick']}', with a COUNT up to {MOST_TICKS} and a SEED of 64 bits")
         self._living.tick(int(words[0]), int(words[1]))
+
+    def _notation(self, words: List[str]) -> None:
+        if words not in (["own"], ["mongosh"]):
+            raise CannotGoOn(f"the macro reads '{FORMS['notation']}'")
+        self.foreign = words == ["mongosh"]
 
     # What they are made of.
 

@@ -10,7 +10,7 @@ from typing import List, NoReturn, Optional, Sequence
 from .errors import INTERRUPT, WORDS, LabError, StoppedMacro
 
 #: The words, in the order in which help shows them.
-WORD_NAMES = ("run", "picture", "shell", "verdict", "check", "expand", "test", "shrink", "vary", "sweep", "seed", "explain")
+WORD_NAMES = ("run", "picture", "shell", "verdict", "check", "convert", "expand", "test", "shrink", "vary", "sweep", "seed", "explain")
 
 ABOUT = """\
 Asks "what happens to my data if .." of a replica set, and shows the answer: a transcript beside its script, a picture,
@@ -35,6 +35,7 @@ A short script is a script with macros in it; every word that takes a FILE takes
   status                   the nodes as rs.status() has them
   tick COUNT SEED          so often a member does something by itself, as SEED draws it: heartbeats, fetches, reports,
                            flushes, and an election where it hears no primary
+  notation mongosh         documents are read as mongosh and Extended JSON have them from here on; 'notation own' ends that
   last                     as an OPTIME of ack and await: that of A's newest write
 
 The program that plays the scripts is the one that the environment variable REPLSET names; else the proved one of this

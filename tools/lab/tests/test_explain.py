@@ -6,6 +6,7 @@ import unittest
 
 from support import TOP, LabTest
 
+from lab.diagnose import cause_of
 from lab.notation import fault_of
 from lab.reference import find, read_reference
 
@@ -75,9 +76,6 @@ class Faults(LabTest):
             ("insrt n0 t {_id: 1}", 1, "did you mean 'insert'?"),
             ("insert n0  t {_id: 1}", 11, "two spaces"),
             ("insert\tn0 t {_id: 1}", 7, "a tab"),
-            ("insert n0 t {_id: 'a'}", 19, "double quotes"),
-            ("insert n0 t {_id: ObjectId(\"0123456789abcdef01234567\")}", 19, "Id("),
-            ("insert n0 t {_id: 1, at: Date(\"2020-01-01\")}", 31, "Date(MILLISECONDS)"),
             ("insert n0 t {_id: 1.5}", 20, "no doubles"),
             ("retry n0 7 1 replace t 1 {n: 1.5}", 31, "no doubles"),
             ("insert n0 t {_id: 1, n: 3000000000}", 25, "L behind it"),
@@ -96,6 +94,18 @@ class Faults(LabTest):
                 self.assertIn(cause, " ".join(told[3:6]))
                 if column is not None:
                     self.assertEqual(told[3].index("^") - len("  2  ") + 1, column)
+
+    def test_habits_of_mongosh(self) -> None:
+        cases = [
+            ("insert n0 t {_id: 'a'}", 19, "double quotes"),
+            ("insert n0 t {_id: ObjectId(\"0123456789abcdef01234567\")}", 19, "Id("),
+            ("insert n0 t {_id: 1, at: Date(\"2020-01-01\")}", 31, "Date(MILLISECONDS)"),
+        ]
+        for line, column, told in cases:
+            cause = cause_of(line, "BadText 1 Unexpected", 3)
+            self.assertEqual((cause.place or 0) + 1, column)
+            self.assertIn(told, cause.told)
+            self.assertIn("line 2: its document is mongosh's", self.told("explain", self.file(["set 3", line])))
 
     def test_characters_that_nobody_sees(self) -> None:
         for text, cause in [("\ufeffset 3\n", "byte order mark"), ("set 3\rcampaign n0\r", "carriage return"),

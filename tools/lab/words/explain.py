@@ -14,6 +14,7 @@ from ..reference import Entry, closest, find, read_reference, read_terms
 from ..script import is_silent, read_lines, words_of
 from ..show import printable
 from ..traces import judged
+from ..typed import is_foreign
 
 SUMMARY = "says what a word, a reply or a script's fault means, and what to do"
 DETAILS = """\
@@ -125,12 +126,15 @@ def _explain_file(name: str) -> List[str]:
     if lines[:1] and lines[0].startswith("trace "):
         return judged(lines)
     try:
-        expand(lines).play()
+        script = expand(lines)
+        script.play()
     except ScriptFault as fault:
         return explain_fault(lines, fault)
     except StoppedMacro as fault:
         return _explain_stop(lines, fault)
-    told = [f"line {number}: {what}\n  {printable(lines[number - 1])}" for number, what in surprises(lines)]
+    told = [f"line {script.number(number)}: {what}\n  {printable(script.lines[number - 1])}" for number, what in surprises(script.lines)]
+    told += [f"line {number}: its document is mongosh's. The lab reads it ('lab expand' prints what it comes to); the program doesn't"
+             for number, line in enumerate(lines, 1) if is_foreign(line)]
     return told or [f"{name} is a script, and nothing in it is likely to surprise"]
 
 

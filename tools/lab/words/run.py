@@ -2,8 +2,10 @@
 from __future__ import annotations
 
 import argparse
+import sys
 from typing import Dict, List
 
+from ..diagnose import surprises
 from ..expand import read_expanded
 from ..observe import observe
 from ..show import beside
@@ -19,6 +21,8 @@ followed by what it changed at which node, such as
 
 which the replies alone don't show: a delivery that makes a node step down answers 'replied mK' or 'ignored ..'.
 
+What is no fault and may still not be meant, as a misspelt field of a configuration, is told on standard error.
+
 Then comes what happened to the data: what became of each write, and the verdicts ('lab verdict --help' names them)."""
 
 
@@ -33,6 +37,8 @@ def main(arguments: argparse.Namespace) -> int:
     script = read_expanded(arguments.file)
     lines = script.lines
     transcript = script.play()
+    for number, what in surprises(lines):
+        print(f"lab: line {script.number(number)}: {what}", file=sys.stderr)
     notes: Dict[int, List[str]] = {}
     if arguments.state:
         for step in observe(lines).steps:
