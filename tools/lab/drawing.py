@@ -8,7 +8,7 @@ from __future__ import annotations
 from typing import List, Tuple
 from xml.sax.saxutils import escape
 
-from .layout import Arrow, Band, Frame, Label, Mark, Picture, Row, Segment, Stub
+from .layout import Arrow, Band, Frame, Label, Mark, Picture, Row, Segment, Shade, Stub
 
 ROW = 18
 HEAD = 34
@@ -25,6 +25,9 @@ svg.run { font: 11px ui-monospace, "DejaVu Sans Mono", Menlo, Consolas, monospac
 .run .bad { fill: #a4001d; }
 .run .caption { font: italic 12px system-ui, "DejaVu Sans", sans-serif; fill: #1f2937; paint-order: stroke; stroke: #eef1f5; stroke-width: 3px; }
 .run .shade { fill: #eef1f5; }
+.run .parted { fill: #f5ead2; }
+.run .parted.s1 { fill: #e6e0f2; }
+.run .parted.s2 { fill: #dcecec; }
 .run .head { font-weight: bold; font-size: 13px; fill: #111827; }
 .run .label, .run .kind, .run .legend { font: 9.5px system-ui, "DejaVu Sans", sans-serif; fill: #111827; }
 .run .label { font-weight: bold; }
@@ -69,6 +72,7 @@ SIGNS = (
     ('<path class="message lost" d="M0 -4H20"/><path class="cross" d="M18 -8l8 8m0 -8l-8 8"/>', 32, "ignored or refused"),
     ('<path class="stub" d="M0 -4H20M20 -9v10"/>', 26, "never delivered"),
     ('<rect class="square" x="0" y="-8" width="8" height="8"/>', 14, "write"),
+    ('<rect class="parted" x="0" y="-9" width="14" height="10"/>', 20, "parted from the others"),
     ('<path class="check" d="M0 -4l3 4l7 -9"/>', 16, "acknowledged"),
     ('<path class="cut" d="M0 -3l4 -5l5 8l5 -8l5 8l4 -5"/>', 30, "rollback"),
 )
@@ -110,6 +114,7 @@ class Drawing:
         picture = self.picture
         parts: List[str] = []
         parts += [self._shade(place) for place, row in enumerate(picture.rows) if row.caption]
+        parts += [self._side(shade) for shade in picture.shades]
         parts += [self._frame(frame) for frame in picture.frames]
         parts += [self._band(band) for band in picture.bands]
         parts += [self._segment(segment) for segment in picture.segments]
@@ -136,6 +141,13 @@ class Drawing:
 
     def _shade(self, place: int) -> str:
         return f'<rect class="shade" x="0" y="{place * ROW + 1}" width="{self.width}" height="{ROW - 2}"/>'
+
+    def _side(self, shade: Shade) -> str:
+        x, height = self.lane(shade.node) - self.spread // 2, (shade.bottom - shade.top) * ROW
+        return (
+            f'<rect class="parted s{(shade.side - 1) % 3} n{shade.node}" x="{x}" y="{shade.top * ROW:.0f}" '
+            f'width="{self.spread}" height="{height:.0f}"><title>n{shade.node} is parted from the first side</title></rect>'
+        )
 
     def _caption(self, place: int, row: Row) -> str:
         text = escape(cut(row.text, int(self.width / 6.6)))

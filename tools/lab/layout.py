@@ -10,7 +10,7 @@ from typing import Dict, List, Optional, Sequence, Tuple
 
 from .mail import Message
 from .observe import Run, Step
-from .script import KINDS, is_silent, words_of
+from .script import KINDS, is_silent, node_number, words_of
 from .show import printable
 from .state import State
 
@@ -117,6 +117,16 @@ class Frame:
 
 
 @dataclass
+class Shade:
+    """A stretch in which a node is parted from those of the first side; `side` counts the other sides from 1."""
+
+    node: int
+    side: int
+    top: float
+    bottom: float
+
+
+@dataclass
 class Picture:
     """All that is to be drawn."""
 
@@ -130,6 +140,7 @@ class Picture:
     marks: List[Mark] = field(default_factory=list)
     labels: List[Label] = field(default_factory=list)
     frames: List[Frame] = field(default_factory=list)
+    shades: List[Shade] = field(default_factory=list)
 
 
 def picture_of(run: Run, first: int, last: int) -> Picture:
@@ -138,6 +149,7 @@ def picture_of(run: Run, first: int, last: int) -> Picture:
     _put_rows(picture, run, first, last)
     _follow_nodes(picture, run)
     _put_messages(picture, run, first)
+    _put_shades(picture, run.lines[: first - 1])
     for place, row in enumerate(picture.rows):
         if row.step is not None:
             _put_marks(picture, row.step, place + 0.5, row.kind)
@@ -178,6 +190,31 @@ def _put_block(picture: Picture, run: Run, begins: int, steps: Dict[int, Step], 
     picture.rows += [_row(steps[number]) for number in inside]
     picture.frames.append(Frame(top, len(picture.rows)))
     return ends
+
+
+def _put_shades(picture: Picture, before: Sequence[str]) -> None:
+    """What partitions part, as the comments tell that macros leave: those in front of the picture, and those in it."""
+    comments = [(0.0, line.lstrip("# ")) for line in before if line.startswith("#")]
+    comments += [(place + 1.0, row.text) for place, row in enumerate(picture.rows) if row.caption]
+    since, parted = 0.0, {}  # type: Tuple[float, Dict[int, int]]
+    for top, text in [*comments, (float(len(picture.rows)), "heal")]:
+        sides = sides_of(text, picture.nodes)
+        if sides is None:
+            continue
+        picture.shades += [Shade(node, side, since, top) for node, side in parted.items() if side and since < top]
+        since, parted = top, sides
+
+
+def sides_of(text: str, nodes: int) -> Optional[Dict[int, int]]:
+    """Of each node the side on which a `partition` puts it; of `heal` nothing is parted; another text says neither."""
+    words = text.split()
+    if words[:1] not in (["partition"], ["heal"]) or words[0] == "heal" and len(words) > 1:
+        return None
+    groups = [[node_number(word) for word in part.split()] for part in " ".join(words[1:]).split("|")]
+    if any(node is None or node >= nodes for group in groups for node in group):
+        return None
+    named = {node: side for side, group in enumerate(groups) for node in group if node is not None}
+    return {node: named.get(node, len(groups)) for node in range(nodes)} if named else {}
 
 
 def _row(step: Step) -> Row:

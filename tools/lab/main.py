@@ -7,10 +7,10 @@ import os
 import sys
 from typing import List, NoReturn, Optional, Sequence
 
-from .errors import INTERRUPT, WORDS, LabError
+from .errors import INTERRUPT, WORDS, LabError, StoppedMacro
 
 #: The words, in the order in which help shows them.
-WORD_NAMES = ("run", "picture", "shell", "expand", "test", "shrink", "vary", "sweep", "seed", "explain")
+WORD_NAMES = ("run", "picture", "shell", "verdict", "check", "convert", "expand", "test", "shrink", "vary", "sweep", "seed", "explain")
 
 ABOUT = """\
 Asks "what happens to my data if .." of a replica set, and shows the answer: a transcript beside its script, a picture,
@@ -27,7 +27,15 @@ A short script is a script with macros in it; every word that takes a FILE takes
   partition A .. | B ..    no message passes between the sides; nodes that aren't named are a side of their own
   heal                     the partition ends
   await A OPTIME [CONCERN] members pull from A until it acknowledges OPTIME (at majority, or at CONCERN)
-  repeat COUNT LINE        LINE so often; # in it is 1, 2 and so on
+  repeat COUNT LINE        LINE so often, a command or a macro; # in it is 1, 2 and so on
+  linear A COLL ID         a linearizable read at A
+  watch COLL TOKEN A ..    the changes of COLL that A and others know to be committed, after TOKEN: 'start', 32 digits, or
+                           a name, under which the next 'watch' goes on
+  sync A                   what a new member that is made of A would begin with
+  status                   the nodes as rs.status() has them
+  tick COUNT SEED          so often a member does something by itself, as SEED draws it: heartbeats, fetches, reports,
+                           flushes, and an election where it hears no primary
+  notation mongosh         documents are read as mongosh and Extended JSON have them from here on; 'notation own' ends that
   last                     as an OPTIME of ack and await: that of A's newest write
 
 The program that plays the scripts is the one that the environment variable REPLSET names; else the proved one of this
@@ -75,6 +83,10 @@ def main(words: Optional[List[str]] = None) -> int:
         sys.stdout.flush()
         return status
     except LabError as fault:
+        if isinstance(fault, StoppedMacro):
+            from .expand import up_to
+
+            print("\n".join(up_to(fault)))
         sys.stdout.flush()
         print(f"lab: {fault.sentence}", file=sys.stderr)
         return fault.status

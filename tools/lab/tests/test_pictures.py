@@ -9,7 +9,7 @@ from xml.dom import minidom
 from support import COMMITTED, TOP, LabTest, script_by_chance
 
 from lab.cookbook import out_of_date
-from lab.layout import picture_of
+from lab.layout import picture_of, sides_of
 from lab.expand import expand
 from lab.observe import observe
 
@@ -23,6 +23,15 @@ class Layout(unittest.TestCase):
         """The picture of a short script."""
         plain = expand(lines).lines
         return picture_of(observe(plain), 1, len(plain))
+
+    def test_a_partition_is_shaded(self) -> None:
+        picture = self.picture(PARTED)
+        parted = {(shade.node, shade.side) for shade in picture.shades}
+        self.assertEqual(parted, {(1, 1), (2, 1)})
+        captions = {row.text: place for place, row in enumerate(picture.rows) if row.caption}
+        self.assertEqual({(shade.top, shade.bottom) for shade in picture.shades}, {(captions["partition n0 | n1 n2"] + 1, captions["heal"] + 1)})
+        self.assertEqual(sides_of("partition n0 | n3", 5), {0: 0, 1: 2, 2: 2, 3: 1, 4: 2})
+        self.assertIsNone(sides_of("partition the disks", 5))
 
     def test_roles_follow_what_the_replies_hide(self) -> None:
         lanes = [segment.role for segment in self.picture(PARTED).segments if segment.node == 0]

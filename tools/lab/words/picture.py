@@ -9,10 +9,11 @@ from typing import Optional, Tuple
 from ..documents import documents_behind
 from ..drawing import svg_file
 from ..errors import FILE, WORDS, LabError
-from ..expand import read_script
+from ..expand import read_expanded
 from ..layout import picture_of, window
 from ..observe import observe
 from ..page import page
+from ..telling import what_happened
 
 SUMMARY = "draws a run: nodes as columns, messages as arrows, time going down"
 DETAILS = """\
@@ -51,7 +52,8 @@ def _output(given: Optional[str], name: str) -> Path:
 def main(arguments: argparse.Namespace) -> int:
     """Puts the picture into its file."""
     output = _output(arguments.output, arguments.file)
-    lines = read_script(arguments.file)
+    script = read_expanded(arguments.file)
+    lines = script.lines
     first, last = window(lines, arguments.lines, MOST_ROWS)
     run = observe(lines, first, last)
     picture = picture_of(run, first, last)
@@ -65,5 +67,5 @@ def main(arguments: argparse.Namespace) -> int:
     except OSError as fault:
         raise LabError(FILE, f"{output} can't be written: {(fault.strerror or str(fault)).lower()}") from None
     part = f", lines {first} to {last} of {len(lines)} (--lines FROM-TO shows others)" if last - first + 1 < len(lines) else ""
-    print(f"{output}{part}")
+    print("\n".join([f"{output}{part}", *what_happened(script)]))
     return 0
