@@ -5,9 +5,9 @@ import argparse
 import importlib
 import os
 import sys
-from typing import List, NoReturn, Optional, Sequence
+from typing import IO, List, NoReturn, Optional, Sequence
 
-from .errors import INTERRUPT, WORDS, LabError, StoppedMacro
+from .errors import FILE, INTERRUPT, WORDS, LabError, StoppedMacro
 
 #: The words, in the order in which help shows them.
 WORD_NAMES = ("run", "picture", "shell", "verdict", "check", "convert", "expand", "test", "shrink", "vary", "sweep", "seed", "explain")
@@ -54,6 +54,12 @@ class _Parser(argparse.ArgumentParser):
     def error(self, message: str) -> NoReturn:
         raise LabError(WORDS, f"{message} ('{self.prog} --help' shows the words)")
 
+    def _print_message(self, message: str, file: Optional[IO[str]] = None) -> None:
+        """Prints help. Unlike that of the class above, this tells where that fails."""
+        out = file or sys.stderr
+        out.write(message)
+        out.flush()
+
 
 def _plain(prog: str) -> argparse.HelpFormatter:
     """Help as wide as its own texts, which stay as they are."""
@@ -76,24 +82,53 @@ def _parser(asked: Sequence[str]) -> argparse.ArgumentParser:
 
 def main(words: Optional[List[str]] = None) -> int:
     """The status that the lab ends with on these words."""
+    _open_streams()
     try:
         asked = sys.argv[1:] if words is None else words
         arguments = _parser(asked).parse_args(asked)
-        status = arguments.main(arguments)
+        if sys.stdout is None:
+            raise LabError(FILE, "there is no output: standard output is closed")
+        status: int = arguments.main(arguments)
         sys.stdout.flush()
         return status
     except LabError as fault:
+        return _stopped(fault)
+    except KeyboardInterrupt:
+        print("\nlab: interrupted", file=sys.stderr)
+        return INTERRUPT
+    except OSError as fault:
+        return _unwritten(fault)
+
+
+def _open_streams() -> None:
+    """Where standard error is closed, nothing is told there; a closed input is an empty one."""
+    if sys.stderr is None:
+        sys.stderr = open(os.devnull, "w", encoding="utf-8")
+    if sys.stdin is None:
+        sys.stdin = open(os.devnull, encoding="utf-8")
+
+
+def _stopped(fault: LabError) -> int:
+    """Tells why a word stops, and of a macro what it did before."""
+    try:
         if isinstance(fault, StoppedMacro):
             from .expand import up_to
 
             print("\n".join(up_to(fault)))
-        sys.stdout.flush()
-        print(f"lab: {fault.sentence}", file=sys.stderr)
-        return fault.status
-    except KeyboardInterrupt:
-        print("\nlab: interrupted", file=sys.stderr)
-        return INTERRUPT
-    except BrokenPipeError:
-        # Whoever read has had enough. What is still held back must not be written at the end.
+        if sys.stdout is not None:
+            sys.stdout.flush()
+    except OSError as unwritten:
+        return _unwritten(unwritten)
+    print(f"lab: {fault.sentence}", file=sys.stderr)
+    return fault.status
+
+
+def _unwritten(fault: OSError) -> int:
+    """Tells that the output can't be written. What is still held back must not be written at the end."""
+    if sys.stdout is not None:
         os.dup2(os.open(os.devnull, os.O_WRONLY), sys.stdout.fileno())
+    if isinstance(fault, BrokenPipeError):
+        # Whoever read has had enough.
         return 0
+    print(f"lab: the output can't be written: {(fault.strerror or str(fault)).lower()}", file=sys.stderr)
+    return FILE
