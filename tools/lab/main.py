@@ -4,6 +4,7 @@ from __future__ import annotations
 import argparse
 import importlib
 import os
+import re
 import sys
 from typing import IO, List, NoReturn, Optional, Sequence
 
@@ -17,7 +18,7 @@ Asks "what happens to my data if .." of a replica set, and shows the answer: a t
 a prompt, the smallest script that still does it, all that may happen round it.
 """
 
-ENDING = """\
+_ENDING = """\
 A short script is a script with macros in it; every word that takes a FILE takes one, and - for standard input:
 
   elect A [B ..]           A campaigns, asks the voters (or those named) until it has won, and drains
@@ -38,14 +39,38 @@ A short script is a script with macros in it; every word that takes a FILE takes
   notation mongosh         documents are read as mongosh and Extended JSON have them from here on; 'notation own' ends that
   last                     as an OPTIME of ack and await: that of A's newest write
 
-The program that plays the scripts is the one that the environment variable REPLSET names; else the proved one of this
-repository; else one that is built without proofs, in three minutes.
+{program}
 
 statuses: 0 done; 1 a test isn't met, or a variation changes what is watched; 2 wrong words; 3 no script; 4 a file can't
 be read or written; 5 no program, or too old a Python; 6 the program failed; 7 a macro can't go on; 8 nothing found; 130 interrupted
 
-'lab WORD --help' says more about a word. docs/COOKBOOK.md has questions with their scripts and pictures.
+'lab WORD --help' says more about a word.{cookbook}
 """
+
+_CHECKOUT = (
+    "The program that plays the scripts is the one that the environment variable REPLSET names; else the proved one of this\n"
+    "repository; else one that is built without proofs, in three minutes."
+)
+_INSTALLED = "The program that plays the scripts is the one that the environment variable REPLSET names, or the installed one."
+
+#: A word of the lab behind its name, as texts have it.
+_CALL = re.compile(r"\blab (?=(?:%s|WORD)\b)" % "|".join(WORD_NAMES))
+
+
+def ending(in_checkout: bool) -> str:
+    """What help ends with. What is installed has no cookbook, and builds nothing."""
+    cookbook = " docs/COOKBOOK.md has questions with their scripts and pictures." if in_checkout else ""
+    return _ENDING.replace("{program}", _CHECKOUT if in_checkout else _INSTALLED).replace("{cookbook}", cookbook)
+
+
+def _called() -> str:
+    """By what name the lab is called: `lab` in a checkout, `replset-lab` where it is installed."""
+    name = os.path.basename(sys.argv[0])
+    return name if name.endswith("lab") else "lab"
+
+
+def _in_checkout() -> bool:
+    return os.path.exists(os.path.join(os.path.dirname(os.path.abspath(__file__)), "..", "..", "docs", "COOKBOOK.md"))
 
 
 class _Parser(argparse.ArgumentParser):
@@ -66,15 +91,17 @@ def _plain(prog: str) -> argparse.HelpFormatter:
     return argparse.RawDescriptionHelpFormatter(prog, max_help_position=20, width=118)
 
 
-def _parser(asked: Sequence[str]) -> argparse.ArgumentParser:
+def parser_of(asked: Sequence[str], name: str = "lab", in_checkout: bool = True) -> argparse.ArgumentParser:
     """Reads these words. Where the first is a word of the lab, the others aren't loaded."""
-    parser = _Parser(prog="lab", description=ABOUT, epilog=ENDING, formatter_class=_plain)
+    def said(text: str) -> str:
+        return _CALL.sub(f"{name} ", text)
+
+    parser = _Parser(prog=name, description=ABOUT, epilog=said(ending(in_checkout)), formatter_class=_plain)
     words = parser.add_subparsers(dest="word", metavar="WORD", required=True, title="words")
-    for name in asked[:1] if asked[:1] and asked[0] in WORD_NAMES else WORD_NAMES:
-        module = importlib.import_module(f".words.{name}", __package__)
-        word = words.add_parser(
-            name, help=module.SUMMARY, description=f"{module.SUMMARY}\n\n{module.DETAILS}", formatter_class=_plain
-        )
+    for one in asked[:1] if asked[:1] and asked[0] in WORD_NAMES else WORD_NAMES:
+        module = importlib.import_module(f".words.{one}", __package__)
+        details = said(f"{module.SUMMARY}\n\n{module.DETAILS}")
+        word = words.add_parser(one, help=said(module.SUMMARY), description=details, formatter_class=_plain)
         module.add_arguments(word)
         word.set_defaults(main=module.main)
     return parser
@@ -85,7 +112,7 @@ def main(words: Optional[List[str]] = None) -> int:
     _open_streams()
     try:
         asked = sys.argv[1:] if words is None else words
-        arguments = _parser(asked).parse_args(asked)
+        arguments = parser_of(asked, _called(), _in_checkout()).parse_args(asked)
         if sys.stdout is None:
             raise LabError(FILE, "there is no output: standard output is closed")
         status: int = arguments.main(arguments)
