@@ -94,8 +94,8 @@ class Story:
 
     def leader(self) -> Optional[int]:
         """The primary of the highest term at the end."""
-        leaders = [node for node, state in self.states.items() if state.role == "Primary"]
-        return max(leaders, key=lambda node: int(self.states[node].term), default=None)
+        leaders = [(int(state.term), node) for node, state in self.states.items() if state.role == "Primary"]
+        return max(leaders)[1] if leaders else None
 
 
 def read_fates(lines: Sequence[str]) -> Story:
@@ -156,7 +156,7 @@ class _Reader:
             for other, line in self._primaries.items():
                 self._story.together.append(((other, line), (node, step.line)))
             self._primaries[node] = step.line
-        elif after.role != "Primary" and self._primaries.pop(node, None) and not self._primaries:
+        elif after.role != "Primary" and self._primaries.pop(node, 0) and not self._primaries:
             self._story.ended = step.line
         if not after.down:
             self._config[node] = after.config

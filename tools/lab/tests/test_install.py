@@ -41,7 +41,7 @@ class Install(LabTest):
 
     def test_no_tests_and_nothing_that_makes_pages(self) -> None:
         names = [str(path.relative_to(self.place)) for path in self.installed()]
-        self.assertFalse([name for name in names if "tests" in name or name.endswith(("/check", "/refresh", "cookbook.py", "manual.py"))])
+        self.assertFalse([name for name in names if "tests" in name or name.endswith(("/check", "/refresh", "cookbook.py", "manual.py", ".ini"))])
         for name in ("share/man/man1/replset-lab.1", "share/man/man1/replset.1", "share/bash-completion/completions/replset-lab",
                      "share/zsh/site-functions/_replset-lab"):
             self.assertIn(name, names)
