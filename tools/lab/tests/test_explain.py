@@ -46,7 +46,8 @@ class Words(LabTest):
 
     def test_each_name_that_is_printed(self) -> None:
         for name in ("NoFit", "OtherReply", "BadHeader", "optime", "hole", "linear", "watch", "sync", "check", "chaos", "elect", "await",
-                     "last", "repeat", "w1-lost", "no-primary", "NothingCommitted", "UnknownToken", "linear refused 17 NoSuchNode",
+                     "last", "repeat", "w1-lost", "no-primary", "NothingCommitted", "UnknownToken",
+                     "linear refused 17 NoSuchNode",
                      "watch refused 2 NodeDown", "commit point", "OpenPar", "acked", "insert"):
             with self.subTest(name):
                 self.assertIn(name.split(" ")[-1], self.told("explain", name))
@@ -117,10 +118,10 @@ class Faults(LabTest):
     def test_macros(self) -> None:
         told = self.told("explain", self.file(["set 3", "elct n0"]))
         self.assertIn("did you mean 'elect'?", told)
-        told = self.told("explain", self.file(["set 3", "elect n0", "repeat 2 insert n0 t {_id: 1.5}"])).splitlines()
-        self.assertEqual(told[0], "line 3: BadText 1 Unexpected")
-        self.assertEqual(told[3:5], ["  which comes to", "  (8)  insert n0 t {_id: 1.5}"])
-        self.assertEqual(told[5].index("^"), told[4].index("1.5") + 1)
+        lines = self.told("explain", self.file(["set 3", "elect n0", "repeat 2 insert n0 t {_id: 1.5}"])).splitlines()
+        self.assertEqual(lines[0], "line 3: BadText 1 Unexpected")
+        self.assertEqual(lines[3:5], ["  which comes to", "  (8)  insert n0 t {_id: 1.5}"])
+        self.assertEqual(lines[5].index("^"), lines[4].index("1.5") + 1)
         told = self.told("explain", self.file(["set 3", "crash n1", "crash n2", "elect n0"]))
         self.assertIn("line 4: n0 isn't elected: n1 is down; n2 is down", told)
         self.assertIn("campaign n0   candidate 1 sent m0 2", told)
@@ -135,7 +136,8 @@ class Faults(LabTest):
     def test_the_notation(self) -> None:
         """The rules and places of documents, which the program tells without their places."""
         cases = [
-            ("{}", None), ("{a: [1, 2L, true, null], \"b c\": Date(-5)}", None), ("{a: Bin(0, \"00ff\"), b: Time(1, 2)}", None),
+            ("{}", None), ("{a: [1, 2L, true, null], \"b c\": Date(-5)}", None),
+            ("{a: Bin(0, \"00ff\"), b: Time(1, 2)}", None),
             ("{a: 2147483648}", (4, "Number")), ("{a: \"\\q\"}", (6, "Escape")), ("{a: Id(\"00\")}", (10, "Hex")),
             ("{a: 1, a: 2}", (7, "DuplicateName")), ("{a: 1,}", (6, "Unexpected")), ("{} ", (2, "Unexpected")),
             ("[" * 101, (100, "TooDeep")), ("{a: Bin(256, \"\")}", (8, "Number")), ("{a: tru}", (4, "Unexpected")),

@@ -13,8 +13,8 @@ from ..errors import NOTHING, WORDS, LabError, ScriptFault
 from ..expand import Expanded, read_script
 from ..program import find_program, run_program, script_bytes
 from ..smaller import Test, named_by_nodes, smallest
-from ..telling import what_happened
-from ..verdicts import MEANINGS, verdict_names
+from ..telling import names_of, what_happened
+from ..verdicts import MEANINGS
 
 SUMMARY = "prints the smallest script that still does it"
 DETAILS = """\
@@ -40,7 +40,7 @@ def add_arguments(parser: argparse.ArgumentParser) -> None:
                         help="how many scripts are played at a time (as many as there are processors)")
 
 
-def pattern(text: str) -> re.Pattern:
+def pattern(text: str) -> "re.Pattern[str]":
     """A regular expression over a transcript's lines."""
     try:
         return re.compile(text, re.MULTILINE)
@@ -48,7 +48,7 @@ def pattern(text: str) -> re.Pattern:
         raise LabError(WORDS, f"'{text}' is no regular expression: {fault}") from None
 
 
-def _keeps(wanted: re.Pattern) -> Test:
+def _keeps(wanted: "re.Pattern[str]") -> Test:
     def test(lines: List[str]) -> bool:
         done = run_program(["run"], script_bytes(lines))
         return done.returncode == 0 and wanted.search(done.stdout.decode("utf-8", "replace")) is not None
@@ -59,7 +59,7 @@ def _keeps(wanted: re.Pattern) -> Test:
 def _has_verdict(name: str) -> Test:
     def test(lines: List[str]) -> bool:
         try:
-            return name in verdict_names(lines)
+            return name in names_of(lines)
         except ScriptFault:
             return False
 

@@ -13,8 +13,9 @@ from ..program import run_program
 from ..script import read_lines
 from ..show import Progress
 from ..state import optime
+from ..telling import names_of
 from ..totals import Totals, read_totals
-from ..verdicts import MEANINGS, verdict_names
+from ..verdicts import MEANINGS
 from ..workers import in_order
 
 SUMMARY = "plays scripts made by chance over many seeds, and tells what they came to"
@@ -87,8 +88,9 @@ def _summary(text: str, verdicts: List[str]) -> Summary:
     return Summary(counts, max(commits, key=optime), down, verdicts)
 
 
-def _seeds(first: int, last: int, part: Tuple[int, int]) -> range:
+def _seeds(bounds: Tuple[int, int], part: Tuple[int, int]) -> range:
     """The seeds of a part. Neighbours go to different parts, so that all take as long."""
+    first, last = bounds
     return range(first + part[0] - 1, last + 1, part[1])
 
 
@@ -132,13 +134,13 @@ def _joined(names: List[str]) -> Totals:
 def _play(arguments: argparse.Namespace, totals: Totals) -> bool:
     """Plays the seeds. Gives whether the user interrupted it."""
     events, nodes = arguments.events, arguments.nodes
-    seeds = _seeds(*arguments.seeds, arguments.part or (1, 1))
+    seeds = _seeds(arguments.seeds, arguments.part or (1, 1))
 
     def summary(seed: int) -> Summary:
         done = run_program(["chaos", str(seed), str(events), str(nodes)])
         if done.returncode != 0:
             raise LabError(FAILED, f"seed {seed} ended with status {done.returncode}")
-        names = [] if arguments.no_verdicts else verdict_names(script_of_seed(seed, events, nodes))
+        names = [] if arguments.no_verdicts else names_of(script_of_seed(seed, events, nodes))
         return _summary(done.stdout.decode(), [name for name in names if arguments.verdict in (None, name)])
 
     progress = Progress(len(seeds), "seeds")
