@@ -1,6 +1,12 @@
-"""Which program of this checkout stands, of which sources it is made, and how one is built without proofs."""
+#!/usr/bin/env python3
+"""Which program of this checkout stands, of which sources it is made, and how one is built without proofs.
+
+usage: tools/program.py               builds the optimised program without proofs
+       tools/program.py --contents    prints the sum of the sources of a proved program
+"""
 import contextlib
 import fcntl
+import hashlib
 import os
 import shutil
 import subprocess
@@ -15,6 +21,12 @@ PROVED = os.path.join(CRATES, "replset", "out", "replset")
 # The program that is built without proofs, and one that isn't optimised either, which soon stands. Git ignores the folder.
 UNPROVED = os.path.join(TOP, "build", "replset")
 QUICK = os.path.join(TOP, "build", "quick")
+
+# A proved program is made of its definitions and proofs too.
+PROVED_OF = ("src", "specs", "proofs")
+
+# How many seconds a build takes where none was timed here yet.
+USUAL_SECONDS = 150
 
 # Statuses of the wrapper's own.
 NO_TOOLCHAIN = 69
@@ -64,17 +76,46 @@ def sources(parts):
                 yield from (os.path.join(folder, name) for name in names)
 
 
+def contents(parts):
+    """A sum of the names and the bytes of these sources."""
+    whole = hashlib.sha256()
+    for source in sorted(sources(parts)):
+        with open(source, "rb") as file:
+            part = hashlib.sha256(file.read()).hexdigest()
+        whole.update(f"{os.path.relpath(source, TOP)} {part}\n".encode())
+    return whole.hexdigest()
+
+
+def noted(program, what):
+    """What was noted beside a program, or nothing."""
+    with contextlib.suppress(OSError), open(f"{program}.{what}") as file:
+        return file.read().strip()
+    return ""
+
+
+def note(program, what, text):
+    with open(f"{program}.{what}", "w") as file:
+        file.write(f"{text}\n")
+
+
 def is_current(program, parts):
-    """Whether a program stands that was begun after the last change of its sources."""
+    """Whether a program stands that is made of the present sources: none has changed since it was begun, or their
+    times alone have, as in a copy or behind a checkout of another revision and back."""
     if not os.access(program, os.X_OK):
         return False
     began = os.stat(program).st_mtime_ns
-    return all(os.stat(source).st_mtime_ns <= began for source in sources(parts))
+    if all(os.stat(source).st_mtime_ns <= began for source in sources(parts)):
+        return True
+    now = time.time()
+    if noted(program, "sources") != contents(parts):
+        return False
+    os.utime(program, (now, now))
+    return True
 
 
 def proved():
     """The proved program of the present sources, where it stands."""
-    return PROVED if is_current(PROVED, ("src", "specs", "proofs")) else None
+    return PROVED if is_current(PROVED, PROVED_OF) else None
 
 
 def unproved():
@@ -84,7 +125,7 @@ def unproved():
 
 def stop_without_toolchain():
     if not shutil.which("rt"):
-        raise Stop(NO_TOOLCHAIN, "the program isn't built yet, and there is no `rt`, the toolchain's command, on the PATH to build it")
+        raise Stop(NO_TOOLCHAIN, "the program isn't built yet, and there is no `rt` on the PATH, the toolchain's command, to build it")
 
 
 @contextlib.contextmanager
@@ -101,17 +142,37 @@ def called(*words):
     return subprocess.run(words, stdin=subprocess.DEVNULL, stdout=subprocess.PIPE, stderr=subprocess.STDOUT, text=True)
 
 
+def watched(program, *words):
+    """Runs a tool that builds a program. A terminal is told each second how far it is. Gives its end, with what it said."""
+    began, usual = time.time(), int(noted(program, "seconds") or USUAL_SECONDS)
+    tool = subprocess.Popen(words, stdin=subprocess.DEVNULL, stdout=subprocess.PIPE, stderr=subprocess.STDOUT, text=True)
+    shows = sys.stderr is not None and sys.stderr.isatty()
+    while True:
+        try:
+            said, _ = tool.communicate(timeout=1)
+            break
+        except subprocess.TimeoutExpired:
+            if shows:
+                print(f"\rreplset: {time.time() - began:.0f} s of about {usual} s", end="", file=sys.stderr, flush=True)
+    if shows:
+        print("\r\033[K", end="", file=sys.stderr, flush=True)
+    return tool.returncode, said, round(time.time() - began)
+
+
 def build(program, *how):
     """Builds a program without proofs. False where the kit has no way to do so."""
-    began, made = time.time(), f"{program}.new"
-    built = called(os.path.join(TOOLS, "build_unproved"), *how, made)
-    if built.returncode == OTHER_KIT:
+    began, made, of = time.time(), f"{program}.new", contents(("src",))
+    status, said, seconds = watched(program, os.path.join(TOOLS, "build_unproved"), *how, made)
+    if status == OTHER_KIT:
         return False
-    if built.returncode != 0:
-        raise Stop(NOT_BUILT, f"the program could not be built\n{built.stdout}")
+    if status != 0:
+        raise Stop(NOT_BUILT, f"the program could not be built\n{said}")
     # A source that changes meanwhile makes it old.
     os.utime(made, (began, began))
+    note(program, "sources", of)
+    note(program, "seconds", seconds)
     os.replace(made, program)
+    say(f"built in {seconds} s")
     return True
 
 
@@ -122,7 +183,8 @@ def build_unproved():
         standing = unproved()
         if standing:
             return [standing]
-        say("building the program without proofs, which takes a minute or two; one that is ten times as fast is then built in the background")
+        seconds = noted(QUICK, "seconds") or USUAL_SECONDS
+        say(f"building the program without proofs, in about {seconds} s; one that is ten times as fast follows in the background")
         if not build(QUICK, "--quick"):
             say("this kit keeps no program without proofs; `rt try` builds it for each run")
             return ["rt", "try", "--"]
@@ -153,6 +215,9 @@ def prove():
 
 
 if __name__ == "__main__":
+    if sys.argv[1:] == ["--contents"]:
+        print(contents(PROVED_OF))
+        sys.exit()
     os.nice(10)
     with contextlib.suppress(Stop, BlockingIOError), alone(UNPROVED, fcntl.LOCK_EX | fcntl.LOCK_NB):
         optimise()

@@ -7,9 +7,13 @@ import re
 from dataclasses import dataclass
 from typing import Iterator, List, Optional, Sequence, Tuple
 
+from .foreign import double
 from .macros import FORMS
 from .notation import NotationFault, fault_of, read_value
-from .script import COMMANDS, WRITES, is_silent, node_number, words_of
+from .script import COMMANDS, document_places, is_silent, kind_of_write, node_number, words_of
+
+#: What is told of doubles, but for what could be written.
+DOUBLES = "there are no doubles"
 
 #: What people write from habit in a document: a pattern, and what to write here.
 HABITS = (
@@ -22,7 +26,7 @@ HABITS = (
     (r"Timestamp\s*\(", "a timestamp is written Time(SECONDS, INCREMENT)"),
     (r"BinData\s*\(|HexData\s*\(", 'bytes are written Bin(SUBTYPE, "HEX"), in hex and not in base64'),
     (r"UUID\s*\(", 'a UUID is written Bin(4, "32 HEX DIGITS")'),
-    (r"-?[0-9]+\.[0-9]|-?[0-9]+[eE][-+0-9]", "there are no doubles: write an integer, or a string"),
+    (r"-?[0-9]+(?:\.[0-9]+(?:[eE][-+]?[0-9]+)?|[eE][-+]?[0-9]+)", DOUBLES),
     (r"\b(?:NaN|Infinity)\b", "there are no doubles, so neither NaN nor Infinity"),
     (r"\b(?:True|False|None)\b", "true, false and null are written in small letters"),
     (r"\bundefined\b", "there is no undefined: write null, or leave the field out"),
@@ -59,6 +63,9 @@ def cause_of(line: str, rule: str, nodes: Optional[int]) -> Cause:
     """Where a faulty line is likely at fault, and why."""
     line = line.rstrip("\r")
     found = _spacing(line)
+    odd = _odd_character(line)
+    if odd is not None:
+        return odd
     if found is not None and rule.split(" ")[0] in ("UnknownCommand", "WordCount", "BadWord", "BadNode", "BadNumber", "NoSetLine"):
         return found
     if rule in ("UnknownCommand", "NoSetLine") and line:
@@ -72,6 +79,17 @@ def cause_of(line: str, rule: str, nodes: Optional[int]) -> Cause:
     if rule == "WordCount":
         return Cause(None, f"'{line.split(' ')[0]}' has another number of words; write it as below")
     return Cause(None, "")
+
+
+def _odd_character(line: str) -> Optional[Cause]:
+    """Characters that nobody sees."""
+    if line.startswith("\ufeff"):
+        return Cause(0, "a byte order mark stands here, which some editors put in front: save the file as UTF-8 without one")
+    if "\r" in line:
+        return Cause(line.index("\r"), "a carriage return stands here, and only one right before the line's end is passed over")
+    if "\u00a0" in line.split('"')[0]:
+        return Cause(line.index("\u00a0"), "a space that doesn't break stands here; words are parted by a plain one")
+    return None
 
 
 def _spacing(line: str) -> Optional[Cause]:
@@ -96,7 +114,7 @@ def _command(line: str) -> Cause:
         return Cause(0, "a set is made once, by the first line")
     if word in FORMS:
         return Cause(0, f"'{word}' is a macro of short scripts: play it by 'lab run', or 'lab expand' it")
-    near = difflib.get_close_matches(word.lower(), COMMANDS, 1)
+    near = difflib.get_close_matches(word.lower(), [*COMMANDS, *FORMS], 1)
     if word in COMMANDS:
         return Cause(0, "the first command must be 'set NODES [VOTERS [MEMBERS]]'")
     return Cause(0, f"did you mean '{near[0]}'?" if near else f"there is no command '{word}'")
@@ -120,33 +138,19 @@ def _node(line: str, nodes: Optional[int]) -> Cause:
     return Cause(None, "")
 
 
-def _kind_of(words: List[str]) -> str:
-    """The kind of a write, which `begin` and `retry` name behind words of their own; of any other command its first word."""
-    place = {"begin": 3, "retry": 4}.get(words[0], 0)
-    return words[place if place < len(words) else 0]
-
-
-def document_places(line: str) -> List[int]:
-    """Where the values of a line begin: an ID, a document, or both."""
-    words = line.split(" ")
-    front = {"read": 4, "begin": 5, "retry": 6}.get(words[0], 3)
-    kind = _kind_of(words)
-    if kind not in (*WRITES, "read") or len(words) <= front:
-        return []
-    return [len(" ".join(words[:front])) + 1]
-
-
 def _document(line: str) -> Cause:
     for begins in document_places(line):
-        kind = _kind_of(line.split(" "))
+        kind = kind_of_write(line)
         if kind in ("replace", "update"):
             try:
                 begins = read_value(line, begins) + 1
             except NotationFault as fault:
                 return Cause(fault.place, _meant(line, fault))
-        fault = fault_of(line, begins)
-        if fault is not None:
-            return Cause(fault.place, _meant(line, fault))
+        found = fault_of(line, begins)
+        if found is not None and line.endswith(" ") and found.place == len(line.rstrip(" ")):
+            return Cause(found.place, "the line ends with a space")
+        if found is not None:
+            return Cause(found.place, _meant(line, found))
         if not line[begins:].startswith("{") and kind not in ("delete", "read"):
             return Cause(begins, "a document stands here, in { and }")
     return Cause(None, _habit(line, 0))
@@ -161,7 +165,7 @@ def _habit(line: str, place: int) -> str:
     for pattern, told in HABITS:
         for found in re.finditer(pattern, line):
             if found.start() - 1 <= place <= found.end():
-                return told
+                return double(found[0]) if told == DOUBLES else told
     if place >= len(line):
         return "the line ends too soon: a bracket or a quotation mark isn't closed"
     word = re.match(r"[A-Za-z]+", line[place:])
@@ -188,11 +192,13 @@ def _configuration(line: str) -> Cause:
 def surprises(lines: Sequence[str]) -> Iterator[Tuple[int, str]]:
     """What is no fault and may still not be what was meant, with the number of its line."""
     for number, line in enumerate(lines, 1):
-        if is_silent(line):
+        # Most lines have neither, and are passed over quickly.
+        if "$" not in line and not line.startswith("reconfig") or is_silent(line):
             continue
         extended = EXTENDED.search(line)
         if extended and document_places(line):
-            yield number, f"extended JSON is read as a plain document with a field {extended[1]}"
+            told = f"extended JSON is read as a plain document with a field {extended[1]}"
+            yield number, told + " ('notation mongosh' before it has it read as MongoDB does; so does lab convert)"
         if words_of(line)[0] == "reconfig":
             yield from ((number, told) for told in _unknown_keys(line))
 

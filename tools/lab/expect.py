@@ -1,14 +1,16 @@
 """What the comments of a script expect, and whether it is so.
 
 `# expect: TEXT` behind a command speaks of its reply: the reply is TEXT, or goes on behind it after a space; `..` in TEXT
-stands for anything. Several such comments in a row speak of the reply's lines, one after another.
+stands for anything. Several such comments in a row speak of the reply's lines, one after another. Where a macro tells what came
+of it, they speak of that.
 """
 from __future__ import annotations
 
 import re
 from dataclasses import dataclass
-from typing import List, Optional, Sequence
+from typing import List, Optional, Sequence, Tuple
 
+from .asking import TOLD
 from .script import is_silent
 from .transcript import Transcript
 
@@ -39,14 +41,17 @@ def fits(wanted: str, found: str) -> bool:
 def expectations(lines: Sequence[str], transcript: Transcript) -> List[Expectation]:
     """All that the comments of a plain script expect."""
     found: List[Expectation] = []
-    number, place = 0, 0
+    command, told, place = "", [], 0  # type: Tuple[str, List[str], int]
     for at, line in enumerate(lines, 1):
         said = _EXPECTS.match(line.rstrip("\r"))
         if said:
-            reply = transcript.by_line.get(number)
-            told = [reply.text, *reply.more] if reply else []
-            found.append(Expectation(at, lines[number - 1] if number else "", said[1], told[place] if place < len(told) else None))
+            found.append(Expectation(at, command, said[1], told[place] if place < len(told) else None))
             place += 1
+        elif line.startswith(TOLD):
+            # The lines that a macro tells follow each other.
+            told = [*(told if lines[at - 2].startswith(TOLD) else []), line[len(TOLD) :].strip()]
+            command, place = "the macro", 0
         elif not is_silent(line):
-            number, place = at, 0
+            reply = transcript.by_line.get(at)
+            command, told, place = line, [reply.text, *reply.more] if reply else [], 0
     return found

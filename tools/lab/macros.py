@@ -5,17 +5,25 @@ parted is rolled back, a vote may be refused. A line that would be refused is le
 """
 from __future__ import annotations
 
-from typing import Callable, Dict, List, Optional
+import re
+from typing import Callable, Dict, List, Optional, Tuple
 
+from .asking import Asking, is_document
 from .errors import MACRO, LabError
+from .living import Living
 from .player import Player
 from .script import node_number
+from .state import Optime
+from .typed import is_foreign, translated
 
 #: How often a candidate tries, where a voter was in a later term.
 CAMPAIGNS = 3
 
 #: A line is repeated at most so often.
 MOST_REPEATS = 100_000
+
+#: So often members do something in one `tick`.
+MOST_TICKS = 1_000
 
 #: The words of each macro, as help shows them.
 FORMS = {
@@ -26,7 +34,17 @@ FORMS = {
     "heal": "heal",
     "await": "await A OPTIME [CONCERN]",
     "repeat": "repeat COUNT LINE",
+    "linear": "linear A COLL ID",
+    "watch": "watch COLL TOKEN A ..",
+    "sync": "sync A",
+    "status": "status",
+    "tick": "tick COUNT SEED",
+    "notation": "notation own | mongosh",
 }
+
+
+#: The sides of a partition, up to where each named stream has told, and whether documents are mongosh's.
+Kept = Tuple[Optional[List[List[int]]], Dict[str, Optime], bool]
 
 
 class CannotGoOn(LabError):
@@ -34,14 +52,21 @@ class CannotGoOn(LabError):
 
     def __init__(self, sentence: str):
         super().__init__(MACRO, sentence)
+        #: The script with what the macro had played.
+        self.lines: List[str] = []
 
 
 class Macros:
     """Plays macros on a script, and keeps which nodes a partition parts."""
 
-    def __init__(self, player: Player):
+    def __init__(self, player: Player, take: Callable[[str], None]):
         self.player = player
+        self._take = take
         self.groups: Optional[List[List[int]]] = None
+        #: Whether documents are read as mongosh has them from here on, also those that a script may have.
+        self.foreign = False
+        self.asking = Asking(player, self.linked)
+        self._living = Living(player, self.linked, lambda node: self._elect([f"n{node}"]), self._fetch)
         self._by_word: Dict[str, Callable[[List[str]], None]] = {
             "elect": self._elect,
             "pull": self._pull,
@@ -50,7 +75,21 @@ class Macros:
             "heal": self._heal,
             "await": self._await,
             "repeat": self._repeated,
+            "linear": self._linear,
+            "watch": self._watch,
+            "sync": self._sync,
+            "status": self._status,
+            "tick": self._tick,
+            "notation": self._notation,
         }
+
+    def kept(self) -> "Kept":
+        """What macros leave for later ones, for `restore`."""
+        return self.groups, dict(self.asking.tokens), self.foreign
+
+    def restore(self, kept: "Kept") -> None:
+        """Goes back to what was left then."""
+        self.groups, self.asking.tokens, self.foreign = kept[0], dict(kept[1]), kept[2]
 
     def play(self, line: str) -> None:
         """Puts a macro into the script: itself as a comment, and its lines."""
@@ -58,9 +97,13 @@ class Macros:
         before = len(self.player.lines)
         self.player.add(f"# {line}")
         try:
-            self._by_word[words[0]](words[1:])
-        except LabError:
+            # An ID may have spaces of its own.
+            self._by_word[words[0]](line.rstrip("\r").split(" ", 3)[1:] if words[0] == "linear" else words[1:])
+        except LabError as fault:
+            if isinstance(fault, CannotGoOn):
+                fault.lines = list(self.player.lines)
             del self.player.lines[before:]
+            self.player.forget()
             raise
 
     def linked(self, one: int, other: int) -> bool:
@@ -93,7 +136,7 @@ class Macros:
             if not any("later term" in why or "AlreadyVoted" in why for why in lost):
                 break
         unasked = [f"n{voter} is no voter of its configuration" for voter in voters if voter not in asked]
-        raise CannotGoOn(f"n{node} isn't elected: " + "; ".join(lost + unasked or ["nobody was asked"]))
+        raise CannotGoOn(f"n{node} isn't elected: " + "; ".join([*(lost or []), *unasked] or ["nobody was asked"]))
 
     def _gather(self, node: int, voters: List[int]) -> Optional[List[str]]:
         """Asks voters until one makes the majority; else says of each what it answered."""
@@ -156,22 +199,59 @@ class Macros:
         if len(words) < 2 or not words[0].isdecimal() or not 1 <= int(words[0]) <= MOST_REPEATS:
             raise CannotGoOn(f"the macro reads '{FORMS['repeat']}', with a COUNT up to {MOST_REPEATS}")
         line = " ".join(words[1:])
+        if words[1] == "repeat":
+            raise CannotGoOn("'repeat' repeats a command or another macro, and no 'repeat'")
         for number in range(1, int(words[0]) + 1):
-            self.player.add(line.replace("#", str(number)))
+            self._take(line.replace("#", str(number)))
 
     def _heal(self, words: List[str]) -> None:
         if words:
             raise CannotGoOn("'heal' has no other words: it ends the partition")
         self.groups = None
 
+    def _linear(self, words: List[str]) -> None:
+        if len(words) != 3 or not is_document(words[1], words[2]):
+            raise CannotGoOn(f"the macro reads '{FORMS['linear']}'")
+        read = f"read {words[0]} local {words[1]} {words[2]}"
+        key = translated(read).split(" ", 4)[4] if self.foreign or is_foreign(read) else words[2]
+        self.asking.linear(self._nodes("linear", words[:1])[0], words[1], key)
+
+    def _watch(self, words: List[str]) -> None:
+        nodes = [node_number(word) for word in words[2:]]
+        token = re.fullmatch(r"[0-9a-f]{32}|[A-Za-z]\w*", words[1]) if len(words) > 1 else None
+        if not nodes or None in nodes or not token or not re.fullmatch(r"[A-Za-z][\w.]{0,63}", words[0]):
+            raise CannotGoOn(f"the macro reads '{FORMS['watch']}', with 'start', 32 digits or a name as the TOKEN")
+        self.asking.watch(words[0], words[1], [node for node in nodes if node is not None])
+
+    def _sync(self, words: List[str]) -> None:
+        node = node_number(words[0]) if len(words) == 1 else None
+        if node is None:
+            raise CannotGoOn(f"the macro reads '{FORMS['sync']}'")
+        self.asking.sync(node)
+
+    def _status(self, words: List[str]) -> None:
+        if words:
+            raise CannotGoOn("'status' has no other words")
+        self.asking.status()
+
+    def _tick(self, words: List[str]) -> None:
+        if len(words) != 2 or not all(map(str.isdecimal, words)) or not 1 <= int(words[0]) <= MOST_TICKS or int(words[1]) >= 2**64:
+            raise CannotGoOn(f"the macro reads '{FORMS['tick']}', with a COUNT up to {MOST_TICKS} and a SEED of 64 bits")
+        self._living.tick(int(words[0]), int(words[1]))
+
+    def _notation(self, words: List[str]) -> None:
+        if words not in (["own"], ["mongosh"]):
+            raise CannotGoOn(f"the macro reads '{FORMS['notation']}'")
+        self.foreign = words == ["mongosh"]
+
     # What they are made of.
 
     def _nodes(self, macro: str, words: List[str]) -> List[int]:
-        numbers = [node_number(word) for word in words]
+        numbers = [number for number in map(node_number, words) if number is not None]
         count = self.player.size().nodes
-        if not numbers or None in numbers or any(number >= count for number in numbers):
+        if not numbers or len(numbers) != len(words) or max(numbers) >= count:
             raise CannotGoOn(f"the macro reads '{FORMS[macro]}', and the nodes are n0 to n{count - 1}")
-        limit = {"pull": 2, "spread": 1, "await": 1}.get(macro, count)
+        limit = {"pull": 2, "spread": 1, "await": 1, "linear": 1}.get(macro, count)
         if len(numbers) > limit or len(set(numbers)) != len(numbers):
             raise CannotGoOn(f"the macro reads '{FORMS[macro]}', with each node once")
         return numbers

@@ -1,8 +1,9 @@
 """Reads the notation of documents, to say where one breaks a rule. The program says only which rule."""
 from __future__ import annotations
 
+import json
 import re
-from typing import Optional
+from typing import Iterator, Optional, Tuple
 
 #: What a bracket opens needs no more than so many levels.
 MOST_LEVELS = 100
@@ -39,7 +40,8 @@ def read_value(text: str, place: int, level: int = 1) -> int:
     if word:
         return word.end()
     for name, reader in (("Date", _date), ("Bin", _bin), ("Id", _id), ("Time", _time)):
-        if text.startswith(name, place) and _NAME.match(text, place).group() == name:
+        found = _NAME.match(text, place)
+        if found is not None and found[0] == name:
             return reader(text, place + len(name))
     raise NotationFault(place, "Unexpected")
 
@@ -51,6 +53,20 @@ def fault_of(text: str, place: int) -> Optional[NotationFault]:
     except NotationFault as fault:
         return fault
     return NotationFault(end, "Unexpected") if end != len(text) else None
+
+
+def members(text: str, place: int = 0) -> Iterator[Tuple[str, str]]:
+    """The names of the document that begins at a place, each with its value as it is spelled."""
+    place = _spaces(text, place + 1)
+    while text[place : place + 1] != "}":
+        begins, place = place, _name(text, place)
+        name = text[begins:place]
+        place = _sign(text, place, ":")
+        end = read_value(text, place)
+        yield (json.loads(name, strict=False) if name.startswith('"') else name), text[place:end]
+        place = _spaces(text, end)
+        if text[place : place + 1] == ",":
+            place = _spaces(text, place + 1)
 
 
 def _spaces(text: str, place: int) -> int:
@@ -150,7 +166,8 @@ def _close(text: str, place: int) -> int:
 def _hex(text: str, place: int, digits: Optional[int]) -> int:
     if text[place : place + 1] != '"':
         raise NotationFault(place, "Unexpected")
-    end = _HEX.match(text, place + 1).end()
+    digit = _HEX.match(text, place + 1)
+    end = digit.end() if digit else place + 1
     count = end - place - 1
     if text[end : end + 1] != '"' or count % 2 or digits not in (None, count):
         raise NotationFault(end, "Hex")

@@ -18,6 +18,13 @@ from .transcript import Reply, Transcript
 MOST_LINES = 200_000
 
 
+class TooLong(LabError):
+    """The script has too many lines to be watched."""
+
+    def __init__(self) -> None:
+        super().__init__(SCRIPT, "the script is too long to be watched line by line: name a part of it with --lines")
+
+
 @dataclass
 class Step:
     """One reply, and what its line did. The states are those of the one node that it touched."""
@@ -72,13 +79,23 @@ class _Probed:
             self._put(line, number, None)
             in_block = word == "par" or (in_block and word != "end")
             if word and not in_block and first <= number <= last:
-                self._ask(number, self._everyone)
+                self._ask(number, self._touched(line, word))
             elif word in ("campaign", "dryrun", "drain"):
                 # Whom a candidate asks, its configuration says.
-                self._ask(number, [node for node in [acting_node(line)] if node is not None])
+                self._ask(number, self._named(line))
             begun = begun or word == "set"
         if len(self.lines) > MOST_LINES:
-            raise LabError(SCRIPT, "the script is too long to be watched line by line: name a part of it with --lines")
+            raise TooLong
+
+    def _touched(self, line: str, word: str) -> List[int]:
+        """The nodes that a line may change; all of them where it doesn't say which."""
+        if word == "end" or word == "deliver" and len(words_of(line)) == 2:
+            return self._everyone
+        return self._named(line)
+
+    def _named(self, line: str) -> List[int]:
+        """The node that a line is for, where it names one of the set's."""
+        return [node for node in [acting_node(line)] if node in self._everyone and node is not None]
 
     def _put(self, line: str, number: int, asked: Optional[int]) -> None:
         self.lines.append(line)

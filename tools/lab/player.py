@@ -1,9 +1,10 @@
 """A script that grows line by line, and what the program replies to it. Each question plays the whole script anew."""
 from __future__ import annotations
 
+import re
 from typing import Dict, List, Optional
 
-from .mail import Mail, Members
+from .mail import Mail, Members, Message
 from .observe import observe
 from .program import last_replies, play
 from .script import SetSize, acting_node, is_silent, set_size, words_of
@@ -89,6 +90,14 @@ class Player:
     def other_voters(self, node: int) -> List[int]:
         """The voters of a node's configuration but itself: these it asks for votes."""
         return [other for other in self.members(node).voters if other != node]
+
+    def message(self, line: str) -> Optional[Message]:
+        """The message that `deliver mK` would hand over. One that was sent in a block which is still open isn't known."""
+        if not re.fullmatch(r"deliver m[0-9]+", line):
+            return None
+        block = self.open_block()
+        lines = self.lines if block is None else self.lines[:block]
+        return observe(lines, len(lines) + 1).mail.receive(line)
 
     def newest_write(self, node: int) -> Optional[str]:
         """The optime of the newest write that the node was answered with."""

@@ -5,9 +5,10 @@ import os
 import subprocess
 import sys
 from pathlib import Path
-from typing import List, Sequence
+from typing import Dict, List, Sequence
 
-from .errors import FAILED, PROGRAM, LabError, ScriptFault
+from .errors import FAILED, FILE, PROGRAM, LabError, ScriptFault
+from .quick import run
 from .transcript import Transcript, read_transcript
 
 TOP = Path(__file__).resolve().parents[2]
@@ -15,7 +16,7 @@ TOP = Path(__file__).resolve().parents[2]
 #: Builds a program of this checkout in some minutes, with nothing proved.
 BUILDER = TOP / "tools" / "build_unproved"
 
-_found: dict = {}
+_found: Dict[str, str] = {}
 
 
 def find_program(name: str = "replset") -> str:
@@ -56,13 +57,21 @@ def _build(name: str, target: Path) -> str:
     return str(target)
 
 
-def run_program(words: Sequence[str], script: bytes = b"", name: str = "replset") -> subprocess.CompletedProcess:
+def run_program(words: Sequence[str], script: bytes = b"", name: str = "replset") -> "subprocess.CompletedProcess[bytes]":
     """The program's end on these words and this input, with its output."""
     program = find_program(name)
     try:
-        return subprocess.run([program, *words], input=script, stdout=subprocess.PIPE, stderr=subprocess.PIPE)
+        return subprocess.CompletedProcess([program, *words], *run(program, words, script))
     except OSError as fault:
         raise LabError(PROGRAM, f"{program} can't be run: {fault.strerror}") from None
+
+
+def write_file(name: str, content: bytes) -> None:
+    """Puts this into a file."""
+    try:
+        Path(name).write_bytes(content)
+    except OSError as fault:
+        raise LabError(FILE, f"{name} can't be written: {(fault.strerror or str(fault)).lower()}") from None
 
 
 def script_bytes(lines: Sequence[str]) -> bytes:

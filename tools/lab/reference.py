@@ -9,12 +9,13 @@ import difflib
 import re
 from dataclasses import dataclass
 from pathlib import Path
-from typing import Dict, List, Optional, Tuple
+from typing import Dict, Iterator, List, Optional, Tuple
 
 from .errors import FILE, LabError
 from .program import TOP
 
 PAGE = TOP / "docs" / "REFERENCE.md"
+TERMS = TOP / "docs" / "GLOSSARY.md"
 
 #: The words of a heading that stand for values.
 VALUE = re.compile(r"(?:[A-Z]+(?:/[A-Z]+)?|[mwn][KJ]|\.\.)$")
@@ -35,12 +36,30 @@ class Entry:
         return re.sub(r"[\[\]]", "", self.name).split(" ")
 
 
-def read_reference(path: Path = PAGE) -> List[Entry]:
-    """All entries of the page, in its order."""
+def _page(path: Path) -> str:
     try:
-        text = path.read_text(encoding="utf-8")
+        return path.read_text(encoding="utf-8")
     except OSError as fault:
         raise LabError(FILE, f"{path} can't be read, which has the explanations: {(fault.strerror or '').lower()}") from None
+
+
+def read_terms(path: Path = TERMS) -> List[Entry]:
+    """The glossary's terms, each with what it is."""
+    rows = [row.split(" | ") for row in _page(path).split("\n") if row.startswith("| ")]
+    return [Entry("Terms", name, _plain(row[1]), "") for row in rows for name in row[0].lstrip("| ").split(", ") if name != "Here"]
+
+
+def _rows(text: str) -> Iterator[Entry]:
+    """What a table says of names that the program prints."""
+    for row in text.split("\n"):
+        cells = row.strip("| ").split(" | ")
+        if row.startswith("| `") and re.search(r"[a-z][A-Z]", cells[0]):
+            yield Entry("Tables", cells[0].strip("`"), _plain(cells[-1]), "")
+
+
+def read_reference(path: Path = PAGE) -> List[Entry]:
+    """All entries of the page, in its order; those of its tables stand last."""
+    text = _page(path)
     entries: List[Entry] = []
     section = ""
     for block in re.split(r"^(?=##+ )", text, flags=re.MULTILINE):
@@ -49,7 +68,7 @@ def read_reference(path: Path = PAGE) -> List[Entry]:
             section = head[3:].strip()
         elif head.startswith("### "):
             entries.append(_entry(section, head[4:].strip().strip("`"), rest))
-    return entries
+    return [*entries, *_rows(text)]
 
 
 def _entry(section: str, name: str, text: str) -> Entry:

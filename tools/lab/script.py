@@ -72,6 +72,22 @@ def acting_node(line: str) -> Optional[int]:
     return node_number(words[2] if words[0] == "deliver" and len(words) > 2 else words[1])
 
 
+def kind_of_write(line: str) -> str:
+    """The kind of a write, which `begin` and `retry` name behind words of their own; of any other command its first word."""
+    words = line.split(" ")
+    place = {"begin": 3, "retry": 4}.get(words[0], 0)
+    return words[place if place < len(words) else 0]
+
+
+def document_places(line: str) -> List[int]:
+    """Where the values of a line begin: an ID, a document, or both."""
+    words = line.split(" ")
+    front = {"read": 4, "begin": 5, "retry": 6}.get(words[0], 3)
+    if kind_of_write(line) not in (*WRITES, "read") or len(words) <= front:
+        return []
+    return [len(" ".join(words[:front])) + 1]
+
+
 def set_size(lines: Sequence[str]) -> SetSize:
     """How many nodes the script's set has, and how many of them vote and are members."""
     for number, line in enumerate(lines, 1):

@@ -1,76 +1,153 @@
 """All that may happen round a script: deliveries that are lost, come twice or in another order, and nodes that crash."""
 from __future__ import annotations
 
-import re
-from dataclasses import dataclass
-from typing import Collection, Dict, Iterator, List, NamedTuple, Sequence, Tuple
+from itertools import combinations, permutations
+from typing import Dict, Iterator, List, NamedTuple, Sequence, Tuple, Union
 
-from .program import play
+from .errors import WORDS, LabError
+from .expand import Expanded
 from .script import SetSize, is_silent, words_of
 from .show import printable
-from .transcript import Reply
 
 KINDS = ("drop", "repeat", "swap", "crash", "bounce")
 
+#: Orders of more lines than these are too many.
+MOST_ORDERED = 8
 
-class Variation(NamedTuple):
+#: A line of the script by its place, or one that is put in.
+Token = Union[int, str]
+
+
+class Change(NamedTuple):
     """One change to a script, behind or at the line at `place`: `swap` has another place, and a crash its node."""
 
     kind: str
     place: int
     other: int = 0
 
-    def told(self, lines: Sequence[str]) -> str:
+    def told(self, script: Expanded) -> str:
         """What it is, for people."""
-        name = f"line {self.place + 1}, {_short(lines[self.place])}"
+        name = _named(script, self.place)
         return {
             "drop": f"{name}: lost",
             "repeat": f"{name}: twice",
-            "swap": f"{name}: behind line {self.other + 1}, {_short(lines[self.other])}",
-            "crash": f"{name}: n{self.other} crashes behind it",
-            "bounce": f"{name}: n{self.other} crashes behind it and comes back",
+            "swap": f"{name}: after {_named(script, self.other) if self.kind == 'swap' else ''}",
+            "crash": f"{name}: n{self.other} crashes after it",
+            "bounce": f"{name}: n{self.other} crashes after it and comes back",
         }[self.kind]
 
-    def played(self, lines: Sequence[str]) -> Tuple[List[str], List[int]]:
-        """The changed lines, and of each the number of the line that it was, or 0 for one that was put in."""
-        place, other = self.place, self.other
-        order: List[int] = list(range(len(lines)))
+    def apply(self, order: List[Token]) -> None:
+        """Changes the script, whose lines stand there by their places."""
+        at = order.index(self.place)
         if self.kind == "drop":
-            del order[place]
+            del order[at]
         elif self.kind == "repeat":
-            order.insert(place, place)
+            order.insert(at, self.place)
         elif self.kind == "swap":
-            del order[place]
-            order.insert(order.index(other) + 1, place)
-        changed, source = [lines[at] for at in order], [at + 1 for at in order]
-        if self.kind in ("crash", "bounce"):
-            added = [f"crash n{other}"] + ([f"restart n{other}"] if self.kind == "bounce" else [])
-            changed[place + 1 : place + 1] = added
-            source[place + 1 : place + 1] = [0] * len(added)
-        return changed, source
+            del order[at]
+            order.insert(order.index(self.other) + 1, self.place)
+        else:
+            order[at + 1 : at + 1] = [f"crash n{self.other}"] + ([f"restart n{self.other}"] if self.kind == "bounce" else [])
 
 
-@dataclass(frozen=True)
-class Outcome:
-    """What is watched of a run: the replies of watched lines, and each node's documents at the end."""
+class Faults(NamedTuple):
+    """A variation by one change or several at once."""
 
-    replies: Dict[int, str]
-    endings: Dict[int, Tuple[str, ...]]
+    changes: Tuple[Change, ...]
+
+    def told(self, script: Expanded) -> str:
+        """What it is, for people."""
+        return "; and ".join(change.told(script) for change in self.changes)
+
+    def order(self, count: int) -> List[Token]:
+        """The script of so many lines as it is then."""
+        order: List[Token] = list(range(count))
+        for change in self.changes:
+            change.apply(order)
+        return order
 
 
-def variations(lines: Sequence[str], size: SetSize, kinds: Sequence[str]) -> Iterator[Variation]:
-    """Each variation of the wanted kinds, in the order of the script's lines."""
+class Order(NamedTuple):
+    """A variation in which some lines of the file stand in another order: each one's places, and whose each place is then."""
+
+    groups: Tuple[Tuple[int, ...], ...]
+    taken: Tuple[int, ...]
+
+    def told(self, script: Expanded) -> str:
+        """What it is, for people."""
+        lines = [str(script.source[self.groups[one][0]]) for one in self.taken]
+        return "in the order of lines " + ", ".join(lines)
+
+    def order(self, count: int) -> List[Token]:
+        """The script of so many lines as it is then."""
+        first = {group[0]: self.groups[one] for group, one in zip(self.groups, self.taken)}
+        moved = {place for group in self.groups for place in group}
+        order: List[Token] = []
+        for place in range(count):
+            order += first.get(place, () if place in moved else (place,))
+        return order
+
+
+Variation = Union[Faults, Order]
+
+
+def played(variation: Variation, lines: Sequence[str]) -> Tuple[List[str], List[int]]:
+    """The changed lines, and of each the number of the line that it was, or 0 for one that was put in."""
+    order = variation.order(len(lines))
+    changed = [token if isinstance(token, str) else lines[token] for token in order]
+    return changed, [0 if isinstance(token, str) else token + 1 for token in order]
+
+
+def faults(lines: Sequence[str], size: SetSize, kinds: Sequence[str], most: int) -> Iterator[Faults]:
+    """The variations by one change of the wanted kinds, in the order of the script's lines; then those by two, and so on."""
+    single = list(_changes(lines, size, kinds))
+    for count in range(1, most + 1):
+        yield from (Faults(some) for some in combinations(single, count) if count == 1 or _fit(some))
+
+
+def count_of_faults(lines: Sequence[str], size: SetSize, kinds: Sequence[str], most: int) -> int:
+    """How many variations `faults` has."""
+    return sum(1 for _ in faults(lines, size, kinds, most))
+
+
+def _fit(changes: Sequence[Change]) -> bool:
+    """Whether no two of the changes are of one line's delivery, or rest on one that is lost."""
+    moved = [change.place for change in changes if change.kind in ("drop", "repeat", "swap")]
+    lost = {change.place for change in changes if change.kind == "drop"}
+    rests = {change.other for change in changes if change.kind == "swap"}
+    rests |= {change.place for change in changes if change.kind in ("crash", "bounce")}
+    return len(moved) == len(set(moved)) and not lost & rests
+
+
+def _changes(lines: Sequence[str], size: SetSize, kinds: Sequence[str]) -> Iterator[Change]:
     places = _places(lines)
     deliveries = [place for place in places if words_of(lines[place])[0] == "deliver"]
-    following = dict(zip(deliveries, deliveries[1:]))
+    following: Dict[int, int] = dict(zip(deliveries, deliveries[1:]))
     known = set(deliveries)
     for place in places:
         if place in known:
-            yield from (Variation(kind, place) for kind in ("drop", "repeat") if kind in kinds)
+            yield from (Change(kind, place) for kind in ("drop", "repeat") if kind in kinds)
             if place in following and "swap" in kinds:
-                yield Variation("swap", place, following[place])
+                yield Change("swap", place, following[place])
         for node in range(size.nodes):
-            yield from (Variation(kind, place, node) for kind in ("crash", "bounce") if kind in kinds)
+            yield from (Change(kind, place, node) for kind in ("crash", "bounce") if kind in kinds)
+
+
+def orders(script: Expanded, numbers: Sequence[int]) -> Iterator[Order]:
+    """Each order but the present one of these lines of the file, with all lines that a macro came to."""
+    if not 2 <= len(set(numbers)) <= MOST_ORDERED:
+        raise LabError(WORDS, f"--orders takes 2 to {MOST_ORDERED} lines of the file, each once")
+    in_blocks = set(range(len(script.lines))) - set(_places(script.lines))
+    groups = []
+    for number in sorted(set(numbers)):
+        places = tuple(place for place, origin in enumerate(script.source) if origin == number)
+        said = [place for place in places if not is_silent(script.lines[place])]
+        if not said or words_of(script.lines[said[0]])[0] == "set" or in_blocks & set(said):
+            raise LabError(WORDS, f"--orders {number}: that is no command outside a block that can be moved")
+        groups.append(places)
+    for taken in permutations(range(len(groups))):
+        if list(taken) != sorted(taken):
+            yield Order(tuple(groups), taken)
 
 
 def _places(lines: Sequence[str]) -> List[int]:
@@ -84,48 +161,11 @@ def _places(lines: Sequence[str]) -> List[int]:
     return places
 
 
-def outcome(
-    lines: Sequence[str], source: Sequence[int], nodes: int, watch: re.Pattern, also: Collection[int] = ()
-) -> Outcome:
-    """What is watched of a run of these lines: what the pattern matches, and the lines with the numbers in `also`."""
-    dumps = [f"dump n{node} local" for node in range(nodes)]
-    transcript = play([*lines, *dumps])
-    endings = {}
-    for node in range(nodes):
-        reply = transcript.by_line[len(lines) + 1 + node]
-        if not reply.refused:
-            endings[node] = reply.more
-    found: Dict[int, str] = {}
-    for number, line in enumerate(lines, 1):
-        reply, was = transcript.by_line.get(number), source[number - 1]
-        if reply is not None and was and (was in also or watch.search(line) or watch.search(_whole(reply))):
-            found[was] = _whole(reply)
-    return Outcome(found, endings)
+def _named(script: Expanded, place: int) -> str:
+    return f"line {script.number(place + 1)}, {shortened(script.lines[place])}"
 
 
-def _whole(reply: Reply) -> str:
-    return "\n".join([reply.text, *reply.more])
-
-
-def differences(lines: Sequence[str], usual: Outcome, other: Outcome) -> Tuple[str, ...]:
-    """What is otherwise, for people. Of nodes that are down at the end nothing is said."""
-    told: List[str] = []
-    for number in sorted({*usual.replies, *other.replies}):
-        old, new = usual.replies.get(number), other.replies.get(number)
-        if old != new and old is not None:
-            told.append(f"line {number}, {printable(lines[number - 1])}: {_short(old)} → {_short(new or 'no such reply')}")
-        elif old != new:
-            told.append(f"line {number}, {printable(lines[number - 1])}: now {_short(new or '')}")
-    for node in sorted(usual.endings):
-        if node in other.endings and usual.endings[node] != other.endings[node]:
-            told.append(f"n{node} ends with {_documents(other.endings[node])}, and not {_documents(usual.endings[node])}")
-    return tuple(told)
-
-
-def _short(text: str) -> str:
+def shortened(text: str) -> str:
+    """A text on one line, of no more than 70 characters."""
     text = printable(text.replace("\n", "; "))
     return text if len(text) <= 70 else text[:69] + "…"
-
-
-def _documents(documents: Tuple[str, ...]) -> str:
-    return _short("; ".join(documents)) if documents else "nothing"

@@ -13,7 +13,7 @@ class Run(LabTest):
         told = self.told("run", self.file(["set 1", "campaign n0", "drain n0", "insert n0 t {_id: 1}", "dump n0 local"]))
         self.assertIn("2  campaign n0            won 1\n", told)
         self.assertIn("documents 1\n", told)
-        self.assertTrue(told.rstrip().endswith("t {_id: 1}"))
+        self.assertTrue(told.split("\n\nwhat happened to the data:")[0].endswith("t {_id: 1}"))
 
     def test_state_shows_a_step_down_that_the_reply_hides(self) -> None:
         lines = [*COMMITTED, "partition n0 | n1 n2", "elect n1", "heal", "heartbeat n1 n0", "deliver n1 n0"]
@@ -37,8 +37,10 @@ class Expand(LabTest):
         told = self.told("expand", self.file(["set 2", "elect n0", "insert n0 t {_id: 1}", "flush n0", "pull n1", "ack n0 last majority"]))
         self.assertEqual(told.splitlines(), [
             "set 2", "# elect n0", "campaign n0", "deliver n0 n1", "deliver n1 n0", "drain n0",
-            "insert n0 t {_id: 1}", "flush n0", "# pull n1", "heartbeat n0 n1", "deliver n0 n1", "fetch n1", "deliver n1 n0",
-            "deliver n0 n1", "flush n1", "apply n1", "report n1 n0", "deliver n1 n0", "heartbeat n0 n1", "deliver n0 n1",
+            "insert n0 t {_id: 1}", "flush n0", "# pull n1", "heartbeat n0 n1", "deliver n0 n1", "fetch n1",
+            "deliver n1 n0",
+            "deliver n0 n1", "flush n1", "apply n1", "report n1 n0", "deliver n1 n0", "heartbeat n0 n1",
+            "deliver n0 n1",
             "ack n0 1/0/2 majority",
         ])
 
@@ -46,7 +48,8 @@ class Expand(LabTest):
         told = self.told("expand", self.file(["set 4 2 3", "elect n0", "insert n0 t {_id: 1}", "spread n0"]))
         elected, spread = told.split("# spread n0\n")
         self.assertEqual(elected.splitlines(), [
-            "set 4 2 3", "# elect n0", "campaign n0", "deliver n0 n1", "deliver n1 n0", "drain n0", "insert n0 t {_id: 1}",
+            "set 4 2 3", "# elect n0", "campaign n0", "deliver n0 n1", "deliver n1 n0", "drain n0",
+            "insert n0 t {_id: 1}",
         ])
         self.assertIn("report n2 n0", spread)
         self.assertNotIn("n3", spread)
@@ -102,6 +105,31 @@ class Expand(LabTest):
                 self.assertIn(f"lab: line {len(lines)}: ", done.stderr)
                 self.assertIn(why, done.stderr)
 
+    def test_a_macro_that_cannot_go_on_shows_what_it_did(self) -> None:
+        for word in ("run", "expand", "verdict", "vary"):
+            done = self.lab(word, self.file(["set 3", "", "crash n1", "crash n2", "elect n0"]))
+            self.assertEqual((done.returncode, done.stderr), (7, "lab: line 5: n0 isn't elected: n1 is down; n2 is down\n"))
+            self.assertEqual(done.stdout.splitlines()[-2:], ["5  5  # elect n0", "5  6  campaign n0   candidate 1 sent m0 2"])
+        done = self.lab("test", self.file(["set 1", "elect n0", "elect n0"]))
+        self.assertEqual(done.returncode, 1)
+        self.assertIn("campaign n0   refused 19 NotElectable 2", done.stdout)
+
+    def test_a_partition_holds_for_numbered_messages(self) -> None:
+        lines = ["set 3", "elect n0", "heartbeat n0 n1", "heartbeat n1 n2", "partition n0 | n1 n2", "deliver m3", "deliver m4", "heal",
+                 "deliver m3"]
+        plain = self.told("expand", self.file(lines)).splitlines()
+        self.assertEqual(plain[-5:], ["# partition n0 | n1 n2", "# lost in the partition: deliver m3", "deliver m4", "# heal", "deliver m3"])
+
+    def test_numbers_are_those_of_the_file(self) -> None:
+        lines = ["# first", "set 3", "elect n0", "insert n0 t {_id: 1}", "ack n0 last 77"]
+        for word in ("run", "expand", "test", "vary", "picture"):
+            done = self.lab(word, self.file(lines))
+            wanted = "line 5 (9) is at fault: BadNumber, where it reads 'ack n0 1/0/2 77'"
+            self.assertIn(wanted, done.stdout if word == "test" else done.stderr)
+        self.assertIn("\n4  8  insert n0 t {_id: 1}", self.told("run", self.file(lines[:4])))
+        self.assertIn("line 4 is at fault: OpenPar", self.lab("run", self.file(["set 3", "par", "thread"])).stderr)
+        self.assertIn("line 5 (9) is at fault: OpenPar", self.lab("run", self.file(["set 3", "elect n0", "par", "thread"])).stderr)
+
 
 class Test(LabTest):
     """`lab test`."""
@@ -111,7 +139,7 @@ class Test(LabTest):
                  "# expect: orders {_id: 1, ..", "read n0 local orders 2", "# expect: found"]
         done = self.lab("test", self.file(lines))
         self.assertEqual(done.returncode, 1)
-        self.assertEqual(done.stdout.splitlines()[1:], ["  line 38, behind read n0 local orders 2", "  - found", "  + missing"])
+        self.assertEqual(done.stdout.splitlines()[1:], ["  line 11 (38), after read n0 local orders 2", "  - found", "  + missing"])
         self.assertIn("as expected", self.told("test", self.file(lines[:-2])))
 
     def test_a_word_is_met_whole(self) -> None:

@@ -5,17 +5,18 @@ import argparse
 import re
 import sys
 from pathlib import Path
-from typing import Callable, Dict, List, Optional
+from typing import Callable, Dict, List, Optional, Tuple
 
+from ..asking import TOLD
 from ..diagnose import cause_of
 from ..drawing import svg_file
 from ..errors import FILE, WORDS, LabError, ScriptFault
 from ..expand import Expander
 from ..layout import picture_of, window
-from ..macros import FORMS
+from ..macros import FORMS, CannotGoOn, Kept
 from ..observe import observe
 from ..player import Player
-from ..program import script_bytes
+from ..program import play, script_bytes
 from ..script import COMMANDS, is_silent, read_lines
 from ..show import printable
 from ..status import status_table
@@ -58,7 +59,7 @@ class Shell:
         self.player = Player()
         self._expander = Expander(self.player)
         self._put = put
-        self._typed: List[tuple] = []
+        self._typed: List[Tuple[int, Kept]] = []
         self._own: Dict[str, Callable[[str], None]] = {
             "status": self._status, "undo": self._undo, "script": self._script, "save": self._save,
             "picture": self._picture, "explain": self._explain, "help": self._help,
@@ -67,7 +68,7 @@ class Shell:
     def open(self, lines: List[str]) -> None:
         """Begins with these lines, whose replies aren't shown."""
         for line in lines:
-            self._typed.append((len(self.player.lines), self._expander.macros.groups))
+            self._typed.append((len(self.player.lines), self._expander.macros.kept()))
             self._expander.take(line)
         self.player.transcript()
 
@@ -84,12 +85,15 @@ class Shell:
 
     def _play(self, line: str) -> None:
         """Puts a line of the script, or a macro, behind it, and shows what that came to."""
-        before = len(self.player.lines), self._expander.macros.groups
+        before = len(self.player.lines), self._expander.macros.kept()
         try:
             self._expander.take(line)
             replies = self.player.transcript() if self.player.open_block() is None else None
-        except LabError:
+        except LabError as fault:
             del self.player.lines[before[0]:]
+            self._expander.macros.restore(before[1])
+            if isinstance(fault, CannotGoOn):
+                self._show_tried(fault.lines, before[0])
             raise
         self._typed.append(before)
         if replies is None:
@@ -103,6 +107,15 @@ class Shell:
                 self._put(printable(front + reply.text))
                 for more in reply.more:
                     self._put("    " + printable(more))
+        for told in self.player.lines[before[0]:]:
+            if told.startswith(TOLD):
+                self._put("  " + printable(told[len(TOLD):]))
+
+    def _show_tried(self, lines: List[str], count: int) -> None:
+        """What a macro did that can't go on. None of it stays."""
+        for reply in play(lines).replies if len(lines) > count + 1 else []:
+            if reply.line > count:
+                self._put(printable(f"  {lines[reply.line - 1]:42} {reply.text}"))
 
     def _block_start(self) -> int:
         return max(place for place, line in enumerate(self.player.lines) if line == "par")
@@ -117,10 +130,10 @@ class Shell:
             # The line that makes the set stays.
             if all(is_silent(line) for line in self.player.lines[: self._typed[-1][0]]):
                 break
-            length, groups = self._typed.pop()
+            length, kept = self._typed.pop()
             del self.player.lines[length:]
             self.player.forget()
-            self._expander.macros.groups = groups
+            self._expander.macros.restore(kept)
         last = next((line for line in reversed(self.player.lines) if not is_silent(line)), "")
         self._put(f"  back behind: {printable(last)}")
 

@@ -4,45 +4,35 @@ from __future__ import annotations
 import argparse
 import os
 import re
-from functools import partial
-from typing import Dict, Iterable, List, Tuple
+import sys
+from typing import Dict, List, NamedTuple, Tuple
 
-from ..errors import FAILED, WORDS, LabError
+from ..chance import script_of_seed
+from ..errors import FAILED, FILE, INTERRUPT, WORDS, LabError
 from ..program import run_program
-from ..show import Progress, table
+from ..script import read_lines
+from ..show import Progress
 from ..state import optime
+from ..telling import names_of
+from ..totals import Totals, read_totals
+from ..verdicts import MEANINGS
 from ..workers import in_order
 
 SUMMARY = "plays scripts made by chance over many seeds, and tells what they came to"
 DETAILS = """\
 For each seed 'replset chaos SEED EVENTS NODES' is played. Told are the spread of what its summary counts, how many seeds
-moved a commit point, and the seeds that stand out; 'lab seed' prints the script of one. A seed always gives the same
-script, so the same sweep always tells the same."""
+moved a commit point, the seeds that stand out, and how many have each verdict ('lab verdict --help' names them; in these
+scripts nobody reads or asks for an acknowledgement); 'lab seed' prints the script of one. A seed always gives the same
+script, so the same sweep always tells the same. With --verdict NAME only the seeds with that verdict are told.
 
-COUNTS = ("events", "written", "won", "rolled back", "refused")
+So that many machines can share a sweep, --part K/N does the K-th of N parts of the seeds and prints one line, and --join
+tells what such lines come to together:
 
+    seq 400 | parallel 'lab sweep --seeds 1-1000000 --part {}/400 > part-{}'
+    sbatch --array=1-400 -o part-%%a --wrap 'lab sweep --seeds 1-1000000 --part $SLURM_ARRAY_TASK_ID/400'
+    lab sweep --join part-*
 
-class Summary:
-    """What the program says of one seed."""
-
-    def __init__(self, seed: int, text: str):
-        self.seed = seed
-        self.counts: Dict[str, int] = {}
-        self.commits: List[str] = []
-        self.down = 0
-        for line in text.splitlines():
-            node = re.match(r"n\d+ (?:(down)|last \S+ commit (\S+))$", line)
-            if node:
-                self.down += node[1] is not None
-                self.commits += [node[2]] if node[2] else []
-            else:
-                name, count = line.rsplit(" ", 1)
-                self.counts[name] = int(count)
-
-    @property
-    def commit(self) -> str:
-        """The greatest commit point of a node."""
-        return max(self.commits, key=optime, default="0/0/0")
+An interrupt keeps what was found till then."""
 
 
 def add_arguments(parser: argparse.ArgumentParser) -> None:
@@ -50,6 +40,11 @@ def add_arguments(parser: argparse.ArgumentParser) -> None:
     parser.add_argument("--seeds", metavar="FROM-TO", type=_seed_range, default=(1, 1000), help="the seeds (1-1000)")
     parser.add_argument("--events", metavar="N", type=int, default=500, help="events of a script, up to 5000 (500)")
     parser.add_argument("--nodes", metavar="N", type=int, default=3, help="nodes of the set, 1 to 50 (3)")
+    verdict = parser.add_mutually_exclusive_group()
+    verdict.add_argument("--verdict", metavar="NAME", choices=list(MEANINGS), help="tell the seeds with this verdict alone")
+    verdict.add_argument("--no-verdicts", action="store_true", help="look for no verdicts, which is many times as fast")
+    parser.add_argument("--part", metavar="K/N", type=_part, help="do the K-th of N parts, and print a line for --join")
+    parser.add_argument("--join", metavar="FILE", nargs="+", help="tell what the lines of --part come to; nothing is played")
     parser.add_argument("-j", dest="jobs", metavar="N", type=int, default=os.cpu_count() or 1,
                         help="how many are played at a time (as many as there are processors)")
 
@@ -62,68 +57,99 @@ def _seed_range(text: str) -> Tuple[int, int]:
     return first, last
 
 
-def _play(events: int, nodes: int, seed: int) -> Summary:
-    done = run_program(["chaos", str(seed), str(events), str(nodes)])
-    if done.returncode != 0:
-        raise LabError(FAILED, f"seed {seed} ended with status {done.returncode}")
-    return Summary(seed, done.stdout.decode())
+def _part(text: str) -> Tuple[int, int]:
+    found = re.fullmatch(r"(\d{1,9})/(\d{1,9})", text)
+    if not found or not 1 <= int(found[1]) <= int(found[2]):
+        raise argparse.ArgumentTypeError(f"'{text}' is no part such as 3/10")
+    return int(found[1]), int(found[2])
 
 
-def _spread(summaries: List[Summary]) -> Iterable[str]:
-    rows = [["", "least", "a tenth below", "middle", "a tenth above", "most", "at seed"]]
-    for name in COUNTS:
-        order = sorted(summaries, key=lambda one: (one.counts[name], -one.seed))
-        places = [0, len(order) // 10, len(order) // 2, len(order) - 1 - len(order) // 10, len(order) - 1]
-        rows.append([name, *(str(order[place].counts[name]) for place in places), str(order[-1].seed)])
-    return table(rows)
+class Summary(NamedTuple):
+    """What one seed came to."""
+
+    counts: Dict[str, int]
+    commit: str
+    down: bool
+    verdicts: List[str]
 
 
-def _bars(summaries: List[Summary], name: str) -> Iterable[str]:
-    """How many seeds came to each count, in at most twelve steps."""
-    counts = [one.counts[name] for one in summaries]
-    width = max(1, -(-(max(counts) + 1) // 12))
-    steps: Dict[int, int] = {}
-    for count in counts:
-        steps[count // width] = steps.get(count // width, 0) + 1
-    most = max(steps.values())
-    for step in range(max(steps) + 1):
-        said = f"{step * width}" if width == 1 else f"{step * width} to {step * width + width - 1}"
-        seeds = steps.get(step, 0)
-        yield f"  {said:>11}  {seeds:7}  {'#' * -(-40 * seeds // most)}"
+def _summary(text: str, verdicts: List[str]) -> Summary:
+    """What the program says of a seed."""
+    counts: Dict[str, int] = {}
+    commits, down = ["0/0/0"], False
+    for line in text.splitlines():
+        node = re.match(r"n\d+ (?:(down)|last \S+ commit (\S+))$", line)
+        if node:
+            down = down or node[1] is not None
+            commits += [node[2]] if node[2] else []
+        else:
+            name, count = line.rsplit(" ", 1)
+            counts[name] = int(count)
+    return Summary(counts, max(commits, key=optime), down, verdicts)
+
+
+def _seeds(bounds: Tuple[int, int], part: Tuple[int, int]) -> range:
+    """The seeds of a part. Neighbours go to different parts, so that all take as long."""
+    first, last = bounds
+    return range(first + part[0] - 1, last + 1, part[1])
+
+
+def _check(events: int, nodes: int) -> None:
+    few = 0 <= events <= 5000 and 1 <= nodes <= 50
+    if not few or events * nodes > 50000:
+        raise LabError(WORDS, "--events is at most 5000, --nodes from 1 to 50, and both multiplied at most 50000")
 
 
 def main(arguments: argparse.Namespace) -> int:
     """Plays the seeds, and tells what they came to."""
-    first, last = arguments.seeds
-    few = 0 <= arguments.events <= 5000 and 1 <= arguments.nodes <= 50
-    if not few or arguments.events * arguments.nodes > 50000:
-        raise LabError(WORDS, "--events is at most 5000, --nodes from 1 to 50, and both multiplied at most 50000")
-    progress = Progress(last - first + 1, "seeds")
-    summaries: List[Summary] = []
-    try:
-        for _, summary in in_order(partial(_play, arguments.events, arguments.nodes), range(first, last + 1), arguments.jobs):
-            summaries.append(summary)
-            progress.step()
-    finally:
-        progress.close()
-    print("\n".join(_report(summaries, arguments.events, arguments.nodes)))
+    if arguments.join:
+        totals, interrupted = _joined(arguments.join), False
+    else:
+        _check(arguments.events, arguments.nodes)
+        totals = Totals(arguments.events, arguments.nodes)
+        interrupted = _play(arguments, totals)
+    if arguments.part:
+        print(totals.kept())
+    else:
+        lines = [] if arguments.verdict else list(totals.report())
+        print("\n".join([*lines, *([] if arguments.no_verdicts else totals.verdict_report())]).lstrip("\n"))
+    if interrupted:
+        print(f"lab: interrupted, after {totals.seeds} seeds", file=sys.stderr)
+        return INTERRUPT
     return 0
 
 
-def _report(summaries: List[Summary], events: int, nodes: int) -> Iterable[str]:
-    yield f"{len(summaries)} seeds, {events} events each in a set of {nodes}"
-    yield ""
-    yield from _spread(summaries)
-    moved = [one for one in summaries if one.commit != "0/0/0"]
-    down = sum(one.down > 0 for one in summaries)
-    yield ""
-    yield f"a commit point moved in {len(moved)} of them; in {down} a node is down at the end"
-    yield "\nrolled back, by seeds:"
-    yield from _bars(summaries, "rolled back")
-    yield "\nseeds that stand out:"
-    for name in ("written", "won", "rolled back"):
-        best = max(summaries, key=lambda one: one.counts[name])
-        yield f"  most {name}: {best.counts[name]}, lab seed {best.seed} {events} {nodes}"
-    if moved:
-        far = max(moved, key=lambda one: optime(one.commit))
-        yield f"  farthest commit point: {far.commit}, lab seed {far.seed} {events} {nodes}"
+def _joined(names: List[str]) -> Totals:
+    """What parts of a sweep come to together."""
+    parts = [read_totals(name, line) for name in names for line in read_lines(name)]
+    if not parts:
+        raise LabError(FILE, "there is no line of 'lab sweep --part' in these files")
+    for part in parts[1:]:
+        if not parts[0].fits(part):
+            raise LabError(WORDS, "these parts aren't of one sweep: their scripts have other events, or other nodes")
+        parts[0].join(part)
+    return parts[0]
+
+
+def _play(arguments: argparse.Namespace, totals: Totals) -> bool:
+    """Plays the seeds. Gives whether the user interrupted it."""
+    events, nodes = arguments.events, arguments.nodes
+    seeds = _seeds(arguments.seeds, arguments.part or (1, 1))
+
+    def summary(seed: int) -> Summary:
+        done = run_program(["chaos", str(seed), str(events), str(nodes)])
+        if done.returncode != 0:
+            raise LabError(FAILED, f"seed {seed} ended with status {done.returncode}")
+        names = [] if arguments.no_verdicts else names_of(script_of_seed(seed, events, nodes))
+        return _summary(done.stdout.decode(), [name for name in names if arguments.verdict in (None, name)])
+
+    progress = Progress(len(seeds), "seeds")
+    try:
+        for seed, told in in_order(summary, seeds, arguments.jobs):
+            totals.add(seed, *told)
+            progress.step()
+        return False
+    except KeyboardInterrupt:
+        return True
+    finally:
+        progress.close()

@@ -6,10 +6,10 @@ import difflib
 from pathlib import Path
 from typing import List
 
-from ..errors import DIFFERENT, FILE, LabError
-from ..expand import expand
+from ..errors import DIFFERENT, FILE, LabError, StoppedMacro
+from ..expand import Expanded, read_expanded, up_to
 from ..expect import expectations
-from ..program import play, run_program, script_bytes
+from ..program import run_program, script_bytes
 from ..script import read_lines
 from ..show import printable
 
@@ -42,13 +42,14 @@ def _transcript_differs(name: str) -> List[str]:
     return list(difflib.unified_diff(wanted, found, str(kept), "what it prints", lineterm=""))
 
 
-def _comments_differ(lines: List[str]) -> List[str]:
-    """What a plain script's comments expect and isn't so."""
+def _comments_differ(script: Expanded) -> List[str]:
+    """What a script's comments expect and isn't so."""
     told: List[str] = []
-    for one in expectations(lines, play(lines)):
+    for one in expectations(script.lines, script.play()):
         if not one.met:
             found = "(no reply, or no further line of it)" if one.found is None else one.found
-            told += [f"  line {one.line}, behind {printable(one.command)}", f"  - {one.wanted}", f"  + {printable(found)}"]
+            told.append(f"  line {script.number(one.line)}, after {printable(one.command)}")
+            told += [f"  - {one.wanted}", f"  + {printable(found)}"]
     return told
 
 
@@ -66,9 +67,11 @@ def main(arguments: argparse.Namespace) -> int:
         if name != "-" and kept != Path(name) and kept.is_file():
             told, count = _transcript_differs(name), 1
         try:
-            lines = expand(read_lines(name)).lines
-            count += _count(lines)
-            told += _comments_differ(lines)
+            script = read_expanded(name)
+            count += _count(script.lines)
+            told += _comments_differ(script)
+        except StoppedMacro as fault:
+            told += [*("  " + line for line in up_to(fault)), f"  {fault.sentence}"]
         except LabError as fault:
             if fault.status == FILE:
                 raise

@@ -3,32 +3,54 @@ from __future__ import annotations
 
 import argparse
 import os
+import re
+from collections import Counter
 from itertools import compress, repeat
-from typing import Callable, Dict, Iterable, Iterator, List, Tuple
+from typing import Callable, Dict, Iterable, Iterator, List, NamedTuple, Tuple
 
-from ..errors import DIFFERENT, INTERRUPT, WORDS, LabError
-from ..expand import read_script
+from ..errors import DIFFERENT, INTERRUPT, NOTHING, WORDS, LabError
+from ..expand import Expanded, read_expanded
+from ..outcomes import differences, outcome, usual_outcomes
+from ..program import script_bytes, write_file
 from ..script import set_size
 from ..show import Progress
-from ..variations import KINDS, Variation, differences, outcome, variations
+from ..telling import of_name, verdicts_of
+from ..variations import KINDS, Variation, faults, orders, played
+from ..verdicts import MEANINGS
 from ..workers import in_order
 from .shrink import pattern
 
-SUMMARY = "plays all that may happen round a script, and tells what makes a difference"
+SUMMARY = "plays variations of a script, and tells what makes a difference"
 DETAILS = """\
-Each delivery is lost (drop), comes twice (repeat), and comes behind the next one (swap); behind each line each node
-crashes for good (crash), and crashes and comes back at once (bounce). Of each such run two things are compared with the
-script as it is: the replies that --watch names (a regular expression that is looked for in each command and in its
-reply), and the documents that each node has at the end, where it is up in both. A short script is expanded first, and
-then not again.
+Each delivery is lost (drop), comes twice (repeat), and comes after the next one (swap); after each line each node crashes
+for good (crash), and crashes and comes back at once (bounce). In each run there is one of these faults, or with --faults 2
+every two of them, too. With --orders the lines of the file that it names stand in each of their orders instead, a macro
+with all lines that it came to. A short script is expanded first, and then not again.
 
-All processors are used. An interrupt shows what was found till then. The status is 1 where something differs."""
+Two things are compared with the script as it is: the replies that --watch names (a regular expression that is looked for in
+each command and in its reply), and the documents that each node has at the end, where it is up in both. What comes of a
+block's lists in another order is no difference. Told are also the verdicts of all runs ('lab verdict --help' names them);
+with --verdict NAME that verdict alone is looked for.
+
+Each variation has a number, by which --save N FILE keeps it as a script. All processors are used. An interrupt shows what
+was found till then. The status is 1 where something differs, or where a verdict that was asked for comes of a variation."""
 
 #: So many outcomes are shown, and so many variations of each, where not all are asked for.
 MOST_OUTCOMES, MOST_NAMED = 12, 4
 
+
+class Answer(NamedTuple):
+    """What a variation changes, and the names of its verdicts."""
+
+    told: Tuple[str, ...]
+    verdicts: Tuple[str, ...]
+
+
+#: A variation with its number.
+Numbered = Tuple[int, Variation]
+
 #: Variations by what they change.
-Found = Dict[Tuple[str, ...], List[Variation]]
+Found = Dict[Tuple[str, ...], List[Numbered]]
 
 
 def add_arguments(parser: argparse.ArgumentParser) -> None:
@@ -36,10 +58,22 @@ def add_arguments(parser: argparse.ArgumentParser) -> None:
     parser.add_argument("file", metavar="FILE", help="a script, short or plain; - for standard input")
     parser.add_argument("--watch", metavar="REGEX", default=r"(?!)", help="which replies are compared")
     parser.add_argument("--only", metavar="KINDS", help=f"some of {','.join(KINDS)} (all of them without it)")
+    parser.add_argument("--faults", metavar="N", type=int, choices=(1, 2), default=1, help="how many faults a run has at most (1)")
+    parser.add_argument("--orders", metavar="LINES", type=_numbers, help="up to eight lines of the file, as 5,7,9, in all orders")
+    verdict = parser.add_mutually_exclusive_group()
+    verdict.add_argument("--verdict", metavar="NAME", choices=list(MEANINGS), help="which verdict alone is looked for")
+    verdict.add_argument("--no-verdicts", action="store_true", help="look for no verdicts, which takes half the time")
+    parser.add_argument("--save", metavar=("N", "FILE"), nargs=2, help="keep the variation with that number, and play none")
     parser.add_argument("--limit", metavar="N", type=int, help="play no more than so many, spread over the script")
     parser.add_argument("--all", action="store_true", help="show every outcome and every variation")
     parser.add_argument("-j", dest="jobs", metavar="N", type=int, default=os.cpu_count() or 1,
                         help="how many are played at a time (as many as there are processors)")
+
+
+def _numbers(text: str) -> List[int]:
+    if not re.fullmatch(r"\d{1,6}(,\d{1,6})*", text):
+        raise argparse.ArgumentTypeError(f"'{text}' are no lines such as 5,7,9")
+    return [int(number) for number in text.split(",")]
 
 
 def _kinds(text: str) -> List[str]:
@@ -57,52 +91,100 @@ def _thinned(count: int, limit: int) -> Iterable[bool]:
     return (place * limit // count != (place - 1) * limit // count for place in range(count))
 
 
-def _report(lines: List[str], found: Found, played: int, everything: bool) -> Iterable[str]:
-    same = len(found.get((), []))
-    yield f"{played} variations, of which {same} change nothing that is watched"
+def _variations(arguments: argparse.Namespace, script: Expanded) -> Iterator[Variation]:
+    if arguments.orders:
+        return orders(script, arguments.orders)
+    kinds = _kinds(arguments.only) if arguments.only else list(KINDS)
+    return faults(script.lines, set_size(script.lines), kinds, arguments.faults)
+
+
+def _answers(arguments: argparse.Namespace, script: Expanded) -> Callable[[Numbered], Answer]:
+    """What gives the answer to a variation."""
+    watch, nodes, name = pattern(arguments.watch), set_size(script.lines).nodes, arguments.verdict
+    usual = usual_outcomes(script.lines, nodes, watch)
+    watched = {number for one in usual for number in one.replies}
+
+    def answer(numbered: Numbered) -> Answer:
+        lines, source = played(numbered[1], script.lines)
+        found = [] if arguments.no_verdicts else of_name(verdicts_of(lines), name)
+        names = tuple(dict.fromkeys(verdict.name for verdict in found))
+        if name is not None:
+            return Answer(tuple(dict.fromkeys(verdict.told for verdict in found)), names)
+        return Answer(differences(script, usual, outcome(lines, source, nodes, watch, watched)), names)
+
+    return answer
+
+
+def _report(script: Expanded, found: Found, arguments: argparse.Namespace) -> Iterable[str]:
+    played_, same = sum(map(len, found.values())), len(found.get((), []))
+    if arguments.verdict is None:
+        yield f"{played_} variations, of which {same} change nothing that is watched"
+    else:
+        yield f"{played_} variations, of which {played_ - same} have the verdict {arguments.verdict}"
     changing = sorted((item for item in found.items() if item[0]), key=lambda item: -len(item[1]))
-    shown = changing if everything else changing[:MOST_OUTCOMES]
+    shown = changing if arguments.all else changing[:MOST_OUTCOMES]
     for told, names in shown:
         yield ""
         yield f"{len(names)} of them: {told[0]}"
         yield from (f"    and {one}" for one in told[1:])
-        yield from (f"  - {one.told(lines)}" for one in (names if everything else names[:MOST_NAMED]))
-        if len(names) > MOST_NAMED and not everything:
+        yield from (f"  - #{number} {one.told(script)}" for number, one in (names if arguments.all else names[:MOST_NAMED]))
+        if len(names) > MOST_NAMED and not arguments.all:
             yield f"  - and {len(names) - MOST_NAMED} more"
     if len(shown) < len(changing):
         yield f"\nand {len(changing) - len(shown)} other outcomes (--all shows them)"
 
 
+def _verdict_report(counts: "Counter[str]", usual: List[str]) -> Iterable[str]:
+    """How many variations have each verdict, and whether the script as it is has it."""
+    yield "\nverdicts:" + ("" if counts else " none")
+    for name in MEANINGS:
+        if counts[name]:
+            yield f"  {name:18}  {counts[name]} variations" + (", and the script as it is" if name in usual else "")
+
+
 def main(arguments: argparse.Namespace) -> int:
     """Plays the variations, and tells what they change."""
-    lines = read_script(arguments.file)
-    watch = pattern(arguments.watch)
-    size = set_size(lines)
-    usual = outcome(lines, range(1, len(lines) + 1), size.nodes, watch)
-    kinds = _kinds(arguments.only) if arguments.only else list(KINDS)
-    count = sum(1 for _ in variations(lines, size, kinds))
-    wanted = compress(variations(lines, size, kinds), _thinned(count, arguments.limit or 0))
+    script = read_expanded(arguments.file)
+    if arguments.save:
+        return _save(arguments, script)
+    answer = _answers(arguments, script)
+    usual = [] if arguments.no_verdicts else [verdict.name for verdict in verdicts_of(script.lines)]
+    count = sum(1 for _ in _variations(arguments, script))
+    wanted = compress(enumerate(_variations(arguments, script), 1), _thinned(count, arguments.limit or 0))
     count = min(count, arguments.limit or count)
-
-    def differs(variation: Variation) -> Tuple[str, ...]:
-        return differences(lines, usual, outcome(*variation.played(lines), size.nodes, watch, usual.replies))
-
     found: Found = {}
-    interrupted = _play(wanted, count, differs, arguments.jobs, found)
-    played = sum(len(names) for names in found.values())
-    print("\n".join(_report(lines, found, played, arguments.all)))
+    counts: "Counter[str]" = Counter()
+    interrupted = _play(wanted, count, answer, arguments.jobs, found, counts)
+    print("\n".join(_report(script, found, arguments)))
+    if not arguments.no_verdicts and arguments.verdict is None:
+        print("\n".join(_verdict_report(counts, usual)))
     if interrupted:
-        print(f"lab: interrupted, with {count - played} variations not played")
+        print(f"lab: interrupted, with {count - sum(map(len, found.values()))} variations not played")
         return INTERRUPT
     return DIFFERENT if any(found) else 0
 
 
-def _play(wanted: Iterator[Variation], count: int, differs: Callable, jobs: int, found: Found) -> bool:
+def _save(arguments: argparse.Namespace, script: Expanded) -> int:
+    """Keeps one variation as a script."""
+    number, name = arguments.save
+    for place, variation in enumerate(_variations(arguments, script), 1):
+        if str(place) == number:
+            lines, _ = played(variation, script.lines)
+            write_file(name, script_bytes([f"# {variation.told(script)}", *lines]))
+            print(f"{name}: {variation.told(script)}")
+            return 0
+    raise LabError(NOTHING, f"there is no variation {number}")
+
+
+def _play(
+    wanted: Iterator[Numbered], count: int, answer: Callable[[Numbered], Answer], jobs: int, found: Found, counts: "Counter[str]"
+) -> bool:
     """Puts each variation below what it changes. Gives whether the user interrupted it."""
     progress = Progress(count, "playing")
     try:
-        for variation, told in in_order(differs, wanted, jobs):
-            found.setdefault(told, []).append(variation)
+        for numbered, (told, names) in in_order(answer, wanted, jobs):
+            found.setdefault(told, []).append(numbered)
+            counts.update(names)
             progress.step()
         return False
     except KeyboardInterrupt:
