@@ -11,13 +11,14 @@ usage: replset run < SCRIPT
        replset --prove [WORD ..]    proves and builds the program first, then runs it on the words, where there are any
        replset --unproved WORD ..   runs the program that is built without proofs, even where a proved one stands
        replset --install PREFIX     puts the program, the lab, the manual page and shell completion below PREFIX
+       replset --uninstall PREFIX   removes all that was put below PREFIX; an installed program needs none
        replset --help | --version
 
 Where no proved program of these sources stands, one is built without proofs. That takes a minute or two, the first time
 and where a source changed, and standard error says that nothing was proved. It is built quickly and runs slowly; one that is
 optimised is built in the background then, for three minutes, and is run from then on. `.ci/run`, the gate, proves and builds
 all.
-Standard output has what the program writes, and nothing else but what --help, --version and --install tell.
+Standard output has what the program writes, and nothing else but what these options tell.
 
 status: 0 the script was run, or the trace is that of a run
         1 out of memory
@@ -36,6 +37,7 @@ status: 0 the script was run, or the trace is that of a run
 import contextlib
 import os
 import re
+import shutil
 import signal
 import subprocess
 import sys
@@ -242,8 +244,36 @@ def install(words):
     return NOT_BUILT if installed.returncode else 0
 
 
+def uninstall(words):
+    """Removes each file that was put below the folder, and the folders that are empty then."""
+    prefix = os.path.abspath(words[0]) if words else os.path.dirname(os.path.dirname(TOP))
+    own = os.path.join(prefix, "libexec", "replset")
+    if len(words) > 1 or not (words or is_installed()):
+        say("usage: ./replset --uninstall PREFIX; an installed program needs no PREFIX")
+        return WRONG_WORDS
+    if not os.path.exists(os.path.join(own, "installed")):
+        raise Stop(NOT_BUILT, f"nothing is installed in {prefix}")
+    with open(os.path.join(own, "installed")) as file:
+        paths = [os.path.join(prefix, line.rstrip("\n")) for line in file]
+    for path in paths:
+        with contextlib.suppress(FileNotFoundError):
+            os.remove(path)
+            print(path)
+    shutil.rmtree(own)
+    for folder in sorted({os.path.dirname(path) for path in paths} | {os.path.dirname(own)}, key=len, reverse=True):
+        with contextlib.suppress(OSError):
+            os.removedirs(folder)
+    return 0
+
+
 def tell_help(_):
-    print(__doc__.strip())
+    """An installed program has no use for what needs a checkout."""
+    told = __doc__.strip()
+    if is_installed():
+        told = re.sub(r"\n *replset --(prove|install) .*", "", told)
+        told = re.sub(r"\nWhere no proved program of these sources stands.*?builds\nall\.", "", told, flags=re.DOTALL)
+        told = re.sub(r"\n +(69|70) .*", "", told)
+    print(told)
     return 0
 
 
@@ -252,6 +282,7 @@ OPTIONS = {
     "-h": tell_help,
     "--version": tell_version,
     "--install": install,
+    "--uninstall": uninstall,
     "--prove": prove,
     "--unproved": run_unproved,
 }

@@ -12,6 +12,7 @@ from typing import List, Optional, Tuple
 from .drawing import svg_file
 from .expand import expand
 from .layout import picture_of, window
+from .manual import made
 from .observe import observe
 from .program import TOP
 from .script import read_lines
@@ -77,4 +78,5 @@ def out_of_date() -> List[Tuple[Path, str]]:
         wanted.append((picture, other_picture(script, text_of(picture))))
     page = PAGE.read_text(encoding="utf-8")
     wanted.append((PAGE, page_text(page) if page_text(page) != page else None))
+    wanted += [(path, text if text_of(path) != text else None) for path, text in made()]
     return [(path, text) for path, text in wanted if text is not None]

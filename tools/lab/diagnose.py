@@ -146,11 +146,11 @@ def _document(line: str) -> Cause:
                 begins = read_value(line, begins) + 1
             except NotationFault as fault:
                 return Cause(fault.place, _meant(line, fault))
-        fault = fault_of(line, begins)
-        if fault is not None and line.endswith(" ") and fault.place == len(line.rstrip(" ")):
-            return Cause(fault.place, "the line ends with a space")
-        if fault is not None:
-            return Cause(fault.place, _meant(line, fault))
+        found = fault_of(line, begins)
+        if found is not None and line.endswith(" ") and found.place == len(line.rstrip(" ")):
+            return Cause(found.place, "the line ends with a space")
+        if found is not None:
+            return Cause(found.place, _meant(line, found))
         if not line[begins:].startswith("{") and kind not in ("delete", "read"):
             return Cause(begins, "a document stands here, in { and }")
     return Cause(None, _habit(line, 0))

@@ -5,10 +5,10 @@ secondary's thin, and where a node is down there is none; a message that wasn't 
 """
 from __future__ import annotations
 
-from typing import List, Tuple
+from typing import List, Optional, Tuple
 from xml.sax.saxutils import escape
 
-from .layout import Arrow, Band, Frame, Label, Mark, Picture, Row, Segment, Shade, Stub
+from .layout import Arrow, Band, Frame, Label, Mark, Picture, Row, Segment, Shade, Stub, Talk
 
 ROW = 18
 HEAD = 34
@@ -16,6 +16,10 @@ FOOT = 64
 #: The width of a character of the script's text.
 LETTER = 6.65
 MOST_COMMAND, MOST_REPLY = 46, 38
+#: From one lane to the next, for up to so many nodes; and for more.
+SPREADS, LEAST_SPREAD = ((4, 126), (5, 108), (6, 98), (7, 88)), 74
+#: The room of a client's lane, and the characters of an answer in it.
+CLIENT, MOST_ANSWER = 150, 24
 
 STYLE = """\
 svg.run { font: 11px ui-monospace, "DejaVu Sans Mono", Menlo, Consolas, monospace; background: #fff; }
@@ -37,8 +41,14 @@ svg.run { font: 11px ui-monospace, "DejaVu Sans Mono", Menlo, Consolas, monospac
 .run .candidate { stroke: #9a4a00; stroke-width: 5; stroke-dasharray: 0.1 7; stroke-linecap: round; }
 .run .draining { fill: url(#hatch); stroke: #0b5cad; stroke-width: 1.5; }
 .run .primary { fill: #0b5cad; }
-.run .band { fill: #8fd3b6; }
-.run .band.odd { fill: #2f8f6a; }
+.run .band { fill: #a9dcc6; }
+.run .band.c1 { fill: #6bbf9c; }
+.run .band.c2 { fill: #2f8f6a; }
+.run .band.c3 { fill: #17624a; }
+.run .client { stroke: #b0b6bf; stroke-width: 1; stroke-dasharray: 1 3; }
+.run .talk { stroke: #9a6700; stroke-width: 1; fill: none; }
+.run .answer { font: 9.5px system-ui, "DejaVu Sans", sans-serif; fill: #6b4700; paint-order: stroke; stroke: #fff; stroke-width: 3px; }
+.run .answer.bad { fill: #a4001d; }
 .run .message { stroke: #33527a; stroke-width: 1.3; fill: none; }
 .run .tip { fill: #33527a; }
 .run .message.lost { stroke: #c1121f; stroke-dasharray: 5 3; }
@@ -67,7 +77,7 @@ SIGNS = (
     ('<path class="candidate" d="M2 -4H22"/>', 28, "candidate"),
     ('<path class="secondary" d="M0 -4H20"/>', 26, "secondary"),
     ('<path class="cross" d="M0 -8l8 8m0 -8l-8 8"/>', 14, "down, then a gap"),
-    ('<rect class="band" x="0" y="-9" width="6" height="10"/>', 12, "commit point"),
+    ('<rect class="band c2" x="0" y="-9" width="6" height="10"/>', 12, "commit point"),
     ('<path class="message" d="M0 -4H20"/><path class="tip" d="M26 -4l-8 -3.5v7z"/>', 32, "message"),
     ('<path class="message lost" d="M0 -4H20"/><path class="cross" d="M18 -8l8 8m0 -8l-8 8"/>', 32, "ignored or refused"),
     ('<path class="stub" d="M0 -4H20M20 -9v10"/>', 26, "never delivered"),
@@ -81,8 +91,11 @@ SIGNS = (
 class Drawing:
     """A picture with its measures in pixels."""
 
-    def __init__(self, picture: Picture):
+    def __init__(self, picture: Picture, clients: bool = False):
         self.picture = picture
+        self.clients = picture.clients if clients else []
+        #: Where texts stand already, so that others keep clear of them.
+        self._taken: List[Tuple[float, float, float, float]] = []
         shown = [row for row in picture.rows if not row.caption]
         command = min(MOST_COMMAND, max((len(row.text) for row in shown), default=8))
         reply = min(MOST_REPLY, max((len(row.reply) for row in shown), default=8))
@@ -91,19 +104,28 @@ class Drawing:
         self.reply_at = self.command_at + (command + 2) * LETTER
         #: Where the lanes begin: left of it is text.
         self.gutter = round(self.reply_at + (reply + 1) * LETTER)
-        self.spread = 126 if picture.nodes < 5 else 108
-        self.width = self.gutter + 48 + self.spread * (picture.nodes - 1) + 124
+        #: From one lane to the next: the more nodes, the less.
+        self.spread = next((room for most, room in SPREADS if picture.nodes <= most), LEAST_SPREAD)
+        self.width = self.gutter + 48 + self.spread * (picture.nodes - 1) + 124 + CLIENT * len(self.clients)
         self.height = len(picture.rows) * ROW
 
     def lane(self, node: int) -> int:
         """Where a node's lane is, from the left."""
         return self.gutter + 40 + self.spread * node
 
+    def client_lane(self, client: int) -> int:
+        """Where a client's lane is: they stand to the right of all nodes."""
+        return self.lane(self.picture.nodes - 1) + 124 + CLIENT * client
+
     def heading(self) -> str:
-        """The nodes' names above their lanes."""
+        """The names of nodes and clients above their lanes."""
         names = "".join(
             f'<text class="head n{node}" x="{self.lane(node)}" y="22" text-anchor="middle">n{node}</text>'
             for node in range(self.picture.nodes)
+        )
+        names += "".join(
+            f'<text class="head" x="{self.client_lane(client)}" y="22" text-anchor="middle">{escape(name)}</text>'
+            for client, name in enumerate(self.clients)
         )
         first, last, count = self.picture.lines
         part = f'<text class="number" x="8" y="22">lines {first} to {last} of {count}</text>' if last - first + 1 < count else ""
@@ -112,7 +134,9 @@ class Drawing:
     def body(self) -> str:
         """Everything below the names and above the legend."""
         picture = self.picture
-        parts: List[str] = []
+        self._taken = [self._label_room(label) for label in picture.labels]
+        self._taken += [self._stub_room(stub) for stub in picture.stubs if stub.label != "heard"]
+        parts: List[str] = [self._client(client) for client in range(len(self.clients))]
         parts += [self._shade(place) for place, row in enumerate(picture.rows) if row.caption]
         parts += [self._side(shade) for shade in picture.shades]
         parts += [self._frame(frame) for frame in picture.frames]
@@ -120,6 +144,7 @@ class Drawing:
         parts += [self._segment(segment) for segment in picture.segments]
         parts += [self._stub(stub) for stub in picture.stubs]
         parts += [self._arrow(arrow) for arrow in picture.arrows]
+        parts += [self._talk(talk) for talk in picture.talks if self.clients]
         parts += [self._mark(mark) for mark in picture.marks]
         parts += [self._label(label) for label in picture.labels]
         parts += [self._caption(place, row) if row.caption else self._text(place, row) for place, row in enumerate(picture.rows)]
@@ -174,10 +199,10 @@ class Drawing:
         return f'<path class="{role} n{segment.node}" d="M{x} {top:.0f}V{bottom:.0f}"/>'
 
     def _band(self, band: Band) -> str:
-        x, odd = self.lane(band.node) + 8, " odd" if band.odd else ""
+        x = self.lane(band.node) + 8
         height = (band.bottom - band.top) * ROW
         return (
-            f'<rect class="band{odd} n{band.node}" x="{x}" y="{band.top * ROW:.0f}" width="5" height="{height:.0f}">'
+            f'<rect class="band c{band.shade % 4} n{band.node}" x="{x}" y="{band.top * ROW:.0f}" width="5" height="{height:.0f}">'
             f"<title>n{band.node}: commit point {band.commit}</title></rect>"
         )
 
@@ -189,10 +214,50 @@ class Drawing:
             parts.append(f'<path class="cross" d="M{to_x - 4} {to_y - 4:.0f}l8 8m0 -8l-8 8"/>')
         elif arrow.head:
             parts.append(self._tip(x, y, to_x, to_y))
-        # Near the head, where lines from one place have parted.
-        at_x, at_y = x + (to_x - x) * 0.68, y + (to_y - y) * 0.68
+        at_x, at_y = self._clear_place(x, y, to_x, to_y, arrow.label)
         parts.append(f'<text class="kind" x="{at_x:.0f}" y="{at_y - 2:.0f}" text-anchor="middle">{arrow.label}</text>')
         return self._group(arrow.kind, arrow.sender, arrow.receiver, parts)
+
+    def _clear_place(self, x: float, y: float, to_x: float, to_y: float, text: str) -> Tuple[float, float]:
+        """Where on a line its text stands clear of others: near the head if it can, where lines from one place have parted."""
+        half, clear = len(text) * 2.6 + 2, None  # type: Tuple[float, Optional[Tuple[float, float]]]
+        for part, below in ((0.68, 0), (0.5, 0), (0.82, 0), (0.34, 0), (0.6, 12), (0.78, 12), (0.4, 12), (0.7, 17), (0.5, 22), (0.2, 0), (0.2, -6), (0.5, -9)):
+            at_x, at_y = x + (to_x - x) * part, y + (to_y - y) * part + below
+            room = at_x - half, at_y - 10, at_x + half, at_y
+            if not any(self._meet(room, other) for other in self._taken):
+                clear = at_x, at_y
+                self._taken.append(room)
+                break
+        return clear or (x + (to_x - x) * 0.68, y + (to_y - y) * 0.68)
+
+    @staticmethod
+    def _meet(one: Tuple[float, float, float, float], other: Tuple[float, float, float, float]) -> bool:
+        return one[0] < other[2] and other[0] < one[2] and one[1] < other[3] and other[1] < one[3]
+
+    def _label_room(self, label: Label) -> Tuple[float, float, float, float]:
+        x, y, lines = self.lane(label.node) + 17.0, label.top * ROW, self._label_lines(label)
+        return x, y - 3 - 5 * len(lines), x + 5.6 * max(map(len, lines)), y + 5 + 4 * len(lines)
+
+    def _stub_room(self, stub: Stub) -> Tuple[float, float, float, float]:
+        x, y, width = self.lane(stub.sender) + 28.0 * stub.side, stub.top * ROW, 16.0 * len(stub.receivers)
+        return min(x, x + width * stub.side), y + 9, max(x, x + width * stub.side), y + 19
+
+    def _label_lines(self, label: Label) -> List[str]:
+        """The text of a label, on as many lines as it has parts where it doesn't fit beside the next lane."""
+        fits = label.node == self.picture.nodes - 1 or len(label.text) * 5.6 < self.spread - 22
+        return [label.text] if fits else label.text.split(", ")
+
+    def _client(self, client: int) -> str:
+        x = self.client_lane(client)
+        return f'<path class="client" d="M{x} 0V{self.height}"/>'
+
+    def _talk(self, talk: Talk) -> str:
+        x, to_x, y = self.lane(talk.node) + 6, self.client_lane(talk.client), talk.top * ROW
+        bad = " bad" if talk.bad else ""
+        return (
+            f'<g class="n{talk.node}"><path class="talk" d="M{x} {y:.0f}H{to_x}"/><circle class="dot" cx="{to_x}" cy="{y:.0f}" r="2.4"/>'
+            f'<text class="answer{bad}" x="{to_x + 6}" y="{y + 3.5:.1f}">{escape(cut(talk.told, MOST_ANSWER))}</text></g>'
+        )
 
     def _ends(self, arrow: Arrow) -> Tuple[Tuple[int, float], Tuple[int, float]]:
         side = 1 if arrow.receiver > arrow.sender else -1
@@ -215,7 +280,7 @@ class Drawing:
         if stub.label != "heard":
             anchor = "start" if side > 0 else "end"
             text = " ".join(f"n{receiver}" for receiver in stub.receivers)
-            parts.append(f'<text class="kind" x="{x + 23 * side}" y="{y + 13:.0f}" text-anchor="{anchor}">{text}</text>')
+            parts.append(f'<text class="kind" x="{x + 23 * side}" y="{y + 18:.0f}" text-anchor="{anchor}">{text}</text>')
         return self._group(stub.kind, stub.sender, stub.sender, parts)
 
     @staticmethod
@@ -239,8 +304,10 @@ class Drawing:
         return f'<g class="k-{mark.kind} n{mark.node}">{shapes[mark.shape]}</g>'
 
     def _label(self, label: Label) -> str:
-        x, y = self.lane(label.node) + 17, label.top * ROW + 3.5
-        return f'<text class="label n{label.node}" x="{x}" y="{y:.1f}">{escape(label.text)}</text>'
+        x, lines = self.lane(label.node) + 17, self._label_lines(label)
+        y = label.top * ROW + 3.5 - 4.5 * (len(lines) - 1)
+        rows = "".join(f'<tspan x="{x}" y="{y + 9 * place:.1f}">{escape(line)}</tspan>' for place, line in enumerate(lines))
+        return f'<text class="label n{label.node}">{rows}</text>'
 
     def _frame(self, frame: Frame) -> str:
         y, height = frame.top * ROW, (frame.bottom - frame.top) * ROW
@@ -258,7 +325,7 @@ def svg_file(picture: Picture, title: str) -> str:
     height = HEAD + drawing.height + FOOT
     rests = "".join(
         f'<rect x="0" y="{place * ROW}" width="{drawing.width}" height="{ROW}" fill="transparent">'
-        f"<title>{escape(_resting(row))}</title></rect>"
+        f"<title>{escape(resting(row))}</title></rect>"
         for place, row in enumerate(picture.rows)
         if row.step is not None
     )
@@ -272,7 +339,8 @@ def svg_file(picture: Picture, title: str) -> str:
     )
 
 
-def _resting(row: Row) -> str:
+def resting(row: Row) -> str:
+    """What a row says where a pointer rests on it."""
     step = row.step
     change = step.told_change() if step is not None else ""
     return f"{row.line}: {row.text} → {row.reply}" + (f"\n{change}" if change else "")

@@ -82,8 +82,8 @@ class Expander:
         if len(words) == 2:
             message = self.player.message(" ".join(words))
             return message is not None and not self.macros.linked(message.sender, message.receiver)
-        ends = [node_number(word) for word in words[1:3]]
-        return len(words) == 3 and None not in ends and not self.macros.linked(*ends)
+        one, other = [*map(node_number, words[1:3]), None, None][:2]
+        return len(words) == 3 and one is not None and other is not None and not self.macros.linked(one, other)
 
 
 def is_short(lines: List[str]) -> bool:

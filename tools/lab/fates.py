@@ -8,6 +8,7 @@ from __future__ import annotations
 from dataclasses import dataclass, field
 from typing import Dict, List, Optional, Sequence, Set, Tuple
 
+from .asking import TOLD
 from .histories import ZERO, Histories
 from .keys import Place, read_place, written_place
 from .observe import Run, Step, observe
@@ -94,8 +95,8 @@ class Story:
 
     def leader(self) -> Optional[int]:
         """The primary of the highest term at the end."""
-        leaders = [node for node, state in self.states.items() if state.role == "Primary"]
-        return max(leaders, key=lambda node: int(self.states[node].term), default=None)
+        leaders = [(int(state.term), node) for node, state in self.states.items() if state.role == "Primary"]
+        return max(leaders)[1] if leaders else None
 
 
 def read_fates(lines: Sequence[str]) -> Story:
@@ -128,7 +129,7 @@ class _Reader:
         self._committed: Set[Optime] = set()
         self._acked = ZERO
         self._shown: Dict[Place, Write] = {}
-        self._blocks = _block_lines(run.lines)
+        self._blocks, self._hidden = _block_lines(run.lines), _hidden_reads(run.lines)
 
     def read(self) -> Story:
         """The story of the run."""
@@ -156,7 +157,7 @@ class _Reader:
             for other, line in self._primaries.items():
                 self._story.together.append(((other, line), (node, step.line)))
             self._primaries[node] = step.line
-        elif after.role != "Primary" and self._primaries.pop(node, None) and not self._primaries:
+        elif after.role != "Primary" and self._primaries.pop(node, 0) and not self._primaries:
             self._story.ended = step.line
         if not after.down:
             self._config[node] = after.config
@@ -251,6 +252,8 @@ class _Reader:
     # Reads.
 
     def _take_read(self, step: Step, node: int) -> None:
+        if step.line in self._hidden:
+            return
         level = words_of(step.text)[2]
         read = Read(step.line, node, level, read_place(step.text), self._front(step, node, level))
         self._story.reads.append(read)
@@ -301,6 +304,19 @@ class _Reader:
             write.committed = write.done and has(farthest, write.at)
             led = leader is not None and int(story.states[leader].term) > write.at[0]
             write.lost = write.done and (not having or led and leader not in write.logs)
+
+
+def _hidden_reads(lines: Sequence[str]) -> Set[int]:
+    """The lines of reads that nobody was shown: those of linearizable reads that were refused then."""
+    found: Set[int] = set()
+    begins = 0
+    for number, line in enumerate(lines, 1):
+        if line.startswith("# linear "):
+            begins = number
+        elif line.startswith(f"{TOLD}linear refused") and begins:
+            found.update(range(begins, number))
+            begins = 0
+    return found
 
 
 def _block_lines(lines: Sequence[str]) -> Set[int]:

@@ -10,9 +10,9 @@ from typing import Dict, List, Optional, Sequence, Tuple
 
 from .mail import Message
 from .observe import Run, Step
-from .script import KINDS, is_silent, node_number, words_of
+from .script import KINDS, WRITES, is_silent, node_number, words_of
 from .show import printable
-from .state import State
+from .state import State, optime
 
 #: What a message is called on its arrow: the question, and its answer.
 MESSAGE_NAMES = {
@@ -54,13 +54,13 @@ class Segment:
 
 @dataclass
 class Band:
-    """A stretch of a node's lane with one commit point. Neighbours differ in `odd`."""
+    """A stretch of a node's lane with one commit point. Each point has its `shade`, the same at all nodes."""
 
     node: int
     commit: str
     top: float
     bottom: float
-    odd: bool
+    shade: int
 
 
 @dataclass
@@ -127,6 +127,17 @@ class Shade:
 
 
 @dataclass
+class Talk:
+    """A client asks a node, and what it is told."""
+
+    client: int
+    node: int
+    top: float
+    told: str
+    bad: bool
+
+
+@dataclass
 class Picture:
     """All that is to be drawn."""
 
@@ -141,6 +152,9 @@ class Picture:
     labels: List[Label] = field(default_factory=list)
     frames: List[Frame] = field(default_factory=list)
     shades: List[Shade] = field(default_factory=list)
+    #: Who asks the nodes, each in a lane of its own, and what each was told.
+    clients: List[str] = field(default_factory=list)
+    talks: List[Talk] = field(default_factory=list)
 
 
 def picture_of(run: Run, first: int, last: int) -> Picture:
@@ -153,7 +167,29 @@ def picture_of(run: Run, first: int, last: int) -> Picture:
     for place, row in enumerate(picture.rows):
         if row.step is not None:
             _put_marks(picture, row.step, place + 0.5, row.kind)
+            _put_talk(picture, row.step, place + 0.5)
     return picture
+
+
+def client_of(text: str) -> str:
+    """Who asks for a line: a writer, a session, a reader, or a client without a name; nobody where it is the nodes' own."""
+    words = words_of(text)
+    if words[0] in ("begin", "commit", "abort") or words[0] == "ack" and words[2][:1] == "w":
+        return words[2]
+    if words[0] == "retry":
+        return f"session {words[2]}"
+    if words[0] in ("read", "dump"):
+        return "reader"
+    return "client" if words[0] in (*WRITES, "note", "ack", "reconfig") else ""
+
+
+def _put_talk(picture: Picture, step: Step, top: float) -> None:
+    name = client_of(step.text)
+    if not name or step.node is None:
+        return
+    if name not in picture.clients:
+        picture.clients.append(name)
+    picture.talks.append(Talk(picture.clients.index(name), step.node, top, printable(step.reply.text), step.reply.unheard))
 
 
 def kind_of(step: Step) -> str:
@@ -226,7 +262,6 @@ def _follow_nodes(picture: Picture, run: Run) -> None:
     states = dict(run.opening)
     since = {node: 0.0 for node in states}
     point = {node: 0.0 for node in states}
-    shade = {node: False for node in states}
     end = float(len(picture.rows))
     for place, row in enumerate(picture.rows):
         step, middle = row.step, place + 0.5
@@ -236,19 +271,22 @@ def _follow_nodes(picture: Picture, run: Run) -> None:
                 picture.segments.append(Segment(node, old.role, since[node], middle))
                 since[node] = middle
             if old.commit != new.commit:
-                _put_band(picture, node, old.commit, point[node], middle, shade[node])
-                point[node], shade[node] = middle, not shade[node]
+                _put_band(picture, node, old.commit, point[node], middle)
+                point[node] = middle
             _put_label(picture, step, old, new, middle)
             states[node] = new
         row.states = tuple(states[node] for node in range(picture.nodes))
     for node, state in states.items():
         picture.segments.append(Segment(node, state.role, since[node], end))
-        _put_band(picture, node, state.commit, point[node], end, shade[node])
+        _put_band(picture, node, state.commit, point[node], end)
+    known = sorted({band.commit for band in picture.bands}, key=optime)
+    for band in picture.bands:
+        band.shade = known.index(band.commit)
 
 
-def _put_band(picture: Picture, node: int, commit: str, top: float, bottom: float, odd: bool) -> None:
+def _put_band(picture: Picture, node: int, commit: str, top: float, bottom: float) -> None:
     if commit not in ("-", "0/0/0"):
-        picture.bands.append(Band(node, commit, top, bottom, odd))
+        picture.bands.append(Band(node, commit, top, bottom, 0))
 
 
 def _put_label(picture: Picture, step: Step, old: State, new: State, top: float) -> None:

@@ -53,8 +53,9 @@ class Living:
 
     def _leader(self, node: int, states: Dict[int, State]) -> Optional[int]:
         """The primary of the highest term that the node hears, itself if it is that."""
-        heard = [one for one, state in states.items() if state.role == "Primary" and (one == node or self._linked(node, one))]
-        return max(heard, key=lambda one: int(states[one].term), default=None)
+        leaders = [(int(state.term), one) for one, state in states.items() if state.role == "Primary"]
+        heard = [(term, one) for term, one in leaders if one == node or self._linked(node, one)]
+        return max(heard)[1] if heard else None
 
     def _beat(self, node: int, others: List[int], which: int) -> List[str]:
         """A heartbeat to one of the others, and its answer."""

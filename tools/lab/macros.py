@@ -136,7 +136,7 @@ class Macros:
             if not any("later term" in why or "AlreadyVoted" in why for why in lost):
                 break
         unasked = [f"n{voter} is no voter of its configuration" for voter in voters if voter not in asked]
-        raise CannotGoOn(f"n{node} isn't elected: " + "; ".join(lost + unasked or ["nobody was asked"]))
+        raise CannotGoOn(f"n{node} isn't elected: " + "; ".join([*(lost or []), *unasked] or ["nobody was asked"]))
 
     def _gather(self, node: int, voters: List[int]) -> Optional[List[str]]:
         """Asks voters until one makes the majority; else says of each what it answered."""
@@ -247,9 +247,9 @@ class Macros:
     # What they are made of.
 
     def _nodes(self, macro: str, words: List[str]) -> List[int]:
-        numbers = [node_number(word) for word in words]
+        numbers = [number for number in map(node_number, words) if number is not None]
         count = self.player.size().nodes
-        if not numbers or None in numbers or any(number >= count for number in numbers):
+        if not numbers or len(numbers) != len(words) or max(numbers) >= count:
             raise CannotGoOn(f"the macro reads '{FORMS[macro]}', and the nodes are n0 to n{count - 1}")
         limit = {"pull": 2, "spread": 1, "await": 1, "linear": 1}.get(macro, count)
         if len(numbers) > limit or len(set(numbers)) != len(numbers):

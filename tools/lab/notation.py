@@ -40,7 +40,8 @@ def read_value(text: str, place: int, level: int = 1) -> int:
     if word:
         return word.end()
     for name, reader in (("Date", _date), ("Bin", _bin), ("Id", _id), ("Time", _time)):
-        if text.startswith(name, place) and _NAME.match(text, place).group() == name:
+        found = _NAME.match(text, place)
+        if found is not None and found[0] == name:
             return reader(text, place + len(name))
     raise NotationFault(place, "Unexpected")
 
@@ -165,7 +166,8 @@ def _close(text: str, place: int) -> int:
 def _hex(text: str, place: int, digits: Optional[int]) -> int:
     if text[place : place + 1] != '"':
         raise NotationFault(place, "Unexpected")
-    end = _HEX.match(text, place + 1).end()
+    digit = _HEX.match(text, place + 1)
+    end = digit.end() if digit else place + 1
     count = end - place - 1
     if text[end : end + 1] != '"' or count % 2 or digits not in (None, count):
         raise NotationFault(end, "Hex")

@@ -39,9 +39,9 @@ def outcome(
             endings[node] = reply.more
     found: Dict[int, str] = {}
     for number, line in enumerate(lines, 1):
-        reply, was = transcript.by_line.get(number), source[number - 1]
-        if reply is not None and was and (was in also or watch.search(line) or watch.search(_whole(reply))):
-            found[was] = _whole(reply)
+        said, was = transcript.by_line.get(number), source[number - 1]
+        if said is not None and was and (was in also or watch.search(line) or watch.search(_whole(said))):
+            found[was] = _whole(said)
     return Outcome(found, endings)
 
 

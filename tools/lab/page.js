@@ -44,6 +44,10 @@
     put(told, "pre", row.text);
     put(told, "h2", "Reply");
     put(told, "pre", [row.reply, ...row.more.map((line) => "  " + line)].join("\n"), row.bad ? "bad" : "");
+    if (row.verdicts.length) {
+      put(told, "h2", "Verdicts");
+      put(told, "pre", row.verdicts.join("\n"), "bad");
+    }
     if (row.change) {
       put(told, "h2", "What changed");
       put(told, "pre", row.change);
@@ -56,6 +60,7 @@
   function choose(place) {
     if (chosen !== null) rests.get(chosen).classList.remove("chosen");
     chosen = place;
+    told.hidden = place === null;
     if (place === null) return;
     rests.get(place).classList.add("chosen");
     show(place);
@@ -71,18 +76,18 @@
     choose(places[Math.max(0, Math.min(places.length - 1, next))]);
   }
 
-  body.addEventListener("mouseover", (event) => {
-    const place = event.target.dataset.row;
-    if (place !== undefined && chosen === null) show(Number(place));
-  });
   body.addEventListener("click", (event) => {
     const place = event.target.dataset.row;
     if (place !== undefined) choose(Number(place) === chosen ? null : Number(place));
   });
+  const flagged = places.filter((place) => data.rows[place].verdicts.length);
+  for (const button of document.querySelectorAll("button.verdict"))
+    button.addEventListener("click", () => choose(Number(button.dataset.row)));
   document.addEventListener("keydown", (event) => {
     if (event.ctrlKey || event.metaKey || event.altKey) return;
     const steps = { ArrowDown: 1, j: 1, ArrowUp: -1, k: -1, PageDown: 20, PageUp: -20, Home: -data.rows.length, End: data.rows.length };
     if (event.key === "Escape") choose(null);
+    else if (event.key === "v" && flagged.length) choose(flagged.find((place) => place > (chosen ?? -1)) ?? flagged[0]);
     else if (event.key in steps) step(steps[event.key]);
     else return;
     event.preventDefault();

@@ -4,15 +4,19 @@ from __future__ import annotations
 import json
 from html import escape
 from pathlib import Path
-from typing import Any, Dict, List, Optional
+from typing import Any, Dict, List, Optional, Sequence
 
 from .documents import Documents
-from .drawing import FOOT, HATCH, HEAD, ROW, SIGNS, STYLE, Drawing
+from .drawing import FOOT, HATCH, HEAD, ROW, SIGNS, STYLE, Drawing, resting
 from .layout import Picture, Row
 from .show import printable
 from .state import State
+from .verdicts import Verdict
 
 HERE = Path(__file__).resolve().parent
+
+#: So many verdicts have a button.
+MOST_VERDICTS = 24
 
 #: Rows on a printed sheet.
 SHEET = 50
@@ -23,9 +27,9 @@ KINDS = {
 }
 
 
-def page(picture: Picture, title: str, documents: Optional[Dict[int, Documents]]) -> str:
-    """The whole page."""
-    drawing = Drawing(picture)
+def page(picture: Picture, title: str, documents: Optional[Dict[int, Documents]], found: Sequence[Verdict] = ()) -> str:
+    """The whole page. The verdicts are marked in it."""
+    drawing = Drawing(picture, clients=True)
     template = (HERE / "page.html").read_text(encoding="utf-8")
     parts = {
         "TITLE": escape(title),
@@ -34,10 +38,12 @@ def page(picture: Picture, title: str, documents: Optional[Dict[int, Documents]]
         "KINDS": _boxes({kind: name for kind, name in KINDS.items() if _has(picture, kind)}, "k-"),
         "DEFS": HATCH,
         "HEAD": _svg("", drawing.heading(), drawing.width, 0, HEAD),
-        "BODY": _svg("body", f'<g id="drawing" class="run">{drawing.body()}</g>{_rests(drawing)}', drawing.width, 0, drawing.height),
+        "BODY": _svg("body", f'<g id="drawing" class="run">{drawing.body()}</g>{_flags(drawing, found)}{_rests(drawing)}',
+                     drawing.width, 0, drawing.height),
+        "VERDICTS": _verdicts(drawing, found),
         "LEGEND": _legend(),
         "SHEETS": _sheets(drawing, title),
-        "DATA": json.dumps(_data(drawing, documents), separators=(",", ":"), ensure_ascii=True).replace("<", "\\u003c"),
+        "DATA": json.dumps(_data(drawing, documents, found), separators=(",", ":"), ensure_ascii=True).replace("<", "\\u003c"),
         "SCRIPT": (HERE / "page.js").read_text(encoding="utf-8"),
     }
     for name, text in parts.items():
@@ -83,9 +89,39 @@ def _filter_rules(picture: Picture) -> str:
 def _rests(drawing: Drawing) -> str:
     """What is pointed at and tapped: a clear stripe over each row."""
     return "".join(
-        f'<rect class="rest" data-row="{place}" x="0" y="{place * ROW}" width="{drawing.width}" height="{ROW}"/>'
+        f'<rect class="rest" data-row="{place}" x="0" y="{place * ROW}" width="{drawing.width}" height="{ROW}">'
+        f"<title>{escape(resting(row))}</title></rect>"
         for place, row in enumerate(drawing.picture.rows)
         if row.step is not None
+    )
+
+
+def _rows_of(drawing: Drawing, verdict: Verdict) -> List[int]:
+    """The rows that show a verdict, as far as they are in the picture."""
+    return [place for place, row in enumerate(drawing.picture.rows) if row.step is not None and row.line in verdict.lines]
+
+
+def _verdicts(drawing: Drawing, found: Sequence[Verdict]) -> str:
+    """A button for each verdict, which shows its last row."""
+    shown = []
+    for verdict in found[:MOST_VERDICTS]:
+        rows = _rows_of(drawing, verdict)
+        goes = f' data-row="{rows[-1]}"' if rows else " disabled"
+        shown.append(f'<button type="button" class="verdict"{goes} title="{escape(verdict.told)}">{escape(verdict.name)}</button>')
+    if len(found) > MOST_VERDICTS:
+        shown.append(f"<span>and {len(found) - MOST_VERDICTS} more</span>")
+    return "verdicts " + " ".join(shown) if shown else "no verdicts"
+
+
+def _flags(drawing: Drawing, found: Sequence[Verdict]) -> str:
+    """A mark in front of each row that shows a verdict."""
+    rows: Dict[int, List[str]] = {}
+    for verdict in found:
+        for place in _rows_of(drawing, verdict):
+            rows.setdefault(place, []).append(verdict.name)
+    return "".join(
+        f'<rect class="flag" x="0" y="{place * ROW + 1}" width="4" height="{ROW - 2}"><title>{escape(", ".join(dict.fromkeys(names)))}</title></rect>'
+        for place, names in rows.items()
     )
 
 
@@ -107,7 +143,7 @@ def _sheets(drawing: Drawing, title: str) -> str:
     return "".join(sheets)
 
 
-def _data(drawing: Drawing, documents: Optional[Dict[int, Documents]]) -> Dict[str, Any]:
+def _data(drawing: Drawing, documents: Optional[Dict[int, Documents]], found: Sequence[Verdict]) -> Dict[str, Any]:
     """What the page's script shows of each row. Documents are told once, and then by their place."""
     told: List[Documents] = []
     known: Dict[int, int] = {}
@@ -121,6 +157,7 @@ def _data(drawing: Drawing, documents: Optional[Dict[int, Documents]]) -> Dict[s
             known[node] = len(told)
             told.append(tuple(printable(one) for one in documents[row.line]))
         rows.append(_row(row, None if node is None else known.get(node)))
+        rows[-1]["verdicts"] = [f"{verdict.name}: {verdict.told}" for verdict in found if row.line in verdict.lines]
     return {
         "gutter": drawing.gutter, "width": drawing.width, "row": ROW, "rows": rows, "documents": told,
         "many": documents is None,

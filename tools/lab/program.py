@@ -5,7 +5,7 @@ import os
 import subprocess
 import sys
 from pathlib import Path
-from typing import List, Sequence
+from typing import Dict, List, Sequence
 
 from .errors import FAILED, FILE, PROGRAM, LabError, ScriptFault
 from .quick import run
@@ -16,7 +16,7 @@ TOP = Path(__file__).resolve().parents[2]
 #: Builds a program of this checkout in some minutes, with nothing proved.
 BUILDER = TOP / "tools" / "build_unproved"
 
-_found: dict = {}
+_found: Dict[str, str] = {}
 
 
 def find_program(name: str = "replset") -> str:

@@ -23,7 +23,8 @@ def _files() -> Tuple[int, int, int]:
     if getattr(_kept, "process", None) != os.getpid():
         _kept.process = os.getpid()
         _kept.files = _file("input"), _file("output"), os.open(os.devnull, os.O_WRONLY)
-    return _kept.files
+    files: Tuple[int, int, int] = _kept.files
+    return files
 
 
 def _put(file: int, content: bytes) -> None:

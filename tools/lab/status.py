@@ -1,7 +1,7 @@
 """The nodes of a set as a table, as rs.status() has them."""
 from __future__ import annotations
 
-from typing import Dict, List
+from typing import Dict, List, Tuple
 
 from .player import Player
 from .program import play
@@ -32,7 +32,7 @@ def _lags(player: Player, states: Dict[int, State]) -> Dict[int, str]:
     return {node: "-" if state.down else _lag(logs[node], logs[leader]) for node, state in states.items()}
 
 
-def _optimes(entries: tuple) -> List[str]:
+def _optimes(entries: Tuple[str, ...]) -> List[str]:
     return [entry.split(" ", 1)[0] for entry in entries]
 
 

@@ -30,6 +30,14 @@ def what_happened(script: Expanded, everything: bool = False) -> List[str]:
     return ["what happened to the data:", *(told or ["  nothing was written"]), *_verdicts(script, verdicts(story), everything)]
 
 
+def verdicts_of(lines: Sequence[str]) -> List[Verdict]:
+    """The verdicts of a plain script; none where it is too long to be watched."""
+    try:
+        return verdicts(read_fates(lines))
+    except TooLong:
+        return []
+
+
 def _shown(groups: List[List[Write]], everything: bool) -> List[List[Write]]:
     return groups if everything else groups[:MOST]
 

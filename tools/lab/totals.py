@@ -47,8 +47,8 @@ class Totals:
         self.down += other.down
         if other.farthest is not None:
             self._reach(*other.farthest)
-        for verdict, seeds in other.verdicts.items():
-            self._have(verdict, other.with_verdict[verdict], seeds)
+        for verdict, having in other.verdicts.items():
+            self._have(verdict, other.with_verdict[verdict], having)
 
     def _count(self, name: str, number: int, seeds: int, first: int) -> None:
         known = self.spread[name].setdefault(number, [0, first])

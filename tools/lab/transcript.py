@@ -45,8 +45,8 @@ def read_transcript(text: str) -> Transcript:
         if line.startswith("  "):
             heads[-1][2].append(line[2:])
         elif line:
-            number, said = line.split(": ", 1)
-            heads.append((int(number), said, []))
+            head, told = line.split(": ", 1)
+            heads.append((int(head), told, []))
     for number, said, more in heads:
         reply = Reply(number, said, tuple(more))
         transcript.replies.append(reply)

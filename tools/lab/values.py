@@ -66,7 +66,8 @@ def quoted(text: str) -> str:
 
 def fits(number: int, bits: int) -> bool:
     """Whether an integer has no more bits."""
-    return -(2 ** (bits - 1)) <= number < 2 ** (bits - 1)
+    bound: int = 2 ** (bits - 1)
+    return -bound <= number < bound
 
 
 def iso(milliseconds: int) -> str:

@@ -42,15 +42,15 @@ def in_order(work: Callable[[Item], Answer], items: Iterable[Item], jobs: int) -
 
 def _answers(pipe: BinaryIO) -> List[Any]:
     try:
-        answers = pickle.load(pipe)
+        answers: Any = pickle.load(pipe)
     except EOFError:
         raise RuntimeError("a worker ended too soon") from None
     if isinstance(answers, LabError):
         raise answers
-    return answers
+    return list(answers)
 
 
-def _forked(work: Callable, items: Iterator, place: int, jobs: int) -> Tuple[int, BinaryIO]:
+def _forked(work: Callable[[Any], Any], items: Iterator[Any], place: int, jobs: int) -> Tuple[int, BinaryIO]:
     """A process that does the work whose turn is at this place, and the pipe by which it answers."""
     read, write = os.pipe()
     child = os.fork()
@@ -61,7 +61,7 @@ def _forked(work: Callable, items: Iterator, place: int, jobs: int) -> Tuple[int
     return child, os.fdopen(read, "rb")
 
 
-def _work(work: Callable, items: Iterator, place: int, jobs: int, pipe: BinaryIO) -> NoReturn:
+def _work(work: Callable[[Any], Any], items: Iterator[Any], place: int, jobs: int, pipe: BinaryIO) -> NoReturn:
     """What a process does until it has no more. The one that forked it hears interrupts, and ends it."""
     signal.signal(signal.SIGINT, signal.SIG_IGN)
     try:
@@ -80,7 +80,7 @@ def _work(work: Callable, items: Iterator, place: int, jobs: int, pipe: BinaryIO
         os._exit(1)
 
 
-def _done(work: Callable, items: List) -> Any:
+def _done(work: Callable[[Any], Any], items: List[Any]) -> Any:
     try:
         return [work(item) for item in items]
     except LabError as fault:

@@ -7,7 +7,7 @@ import sys
 import tempfile
 import unittest
 from pathlib import Path
-from typing import List, Optional
+from typing import Dict, List, Optional
 
 TOP = Path(__file__).resolve().parents[3]
 LAB = TOP / "lab"
@@ -65,7 +65,7 @@ class LabTest(unittest.TestCase):
         self.room = Path(room.name)
         self.environment = {**os.environ, "REPLSET": find_program(), "HOME": room.name}
 
-    def lab(self, *words: str, typed: str = "", environment: Optional[dict] = None) -> "subprocess.CompletedProcess[str]":
+    def lab(self, *words: str, typed: str = "", environment: Optional[Dict[str, str]] = None) -> "subprocess.CompletedProcess[str]":
         """How the lab ends on these words."""
         done = subprocess.run(
             [sys.executable, str(LAB), *words], input=typed, capture_output=True, text=True, cwd=self.room,

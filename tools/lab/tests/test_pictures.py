@@ -4,12 +4,13 @@ from __future__ import annotations
 import json
 import re
 import unittest
+from typing import List
 from xml.dom import minidom
 
 from support import COMMITTED, TOP, LabTest, script_by_chance
 
 from lab.cookbook import out_of_date
-from lab.layout import picture_of, sides_of
+from lab.layout import Picture, picture_of, sides_of
 from lab.expand import expand
 from lab.observe import observe
 
@@ -19,7 +20,7 @@ PARTED = [*COMMITTED, "partition n0 | n1 n2", "update n0 orders 1 {$set: {n: 1}}
 class Layout(unittest.TestCase):
     """What stands in a picture."""
 
-    def picture(self, lines):
+    def picture(self, lines: List[str]) -> Picture:
         """The picture of a short script."""
         plain = expand(lines).lines
         return picture_of(observe(plain), 1, len(plain))
@@ -96,7 +97,9 @@ class Files(LabTest):
         text = (self.room / "run.html").read_text(encoding="utf-8")
         self.assertEqual(re.findall(r'(?:src|href)="(?!#)[^"]*"|url\((?!#)|@import|fetch\(|https?://(?!www\.w3\.org)', text), [])
         self.assertNotIn("{{", re.sub(r'<script id="data".*?</script>', "", text, flags=re.S).replace("{{_id", ""))
-        data = json.loads(re.search(r'<script id="data" type="application/json">(.*?)</script>', text, re.S)[1])
+        found = re.search(r'<script id="data" type="application/json">(.*?)</script>', text, re.S)
+        assert found is not None
+        data = json.loads(found[1])
         rolled = [row for row in data["rows"] if row and row["reply"].startswith("rolled back")]
         self.assertIn("rollback 0→1", rolled[0]["change"])
         self.assertEqual(data["documents"][rolled[0]["documents"]], ["orders {_id: 1, n: 0}"])

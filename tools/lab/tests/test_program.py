@@ -6,6 +6,7 @@ import subprocess
 import sys
 import time
 import unittest
+from typing import List, Tuple
 
 from support import COMMITTED, LAB, LabTest, script_by_chance
 
@@ -63,7 +64,7 @@ class BadInput(LabTest):
         (self.room / "bytes").write_bytes(bytes(range(256)))
         none = self.file(["hello"], "none.replset")
         empty = self.file([], "empty.replset")
-        cases = [
+        cases: List[Tuple[List[str], int, str]] = [
             (["run", "not_there"], 4, "not_there can't be read"), (["run", "."], 4, "can't be read"),
             (["run", "bytes"], 3, "is no script"), (["run", none], 3, "NoSetLine"), (["run", empty], 3, "NoSetLine"),
             (["picture", none], 3, "no script"), (["vary", none], 3, "no script"), (["shrink", none, "--keep", "x"], 8, "keep"),
@@ -109,9 +110,47 @@ class BadInput(LabTest):
                               capture_output=True, text=True)
         self.assertEqual(done.stderr, "")
 
+    def test_an_output_that_is_full_or_closed(self) -> None:
+        name, seconds = self.file(COMMITTED), ["--seeds", "1-2", "--events", "20", "-j", "1"]
+        (self.room / "none.trace").write_text("trace\n")
+        (self.room / "d.json").write_text("{}")
+        calls = [["run", name], ["verdict", name], ["check", "none.trace"], ["convert", "d.json"], ["expand", name], ["test", name], ["explain", "NoSource"],
+                 ["shrink", name, "--keep", "won"], ["vary", name, "--only", "swap", "-j", "2"], ["sweep", *seconds], ["picture", name], ["shell", name], ["--help"]]
+        for words in calls:
+            for target, told in (("/dev/full", "no space left on device"), ("&-", "standard output is closed")):
+                with self.subTest(words, target=target):
+                    line = " ".join(["exec", sys.executable, str(LAB), *words, f">{target}"])
+                    done = subprocess.run(["sh", "-c", line], input=b"status\n", stderr=subprocess.PIPE, cwd=self.room, env=self.environment)
+                    last = done.stderr.decode().splitlines()[-1:]
+                    if words != ["--help"] or target != "&-":
+                        self.assertEqual((done.returncode, last and told in last[0]), (4, True), done.stderr)
+                    self.assertNotIn(b"Traceback", done.stderr)
+
+    def test_other_streams_that_are_closed(self) -> None:
+        for words, status in (("run - <&-", 3), (f"run {self.file(COMMITTED)} 2>&-", 0), ("run nothing 2>&-", 4), ("vary - <&-", 3)):
+            done = subprocess.run(f"'{sys.executable}' '{LAB}' {words}", shell=True, cwd=self.room, env=self.environment, capture_output=True)
+            self.assertEqual(done.returncode, status, words)
+            self.assertNotIn(b"Traceback", done.stderr + done.stdout)
+
+    def test_an_interrupted_sweep_keeps_what_was_found(self) -> None:
+        lab = subprocess.Popen([sys.executable, str(LAB), "sweep", "--seeds", "1-1000000", "--events", "50", "-j", "2"], cwd=self.room,
+                               env=self.environment, stdout=subprocess.PIPE, stderr=subprocess.PIPE, text=True,
+                               preexec_fn=lambda: signal.signal(signal.SIGINT, signal.SIG_DFL))
+        time.sleep(8)
+        lab.send_signal(signal.SIGINT)
+        out, err = lab.communicate(timeout=60)
+        self.assertEqual(lab.returncode, 130, err)
+        self.assertRegex(out, r"^[1-9]\d* seeds, 50 events each")
+        self.assertRegex(err, r"^lab: interrupted, after \d+ seeds\n$")
+
+    def test_a_misspelt_field_of_a_configuration(self) -> None:
+        done = self.lab("run", self.file(["set 1", "elect n0", "flush n0", 'reconfig n0 {"version":2,"members":[{"_id":0,"priorty":2}]}']))
+        self.assertEqual((done.returncode, done.stderr), (0, 'lab: line 4 (6): the key "priorty" is passed over; did you mean "priority"?\n'))
+
     def test_help(self) -> None:
-        for words in ([], *([name] for name in WORD_NAMES)):
-            self.assertIn("usage: lab", self.told(*words, "--help"))
+        self.assertIn("usage: lab", self.told("--help"))
+        for name in WORD_NAMES:
+            self.assertIn("usage: lab", self.told(name, "--help"))
 
 
 class LongScripts(LabTest):

@@ -139,6 +139,10 @@ class Named(LabTest):
                  "read n0 local t 2", "end", "crash n0", "restart n0", "elect n0"]
         self.assertEqual(self.found(lines), ["dirty-read 8,9"])
 
+    def test_a_linearizable_read_that_is_refused_shows_nothing(self) -> None:
+        lines = [*COMMITTED, "partition n0 | n1 n2", "elect n1", "update n1 orders 1 {$set: {n: 1}}", "await n1 last", "linear n0 orders 1", "linear n1 orders 1"]
+        self.assertEqual(self.found(lines), ["two-primaries 2,6"])
+
     def test_what_is_told(self) -> None:
         name = self.file([*COMMITTED, "insert n0 orders {_id: 2}", "flush n0", "ack n0 last 1", "crash n0", "elect n1", "restart n0", "pull n0 n1"])
         told = self.told("verdict", name)

@@ -13,13 +13,14 @@ from ..expand import read_expanded
 from ..layout import picture_of, window
 from ..observe import observe
 from ..page import page
-from ..telling import what_happened
+from ..telling import verdicts_of, what_happened
 
 SUMMARY = "draws a run: nodes as columns, messages as arrows, time going down"
 DETAILS = """\
-The page (.html) shows, of each line, its reply, what it changed, the nodes' states and documents, where a pointer rests
-on it or a finger taps it; arrow keys step through the run, and boxes hide nodes and kinds of messages. It is one file
-that asks no other host for anything, and prints. The picture alone (.svg) is for documents.
+The page (.html) shows, of each line that is tapped, its reply, what it changed, the nodes' states and documents; keys step
+through the run, and boxes hide nodes and kinds of messages. Each writer, each session and whoever reads has a lane to the
+right of the nodes, with what it was told; the rows that show a verdict are marked. It is one file that asks no other host
+for anything, is dark where the system is, and prints. The picture alone (.svg) is for documents.
 
 A picture shows at most 500 lines; --lines says which."""
 
@@ -55,13 +56,14 @@ def main(arguments: argparse.Namespace) -> int:
     script = read_expanded(arguments.file)
     lines = script.lines
     first, last = window(lines, arguments.lines, MOST_ROWS)
+    found = verdicts_of(lines) if output.suffix == ".html" else []
     run = observe(lines, first, last)
     picture = picture_of(run, first, last)
     title = arguments.title or ("a run" if arguments.file == "-" else Path(arguments.file).stem.replace("_", " "))
     if output.suffix == ".svg":
         text = svg_file(picture, title)
     else:
-        text = page(picture, title, documents_behind(run, first, last))
+        text = page(picture, title, documents_behind(run, first, last), found)
     try:
         output.write_text(text, encoding="utf-8")
     except OSError as fault:

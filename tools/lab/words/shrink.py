@@ -40,7 +40,7 @@ def add_arguments(parser: argparse.ArgumentParser) -> None:
                         help="how many scripts are played at a time (as many as there are processors)")
 
 
-def pattern(text: str) -> re.Pattern:
+def pattern(text: str) -> "re.Pattern[str]":
     """A regular expression over a transcript's lines."""
     try:
         return re.compile(text, re.MULTILINE)
@@ -48,7 +48,7 @@ def pattern(text: str) -> re.Pattern:
         raise LabError(WORDS, f"'{text}' is no regular expression: {fault}") from None
 
 
-def _keeps(wanted: re.Pattern) -> Test:
+def _keeps(wanted: "re.Pattern[str]") -> Test:
     def test(lines: List[str]) -> bool:
         done = run_program(["run"], script_bytes(lines))
         return done.returncode == 0 and wanted.search(done.stdout.decode("utf-8", "replace")) is not None

@@ -87,8 +87,9 @@ def _summary(text: str, verdicts: List[str]) -> Summary:
     return Summary(counts, max(commits, key=optime), down, verdicts)
 
 
-def _seeds(first: int, last: int, part: Tuple[int, int]) -> range:
+def _seeds(bounds: Tuple[int, int], part: Tuple[int, int]) -> range:
     """The seeds of a part. Neighbours go to different parts, so that all take as long."""
+    first, last = bounds
     return range(first + part[0] - 1, last + 1, part[1])
 
 
@@ -132,7 +133,7 @@ def _joined(names: List[str]) -> Totals:
 def _play(arguments: argparse.Namespace, totals: Totals) -> bool:
     """Plays the seeds. Gives whether the user interrupted it."""
     events, nodes = arguments.events, arguments.nodes
-    seeds = _seeds(*arguments.seeds, arguments.part or (1, 1))
+    seeds = _seeds(arguments.seeds, arguments.part or (1, 1))
 
     def summary(seed: int) -> Summary:
         done = run_program(["chaos", str(seed), str(events), str(nodes)])

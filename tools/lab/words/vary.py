@@ -175,7 +175,7 @@ def _save(arguments: argparse.Namespace, script: Expanded) -> int:
 
 
 def _play(
-    wanted: Iterator[Tuple[int, Variation]], count: int, answer: Callable, jobs: int, found: Found, counts: "Counter[str]"
+    wanted: Iterator[Tuple[int, Variation]], count: int, answer: Callable[[Tuple[int, Variation]], Answer], jobs: int, found: Found, counts: "Counter[str]"
 ) -> bool:
     """Puts each variation below what it changes. Gives whether the user interrupted it."""
     progress = Progress(count, "playing")
