@@ -1,7 +1,7 @@
 """The macros that ask: a linearizable read, a change stream, what a new member would begin with, the set's status.
 
-Each comes to the commands by which the program does the same behind a script, at any place of a script and under a partition
-too. What came of them stands behind them in comments that begin with `#: `.
+Each comes to the commands by which the program does the same after a script, at any place of a script and under a partition
+too. What came of them stands after them in comments that begin with `#: `.
 """
 from __future__ import annotations
 
@@ -16,7 +16,7 @@ from .script import words_of
 from .state import Optime, State, optime, read_state
 from .status import status_table
 
-#: What came of a macro stands behind this.
+#: What came of a macro stands after this.
 TOLD = "#: "
 
 MOST_ROUNDS, MOST_FLUSHES, MOST_NODES = 50, 200, 50
@@ -193,4 +193,5 @@ def _change(collection: str, at: Optime, entry: str) -> List[str]:
 
 def is_document(collection: str, key: str) -> bool:
     """Whether a collection and an ID can be read."""
-    return re.fullmatch(r"[A-Za-z][\w.]{0,63}", collection) is not None and read_place(f"read n0 local {collection} {key}") is not None
+    named = re.fullmatch(r"[A-Za-z][\w.]{0,63}", collection) is not None
+    return named and read_place(f"read n0 local {collection} {key}") is not None

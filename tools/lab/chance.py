@@ -60,14 +60,15 @@ def _event(row: int, event: int, one: str, other: str, nodes: int, draw: Callabl
         return [f"clock {one} {draw(1000)}"]
     if one == other and row in (7, 8, 9, 11):
         return [f"flush {one}"]
-    pull = [f"heartbeat {other} {one}", f"deliver {other} {one}", f"fetch {one}", f"deliver {one} {other}", f"deliver {other} {one}"]
+    back, there = f"deliver {other} {one}", f"deliver {one} {other}"
+    pull = [f"heartbeat {other} {one}", back, f"fetch {one}", there, back]
     return {
         6: [f"flush {one}"],
-        11: [f"common {one} {other}", f"deliver {one} {other}", f"deliver {other} {one}"],
+        11: [f"common {one} {other}", there, back],
         12: [f"checkpoint {one}"],
         13: [f"crash {one}", f"restart {one}"],
         14: [f"stepdown {one}"],
-    }.get(row, [*pull, f"apply {one} 4", f"flush {one}", f"report {one} {other}", f"deliver {one} {other}"])
+    }.get(row, [*pull, f"apply {one} 4", f"flush {one}", f"report {one} {other}", there])
 
 
 def _election(one: str, nodes: int) -> List[str]:

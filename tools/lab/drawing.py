@@ -16,6 +16,10 @@ FOOT = 64
 #: The width of a character of the script's text.
 LETTER = 6.65
 MOST_COMMAND, MOST_REPLY = 46, 38
+#: Where the text of an arrow may stand: how far along it, and how far below; the first that is clear is taken.
+PLACES = (
+    (0.68, 0), (0.5, 0), (0.82, 0), (0.34, 0), (0.6, 12), (0.78, 12), (0.4, 12), (0.7, 17), (0.5, 22), (0.2, 0), (0.2, -6), (0.5, -9),
+)
 #: From one lane to the next, for up to so many nodes; and for more.
 SPREADS, LEAST_SPREAD = ((4, 126), (5, 108), (6, 98), (7, 88)), 74
 #: The room of a client's lane, and the characters of an answer in it.
@@ -221,7 +225,7 @@ class Drawing:
     def _clear_place(self, x: float, y: float, to_x: float, to_y: float, text: str) -> Tuple[float, float]:
         """Where on a line its text stands clear of others: near the head if it can, where lines from one place have parted."""
         half, clear = len(text) * 2.6 + 2, None  # type: Tuple[float, Optional[Tuple[float, float]]]
-        for part, below in ((0.68, 0), (0.5, 0), (0.82, 0), (0.34, 0), (0.6, 12), (0.78, 12), (0.4, 12), (0.7, 17), (0.5, 22), (0.2, 0), (0.2, -6), (0.5, -9)):
+        for part, below in PLACES:
             at_x, at_y = x + (to_x - x) * part, y + (to_y - y) * part + below
             room = at_x - half, at_y - 10, at_x + half, at_y
             if not any(self._meet(room, other) for other in self._taken):
@@ -255,7 +259,8 @@ class Drawing:
         x, to_x, y = self.lane(talk.node) + 6, self.client_lane(talk.client), talk.top * ROW
         bad = " bad" if talk.bad else ""
         return (
-            f'<g class="n{talk.node}"><path class="talk" d="M{x} {y:.0f}H{to_x}"/><circle class="dot" cx="{to_x}" cy="{y:.0f}" r="2.4"/>'
+            f'<g class="n{talk.node}"><path class="talk" d="M{x} {y:.0f}H{to_x}"/>'
+            f'<circle class="dot" cx="{to_x}" cy="{y:.0f}" r="2.4"/>'
             f'<text class="answer{bad}" x="{to_x + 6}" y="{y + 3.5:.1f}">{escape(cut(talk.told, MOST_ANSWER))}</text></g>'
         )
 

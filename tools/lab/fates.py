@@ -1,7 +1,7 @@
 """What became of each write of a run, and what each read showed: found from the replies, and from the nodes' states beside them.
 
 Where a log ends each reply tells that changes it. What is on the disk of a node that is down at the end, a `restart` tells that
-is put behind the script and is no part of it.
+is put after the script and is no part of it.
 """
 from __future__ import annotations
 
@@ -243,7 +243,7 @@ class _Reader:
             self._committed.add(at)
 
     def _take_restart(self, step: Step, node: int) -> None:
-        """What a restart behind the script tells of the disk of a node that is down."""
+        """What a restart after the script tells of the disk of a node that is down."""
         if step.reply.text.startswith("up "):
             self._remove(node, self._down.pop(node, 0), optime(step.reply.text.split(" ")[2]), rollback=False)
             if step.after is not None and not step.after.down:

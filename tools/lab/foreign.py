@@ -1,6 +1,6 @@
 """Reads documents as mongosh has them, and MongoDB's Extended JSON, relaxed or canonical; also a script's own forms.
 
-What no script has (doubles, decimals, regular expressions, ..) is refused by its place, with what could be written in its stead.
+What no script has (doubles, decimals, regular expressions, ..) is refused by its place, with what could be written instead.
 """
 from __future__ import annotations
 
@@ -21,10 +21,12 @@ _CONSTANTS = {"true": True, "false": False, "null": None}
 _WRAPPERS = ("$oid", "$date", "$numberInt", "$numberLong", "$binary", "$timestamp", "$uuid", "$type")
 #: Kinds that no script has.
 _NONE = {
-    "$numberDouble": "a double", "$numberDecimal": "a decimal", "$regularExpression": "a regular expression", "$regex": "a regular expression",
-    "$code": "code", "$minKey": "a min key", "$maxKey": "a max key", "$undefined": "undefined", "$symbol": "a symbol", "$dbPointer": "a pointer",
-    "NumberDecimal": "a decimal", "Decimal128": "a decimal", "RegExp": "a regular expression", "Code": "code", "MinKey": "a min key",
-    "MaxKey": "a max key", "Double": "a double", "undefined": "undefined", "NaN": "a double", "Infinity": "a double",
+    **dict.fromkeys(("$numberDouble", "Double", "NaN", "Infinity"), "a double"),
+    **dict.fromkeys(("$numberDecimal", "NumberDecimal", "Decimal128"), "a decimal"),
+    **dict.fromkeys(("$regularExpression", "$regex", "RegExp"), "a regular expression"),
+    **dict.fromkeys(("$undefined", "undefined"), "undefined"),
+    **dict.fromkeys(("$code", "Code"), "code"), **dict.fromkeys(("$minKey", "MinKey"), "a min key"),
+    **dict.fromkeys(("$maxKey", "MaxKey"), "a max key"), "$symbol": "a symbol", "$dbPointer": "a pointer",
 }
 
 
@@ -304,6 +306,10 @@ def _from_base64(given: List[Any]) -> Value:
     return Binary(_subtype(given[1].number if len(given) > 1 else 0), base64.b64decode(given[0], validate=True))
 
 
+def _from_hex(given: List[Any]) -> Value:
+    return Binary(_subtype(given[1].number if len(given) > 1 else 0), bytes.fromhex(given[0]))
+
+
 def _hex_data(given: List[Any]) -> Value:
     return Binary(_subtype(given[0].number), bytes.fromhex(given[1]))
 
@@ -319,7 +325,7 @@ _CALLS: Dict[str, Callable[[List[Any]], Value]] = {
     "ObjectId": _object_id, "Id": _object_id, "ISODate": _date, "Date": _date, "NumberLong": _of_bits(64), "Long": _of_bits(64),
     "Long.fromString": _of_bits(64), "NumberInt": _of_bits(32), "Int32": _of_bits(32), "Timestamp": _timestamp, "Time": _timestamp,
     "BinData": _bin_data, "Binary.createFromBase64": _from_base64, "HexData": _hex_data, "Bin": _hex_data,
-    "Binary.createFromHexString": lambda given: Binary(given[1].number if len(given) > 1 else 0, bytes.fromhex(given[0])), "UUID": _uuid,
+    "Binary.createFromHexString": _from_hex, "UUID": _uuid,
 }
 
 

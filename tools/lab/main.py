@@ -11,7 +11,9 @@ from typing import IO, List, NoReturn, Optional, Sequence
 from .errors import FILE, INTERRUPT, WORDS, LabError, StoppedMacro
 
 #: The words, in the order in which help shows them.
-WORD_NAMES = ("run", "picture", "shell", "verdict", "check", "convert", "expand", "test", "shrink", "vary", "sweep", "seed", "explain")
+WORD_NAMES = (
+    "run", "picture", "shell", "verdict", "check", "convert", "expand", "test", "shrink", "vary", "sweep", "seed", "explain",
+)
 
 ABOUT = """\
 Asks "what happens to my data if .." of a replica set, and shows the answer: a transcript beside its script, a picture,
@@ -53,7 +55,7 @@ _CHECKOUT = (
 )
 _INSTALLED = "The program that plays the scripts is the one that the environment variable REPLSET names, or the installed one."
 
-#: A word of the lab behind its name, as texts have it.
+#: A word of the lab after its name, as texts have it.
 _CALL = re.compile(r"\blab (?=(?:%s|WORD)\b)" % "|".join(WORD_NAMES))
 
 

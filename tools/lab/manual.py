@@ -46,8 +46,11 @@ def _arguments(word: argparse.ArgumentParser) -> List[str]:
 
 def manual() -> str:
     """The manual page: what `lab --help` tells, and that of each word."""
-    lines = ['.TH REPLSET\\-LAB 1 "" "Nitsorano" "User commands"', ".SH NAME", "replset\\-lab \\- asks what happens to data in a replica set",
-             ".SH SYNOPSIS", ".B lab", "WORD ..", ".SH DESCRIPTION", *_roff(" ".join(ABOUT.split())), ".PP", ".nf", *_roff(ending(True).strip()), ".fi"]
+    lines = [
+        '.TH REPLSET\\-LAB 1 "" "Nitsorano" "User commands"', ".SH NAME",
+        "replset\\-lab \\- asks what happens to data in a replica set", ".SH SYNOPSIS", ".B lab", "WORD ..", ".SH DESCRIPTION",
+        *_roff(" ".join(ABOUT.split())), ".PP", ".nf", *_roff(ending(True).strip()), ".fi",
+    ]
     for name, word in _words().items():
         lines += [f'.SH "{name.upper()}"', ".nf", *_roff((word.description or "").strip()), ".fi", *_arguments(word)]
     return "\n".join(lines) + "\n"
@@ -55,7 +58,8 @@ def manual() -> str:
 
 def bash() -> str:
     """What bash completes."""
-    cases = "\n".join(f"    {name}) options=\"{' '.join(option for option, _ in _options(word))}\" ;;" for name, word in _words().items())
+    options = {name: " ".join(option for option, _ in _options(word)) for name, word in _words().items()}
+    cases = "\n".join(f'    {name}) options="{told}" ;;' for name, told in options.items())
     return f"""# Completes the words of the lab in bash. `tools/lab/refresh` makes this of its help.
 
 _replset_lab() {{
@@ -87,10 +91,10 @@ def _quoted(text: str) -> str:
 
 def zsh() -> str:
     """What zsh completes."""
-    names = "\n".join(f"        {_quoted(f'{name}:{(word.description or name).splitlines()[0]}')}" for name, word in _words().items())
-    cases = "\n".join(
-        f"        {name}) options=({' '.join(_quoted(f'{option}:{told}') for option, told in _options(word))}) ;;" for name, word in _words().items()
-    )
+    words = _words()
+    names = "\n".join("        " + _quoted(f"{name}:{(word.description or name).splitlines()[0]}") for name, word in words.items())
+    options = {name: " ".join(_quoted(f"{option}:{told}") for option, told in _options(word)) for name, word in words.items()}
+    cases = "\n".join(f"        {name}) options=({told}) ;;" for name, told in options.items())
     return f"""#compdef replset-lab lab
 # Completes the words of the lab in zsh. `tools/lab/refresh` makes this of its help.
 

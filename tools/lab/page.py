@@ -120,7 +120,8 @@ def _flags(drawing: Drawing, found: Sequence[Verdict]) -> str:
         for place in _rows_of(drawing, verdict):
             rows.setdefault(place, []).append(verdict.name)
     return "".join(
-        f'<rect class="flag" x="0" y="{place * ROW + 1}" width="4" height="{ROW - 2}"><title>{escape(", ".join(dict.fromkeys(names)))}</title></rect>'
+        f'<rect class="flag" x="0" y="{place * ROW + 1}" width="4" height="{ROW - 2}">'
+        f'<title>{escape(", ".join(dict.fromkeys(names)))}</title></rect>'
         for place, names in rows.items()
     )
 

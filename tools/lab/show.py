@@ -47,7 +47,7 @@ def beside(
 
 
 def marked(one: str, first: str, other: str, second: str) -> List[str]:
-    """Two texts below each other, each behind what it is, and a mark below the place where they part."""
+    """Two texts below each other, each after what it is, and a mark below the place where they part."""
     width = max(len(one), len(other))
     same = next((place for place, (a, b) in enumerate(zip(first, second)) if a != b), min(len(first), len(second)))
     return [f"  {one:{width}}  {printable(first)}", f"  {other:{width}}  {printable(second)}", " " * (width + 4 + same) + "^"]

@@ -10,7 +10,7 @@ from .observe import TooLong
 from .show import printable
 from .verdicts import Verdict, named, verdicts
 
-#: So many writes, and so many verdicts, are told behind a run, where not all are asked for.
+#: So many writes, and so many verdicts, are told after a run, where not all are asked for.
 MOST = 12
 
 #: A longer line is cut.
@@ -36,6 +36,11 @@ def verdicts_of(lines: Sequence[str]) -> List[Verdict]:
         return verdicts(read_fates(lines))
     except TooLong:
         return []
+
+
+def names_of(lines: Sequence[str]) -> List[str]:
+    """The names of the verdicts of a plain script, each once."""
+    return list(dict.fromkeys(verdict.name for verdict in verdicts_of(lines)))
 
 
 def _shown(groups: List[List[Write]], everything: bool) -> List[List[Write]]:
@@ -64,7 +69,8 @@ def fate(script: Expanded, story: Story, write: Write) -> str:
         line = script.number(removal.line)
         if removal.rollback:
             kept = story.shown_by_rolled.get(removal.node) == removal.line and write.place is not None
-            told.append(f"rolled back at n{removal.node} in line {line}" + (f" ('rolled n{removal.node}' shows it)" if kept else ""))
+            shown = f" ('rolled n{removal.node}' shows it)" if kept else ""
+            told.append(f"rolled back at n{removal.node} in line {line}{shown}")
         else:
             told.append(f"not on the disk of n{removal.node} as it went down in line {line}")
     told.append(_standing(story, write))

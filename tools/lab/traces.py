@@ -11,7 +11,7 @@ from .errors import FAILED, LabError, ScriptFault
 from .program import play, run_program, script_bytes
 from .reference import find, read_reference
 from .script import acting_node, node_number, words_of
-from .show import marked, printable
+from .show import Progress, marked, printable
 
 #: For so many seconds a missing step is looked for.
 LONGEST = 20.0
@@ -160,13 +160,19 @@ def _missing(lines: List[str], command: str, reply: List[str]) -> Optional[List[
         return None
     wanted = [_numberless(reply[0].split(": ", 1)[1]), *map(_numberless, reply[1:])]
     nodes, begun = int(words_of(lines[0])[1]), time.monotonic()
-    for step in _steps(lines, command, nodes):
-        if time.monotonic() - begun > LONGEST:
-            return None
-        tried = [*lines, *step, command]
-        if [_numberless(line) for line in _answer(tried, len(tried))] == wanted:
-            return step
-    return None
+    steps = list(_steps(lines, command, nodes))
+    progress = Progress(len(steps), "looking for a missing step")
+    try:
+        for step in steps:
+            tried = [*lines, *step, command]
+            if [_numberless(line) for line in _answer(tried, len(tried))] == wanted:
+                return step
+            if time.monotonic() - begun > LONGEST:
+                return None
+            progress.step()
+        return None
+    finally:
+        progress.close()
 
 
 def _steps(lines: List[str], command: str, nodes: int) -> Iterator[List[str]]:

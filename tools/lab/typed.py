@@ -11,8 +11,8 @@ from .values import own
 
 #: What stands in a line that may have a document of mongosh's in it.
 _FORMS = re.compile(
-    r"ObjectId\s*\(|ISODate\s*\(|Number(?:Long|Int)\s*\(|\bLong(?:\.fromString)?\s*\(|\bInt32\s*\(|Timestamp\s*\(|BinData\s*\(|HexData\s*\("
-    r"|UUID\s*\(|Binary\.|\bnew\s+Date\b|Date\s*\(\s*[\"']|'|\\u[dD][89abAB]"
+    r"(?:ObjectId|ISODate|NumberLong|NumberInt|\bLong|\bLong\.fromString|\bInt32|Timestamp|BinData|HexData|UUID)\s*\("
+    r"|Binary\.|\bnew\s+Date\b|Date\s*\(\s*[\"']|'|\\u[dD][89abAB]"
 )
 
 

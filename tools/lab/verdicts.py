@@ -4,7 +4,7 @@ from __future__ import annotations
 from dataclasses import dataclass
 from typing import Callable, Dict, Iterator, List, Optional, Sequence, Tuple
 
-from .fates import Config, Read, Story, Write, read_fates
+from .fates import Config, Read, Story, Write
 
 #: What each verdict means, in the order in which they are told.
 MEANINGS = {
@@ -39,11 +39,6 @@ def verdicts(story: Story) -> List[Verdict]:
     found = [verdict for finder in finders for verdict in finder(story)]
     order = list(MEANINGS)
     return sorted(found, key=lambda one: (order.index(one.name), one.lines))
-
-
-def verdict_names(lines: Sequence[str]) -> List[str]:
-    """The names of the verdicts of a plain script's run, each once."""
-    return list(dict.fromkeys(verdict.name for verdict in verdicts(read_fates(lines))))
 
 
 def _lost(story: Story) -> Iterator[Verdict]:

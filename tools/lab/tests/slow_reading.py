@@ -149,7 +149,8 @@ class SlowReading:
         shown = [place for place, other in front if other == touched]
         if level == "local":
             self.reads.append((number, touched, shown[-1] if shown else None))
-        if any(place not in node.optimes or place > max(at for at, _ in front or [((0, 0, 0), "")]) for place in self.safe.get(touched, ())):
+        end = max((at for at, _ in front), default=(0, 0, 0))
+        if any(place not in node.optimes or place > end for place in self.safe.get(touched, ())):
             self.verdicts.add(("stale-read", number))
         if level == "majority" and shown:
             self.safe.setdefault(touched, set()).add(shown[-1])

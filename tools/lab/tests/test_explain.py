@@ -46,7 +46,8 @@ class Words(LabTest):
 
     def test_each_name_that_is_printed(self) -> None:
         for name in ("NoFit", "OtherReply", "BadHeader", "optime", "hole", "linear", "watch", "sync", "check", "chaos", "elect", "await",
-                     "last", "repeat", "w1-lost", "no-primary", "NothingCommitted", "UnknownToken", "linear refused 17 NoSuchNode",
+                     "last", "repeat", "w1-lost", "no-primary", "NothingCommitted", "UnknownToken",
+                     "linear refused 17 NoSuchNode",
                      "watch refused 2 NodeDown", "commit point", "OpenPar", "acked", "insert"):
             with self.subTest(name):
                 self.assertIn(name.split(" ")[-1], self.told("explain", name))
@@ -135,7 +136,8 @@ class Faults(LabTest):
     def test_the_notation(self) -> None:
         """The rules and places of documents, which the program tells without their places."""
         cases = [
-            ("{}", None), ("{a: [1, 2L, true, null], \"b c\": Date(-5)}", None), ("{a: Bin(0, \"00ff\"), b: Time(1, 2)}", None),
+            ("{}", None), ("{a: [1, 2L, true, null], \"b c\": Date(-5)}", None),
+            ("{a: Bin(0, \"00ff\"), b: Time(1, 2)}", None),
             ("{a: 2147483648}", (4, "Number")), ("{a: \"\\q\"}", (6, "Escape")), ("{a: Id(\"00\")}", (10, "Hex")),
             ("{a: 1, a: 2}", (7, "DuplicateName")), ("{a: 1,}", (6, "Unexpected")), ("{} ", (2, "Unexpected")),
             ("[" * 101, (100, "TooDeep")), ("{a: Bin(256, \"\")}", (8, "Number")), ("{a: tru}", (4, "Unexpected")),

@@ -27,7 +27,8 @@ class Install(LabTest):
 
     def call(self, name: str, *words: str) -> "subprocess.CompletedProcess[str]":
         """How an installed command ends."""
-        return subprocess.run([str(self.place / "bin" / name), *words], cwd=self.room, env=self.calls, capture_output=True, text=True, stdin=subprocess.DEVNULL)
+        return subprocess.run([str(self.place / "bin" / name), *words], cwd=self.room, env=self.calls,
+                              capture_output=True, text=True, stdin=subprocess.DEVNULL)
 
     def installed(self) -> List[Path]:
         """All files below the folder."""
@@ -36,16 +37,19 @@ class Install(LabTest):
     def test_it_runs(self) -> None:
         script, done = self.file(COMMITTED), self.call("replset-lab", "verdict", self.file(COMMITTED))
         self.assertEqual((done.returncode, done.stdout.splitlines()[-1]), (0, "verdicts: none"), done.stderr)
-        for words in (["run", script], ["seed", "1", "5", "3"], ["explain", "hole"], ["picture", script], ["sweep", "--seeds", "1-2", "--events", "9"]):
+        sweep = ["sweep", "--seeds", "1-2", "--events", "9"]
+        for words in (["run", script], ["seed", "1", "5", "3"], ["explain", "hole"], ["picture", script], sweep):
             self.assertEqual(self.call("replset-lab", *words).returncode, 0, words)
 
     def test_no_tests_and_nothing_that_makes_pages(self) -> None:
         names = [str(path.relative_to(self.place)) for path in self.installed()]
-        self.assertFalse([name for name in names if "tests" in name or name.endswith(("/check", "/refresh", "cookbook.py", "manual.py", ".ini"))])
+        absent = ("/check", "/refresh", "cookbook.py", "manual.py", ".ini")
+        self.assertFalse([name for name in names if "tests" in name or name.endswith(absent)])
         for name in ("share/man/man1/replset-lab.1", "share/man/man1/replset.1", "share/bash-completion/completions/replset-lab",
                      "share/zsh/site-functions/_replset-lab"):
             self.assertIn(name, names)
-        self.assertEqual({str(path) for path in self.installed()}, set(self.files) | {str(self.place / "libexec/replset" / name) for name in ("installed", "version", "build/replset")})
+        untold = {str(self.place / "libexec/replset" / name) for name in ("installed", "version", "build/replset")}
+        self.assertEqual({str(path) for path in self.installed()}, set(self.files) | untold)
 
     def test_help_has_only_what_is_there(self) -> None:
         told = self.call("replset-lab", "--help").stdout
@@ -70,12 +74,14 @@ class Install(LabTest):
     def test_completion(self) -> None:
         script = "source completion; COMP_WORDS=(replset-lab {0}); COMP_CWORD={1}; _replset_lab; echo ${{COMPREPLY[@]}}"
         (self.room / "completion").write_text((self.place / "share/bash-completion/completions/replset-lab").read_text())
-        for words, place, wanted in (("ver", 1, "verdict"), ("vary --ord", 2, "--orders"), ("shrink --verdict w1", 3, "w1-lost"), ("run compl", 2, "completion")):
+        cases = (("ver", 1, "verdict"), ("vary --ord", 2, "--orders"), ("shrink --verdict w1", 3, "w1-lost"), ("run compl", 2, "completion"))
+        for words, place, wanted in cases:
             done = subprocess.run(["bash", "-c", script.format(words, place)], cwd=self.room, capture_output=True, text=True)
             self.assertEqual(done.stdout.strip(), wanted, done.stderr)
 
     def test_all_words_are_in_the_manual_page(self) -> None:
-        self.assertEqual([str(path) for path, text in made() if path.read_text(encoding="utf-8") != text], [], "tools/lab/refresh makes these anew")
+        late = [str(path) for path, text in made() if path.read_text(encoding="utf-8") != text]
+        self.assertEqual(late, [], "tools/lab/refresh makes these anew")
         page = (self.place / "share/man/man1/replset-lab.1").read_text()
         for name in WORD_NAMES:
             self.assertIn(f'.SH "{name.upper()}"', page)

@@ -68,17 +68,26 @@ class Vectors(unittest.TestCase):
 
     def test_each_form(self) -> None:
         cases = [
-            ("ObjectId('0123456789ABCDEF01234567')", 'Id("0123456789abcdef01234567")'), ('{"$oid": "0123456789abcdef01234567"}', 'Id("0123456789abcdef01234567")'),
-            ('ISODate("2020-01-02T03:04:05Z")', "Date(1577934245000)"), ('{"$date": "2020-01-02T03:04:05.678Z"}', "Date(1577934245678)"),
-            ('{"$date": {"$numberLong": "-1"}}', "Date(-1)"), ("new Date(5)", "Date(5)"), ('Date("1970-01-01")', "Date(0)"),
-            ('ISODate("1969-12-31T23:00:00-0100")', "Date(0)"), ("NumberLong(5)", "5L"), ('NumberLong("5")', "5L"), ('Long("5")', "5L"), ("5L", "5L"),
-            ('{"$numberLong": "5"}', "5L"), ('{"$numberInt": "5"}', "5"), ("NumberInt(5)", "5"), ("0x10", "16"), ("2147483648", "2147483648L"),
-            ("-9223372036854775808", "-9223372036854775808L"), ("BinData(0, 'AAEC')", 'Bin(0, "000102")'), ('HexData(5, "00FF")', 'Bin(5, "00ff")'),
-            ('{"$binary": {"base64": "AAE=", "subType": "80"}}', 'Bin(128, "0001")'), ('{"$binary": "AAE=", "$type": "00"}', 'Bin(0, "0001")'),
+            ("ObjectId('0123456789ABCDEF01234567')", 'Id("0123456789abcdef01234567")'),
+            ('{"$oid": "0123456789abcdef01234567"}', 'Id("0123456789abcdef01234567")'),
+            ('ISODate("2020-01-02T03:04:05Z")', "Date(1577934245000)"),
+            ('{"$date": "2020-01-02T03:04:05.678Z"}', "Date(1577934245678)"),
+            ('{"$date": {"$numberLong": "-1"}}', "Date(-1)"), ("new Date(5)", "Date(5)"),
+            ('Date("1970-01-01")', "Date(0)"),
+            ('ISODate("1969-12-31T23:00:00-0100")', "Date(0)"), ("NumberLong(5)", "5L"), ('NumberLong("5")', "5L"),
+            ('Long("5")', "5L"), ("5L", "5L"),
+            ('{"$numberLong": "5"}', "5L"), ('{"$numberInt": "5"}', "5"), ("NumberInt(5)", "5"), ("0x10", "16"),
+            ("2147483648", "2147483648L"),
+            ("-9223372036854775808", "-9223372036854775808L"), ("BinData(0, 'AAEC')", 'Bin(0, "000102")'),
+            ('HexData(5, "00FF")', 'Bin(5, "00ff")'),
+            ('{"$binary": {"base64": "AAE=", "subType": "80"}}', 'Bin(128, "0001")'),
+            ('{"$binary": "AAE=", "$type": "00"}', 'Bin(0, "0001")'),
             ("UUID('00112233-4455-6677-8899-aabbccddeeff')", 'Bin(4, "00112233445566778899aabbccddeeff")'),
             ('{"$uuid": "00112233-4455-6677-8899-aabbccddeeff"}', 'Bin(4, "00112233445566778899aabbccddeeff")'),
-            ("Timestamp(1, 2)", "Time(1, 2)"), ("Timestamp({t: 1, i: 2})", "Time(1, 2)"), ('{"$timestamp": {"t": 1, "i": 2}}', "Time(1, 2)"),
-            ("'it\\'s'", '"it\'s"'), ('"\\ud83d\\ude00"', '"😀"'), ('"a\\/b\\b"', '"a/b\\u0008"'), ("{a: 1, 'b c': [true, null,],}", '{a: 1, "b c": [true, null]}'),
+            ("Timestamp(1, 2)", "Time(1, 2)"), ("Timestamp({t: 1, i: 2})", "Time(1, 2)"),
+            ('{"$timestamp": {"t": 1, "i": 2}}', "Time(1, 2)"),
+            ("'it\\'s'", '"it\'s"'), ('"\\ud83d\\ude00"', '"😀"'), ('"a\\/b\\b"', '"a/b\\u0008"'),
+            ("{a: 1, 'b c': [true, null,],}", '{a: 1, "b c": [true, null]}'),
             ('{"$set": {"a": 1}}', "{$set: {a: 1}}"), ("{}", "{}"), ("[]", "[]"),
         ]
         for text, wanted in cases:
@@ -87,12 +96,18 @@ class Vectors(unittest.TestCase):
 
     def test_what_no_script_has(self) -> None:
         cases = [
-            ("{a: 1.5}", 4, 'the string "1.5"'), ("{a: 5.0}", 4, "write 5 in place of 5.0"), ("{a: 1e3}", 4, "write 1000 in place"), ("[1, 3e9]", 4, "write 3000000000L"),
-            ('{"a": {"$numberDouble": "0.1"}}', 6, 'the string "0.1"'), ('{"a": {"$numberDouble": "NaN"}}', 6, "no doubles"), ("{a: NaN}", 4, "a double"),
-            ("{a: NumberDecimal('1')}", 4, "a decimal"), ('{a: {"$numberDecimal": "1"}}', 4, "a decimal"), ("{a: /x/i}", 4, "regular"), ("{a: undefined}", 4, "null"),
-            ("{a: 1, a: 2}", 7, "twice"), ("{a: ObjectId('00')}", 4, "no value of ObjectId"), ("{a: hello}", 4, "string stands in quotes"), ("{a: 'x}", 4, "isn't closed"),
-            ("{a: 1", 5, "ends too soon"), ("{a: 1} x", 7, "after the value"), ("{a: 99999999999999999999}", 4, "64 bits"), ('{a: "\\ud83d"}', 5, "surrogates"),
-            ("[" * 101, 100, "level 101"), ('{a: {"$date": "soon"}}', 4, "$date"), ("{a: Timestamp(1)}", 4, "no value"), ("{: 1}", 1, "a name"),
+            ("{a: 1.5}", 4, 'the string "1.5"'), ("{a: 5.0}", 4, "write 5 in place of 5.0"),
+            ("{a: 1e3}", 4, "write 1000 in place"), ("[1, 3e9]", 4, "write 3000000000L"),
+            ('{"a": {"$numberDouble": "0.1"}}', 6, 'the string "0.1"'),
+            ('{"a": {"$numberDouble": "NaN"}}', 6, "no doubles"), ("{a: NaN}", 4, "a double"),
+            ("{a: NumberDecimal('1')}", 4, "a decimal"), ('{a: {"$numberDecimal": "1"}}', 4, "a decimal"),
+            ("{a: /x/i}", 4, "regular"), ("{a: undefined}", 4, "null"),
+            ("{a: 1, a: 2}", 7, "twice"), ("{a: ObjectId('00')}", 4, "no value of ObjectId"),
+            ("{a: hello}", 4, "string stands in quotes"), ("{a: 'x}", 4, "isn't closed"),
+            ("{a: 1", 5, "ends too soon"), ("{a: 1} x", 7, "after the value"),
+            ("{a: 99999999999999999999}", 4, "64 bits"), ('{a: "\\ud83d"}', 5, "surrogates"),
+            ("[" * 101, 100, "level 101"), ('{a: {"$date": "soon"}}', 4, "$date"),
+            ("{a: Timestamp(1)}", 4, "no value"), ("{: 1}", 1, "a name"),
         ]
         for text, place, told in cases:
             with self.subTest(text):
@@ -109,7 +124,8 @@ class Vectors(unittest.TestCase):
                 b"\x07o\x00" + bytes(range(12)) + b"\x05x\x00\x02\x00\x00\x00\x80\x01\x02" b"\x11t\x00\x02\x00\x00\x00\x01\x00\x00\x00"
                 b"\x04a\x00\x0c\x00\x00\x00\x100\x00\x07\x00\x00\x00\x00" b"\x03e\x00\x05\x00\x00\x00\x00")
         (found,) = read_documents((len(body) + 5).to_bytes(4, "little") + body + b"\0", "x")
-        self.assertEqual(own(found), '{i: 5, l: -1L, d: Date(5), b: true, n: null, o: Id("000102030405060708090a0b"), x: Bin(128, "0102"), t: Time(1, 2), a: [7], e: {}}')
+        wanted = '{i: 5, l: -1L, d: Date(5), b: true, n: null, o: Id("000102030405060708090a0b"), x: Bin(128, "0102"), t: Time(1, 2)'
+        self.assertEqual(own(found), wanted + ", a: [7], e: {}}")
         double = b"\x10\x00\x00\x00\x01d\x00\x00\x00\x00\x00\x00\x00\xf8\x3f\x00"
         for content, why in [(double, 'field d stands a double; there are no doubles: .*"1.5"'), (hello[:-3], "none"), (b"\x05\x00", "cut off")]:
             with self.assertRaisesRegex(LabError, why):
@@ -191,12 +207,15 @@ class Convert(LabTest):
     def test_what_is_typed_in_a_script(self) -> None:
         lines = ["set 1", "elect n0", "insert n0 t {_id: ObjectId('0123456789abcdef01234567'), n: NumberLong(5)}",
                  "replace n0 t ObjectId('0123456789abcdef01234567') {s: 'it\\'s'}", "begin n0 w1 insert t {_id: 'a'}",
-                 'insert n0 t {_id: 1, a: {"$date": "1970-01-01"}}', "notation mongosh", 'insert n0 t {_id: 2, a: {"$date": "1970-01-01"}}',
+                 'insert n0 t {_id: 1, a: {"$date": "1970-01-01"}}', "notation mongosh",
+                 'insert n0 t {_id: 2, a: {"$date": "1970-01-01"}}',
                  "repeat 2 read n0 local t ObjectId('0123456789abcdef01234567')", "notation own", 'insert n0 t {_id: 3, a: {"$date": 1}}']
         plain = [line for line in self.told("expand", self.file(lines)).splitlines() if not line.startswith("#")]
         self.assertEqual(plain[3:], [
-            'insert n0 t {_id: Id("0123456789abcdef01234567"), n: 5L}', 'replace n0 t Id("0123456789abcdef01234567") {s: "it\'s"}',
-            'begin n0 w1 insert t {_id: "a"}', 'insert n0 t {_id: 1, a: {"$date": "1970-01-01"}}', "insert n0 t {_id: 2, a: Date(0)}",
+            'insert n0 t {_id: Id("0123456789abcdef01234567"), n: 5L}',
+            'replace n0 t Id("0123456789abcdef01234567") {s: "it\'s"}',
+            'begin n0 w1 insert t {_id: "a"}', 'insert n0 t {_id: 1, a: {"$date": "1970-01-01"}}',
+            "insert n0 t {_id: 2, a: Date(0)}",
             *['read n0 local t Id("0123456789abcdef01234567")'] * 2, 'insert n0 t {_id: 3, a: {"$date": 1}}',
         ])
         self.assertEqual(self.lab("run", self.file(lines)).stderr.count("extended JSON is read as a plain document"), 2)

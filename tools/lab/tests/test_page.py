@@ -43,14 +43,15 @@ seen.clients = [...document.querySelectorAll(".top .head")].map((head) => head.t
 seen.answers = [...document.querySelectorAll("#drawing .answer")].map((answer) => answer.textContent);
 const boxes = [...document.querySelectorAll("#drawing .label, #drawing .kind")].map((text) => text.getBoundingClientRect());
 const texts = [...document.querySelectorAll("#drawing .label, #drawing .kind")].map((text) => text.textContent);
-seen.pairs = boxes.flatMap((one, at) => boxes.flatMap((other, place) => place > at &&
-  one.left < other.right - 2 && other.left < one.right - 2 && one.top < other.bottom - 3 && other.top < one.bottom - 3 ? [[texts[at], one.left, one.top, one.right, one.bottom, texts[place], other.left, other.top, other.right, other.bottom]] : []));
-seen.overlaps = boxes.filter((one, at) => boxes.some((other, place) => place > at &&
-  one.left < other.right - 2 && other.left < one.right - 2 && one.top < other.bottom - 3 && other.top < one.bottom - 3)).length;
+const overlap = (one, other) => one.left < other.right - 2 && other.left < one.right - 2 &&
+  one.top < other.bottom - 3 && other.top < one.bottom - 3;
+seen.pairs = boxes.flatMap((one, at) => boxes.flatMap((other, place) => place > at && overlap(one, other) ? [[texts[at], texts[place]]] : []));
+seen.overlaps = seen.pairs.length;
 seen.cut = boxes.filter((one) => one.right > document.getElementById("body").getBoundingClientRect().right).length;
 seen.ink = getComputedStyle(document.querySelector("#drawing .command")).fill;
-seen.shades = new Set([...document.querySelectorAll("#drawing .band")].map((band) => band.querySelector("title").textContent.split("point ")[1] +
-  getComputedStyle(band).fill)).size === new Set([...document.querySelectorAll("#drawing .band title")].map((title) => title.textContent.split("point ")[1])).size;
+const bands = [...document.querySelectorAll("#drawing .band")];
+const point = (band) => band.querySelector("title").textContent.split("point ")[1];
+seen.shades = new Set(bands.map((band) => point(band) + getComputedStyle(band).fill)).size === new Set(bands.map(point)).size;
 seen.votes = shown(".k-vote:not(.line)");
 box("k-vote").click(); seen.hidden = shown(".k-vote:not(.line)");
 box("n1").click(); seen.lane = shown(".secondary.n1");

@@ -30,7 +30,8 @@ class Layout(unittest.TestCase):
         parted = {(shade.node, shade.side) for shade in picture.shades}
         self.assertEqual(parted, {(1, 1), (2, 1)})
         captions = {row.text: place for place, row in enumerate(picture.rows) if row.caption}
-        self.assertEqual({(shade.top, shade.bottom) for shade in picture.shades}, {(captions["partition n0 | n1 n2"] + 1, captions["heal"] + 1)})
+        wanted = {(captions["partition n0 | n1 n2"] + 1, captions["heal"] + 1)}
+        self.assertEqual({(shade.top, shade.bottom) for shade in picture.shades}, wanted)
         self.assertEqual(sides_of("partition n0 | n3", 5), {0: 0, 1: 2, 2: 2, 3: 1, 4: 2})
         self.assertIsNone(sides_of("partition the disks", 5))
 

@@ -67,12 +67,16 @@ class BadInput(LabTest):
         cases: List[Tuple[List[str], int, str]] = [
             (["run", "not_there"], 4, "not_there can't be read"), (["run", "."], 4, "can't be read"),
             (["run", "bytes"], 3, "is no script"), (["run", none], 3, "NoSetLine"), (["run", empty], 3, "NoSetLine"),
-            (["picture", none], 3, "no script"), (["vary", none], 3, "no script"), (["shrink", none, "--keep", "x"], 8, "keep"),
-            (["picture", script, "-o", "run.png"], 2, ".html"), (["picture", script, "-o", "no/where.svg"], 4, "can't be written"),
+            (["picture", none], 3, "no script"), (["vary", none], 3, "no script"),
+            (["shrink", none, "--keep", "x"], 8, "keep"),
+            (["picture", script, "-o", "run.png"], 2, ".html"),
+            (["picture", script, "-o", "no/where.svg"], 4, "can't be written"),
             (["picture", script, "--lines", "9-3"], 2, "no lines"), (["shrink", script], 2, "--keep"),
-            (["shrink", script, "--keep", "("], 2, "no regular expression"), (["sweep", "--seeds", "x"], 2, "no seeds"),
+            (["shrink", script, "--keep", "("], 2, "no regular expression"),
+            (["sweep", "--seeds", "x"], 2, "no seeds"),
             (["sweep", "--nodes", "51"], 2, "--nodes"),
-            (["sweep", "--events", "5000", "--nodes", "50"], 2, "multiplied"), (["test", "not_there"], 4, "can't be read"), (["dance"], 2, "dance"),
+            (["sweep", "--events", "5000", "--nodes", "50"], 2, "multiplied"),
+            (["test", "not_there"], 4, "can't be read"), (["dance"], 2, "dance"),
             ([], 2, "WORD"), (["shell", "--nodes", "0"], 2, "--nodes"), (["shell", "not_there"], 4, "can't be read"),
         ]
         for words, status, told in cases:

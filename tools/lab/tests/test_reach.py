@@ -10,7 +10,7 @@ from support import COMMITTED, LabTest, script_by_chance
 from lab.asking import TOLD
 from lab.expand import expand
 from lab.program import find_program, play
-from lab.verdicts import verdict_names
+from lab.telling import names_of
 
 PARTED = [*COMMITTED, "partition n0 | n1 n2", "update n0 orders 1 {$set: {n: 1}}", "elect n1", "insert n1 orders {_id: 2}"]
 
@@ -112,7 +112,7 @@ class Tick(unittest.TestCase):
             replies = [reply.text for reply in play(lines).replies]
             self.assertTrue(any(text.startswith("primary 1") for text in replies))
             self.assertFalse(any(text.startswith("primary 2") for text in replies), "a set without faults keeps its primary")
-            self.assertEqual(verdict_names(lines), [])
+            self.assertEqual(names_of(lines), [])
 
     def test_it_gets_over_a_crash(self) -> None:
         lines = [*COMMITTED, "crash n0", "tick 40 3", "restart n0", "tick 60 4", "status"]

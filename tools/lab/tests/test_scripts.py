@@ -37,8 +37,10 @@ class Expand(LabTest):
         told = self.told("expand", self.file(["set 2", "elect n0", "insert n0 t {_id: 1}", "flush n0", "pull n1", "ack n0 last majority"]))
         self.assertEqual(told.splitlines(), [
             "set 2", "# elect n0", "campaign n0", "deliver n0 n1", "deliver n1 n0", "drain n0",
-            "insert n0 t {_id: 1}", "flush n0", "# pull n1", "heartbeat n0 n1", "deliver n0 n1", "fetch n1", "deliver n1 n0",
-            "deliver n0 n1", "flush n1", "apply n1", "report n1 n0", "deliver n1 n0", "heartbeat n0 n1", "deliver n0 n1",
+            "insert n0 t {_id: 1}", "flush n0", "# pull n1", "heartbeat n0 n1", "deliver n0 n1", "fetch n1",
+            "deliver n1 n0",
+            "deliver n0 n1", "flush n1", "apply n1", "report n1 n0", "deliver n1 n0", "heartbeat n0 n1",
+            "deliver n0 n1",
             "ack n0 1/0/2 majority",
         ])
 
@@ -46,7 +48,8 @@ class Expand(LabTest):
         told = self.told("expand", self.file(["set 4 2 3", "elect n0", "insert n0 t {_id: 1}", "spread n0"]))
         elected, spread = told.split("# spread n0\n")
         self.assertEqual(elected.splitlines(), [
-            "set 4 2 3", "# elect n0", "campaign n0", "deliver n0 n1", "deliver n1 n0", "drain n0", "insert n0 t {_id: 1}",
+            "set 4 2 3", "# elect n0", "campaign n0", "deliver n0 n1", "deliver n1 n0", "drain n0",
+            "insert n0 t {_id: 1}",
         ])
         self.assertIn("report n2 n0", spread)
         self.assertNotIn("n3", spread)

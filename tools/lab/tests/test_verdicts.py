@@ -114,7 +114,8 @@ class Named(LabTest):
     def found(self, lines: List[str]) -> List[str]:
         """The verdicts of a short script, by name and line."""
         script = expand(lines)
-        return [f"{one.name} {','.join(str(script.source[line - 1]) for line in one.lines)}" for one in verdicts(read_fates(script.lines))]
+        found = verdicts(read_fates(script.lines))
+        return [f"{one.name} {','.join(str(script.source[line - 1]) for line in one.lines)}" for one in found]
 
     def test_each_name(self) -> None:
         cases = [
@@ -140,7 +141,8 @@ class Named(LabTest):
         self.assertEqual(self.found(lines), ["dirty-read 8,9"])
 
     def test_a_linearizable_read_that_is_refused_shows_nothing(self) -> None:
-        lines = [*COMMITTED, "partition n0 | n1 n2", "elect n1", "update n1 orders 1 {$set: {n: 1}}", "await n1 last", "linear n0 orders 1", "linear n1 orders 1"]
+        lines = [*COMMITTED, "partition n0 | n1 n2", "elect n1", "update n1 orders 1 {$set: {n: 1}}", "await n1 last",
+                 "linear n0 orders 1", "linear n1 orders 1"]
         self.assertEqual(self.found(lines), ["two-primaries 2,6"])
 
     def test_what_is_told(self) -> None:

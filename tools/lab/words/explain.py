@@ -132,9 +132,9 @@ def _explain_file(name: str) -> List[str]:
         return explain_fault(lines, fault)
     except StoppedMacro as fault:
         return _explain_stop(lines, fault)
-    told = [f"line {script.number(number)}: {what}\n  {printable(script.lines[number - 1])}" for number, what in surprises(script.lines)]
-    told += [f"line {number}: its document is mongosh's. The lab reads it ('lab expand' prints what it comes to); the program doesn't"
-             for number, line in enumerate(lines, 1) if is_foreign(line)]
+    told = [f"line {script.number(at)}: {what}\n  {printable(script.lines[at - 1])}" for at, what in surprises(script.lines)]
+    foreign = "its document is mongosh's. The lab reads it ('lab expand' prints what it comes to); the program doesn't"
+    told += [f"line {number}: {foreign}" for number, line in enumerate(lines, 1) if is_foreign(line)]
     return told or [f"{name} is a script, and nothing in it is likely to surprise"]
 
 

@@ -13,8 +13,8 @@ from ..errors import NOTHING, WORDS, LabError, ScriptFault
 from ..expand import Expanded, read_script
 from ..program import find_program, run_program, script_bytes
 from ..smaller import Test, named_by_nodes, smallest
-from ..telling import what_happened
-from ..verdicts import MEANINGS, verdict_names
+from ..telling import names_of, what_happened
+from ..verdicts import MEANINGS
 
 SUMMARY = "prints the smallest script that still does it"
 DETAILS = """\
@@ -59,7 +59,7 @@ def _keeps(wanted: "re.Pattern[str]") -> Test:
 def _has_verdict(name: str) -> Test:
     def test(lines: List[str]) -> bool:
         try:
-            return name in verdict_names(lines)
+            return name in names_of(lines)
         except ScriptFault:
             return False
 

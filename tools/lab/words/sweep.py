@@ -13,8 +13,9 @@ from ..program import run_program
 from ..script import read_lines
 from ..show import Progress
 from ..state import optime
+from ..telling import names_of
 from ..totals import Totals, read_totals
-from ..verdicts import MEANINGS, verdict_names
+from ..verdicts import MEANINGS
 from ..workers import in_order
 
 SUMMARY = "plays scripts made by chance over many seeds, and tells what they came to"
@@ -139,7 +140,7 @@ def _play(arguments: argparse.Namespace, totals: Totals) -> bool:
         done = run_program(["chaos", str(seed), str(events), str(nodes)])
         if done.returncode != 0:
             raise LabError(FAILED, f"seed {seed} ended with status {done.returncode}")
-        names = [] if arguments.no_verdicts else verdict_names(script_of_seed(seed, events, nodes))
+        names = [] if arguments.no_verdicts else names_of(script_of_seed(seed, events, nodes))
         return _summary(done.stdout.decode(), [name for name in names if arguments.verdict in (None, name)])
 
     progress = Progress(len(seeds), "seeds")

@@ -48,7 +48,8 @@ def _comments_differ(script: Expanded) -> List[str]:
     for one in expectations(script.lines, script.play()):
         if not one.met:
             found = "(no reply, or no further line of it)" if one.found is None else one.found
-            told += [f"  line {script.number(one.line)}, after {printable(one.command)}", f"  - {one.wanted}", f"  + {printable(found)}"]
+            told.append(f"  line {script.number(one.line)}, after {printable(one.command)}")
+            told += [f"  - {one.wanted}", f"  + {printable(found)}"]
     return told
 
 

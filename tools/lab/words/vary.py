@@ -10,14 +10,13 @@ from typing import Callable, Dict, Iterable, Iterator, List, NamedTuple, Tuple
 
 from ..errors import DIFFERENT, INTERRUPT, NOTHING, WORDS, LabError
 from ..expand import Expanded, read_expanded
-from ..fates import read_fates
 from ..outcomes import differences, outcome, usual_outcomes
 from ..program import script_bytes, write_file
 from ..script import set_size
 from ..show import Progress
-from ..telling import of_name
+from ..telling import of_name, verdicts_of
 from ..variations import KINDS, Variation, faults, orders, played
-from ..verdicts import MEANINGS, verdicts
+from ..verdicts import MEANINGS
 from ..workers import in_order
 from .shrink import pattern
 
@@ -47,8 +46,11 @@ class Answer(NamedTuple):
     verdicts: Tuple[str, ...]
 
 
-#: Variations by what they change, each with its number.
-Found = Dict[Tuple[str, ...], List[Tuple[int, Variation]]]
+#: A variation with its number.
+Numbered = Tuple[int, Variation]
+
+#: Variations by what they change.
+Found = Dict[Tuple[str, ...], List[Numbered]]
 
 
 def add_arguments(parser: argparse.ArgumentParser) -> None:
@@ -96,15 +98,15 @@ def _variations(arguments: argparse.Namespace, script: Expanded) -> Iterator[Var
     return faults(script.lines, set_size(script.lines), kinds, arguments.faults)
 
 
-def _answers(arguments: argparse.Namespace, script: Expanded) -> Callable[[Tuple[int, Variation]], Answer]:
+def _answers(arguments: argparse.Namespace, script: Expanded) -> Callable[[Numbered], Answer]:
     """What gives the answer to a variation."""
     watch, nodes, name = pattern(arguments.watch), set_size(script.lines).nodes, arguments.verdict
     usual = usual_outcomes(script.lines, nodes, watch)
     watched = {number for one in usual for number in one.replies}
 
-    def answer(numbered: Tuple[int, Variation]) -> Answer:
+    def answer(numbered: Numbered) -> Answer:
         lines, source = played(numbered[1], script.lines)
-        found = [] if arguments.no_verdicts else of_name(verdicts(read_fates(lines)), name)
+        found = [] if arguments.no_verdicts else of_name(verdicts_of(lines), name)
         names = tuple(dict.fromkeys(verdict.name for verdict in found))
         if name is not None:
             return Answer(tuple(dict.fromkeys(verdict.told for verdict in found)), names)
@@ -146,7 +148,7 @@ def main(arguments: argparse.Namespace) -> int:
     if arguments.save:
         return _save(arguments, script)
     answer = _answers(arguments, script)
-    usual = [] if arguments.no_verdicts else [verdict.name for verdict in verdicts(read_fates(script.lines))]
+    usual = [] if arguments.no_verdicts else [verdict.name for verdict in verdicts_of(script.lines)]
     count = sum(1 for _ in _variations(arguments, script))
     wanted = compress(enumerate(_variations(arguments, script), 1), _thinned(count, arguments.limit or 0))
     count = min(count, arguments.limit or count)
@@ -175,7 +177,7 @@ def _save(arguments: argparse.Namespace, script: Expanded) -> int:
 
 
 def _play(
-    wanted: Iterator[Tuple[int, Variation]], count: int, answer: Callable[[Tuple[int, Variation]], Answer], jobs: int, found: Found, counts: "Counter[str]"
+    wanted: Iterator[Numbered], count: int, answer: Callable[[Numbered], Answer], jobs: int, found: Found, counts: "Counter[str]"
 ) -> bool:
     """Puts each variation below what it changes. Gives whether the user interrupted it."""
     progress = Progress(count, "playing")

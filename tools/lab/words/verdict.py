@@ -32,7 +32,7 @@ def add_arguments(parser: argparse.ArgumentParser) -> None:
 def main(arguments: argparse.Namespace) -> int:
     """Tells what happened."""
     script = read_expanded(arguments.file)
-    # A fault of the script is told as such, before restarts are put behind its end.
+    # A fault of the script is told as such, before restarts are put after its end.
     script.play()
     print("\n".join(what_happened(script, everything=True)))
     return 0
