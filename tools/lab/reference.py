@@ -1,7 +1,7 @@
 """The entries of docs/REFERENCE.md, so that what `lab explain` says and what the page says can't differ.
 
-An entry is a heading of the third level. Its first paragraph says what it means, and one that begins with `What to do:`
-what helps. Words in capitals in a heading stand for values, as in `15 Waiting HELD NEEDED`.
+An entry is a heading of the third level. Its first paragraph says what it means, and one that begins with `Action:` what
+helps. Words in capitals in a heading stand for values, as in `15 Waiting HELD NEEDED`.
 """
 from __future__ import annotations
 
@@ -16,6 +16,9 @@ from .program import TOP
 
 PAGE = TOP / "docs" / "REFERENCE.md"
 TERMS = TOP / "docs" / "GLOSSARY.md"
+
+#: How a paragraph begins that says what helps.
+ADVICE = "Action:"
 
 #: The words of a heading that stand for values.
 VALUE = re.compile(r"(?:[A-Z]+(?:/[A-Z]+)?|[mwn][KJ]|\.\.)$")
@@ -73,8 +76,8 @@ def read_reference(path: Path = PAGE) -> List[Entry]:
 
 def _entry(section: str, name: str, text: str) -> Entry:
     paragraphs = [_plain(part) for part in re.split(r"\n\s*\n", text.strip()) if not part.startswith("```")]
-    meaning = next((part for part in paragraphs if not part.startswith(("- ", "What to do:"))), "")
-    advice = next((part[len("What to do:"):].strip() for part in paragraphs if part.startswith("What to do:")), "")
+    meaning = next((part for part in paragraphs if not part.startswith(("- ", ADVICE))), "")
+    advice = next((part[len(ADVICE):].strip() for part in paragraphs if part.startswith(ADVICE)), "")
     return Entry(section, name, meaning, advice)
 
 

@@ -26,8 +26,8 @@ trace, whether it is that of a run ('lab check' says more).
 The texts are those of docs/REFERENCE.md, and of terms those of docs/GLOSSARY.md."""
 
 SECTIONS = {
-    "Commands": "command", "Messages": "message", "Replies": "reply", "Refusals": "refusal", "Reasons": "reason",
-    "Verdicts": "verdict", "Macros": "macro", "Terms": "term", "Tables": "told by a word of the program",
+    "Commands": "command", "Replies": "reply", "Refusals": "refusal", "Reasons": "reason", "Verdicts": "verdict",
+    "Macros": "macro", "Terms": "term", "Tables": "told by a word of the program",
     "How the program is called": "word of the program",
 }
 
