@@ -154,6 +154,10 @@ class Named(LabTest):
         self.assertIn("  w1-lost      lines 5 (32), 7 (34), 11 (", told)
         self.assertTrue(self.told("run", name).endswith(told))
 
+    def test_the_page_shows_what_is_told(self) -> None:
+        page = (TOP / "docs" / "COOKBOOK.md").read_text(encoding="utf-8")
+        self.assertIn("```\n" + self.told("verdict", str(TOP / "docs" / "cookbook" / "w1_write_lost.lab")) + "```\n", page)
+
     def test_it_is_looked_for(self) -> None:
         lines = [*COMMITTED, "insert n0 orders {_id: 2}", "flush n0", "ack n0 last 1", "pull n1", "crash n0", "elect n1"]
         done = self.lab("vary", self.file(lines), "--verdict", "w1-lost", "--only", "drop", "-j", "2", "--all")
