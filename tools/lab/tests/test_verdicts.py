@@ -155,8 +155,9 @@ class Named(LabTest):
         self.assertTrue(self.told("run", name).endswith(told))
 
     def test_the_page_shows_what_is_told(self) -> None:
-        page = (TOP / "docs" / "COOKBOOK.md").read_text(encoding="utf-8")
-        self.assertIn("```\n" + self.told("verdict", str(TOP / "docs" / "cookbook" / "w1_write_lost.lab")) + "```\n", page)
+        page = (TOP / "README.md").read_text(encoding="utf-8")
+        name = "docs/cookbook/w1_write_lost.lab"
+        self.assertIn(f"$ ./lab verdict {name}\n" + self.told("verdict", str(TOP / name)) + "```\n", page)
 
     def test_it_is_looked_for(self) -> None:
         lines = [*COMMITTED, "insert n0 orders {_id: 2}", "flush n0", "ack n0 last 1", "pull n1", "crash n0", "elect n1"]
