@@ -20,7 +20,7 @@ from script_author import Author, sizes_by  # noqa: E402
 from script_player import Player  # noqa: E402
 
 #: So many random scripts are read twice.
-SCRIPTS = int(os.environ.get("LAB_SCRIPTS", "1000"))
+SCRIPTS = int(os.environ.get("LAB_SCRIPTS", "200"))
 
 
 def random_script(program: str, dice: random.Random) -> Tuple[List[str], int]:
