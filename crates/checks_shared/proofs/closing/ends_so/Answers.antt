@@ -4,5 +4,8 @@ use Rattle.set_program.proofs.Crosses.{pass_send, set_sync}
 use Rattle.checks_shared.proofs.Sends.{disk_send}
 use Rattle.checks_shared.proofs.closing.ends_so.Goals as goal
 
+pub join-stepped-requires-send-A : goal.join-stepped-requires-send-A
+join-stepped-requires-send-A g c κs within = search (disk_send, pass_send, heap.crosses, sendable) depth 60 fits 20000
+
 pub join-stepped-requires-send-F : goal.join-stepped-requires-send-F
 join-stepped-requires-send-F g c κs within = search (disk_send, set_sync, pass_send, heap.sync, heap.crosses, sendable) depth 60 fits 20000
