@@ -60,7 +60,7 @@ def _strength(ack: Tuple[str, int]) -> int:
 
 def _without(story: Story) -> str:
     leader = story.leader()
-    return "no node has it" if leader is None else f"the primary n{leader} hasn't got it"
+    return "no node has it" if leader is None else f"the primary n{leader} lacks it"
 
 
 def _reads(story: Story) -> Iterator[Verdict]:

@@ -163,7 +163,7 @@ class Named(LabTest):
         lines = [*COMMITTED, "insert n0 orders {_id: 2}", "flush n0", "ack n0 last 1", "pull n1", "crash n0", "elect n1"]
         done = self.lab("vary", self.file(lines), "--verdict", "w1-lost", "--only", "drop", "-j", "2", "--all")
         self.assertEqual(done.returncode, 1, done.stdout)
-        self.assertIn("was acknowledged at 1; the primary n1 hasn't got it", done.stdout)
+        self.assertIn("was acknowledged at 1; the primary n1 lacks it", done.stdout)
         self.assertIn("deliver n1 n0: lost", done.stdout)
         small = self.told("shrink", self.file([*lines[:-3], *lines[-2:]]), "--verdict", "w1-lost", "-j", "2").splitlines()
         self.assertEqual((len(small), small[-1]), (13, "drain n1"))

@@ -17,7 +17,7 @@ The verdicts, each with the lines that show it:
 
 """ + "\n".join(f"  {name:18}  {meaning}" for name, meaning in MEANINGS.items()) + """
 
-A write is lost where the primary at the end (that of the highest term) is of a later term and hasn't got it, or where no
+A write is lost where the primary at the end (that of the highest term) is of a later term and lacks it, or where no
 log and no disk has it. No majority read is dirty, and nothing that is acknowledged at majority is lost: that is proved, and
 an 'acked-lost' at majority would be a fault of the program. In a block majority reads aren't judged.
 
