@@ -1,11 +1,11 @@
 -- A document stays sound at every level.
-use Rattle.std.proofs.Common.{◌≡◌, true, List, [], ◌∷◌, ◌++◌, ℕ, Contains, None}
+use Rattle.std.proofs.Common.{◌≡◌, zero, suc, true, List, [], ◌∷◌, ◌++◌, ℕ, Contains, None, subst}
 use Rattle.std.proofs.Common.{inl, inr}
 use Rattle.std.proofs.lemmas.Bool.{cases_Bool}
 use Rattle.std.specs.Str.{bytes_eq, is_utf8}
 use Rattle.bson_doc.specs.declared.doc.Value.{Value}
-use Rattle.bson_doc.specs.Tree.{Tree, Fields, no_fields, field, Trees, no_items, item, found, with_field, with_set, without, with_item}
-use Rattle.bson_doc.specs.Sound.{IsSound, IsSoundValue, AreSoundFields, AreSoundItems}
+use Rattle.bson_doc.specs.Tree.{Tree, Fields, no_fields, field, Trees, no_items, item, found, fields_from, with_field, with_set, without, with_item}
+use Rattle.bson_doc.specs.Sound.{IsSound, IsSoundField, IsSoundValue, AreSoundFields, AreSoundItems}
 use Rattle.bson_doc.specs.View.{SharedField, tree_of, fields_of, trees_of}
 use Rattle.bson_doc.proofs.DocLemmas.{fields_of-append, trees_of-append, IsDocument-with_field}
 use Rattle.bson_doc.proofs.NameLemmas.{IsDocument-with_set, IsDocument-without}
@@ -49,5 +49,16 @@ IsSound-with_set fs name value sound clean utf8 one =
 
 pub IsSound-without : (fs : Fields) (name : List ℕ) → IsSound fs → IsSound (without fs name)
 IsSound-without fs name sound = (IsDocument-without fs name sound.0, AreSoundFields-without fs name sound.1)
+
+-- what stands at a place is sound
+IsSound-from : (fs : Fields) (i : ℕ) → IsSound fs → IsSound (fields_from i fs)
+IsSound-from no_fields i sound = sound
+IsSound-from (field name value rest) zero sound = sound
+IsSound-from (field name value rest) (suc i) sound = IsSound-from rest i (sound.0.2, sound.1.2)
+
+pub sound-at : (fs : Fields) (i : ℕ) (name : List ℕ) (value : Tree) (rest : Fields) → IsSound fs → fields_from i fs ≡ field name value rest → IsSoundField name value
+sound-at fs i name value rest sound here =
+    let one : IsSound (field name value rest) = subst IsSound here (IsSound-from fs i sound) in
+    (one.0.0, one.1.0, one.1.1)
 
 pub ruleset keeps_sound = (IsSound-push, AreSoundItems-push)

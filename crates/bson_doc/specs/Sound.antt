@@ -1,6 +1,6 @@
 -- What a document may hold: names that are apart, without a zero byte, and UTF-8; strings that are UTF-8;
 -- ObjectIds of 12 bytes; and numbers that fit their kind. Every `Doc` is such.
-use Rattle.std.specs.Prelude.{◌≡◌, ◌<◌, ◌^◌, true, length, ⊤, FitsSigned}
+use Rattle.std.specs.Prelude.{◌≡◌, ◌<◌, ◌^◌, ℕ, true, List, Contains, length, ⊤, FitsSigned}
 use Rattle.std.specs.Int.{w32, w64}
 use Rattle.std.specs.Str.{is_utf8}
 use Rattle.bson_doc.specs.Tree.{Tree, null, int32, int64, text, document, array, binary, object_id, boolean, date, timestamp, Fields, no_fields, field, Trees, no_items, item, IsDocument}
@@ -26,6 +26,10 @@ abbrev mutual
   pub AreSoundItems : Trees → Type 0
   AreSoundItems no_items = ⊤
   AreSoundItems (item value rest) = IsSoundValue value × AreSoundItems rest
+
+-- a name without a zero byte, in UTF-8, and a value
+abbrev pub IsSoundField : List ℕ → Tree → Type 0
+IsSoundField name value = (¬ Contains name 0) × (is_utf8 name ≡ true) × IsSoundValue value
 
 abbrev pub IsSound : Fields → Type 0
 IsSound fields = IsSoundValue (document fields)

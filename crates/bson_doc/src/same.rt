@@ -1,5 +1,5 @@
 // Whether two values are the same, kind by kind and field by field, so that int32 5 and int64 5 differ.
-ghost use Rattle.std.specs.Prelude.{◌≡◌};
+ghost use Rattle.std.specs.Prelude.{◌≡◌, false, IsTrue};
 ghost use Rattle.bson_doc.specs.View.{tree_of};
 ghost use Rattle.bson_doc.specs.Same.{same_tree, same_fields, same_items};
 
@@ -63,6 +63,42 @@ fn same_document(one: &Doc, two: &Doc) -> bool
     true
 }
 
+/// A text of so many bytes is compared where values are looked at shortly.
+const SHORT: usize = 64;
+
+/// Whether two values differ by what is seen shortly: numbers, lengths of texts, and short texts.
+fn differs_shortly(one: &Value, two: &Value) -> bool
+    ensures { IsTrue result → same_tree (tree_of one.now) (tree_of two.now) ≡ false }
+{
+    match (one, two) {
+        (Value::Int32(one), Value::Int32(two)) => one != two,
+        (Value::Int64(one), Value::Int64(two)) => one != two,
+        (Value::Text(one), Value::Text(two)) => one.as_str().len() <= SHORT && one != two,
+        (Value::Boolean(one), Value::Boolean(two)) => one != two,
+        (Value::Date(one), Value::Date(two)) => one != two,
+        (Value::Timestamp(one), Value::Timestamp(two)) => one != two,
+        _ => false,
+    }
+}
+
+/// Whether two documents differ in the number of their fields, or shortly in one of these.
+#[tactic(auto, using(crate::proofs::SameLemmas::sameness))]
+fn differ_shortly(one: &Doc, two: &Doc) -> bool
+    ensures { IsTrue result → same_fields one.now two.now ≡ false }
+{
+    if one.len() != two.len() {
+        return true;
+    }
+    for place in 0..one.len() {
+        if let (Some(first), Some(second)) = (one.at(place), two.at(place))
+            && differs_shortly(first.1, second.1)
+        {
+            return true;
+        }
+    }
+    false
+}
+
 /// Two values are equal where they have one kind and the same content, so where they have the same bytes.
 impl PartialEq for Value {
     ghost use Rattle.std.specs.Ordering.{on};
@@ -86,7 +122,7 @@ impl Eq for Value {
 }
 
 /// Two documents are equal where they have the same fields in the same order, so where they have
-/// the same bytes.
+/// the same bytes. A number that differs is found without a look at long fields.
 impl PartialEq for Doc {
     ghost use Rattle.bson_doc.specs.Same.{same_fields};
     ghost use Rattle.bson_doc.specs.SameLaws.{same_fields-laws};
@@ -96,6 +132,9 @@ impl PartialEq for Doc {
     ghost laws = { same_fields-laws.1 };
 
     fn eq(&self, other: &Doc) -> bool {
+        if differ_shortly(self, other) {
+            return false;
+        }
         same_document(self, other)
     }
 }

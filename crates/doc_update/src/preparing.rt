@@ -113,6 +113,19 @@ fn under<'a>(operators: &'a Doc, name: &str) -> Option<&'a Doc>
     }
 }
 
+/// How many fields an operator is given.
+fn fields_under(operators: &Doc, name: &str) -> usize {
+    match under(operators, name) {
+        Some(fields) => fields.len(),
+        None => 0,
+    }
+}
+
+/// How many names are looked up in the document that an update changes.
+fn look_ups(operators: &Doc) -> usize {
+    fields_under(operators, "$inc").saturating_add(fields_under(operators, "$unset"))
+}
+
 /// Puts each field in its place.
 #[tactic(auto, using(crate::proofs::NameRules::places))]
 fn put_all(alloc: Global, sets: &mut Ordered, fields: &Doc) -> Mem<()>
@@ -250,7 +263,7 @@ fn prepare_update(
     ensures { Answers result (update_prepared ns.now id.now operators.now before.now) }
 {
     operators.recall_sound();
-    let document = FieldIndex::new(alloc, before)?;
+    let document = FieldIndex::new(alloc, before, look_ups(operators))?;
     let sets = sets_of(alloc, operators, &document)?.document(alloc)?;
     let unsets = unsets_of(alloc, operators, &document)?.names(alloc)?;
     let after = with_changes(alloc, before, &sets, &unsets)?;

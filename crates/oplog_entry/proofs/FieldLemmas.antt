@@ -1,9 +1,10 @@
 -- How setting fields and removing them go together.
-use Rattle.std.proofs.Common.{fold, ◌||◌, ◌≡◌, ℕ, Bool, true, false, if◌then◌else◌, List, [], ◌∷◌, None, Some, refl, sym, ap, ◌∙◌, arith}
+use Rattle.std.proofs.Common.{zero, suc, ◌<◌, ◌+◌, add-one, fold, ◌||◌, ◌≡◌, ℕ, Bool, true, false, if◌then◌else◌, List, [], ◌∷◌, None, Some, refl, sym, ap, ◌∙◌, arith}
 use Rattle.std.specs.Str.{bytes_eq}
 use Rattle.std.proofs.lemmas.Slice.Eq.{bytes_eq-Decides}
 use Rattle.std.proofs.lemmas.Cmp.{nat_list_eq_equiv}
-use Rattle.bson_doc.specs.Tree.{Tree, Fields, no_fields, field, Trees, found, with_set, without, IsDocument}
+use Rattle.bson_doc.specs.Tree.{Tree, Fields, no_fields, field, Trees, count, fields_from, found, with_first_set, with_set, without, IsDocument}
+use Rattle.bson_doc.proofs.DocLemmas.{fields_from-zero}
 use Rattle.bson_doc.proofs.NameLemmas.{IsDocument-with_set, IsDocument-without, without-new}
 use Rattle.oplog_entry.specs.Step.{with_sets, strings_of, changed}
 use Rattle.oplog_entry.specs.Lawful.{is_among}
@@ -62,6 +63,15 @@ IsDocument-with_sets d (field name value rest) names distinct =
 pub IsDocument-without_all : (d : Fields) (gone : List (List ℕ)) → IsDocument d → IsDocument (fold without d gone)
 IsDocument-without_all d [] names = names
 IsDocument-without_all d (name ∷ gone) names = IsDocument-without_all (without d name) gone (IsDocument-without d name names)
+
+-- the next field to set is the one at a place
+next_set : (out sets : Fields) (i : ℕ) → i < count sets → with_sets (with_first_set out (fields_from i sets)) (fields_from (suc i) sets) ≡ with_sets out (fields_from i sets)
+next_set out no_fields i within = absurd (omega arith)
+next_set out (field name value rest) zero within = ap (with_sets (with_set out name value)) (fields_from-zero rest)
+next_set out (field name value rest) (suc i) within = next_set out rest i (omega arith)
+
+pub with_sets-next : (out sets : Fields) (i : ℕ) → i < count sets → with_sets (with_first_set out (fields_from i sets)) (fields_from (i + 1) sets) ≡ with_sets out (fields_from i sets)
+with_sets-next out sets i within = rw (add-one i) (next_set out sets i within)
 
 -- ---- many at once
 -- the fields but those of some names

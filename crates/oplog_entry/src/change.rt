@@ -1,23 +1,31 @@
-ghost use Rattle.std.specs.Prelude.{◌≡◌, false, Contains, IfOk, OnOk, None, is_some, unwrap_or, if◌then◌else◌};
-ghost use Rattle.bson_doc.specs.Tree.{found, with_field, IsDocument};
+ghost use Rattle.std.specs.Prelude.{◌≡◌, ◌<◌, ◌+◌, false, fold, Contains, IfOk, OnOk, None, is_some, unwrap_or, if◌then◌else◌};
+ghost use Rattle.bson_doc.specs.Tree.{count, field, fields_from, found, with_field, without, IsDocument};
 ghost use Rattle.bson_doc.specs.View.{tree_of};
 ghost use Rattle.oplog_entry.specs.Lawful.{is_among};
-ghost use Rattle.oplog_entry.specs.Step.{changed};
+ghost use Rattle.oplog_entry.specs.Step.{changed, strings_of, with_sets};
 ghost use Rattle.oplog_entry.specs.Walk.{join, kept, fresh};
 
 use crate::FieldIndex;
 use crate::names::NameSet;
-use bson_doc::{Doc, Items, Mem, Text, Value};
+use bson_doc::{Doc, FEW_FIELDS, Items, Mem, Text, Value};
 use std::alloc::Global;
 
-/// Writes one field that stays, with its new value where there is one.
+/// A document in which so many names are compared for all changes is looked through for each of them.
+const FEW_COMPARISONS: usize = 16_384;
+
+/// Writes one field that stays, with its new value where there is one. Otherwise both documents have it.
 fn keep(
     out: &mut Doc,
+    document: &Doc,
+    place: usize,
     name: Text,
     value: &Value,
     sets: &FieldIndex<'_>,
     gone: &NameSet<'_>,
 ) -> Mem<()>
+    requires there { place < count document.now }
+    requires at { fields_from place document.now
+        ≡ field name (tree_of value.now) (fields_from (place + 1) document.now) }
     requires clean { is_among name gone.now ≡ false → ¬ Contains name 0 }
     requires new { is_among name gone.now ≡ false → found name out.old ≡ None }
     ensures { OnOk result (out.new ≡ (if is_among name gone.now then out.old
@@ -26,8 +34,10 @@ fn keep(
     if gone.contains(&name) {
         return Ok(());
     }
-    let value = sets.get(&name).unwrap_or(value);
-    out.append(name, value.copy()?)
+    match sets.get(&name) {
+        Some(value) => out.append(name, value.copy()?),
+        None => out.append_from(document, place),
+    }
 }
 
 /// What stays of a document, each field with its new value where there is one.
@@ -40,7 +50,15 @@ fn kept(alloc: Global, document: &Doc, sets: &FieldIndex<'_>, gone: &NameSet<'_>
         let Some((name, value)) = document.at(place) else {
             unreachable!()
         };
-        keep(&mut out, Text::from_str(alloc, name)?, value, sets, gone)?;
+        keep(
+            &mut out,
+            document,
+            place,
+            Text::from_str(alloc, name)?,
+            value,
+            sets,
+            gone,
+        )?;
     }
     Ok(out)
 }
@@ -86,16 +104,76 @@ fn add_fresh(
     Ok(())
 }
 
+/// The document with many changes, by O(n log n) comparisons of names.
+fn with_many(alloc: Global, document: &Doc, sets: &Doc, unsets: &Items) -> Mem<Doc>
+    ensures { IfOk result (λ d. d ≡ changed document.now sets.now unsets.now) }
+{
+    let gone = NameSet::new(alloc, unsets)?;
+    let new_values = FieldIndex::new(alloc, sets, document.len())?;
+    let old_values = FieldIndex::new(alloc, document, sets.len())?;
+    let mut changed = kept(alloc, document, &new_values, &gone)?;
+    add_fresh(alloc, &mut changed, sets, &old_values, &gone)?;
+    Ok(changed)
+}
+
+/// Sets each of these fields, in their order. Both documents have it then.
+fn put_all(out: &mut Doc, sets: &Doc) -> Mem<()>
+    ensures { OnOk result (out.new ≡ with_sets out.old sets.now) }
+{
+    for place in 0..sets.len() {
+        out.set_from(sets, place)?;
+    }
+    Ok(())
+}
+
+/// Takes the fields of these names out, one after another.
+fn take_out(out: &mut Doc, names: &Items)
+    ensures { out.new ≡ fold without out.old (strings_of names.now) }
+{
+    for place in 0..names.len() {
+        if let Some(Value::Text(name)) = names.at(place) {
+            out.remove(name.as_str());
+        }
+    }
+}
+
+/// The document with a few changes, each made in a copy, which has the same other fields.
+fn with_few(document: &Doc, sets: &Doc, unsets: &Items) -> Mem<Doc>
+    ensures { IfOk result (λ d. d ≡ changed document.now sets.now unsets.now) }
+{
+    let mut changed = document.copy()?;
+    put_all(&mut changed, sets)?;
+    take_out(&mut changed, unsets);
+    Ok(changed)
+}
+
+/// Whether to look through the document for each change costs less than to put its names in order.
+fn are_few(document: &Doc, sets: &Doc, unsets: &Items) -> bool {
+    let changes = sets.len().saturating_add(unsets.len());
+    let fields = document.len().saturating_add(sets.len());
+    changes <= FEW_FIELDS || changes.saturating_mul(fields) <= FEW_COMPARISONS
+}
+
+/// The document with all changes, in the way that costs less.
+fn with_all(alloc: Global, document: &Doc, sets: &Doc, unsets: &Items) -> Mem<Doc>
+    ensures { IfOk result (λ d. d ≡ changed document.now sets.now unsets.now) }
+{
+    if are_few(document, sets, unsets) {
+        with_few(document, sets, unsets)
+    } else {
+        with_many(alloc, document, sets, unsets)
+    }
+}
+
 /// The document once each field of `sets` is set, a present name in its place and a new one at the end, and
-/// then the names in `unsets` are gone. Takes O(n log n) comparisons of names.
+/// then the names in `unsets` are gone. Both documents have the fields that stay. Takes O(n log n)
+/// comparisons of names.
 pub fn with_changes(alloc: Global, document: &Doc, sets: &Doc, unsets: &Items) -> Mem<Doc>
     ensures changed { IfOk result (λ d. d ≡ changed document.now sets.now unsets.now) }
     ensures twice { IfOk result (λ d. changed d sets.now unsets.now ≡ d) }
 {
-    let gone = NameSet::new(alloc, unsets)?;
-    let new_values = FieldIndex::new(alloc, sets)?;
-    let old_values = FieldIndex::new(alloc, document)?;
-    let mut changed = kept(alloc, document, &new_values, &gone)?;
-    add_fresh(alloc, &mut changed, sets, &old_values, &gone)?;
+    document.recall_sound();
+    sets.recall_sound();
+    let changed = with_all(alloc, document, sets, unsets)?;
     Ok(changed)
 }

@@ -9,8 +9,8 @@ use std::alloc::Global;
 use std::collections::BTreeMap;
 use std::marker::Model;
 
-/// A document with its names in order, seen as its fields. A look-up takes O(log n) comparisons, and a small
-/// document is looked through as it is.
+/// A document with its names in order, seen as its fields. A look-up takes O(log n) comparisons. Where few
+/// names are looked up, or the document is small, it is looked through as it is.
 #[derive(Drop)]
 pub struct FieldIndex<'a> {
     document: &'a Doc,
@@ -33,13 +33,14 @@ impl<'a> Model for FieldIndex<'a> {
 }
 
 impl<'a> FieldIndex<'a> {
-    /// The index of a document. Out of memory is the one error.
-    pub fn new(alloc: Global, document: &'a Doc) -> Mem<Self>
+    /// The index of a document in which so many names are looked up. Few are looked up in the document as it
+    /// is. Out of memory is the one error.
+    pub fn new(alloc: Global, document: &'a Doc, look_ups: usize) -> Mem<Self>
         ensures index { IfOk result (λ index. index ≡ document.now) }
         ensures names { IsDocument document.now }
     {
         document.recall_sound();
-        if document.len() <= FEW_FIELDS {
+        if document.len().min(look_ups) <= FEW_FIELDS {
             return Ok(FieldIndex {
                 document,
                 places: None,

@@ -1,5 +1,5 @@
 use Rattle.std.proofs.Common.{◌+◌, refl, ap, sym, ◌∙◌, arith}
-use Rattle.bson_doc.specs.Tree.{fields_from}
+use Rattle.bson_doc.specs.Tree.{field, fields_from}
 use Rattle.bson_doc.specs.View.{tree_of}
 use Rattle.oplog_entry.specs.Walk.{join, kept}
 use Rattle.bson_doc.proofs.DocLemmas.{fields_from-zero, fields_from-end}
@@ -24,6 +24,14 @@ keep-requires-clause-new c =
     let out = c.loop-place.out in
     let so_far = named (λ f. join out (kept gone sets f)) _ _ _ _ c.in_ok-from_str.field-0 _ c.in-Some.ensures c.in_ok-from_str.ensures c.loop-place.invariant in
     λ stays. (kept-next gone sets out _ _ c.in_ok-from_str.field-0 _ so_far c.requires stays).1
+
+pub keep-requires-clause-there : goal.keep-requires-clause-there
+keep-requires-clause-there c = omega (arith, c.len-place-end.ensures.count)
+
+pub keep-requires-clause-at : goal.keep-requires-clause-at
+keep-requires-clause-at c =
+    let rest = fields_from (c.loop-place.place + 1) c.args.document.now in
+    c.in-Some.ensures ∙ ap (λ n. field n (tree_of c.in-Some.value.now) rest) (sym c.in_ok-from_str.ensures)
 
 pub loop-place-preserved : goal.loop-place-preserved
 loop-place-preserved c =
