@@ -13,7 +13,9 @@ use Rattle.version_store.specs.contracts.history.History as history
 use Rattle.version_store.specs.contracts.row.Row as row
 use Rattle.version_store.specs.contracts.tree.Tree as tree
 use Rattle.version_store.specs.contracts.collection.Collection as collection
+use Rattle.version_store.specs.contracts.listing.Listing as listing
 use Rattle.version_store.specs.contracts.shard.Shard as shard
+use Rattle.version_store.specs.contracts.shard_documents.ShardDocuments as documents_of_shard
 use Rattle.oplog_entry.specs.contracts.entry.Entry as entry
 use Rattle.oplog_entry.specs.contracts.entry.Op as op
 use Rattle.oplog_entry.specs.contracts.entry.SharedOp as shared_op
@@ -41,8 +43,14 @@ tree_send = search (sendable, heap.crosses, maps.crosses, key_send, history_send
 collection_send : IsSend collection.the_row
 collection_send = search (sendable, heap.crosses, row_send, tree_send) depth 40 fits 20000
 
+documents_send : IsSend documents_of_shard.the_row
+documents_send = search (sendable, heap.crosses, maps.crosses, collection_send) depth 40 fits 20000
+
+listing_send : IsSend listing.the_row
+listing_send = search (sendable, heap.crosses, maps.crosses, text_send, key_send) depth 40 fits 20000
+
 shard_send : IsSend shard.the_row
-shard_send = search (sendable, heap.crosses, maps.crosses, collection_send) depth 40 fits 20000
+shard_send = search (sendable, heap.crosses, documents_send, listing_send) depth 40 fits 20000
 
 items_sync : IsSync items.the_row
 items_sync = search (sendable, documents.crosses, heap.crosses, text_send, text_sync, bytes_send, bytes_sync) depth 40 fits 20000

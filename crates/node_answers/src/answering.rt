@@ -7,7 +7,7 @@ ghost use Rattle.set_model.specs.Stores.{finished};
 ghost use Rattle.node_state.specs.Bounds.{IsBounded, is_plain, is_write, is_show};
 ghost use Rattle.node_answers.specs.Plain.{plain_row};
 
-use crate::reads::{dump, read, rolled, show_log, show_state};
+use crate::reads::{dump, list_shown, read, rolled, show_log, show_state};
 use crate::write::{note, retry, write_at_once};
 use crate::writers::{abort, begin, commit};
 use bson_doc::Mem;
@@ -131,7 +131,10 @@ fn show(state: &mut State, command: &Command) -> Mem<Reply>
             id,
             ..
         } => read(state, *level, collection, id),
-        Command::Dump { level, .. } => dump(state, *level),
+        Command::Dump { level, .. } => {
+            list_shown(state, *level);
+            dump(state, *level)
+        }
         Command::Log { .. } => show_log(state),
         Command::State { .. } => Ok(show_state(state)),
         Command::Rolled { .. } => rolled(state),

@@ -72,6 +72,14 @@ fn shown<'a>(state: &'a State, level: ReadLevel, ns: &str, id: &IdKey) -> Option
     state.node_data.read_at(ns, id, shown_point(state, level))
 }
 
+/// Lists the documents that a read shows, so that `dump` goes over no others.
+pub(crate) fn list_shown(state: &mut State, level: ReadLevel)
+    ensures { state.new ≡ state.old }
+{
+    let at = shown_point(state, level);
+    state.node_data.list_at(at);
+}
+
 /// All documents.
 pub(crate) fn dump(state: &State, level: ReadLevel) -> Mem<Reply>
     ensures { IfOk result (λ reply. dump state.now.node level ≡ replied reply state.now.node) }

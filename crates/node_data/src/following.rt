@@ -181,6 +181,13 @@ impl NodeData {
         self.log.cut(self.applied);
     }
 
+    /// Lists what the store shows at an optime, so that reading all of it there goes over no other documents.
+    pub fn list_at(&mut self, at: OpTime)
+        ensures { self.new ≡ self.old }
+    {
+        self.store.list_at(at);
+    }
+
     /// Drops the versions of documents that only reads before `at` could show. The checkpoint has the
     /// documents as of `at` by then.
     pub fn prune(&mut self, at: OpTime)

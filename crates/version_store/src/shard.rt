@@ -1,49 +1,47 @@
 // The part of the documents whose places have one number by their hash.
-ghost use Rattle.std.specs.Prelude.{◌≡◌, [], All, Some, None, true, false, MatchOption, OnOk, OnErr};
+ghost use Rattle.std.specs.Prelude.{◌≡◌, [], All, Some, None, MatchOption, IfSome, OnOk, OnErr, true};
 ghost use Rattle.std.specs.Option.{option_copied};
 ghost use Rattle.version_store.specs.Past.{no_past, is_before, latest_of, shown, with_version, held_by, back_to, IsRising};
 ghost use Rattle.version_store.specs.Cuts.{left_by};
+ghost use Rattle.version_store.specs.Listed.{Lists};
 ghost use Rattle.version_store.specs.Shown.{AddsShown};
-ghost use Rattle.version_store.specs.Documents.{ChangesEachIn};
-ghost use Rattle.version_store.specs.Shards.{documents_of, past_of, BelongsTo, HasItsOwn, OwnsAll, ChangesCollection, ChangesOf, ChangesEachOf};
+ghost use Rattle.version_store.specs.Shards.{past_of, BelongsTo, HasItsOwn, ChangesOf, ChangesEachOf};
 
-use crate::collection::Collection;
 use crate::cut::Cut;
 use crate::history::History;
+use crate::listing::{Listing, add_listed, is_of, listed, listing_of, noted};
+use crate::shard_documents::ShardDocuments;
 use crate::shown::Shown;
 use bson_doc::{Doc, IdKey, Text};
 use rs_optime::{Mem, OpTime};
 use std::alloc::Global;
-use std::collections::BTreeMap;
 use std::marker::Model;
+use std::mem::{replace, swap};
 
-/// The documents of one shard, by collection and then by key, so that no look-up makes a key. A shard has a
-/// number, and knows how many shards there are: a document belongs to it where `shard_of` gives that number.
+/// The documents of one shard. A shard has a number, and knows how many shards there are: a document belongs
+/// to it where `shard_of` gives that number.
 #[derive(Drop)]
 pub struct Shard {
     alloc: Global,
-    number: u32,
-    count: u32,
-    collections: BTreeMap<String, Collection>,
+    documents: ShardDocuments,
+    /// What is shown at the optime that was listed last, and at the one before: so reads at two optimes may
+    /// take turns.
+    recent: Option<Listing>,
+    earlier: Option<Listing>,
 }
 
 impl Model for Shard {
-    ghost use Rattle.version_store.specs.Shards.{Shard as Seen, HasItsOwn};
-    ghost use Rattle.version_store.specs.ShardView.{collections_of};
+    ghost use Rattle.version_store.specs.Shards.{Shard as Seen};
     ghost use Rattle.version_store.specs.Code.{shard_code};
+    ghost use Rattle.version_store.specs.Listed.{ListsBoth};
 
     ghost Value = { Seen };
 
     ghost coded = { shard_code };
 
-    ghost view = { λ s.
-        record { number = s.number; count = s.count; collections = collections_of s.collections.entries } };
+    ghost view = { λ s. s.documents };
 
-    ghost invariant = { λ s. HasItsOwn (record {
-      number = s.number;
-      count = s.count;
-      collections = collections_of s.collections.entries;
-    }) };
+    ghost invariant = { λ s. ListsBoth s.documents s.recent s.earlier };
 }
 
 impl Shard {
@@ -53,9 +51,9 @@ impl Shard {
     {
         Shard {
             alloc,
-            number,
-            count,
-            collections: BTreeMap::new(alloc),
+            documents: ShardDocuments::new(alloc, number, count),
+            recent: None,
+            earlier: None,
         }
     }
 
@@ -80,7 +78,7 @@ impl Shard {
         ensures { MatchOption result (past_of self.now (ns.now, id.now) ≡ no_past)
             (λ history. past_of self.now (ns.now, id.now) ≡ history.now) }
     {
-        self.collection(ns)?.history(id)
+        self.documents.history(ns, id)
     }
 
     pub(crate) fn hold(&mut self, ns: &str, id: &IdKey, writer: u32) -> Mem<()>
@@ -89,14 +87,7 @@ impl Shard {
             (held_by (past_of self.old (ns.now, id.now)) (Some writer))) }
         ensures err { OnErr result (self.new ≡ self.old) }
     {
-        if let Some(collection) = self.collections.get_mut(ns) {
-            collection.hold(id, writer)?;
-            return Ok(());
-        }
-        let mut collection = Collection::new(self.alloc);
-        collection.hold(id, writer)?;
-        self.add(ns, collection)?;
-        Ok(())
+        self.documents.hold(ns, id, writer)
     }
 
     pub(crate) fn release(&mut self, ns: &str, id: &IdKey)
@@ -104,10 +95,7 @@ impl Shard {
         ensures { ChangesOf self.old self.new (ns.now, id.now)
             (held_by (past_of self.old (ns.now, id.now)) None) }
     {
-        let Some(collection) = self.collections.get_mut(ns) else {
-            return;
-        };
-        collection.release(id);
+        self.documents.release(ns, id);
     }
 
     /// Adds a version of a document of the shard's, newer than each that it has. None is a deletion.
@@ -131,13 +119,27 @@ impl Shard {
             (with_version (past_of self.old (ns.now, id)) (record { at = at; doc = doc }))) }
         ensures err { OnErr result (self.new ≡ self.old) }
     {
-        if let Some(collection) = self.collections.get_mut(ns) {
-            collection.put(id, at, doc)?;
-            return Ok(());
+        if self.recent.is_none() && self.earlier.is_none() {
+            return self.documents.put_in(ns, id, at, doc);
         }
-        let mut collection = Collection::new(self.alloc);
-        collection.put(id, at, doc)?;
-        self.add(ns, collection)?;
+        self.put_noted(ns, id, at, doc)
+    }
+
+    /// `put_in` where a listing takes note of the version.
+    #[inline(never)]
+    fn put_noted(&mut self, ns: &str, id: IdKey, at: OpTime, doc: Option<Doc>) -> Mem<()>
+        requires own { BelongsTo self.old.number self.old.count (ns.now, id) }
+        requires later { All (λ version. is_before version.at at ≡ true)
+            (past_of self.old (ns.now, id)).versions }
+        ensures ok { OnOk result (ChangesOf self.old self.new (ns.now, id)
+            (with_version (past_of self.old (ns.now, id)) (record { at = at; doc = doc }))) }
+        ensures err { OnErr result (self.new ≡ self.old) }
+    {
+        let place = (Text::from_str(self.alloc, ns)?, id.copy()?);
+        let stands = doc.is_some();
+        self.documents.put_in(ns, id, at, doc)?;
+        self.recent = noted(self.recent.take(), &place, at, stands);
+        self.earlier = noted(self.earlier.take(), &place, at, stands);
         Ok(())
     }
 
@@ -151,19 +153,30 @@ impl Shard {
     pub(crate) fn cut(&mut self, cut: Cut)
         ensures { ChangesEachOf self.old self.new (left_by cut) }
     {
-        self.collections.retain(
-            |_name, collection| -> bool
-                ensures each { ChangesEachIn collection.old collection.new (left_by cut) }
-                ensures dropped { result ≡ false → collection.new ≡ [] }
-            {
-                collection.cut(cut);
-                !collection.is_empty()
-            },
-        );
+        self.recent = None;
+        self.earlier = None;
+        self.documents.cut(cut);
     }
 
-    /// Adds the documents that a read at an optime shows, in runs that are each of one collection and in the
-    /// order of its keys, and how long each run is.
+    /// Lists what a read at an optime shows, so that the next such reads go over no other documents. Out of
+    /// memory, nothing is listed.
+    pub(crate) fn list_at(&mut self, at: OpTime)
+        ensures { self.new ≡ self.old }
+    {
+        if is_of(&self.recent, at) {
+            return;
+        }
+        if is_of(&self.earlier, at) {
+            swap(&mut self.recent, &mut self.earlier);
+            return;
+        }
+        let Ok(listing) = listing_of(self.alloc, &self.documents, at) else {
+            return;
+        };
+        self.earlier = replace(&mut self.recent, Some(listing));
+    }
+
+    /// Adds the documents that a read at an optime shows, in runs, and how long each run is.
     pub(crate) fn add_shown<'a>(
         &'a self,
         at: OpTime,
@@ -174,36 +187,28 @@ impl Shard {
             shown at (past_of self.now place).versions)) }
         ensures own { HasItsOwn self.now }
     {
-        for (name, collection) in &self.collections {
-            collection.add_shown(name, at, gathered, lengths)?;
+        self.documents.recall_own();
+        match self.listed(at) {
+            Some(listing) => add_listed(&self.documents, listing, gathered, lengths),
+            None => self.documents.add_shown(at, gathered, lengths),
         }
-        Ok(())
     }
 
-    /// How many documents have a history.
-    pub(crate) fn len(&self) -> usize {
-        let mut len: usize = 0;
-        for (_, collection) in &self.collections {
-            len = len.saturating_add(collection.len());
+    /// At least how many documents `add_shown` goes over.
+    pub(crate) fn count_at(&self, at: OpTime) -> usize {
+        match self.listed(at) {
+            Some(listing) => listing.len(),
+            None => self.documents.len(),
         }
-        len
     }
 
-    fn collection(&self, ns: &str) -> Option<&Collection>
-        ensures { MatchOption result (documents_of self.now.collections ns.now ≡ [])
-            (λ c. documents_of self.now.collections ns.now ≡ c.now) }
+    /// What is shown at an optime, where that is listed.
+    fn listed(&self, at: OpTime) -> Option<&Listing>
+        ensures { IfSome result (λ listing. (listing.now.at ≡ at) × Lists self.now listing.now) }
     {
-        self.collections.get(ns)
-    }
-
-    /// Puts a collection there, in the place of one that has its name.
-    fn add(&mut self, ns: &str, collection: Collection) -> Mem<()>
-        requires { OwnsAll self.old.number self.old.count ns.now collection }
-        ensures ok { OnOk result (ChangesCollection self.old self.new ns.now collection) }
-        ensures err { OnErr result (self.new ≡ self.old) }
-    {
-        let name = String::from_str(self.alloc, ns)?;
-        self.collections.insert(name, collection)?;
-        Ok(())
+        match listed(&self.recent, at) {
+            Some(listing) => Some(listing),
+            None => listed(&self.earlier, at),
+        }
     }
 }

@@ -196,6 +196,17 @@ impl VersionStore {
         Ok(ordered)
     }
 
+    /// Lists what a read at an optime shows, so that `keys_at` and `documents_at` go over no other documents
+    /// there until versions are dropped: neither the deleted ones nor those that come later. Two optimes are
+    /// kept so. Out of memory, nothing is listed.
+    pub fn list_at(&mut self, at: OpTime)
+        ensures { self.new ≡ self.old }
+    {
+        for shard in self.shards.iter_mut() {
+            shard.list_at(at);
+        }
+    }
+
     /// Drops every version behind an optime.
     pub fn back_to(&mut self, at: OpTime)
         ensures { ChangesEach self.old self.new (back_to at) }
@@ -273,20 +284,20 @@ impl VersionStore {
         ensures { IfOk result (λ documents.
             AddsShown [] documents.items (λ place. shown_at self.now place at)) }
     {
-        let mut documents = Vec::with_capacity(*self.shards.allocator(), self.len())?;
+        let mut documents = Vec::with_capacity(*self.shards.allocator(), self.count_at(at))?;
         for shard in &self.shards {
             shard.add_shown(at, &mut documents, lengths)?;
         }
         Ok(documents)
     }
 
-    // How many documents have a history.
-    fn len(&self) -> usize {
-        let mut len: usize = 0;
+    // How many documents `gathered` goes over.
+    fn count_at(&self, at: OpTime) -> usize {
+        let mut count: usize = 0;
         for shard in &self.shards {
-            len = len.saturating_add(shard.len());
+            count = count.saturating_add(shard.count_at(at));
         }
-        len
+        count
     }
 
     fn history(&self, ns: &str, id: &IdKey) -> Option<&History>

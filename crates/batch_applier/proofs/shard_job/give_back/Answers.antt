@@ -27,3 +27,16 @@ loop-job-preserved c = let n : ℕ = c.len.result in
           (last_read c.loop-job.jobs.items n _ c.in-Some.job c.pop.result c.in-Some.is less (c.pop.ensures.value c.in-Some.job (omega arith))) c.in-Some-job.is
           (λ i x t more there. c.loop-job.invariant.2 i x t (omega arith) there) k job s (omega (arith, c.len.ensures)) at,
     )
+
+pub loop-job-preserved-in-Some-job : goal.loop-job-preserved-in-Some-job
+loop-job-preserved-in-Some-job c = let n : ℕ = c.len.result in
+    let up : n + 1 ≡ c.loop-job.jobs.len = omega (arith, c.len.ensures, c.in-Some.ensures.cases) in
+    let is : c.loop-job.jobs.items ≡ take (n + 1) c.args.jobs.items = c.loop-job.invariant.0 ∙ ap (λ m. take m c.args.jobs.items) (sym up) in
+    let whole : n + 1 ≤ length c.args.jobs.items = took c.args.jobs.items (n + 1) (ap (λ l. length l) (sym is) ∙ omega arith) in
+    let less : c.loop-job.jobs.len - 1 ≡ n = omega arith in (
+      c.pop.ensures.rest ∙ (ap (λ m. take m c.loop-job.jobs.items) less ∙ (ap (λ l. take n l) is ∙ (less_taken c.args.jobs.items n ∙ ap (λ m. take m c.args.jobs.items) c.len.ensures))),
+      length-set c.loop-job.shards n c.in-Some-job.field-0.shard ∙ c.loop-job.invariant.1,
+      λ k job s le at. given_more c.args.jobs.items c.loop-job.jobs.items c.loop-job.shards n c.in-Some-job.field-0 c.in-Some.job is (omega arith) (c.loop-job.invariant.1 ∙ c.requires.long)
+          (last_read c.loop-job.jobs.items n _ c.in-Some.job c.pop.result c.in-Some.is less (c.pop.ensures.value c.in-Some.job (omega arith))) c.in-Some-job.is
+          (λ i x t more there. c.loop-job.invariant.2 i x t (omega arith) there) k job s (omega (arith, c.len.ensures)) at,
+    )

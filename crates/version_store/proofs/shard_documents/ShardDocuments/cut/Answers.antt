@@ -2,7 +2,7 @@ use Rattle.std.proofs.Common.{rules}
 use Rattle.version_store.specs.Cuts.{left_by}
 use Rattle.version_store.proofs.CutLemmas.{left_nothing}
 use Rattle.version_store.proofs.ShardLemmas.{each_document, own_after_each}
-use Rattle.version_store.proofs.shard.Shard.cut.Goals as goal
+use Rattle.version_store.proofs.shard_documents.ShardDocuments.cut.Goals as goal
 
 pub invariant_of-self : goal.invariant_of-self
 invariant_of-self c =

@@ -4,7 +4,7 @@ use Rattle.version_store.specs.Shards.{Shard, past_of}
 use Rattle.version_store.specs.Shown.{shown_here, one_at}
 use Rattle.version_store.proofs.ShardLemmas.{Entries}
 use Rattle.version_store.proofs.ShownLemmas.{left_of, shown_of, once_named}
-use Rattle.version_store.proofs.shard.Shard.add_shown.Goals as goal
+use Rattle.version_store.proofs.shard_documents.ShardDocuments.add_shown.Goals as goal
 
 pub returns-clause-shown : goal.returns-clause-shown
 returns-clause-shown c place =
