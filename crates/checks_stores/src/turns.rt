@@ -1,5 +1,5 @@
 // Threads that take turns on a list of marks.
-ghost use Rattle.std.specs.Prelude.{◌≡◌, ◌<◌, [], length, if◌then◌else◌, ◌==◌};
+ghost use Rattle.std.specs.Prelude.{◌≡◌, ◌<◌, [], length, if◌then◌else◌, ◌==◌, ⊤};
 ghost use Rattle.turn_board.specs.Passes.{view, point_count, IsPassOf, IsFree};
 
 use std::alloc::Global;
@@ -28,6 +28,8 @@ impl Turned for Marks {
 
     ghost number_at = { λ fixed marks point. if point == 0 then length marks else 0 };
 
+    ghost sound = { λ fixed marks. ⊤ };
+
     fn number(&self, point: u32) -> u64 {
         if point == 0 {
             self.marks.len() as u64
@@ -35,6 +37,8 @@ impl Turned for Marks {
             0
         }
     }
+
+    fn recall_sound(&self) {}
 }
 
 // Leaves its mark unless it is there or memory is short, and says whether the other's is there.
