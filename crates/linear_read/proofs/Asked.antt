@@ -49,6 +49,7 @@ module _ (sizes : Sizes) (events : List Event) where
     pub behind : IsAt sizes events (suc place) number new
     pub more : new.log ≡ with_entry old.log entry
     pub at_is : entry.optime ≡ at
+    pub next_is : next_optime old ≡ at
 
   pub noted_at : (place number : ℕ) (at : OpTime) → Asks sizes events place number (commands.Note number) (reply.Written at) → NotedAt place number at
   noted_at place number at asks =
@@ -64,4 +65,5 @@ module _ (sizes : Sizes) (events : List Event) where
         behind = record { there = there.behind ∙ ap (λ n. Some n) tells.new_is; up = there.before.up };
         more = refl;
         at_is = tells.at_is;
+        next_is = tells.at_is;
       }

@@ -1,10 +1,10 @@
-mod Asked
+pub mod Asked
 mod Delivers
-mod Events
+pub mod Events
 mod Exits
 mod Going
 mod Held
-mod LinearReads
+pub mod LinearReads
 mod Loops
 mod Rows
 mod Runs

@@ -35,7 +35,7 @@ use Rattle.safety_laws.proofs.Fetches.{entry_is}
 use Rattle.safety_laws.proofs.Merges.{entries_in, has_in_of}
 use Rattle.safety_laws.proofs.Orders.{rises_of}
 use Rattle.safety_laws.proofs.Parts.{in_has}
-use Rattle.linear_read.specs.Linear.{Asks, HoldsAcked, IsLinear, LinearLaw, ShowsOf}
+use Rattle.linear_read.specs.Linear.{Asks, HoldsAcked, IsConfirmed, IsLinear, LinearLaw, ShowsOf}
 use Rattle.linear_read.specs.Written.{EntriesAreWritten, WasWritten, Wrote}
 use Rattle.linear_read.proofs.Asked.{DidAt, NotedAt, did_at, noted_at}
 use Rattle.linear_read.proofs.Events.{Acked, acked_majority, did}
@@ -55,18 +55,18 @@ twice (other ∷ log) entry has rises = go (nat_lt other.optime.ts entry.optime.
     go false is rest has rises = let less : entry.optime.ts < entry.optime.ts = (rises.0 entry.optime has).0 in absurd (omega (arith, less))
 
 module _ (sizes : Sizes) (events : List Event) (safe : Safe sizes events) (logs : LogsRise sizes events) (keeps : LeadersKeep sizes events) (written : EntriesAreWritten sizes events) where
-  rises : (place number : ℕ) (node : Node) → IsAt sizes events place number node → Rises node.log
+  pub rises : (place number : ℕ) (node : Node) → IsAt sizes events place number node → Rises node.log
   rises place number node at = rises_of node.log (logs place number node at)
 
-  same_node : (place number : ℕ) (one two : Node) → IsAt sizes events place number one → IsAt sizes events place number two → one ≡ two
+  pub same_node : (place number : ℕ) (one two : Node) → IsAt sizes events place number one → IsAt sizes events place number two → one ≡ two
   same_node place number one two first second = same_Some one two (sym first.there ∙ second.there)
 
   -- ---- what an acknowledgement at majority tells
 
-  record AckedAt (place number : ℕ) (at : OpTime) (node : Node) : Type 0 where
-    leads : Leads sizes events (suc place) number at.term node
-    has : Has at node.log
-    within : AtMost at node.commit
+  pub record AckedAt (place number : ℕ) (at : OpTime) (node : Node) : Type 0 where
+    pub leads : Leads sizes events (suc place) number at.term node
+    pub has : Has at node.log
+    pub within : AtMost at node.commit
 
   acked_node : (place number : ℕ) (event : Event) (own : ℕ) (target : Target) (at : OpTime) → Answers sizes events place number event (reply.Acked at) → event.command ≡ commands.Ack own target concerns.Majority
       → (node : Node) → IsAt sizes events (suc place) number node → AckedAt place number at node
@@ -86,7 +86,7 @@ module _ (sizes : Sizes) (events : List Event) (safe : Safe sizes events) (logs 
         within = subst (λ (n : Node). AtMost at n.commit) same tells.within;
       }
 
-  acked_at : (place number : ℕ) (event : Event) (at : OpTime) → Answers sizes events place number event (reply.Acked at) → is_majority_ack event.command ≡ true
+  pub acked_at : (place number : ℕ) (event : Event) (at : OpTime) → Answers sizes events place number event (reply.Acked at) → is_majority_ack event.command ≡ true
       → (node : Node) → IsAt sizes events (suc place) number node → AckedAt place number at node
   acked_at place number event at answers asks node node_at = go event.command refl asks
     where
@@ -96,7 +96,7 @@ module _ (sizes : Sizes) (events : List Event) (safe : Safe sizes events) (logs 
       go command is asks = absurd (cc asks)
 
   -- the node behind such an acknowledgement
-  acked_here : (place number : ℕ) (at : OpTime) → Asks sizes events place number (commands.Ack number (targets.At at) concerns.Majority) (reply.Acked at)
+  pub acked_here : (place number : ℕ) (at : OpTime) → Asks sizes events place number (commands.Ack number (targets.At at) concerns.Majority) (reply.Acked at)
       → (node : Node) × IsAt sizes events (suc place) number node × AckedAt place number at node
   acked_here place number at asks =
       let there : DidAt sizes events place number (λ n. ack n (targets.At at) concerns.Majority) (reply.Acked at) =
@@ -109,21 +109,21 @@ module _ (sizes : Sizes) (events : List Event) (safe : Safe sizes events) (logs 
 
   -- ---- the law
 
-  module _ (place number : ℕ) (node : Node) (collection : List ℕ) (id : Value) (shown : Reply) (linear : IsLinear sizes events place number node collection id shown) where
-    leads : Leads sizes events place number linear.at.term node
-    leads = record { at = linear.node_at; term_is = linear.term_is; role = ap is_leading linear.role }
+  module _ (place number : ℕ) (node : Node) (confirmed : IsConfirmed sizes events place number node) where
+    pub leads : Leads sizes events place number confirmed.at.term node
+    leads = record { at = confirmed.node_at; term_is = confirmed.term_is; role = ap is_leading confirmed.role }
 
     -- the note was new: no leader of its term had it in a log before it was written
-    note_is_new : (h m term : ℕ) (other : Node) → h ≤ place → Leads sizes events h m term other → Has linear.at other.log → ⊥
+    pub note_is_new : (h m term : ℕ) (other : Node) → h ≤ place → Leads sizes events h m term other → Has confirmed.at other.log → ⊥
     note_is_new h m term other order other_leads has = twice noted_here.old.log noted_here.entry
         (subst (λ o. Has o noted_here.old.log) (found.2 ∙ sym noted_here.at_is) (in_has found.0 noted_here.old.log kept))
-        (subst (λ (l : List Entry). Rises l) noted_here.more (rises (suc linear.noted) number noted_here.new noted_here.behind))
+        (subst (λ (l : List Entry). Rises l) noted_here.more (rises (suc confirmed.noted) number noted_here.new noted_here.behind))
       where
-        noted_here : NotedAt sizes events linear.noted number linear.at
-        noted_here = noted_at sizes events linear.noted number linear.at linear.notes
+        noted_here : NotedAt sizes events confirmed.noted number confirmed.at
+        noted_here = noted_at sizes events confirmed.noted number confirmed.at confirmed.notes
 
-        found : (entry : Entry) × In entry other.log × (entry.optime ≡ linear.at)
-        found = has_in_of linear.at other.log has
+        found : (entry : Entry) × In entry other.log × (entry.optime ≡ confirmed.at)
+        found = has_in_of confirmed.at other.log has
 
         was : WasWritten sizes events h found.0
         was = written.logs h m other other_leads.at.there found.0 found.1
@@ -131,27 +131,27 @@ module _ (sizes : Sizes) (events : List Event) (safe : Safe sizes events) (logs 
         wrote : Wrote sizes events was.0 found.0
         wrote = was.2
 
-        same_term : found.0.optime.term ≡ linear.at.term
+        same_term : found.0.optime.term ≡ confirmed.at.term
         same_term = ap (λ (o : OpTime). o.term) found.2
 
         own : wrote.number ≡ number
-        own = safe.one_primary (suc was.0) linear.noted wrote.number number linear.at.term wrote.new noted_here.old
+        own = safe.one_primary (suc was.0) confirmed.noted wrote.number number confirmed.at.term wrote.new noted_here.old
             (subst (λ t. Leads sizes events (suc was.0) wrote.number t wrote.new) same_term wrote.behind) noted_here.before
 
         kept : In found.0 noted_here.old.log
-        kept = keeps (suc was.0) linear.noted number linear.at.term wrote.new noted_here.old
-            (let first : was.0 < h = was.1 in let late : place < linear.noted = linear.later in omega (arith, first, order, late))
-            (subst (λ n. Leads sizes events (suc was.0) n linear.at.term wrote.new) own
+        kept = keeps (suc was.0) confirmed.noted number confirmed.at.term wrote.new noted_here.old
+            (let first : was.0 < h = was.1 in let late : place ≤ confirmed.noted = confirmed.later in omega (arith, first, order, late))
+            (subst (λ n. Leads sizes events (suc was.0) n confirmed.at.term wrote.new) own
             (subst (λ t. Leads sizes events (suc was.0) wrote.number t wrote.new) same_term wrote.behind))
             noted_here.before found.0 (subst (λ l. In found.0 l) (sym wrote.more) (entries_in found.0 wrote.old.log (found.0 ∷ []) (inr (inl refl))))
 
     holds_acked : HoldsAcked sizes events place node
-    holds_acked h m event at other less answers asks other_at = elim (cases_order at.term linear.at.term) [
+    holds_acked h m event at other less answers asks other_at = elim (cases_order at.term confirmed.at.term) [
       | inl same ↦
-          let own : m ≡ number = safe.one_primary (suc h) place m number linear.at.term other node (subst (λ t. Leads sizes events (suc h) m t other) same acks.leads) leads in
+          let own : m ≡ number = safe.one_primary (suc h) place m number confirmed.at.term other node (subst (λ t. Leads sizes events (suc h) m t other) same acks.leads) leads in
           in_one_term (subst (λ n. IsAt sizes events (suc h) n other) own other_at)
       | inr apart ↦ elim apart [
-        | inl earlier ↦ safe_point.1 place number linear.at.term node leads (let own : other.term ≡ at.term = acks.leads.term_is in omega (arith, own, earlier))
+        | inl earlier ↦ safe_point.1 place number confirmed.at.term node leads (let own : other.term ≡ at.term = acks.leads.term_is in omega (arith, own, earlier))
         | inr later ↦ absurd (note_is_new (suc h) m at.term other (omega (arith, less)) acks.leads (has_note later))
       ]
     ]
@@ -166,28 +166,29 @@ module _ (sizes : Sizes) (events : List Event) (safe : Safe sizes events) (logs 
         in_one_term : IsAt sizes events (suc h) number other → Begins (log_up_to at other.log) node.log
         in_one_term own_at = elim (cases_order (suc h) place) [
           | inl level ↦ subst (λ (n : Node). Begins (log_up_to at other.log) n.log)
-              (same_node place number other node (subst (λ i. IsAt sizes events i number other) level own_at) linear.node_at)
+              (same_node place number other node (subst (λ i. IsAt sizes events i number other) level own_at) confirmed.node_at)
               (up_to_begins at other.log (rises (suc h) number other own_at))
           | inr apart ↦ elim apart [
             | inl before ↦ begins_trans (log_up_to at other.log) (log_up_to other.commit other.log) node.log
                 (up_to_up_to at other.commit other.log (rises (suc h) number other own_at) acks.within)
-                (safe.no_removal (suc h) place number other node before own_at linear.node_at)
+                (safe.no_removal (suc h) place number other node before own_at confirmed.node_at)
             | inr after ↦ absurd (omega (arith, less, after))
           ]
         ]
 
         -- who leads in a later term has the note, since it was acknowledged
-        has_note : linear.at.term < at.term → Has linear.at other.log
-        has_note later = has_in linear.at (log_up_to linear.at last.0.log) other.log
-            (last_safe.1 (suc h) m at.term other acks.leads (let own : last.0.term ≡ linear.at.term = last.2.leads.term_is in omega (arith, own, later)))
-            (has_up_to linear.at linear.at last.0.log last.2.has (at_most_refl linear.at))
+        has_note : confirmed.at.term < at.term → Has confirmed.at other.log
+        has_note later = has_in confirmed.at (log_up_to confirmed.at last.0.log) other.log
+            (last_safe.1 (suc h) m at.term other acks.leads (let own : last.0.term ≡ confirmed.at.term = last.2.leads.term_is in omega (arith, own, later)))
+            (has_up_to confirmed.at confirmed.at last.0.log last.2.has (at_most_refl confirmed.at))
           where
-            last : (n : Node) × IsAt sizes events (suc linear.acked) number n × AckedAt linear.acked number linear.at n
-            last = acked_here linear.acked number linear.at linear.acks
+            last : (n : Node) × IsAt sizes events (suc confirmed.acked) number n × AckedAt confirmed.acked number confirmed.at n
+            last = acked_here confirmed.acked number confirmed.at confirmed.acks
 
-            last_safe : IsSafePoint sizes events (suc linear.acked) last.0 linear.at
-            last_safe = safe.committed_stay.acknowledged linear.acked number linear.acks.event linear.at linear.acks.answers (ap is_majority_ack linear.acks.command_is) last.0 last.1
+            last_safe : IsSafePoint sizes events (suc confirmed.acked) last.0 confirmed.at
+            last_safe = safe.committed_stay.acknowledged confirmed.acked number confirmed.acks.event confirmed.at confirmed.acks.answers (ap is_majority_ack confirmed.acks.command_is) last.0 last.1
 
+  module _ (place number : ℕ) (node : Node) (collection : List ℕ) (id : Value) (shown : Reply) (linear : IsLinear sizes events place number node collection id shown) where
     shows_of : is_refusal shown ≡ false → ShowsOf node.log collection (tree_of id) shown
     shows_of taken = record {
       key = reads.key;
@@ -196,12 +197,12 @@ module _ (sizes : Sizes) (events : List Event) (safe : Safe sizes events) (logs 
     }
       where
         reads : IsRead sizes events node levels.Local collection (tree_of id) shown
-        reads = safe.documents.read place number number linear.reads.event shown levels.Local collection id node linear.reads.answers linear.reads.command_is linear.node_at.there taken
+        reads = safe.documents.read place number number linear.reads.event shown levels.Local collection id node linear.reads.answers linear.reads.command_is linear.confirmed.node_at.there taken
 
         -- at a primary a local read shows the whole log
         whole : shown_log node levels.Local ≡ node.log
-        whole = ap (λ role. if_primary role node.log (log_up_to node.applied node.log)) linear.role
+        whole = ap (λ role. if_primary role node.log (log_up_to node.applied node.log)) linear.confirmed.role
 
   pub linear_law : LinearLaw sizes events
   linear_law place number node collection id shown linear =
-      (holds_acked place number node collection id shown linear, shows_of place number node collection id shown linear)
+      (holds_acked place number node linear.confirmed, shows_of place number node collection id shown linear)

@@ -38,7 +38,7 @@ use Rattle.linear_read.specs.declared.answer.LinearAnswer.{LinearAnswer}
 use Rattle.linear_read.specs.declared.answer.LinearAnswer.TheVariants.{Found, Missing, Refused}
 use Rattle.linear_read.specs.Asking.{IsHeld}
 use Rattle.linear_read.specs.Going.{Went}
-use Rattle.linear_read.specs.Linear.{Asks, IsLinear, IsShown}
+use Rattle.linear_read.specs.Linear.{Asks, IsConfirmed, IsLinear, IsShown}
 use Rattle.linear_read.specs.Points.{acknowledges, answer_of, confirms, document_shown, flushes, in_term, linear, note_written, others_told, refusal_of, term_shown, unless_noted, unless_refused}
 use Rattle.linear_read.specs.Talk.{Talk, tells, asks, and_then}
 use Rattle.linear_read.proofs.Asked.{DidAt, NotedAt, did_at, noted_at}
@@ -269,20 +269,22 @@ module _ (alone : Bool) (sizes : Sizes) (old new : List Event) (stays : Primarie
         (let less : length asks_read.met < length asks_note.met = read_before in omega (arith, less))
         primary.1 primary.2 (subst (λ t. Leads sizes new (length asks_note.met) number t note_at.old) noted.1 note_at.before)
 
-    is_linear : why ≡ None → IsLinear sizes new (length asks_read.met) number reader.0 collection id found
-    is_linear none = record {
+    confirmed : why ≡ None → IsConfirmed sizes new (length asks_read.met) number reader.0
+    confirmed none = record {
       node_at = reader.1.at;
       role = reader.2;
-      reads = asked_read;
       at = at;
       term_is = reader.1.term_is ∙ sym noted.1;
       noted = length asks_note.met;
-      later = read_before;
+      later = (let less : length asks_read.met < length asks_note.met = read_before in omega (arith, less));
       notes = asked_note;
       acked = length acks.met;
       acks = subst (λ r. Asks sizes new (length acks.met) number (commands.Ack number (targets.At at) concerns.Majority) r)
           (acked_at (length acks.met) at others.3.1 asked_ack (others.3.3.1 ∙ none)) asked_ack;
     }
+
+    is_linear : why ≡ None → IsLinear sizes new (length asks_read.met) number reader.0 collection id found
+    is_linear none = record { confirmed = confirmed none; reads = asked_read }
 
     unless_why : (answer : LinearAnswer) → answer_of shown why ≡ answer → Shows answer
     unless_why answer answer_is = go why refl

@@ -41,20 +41,24 @@ module _ (sizes : Sizes) (events : List Event) where
     pub command_is : event.command ≡ command
     pub answers : Answers sizes events place number event answer
 
-  -- A linear read: a local read at a primary, a note that it wrote later, in the term that it had at the
-  -- read, and the acknowledgement of that note by a majority.
-  pub record IsLinear (place number : ℕ) (node : Node) (collection : List ℕ) (id : Value)
-      (shown : Reply) : Type 0 where
+  -- A primary whose log is confirmed: it wrote a note later, in the term that it has, and a majority
+  -- acknowledged that note.
+  pub record IsConfirmed (place number : ℕ) (node : Node) : Type 0 where
     pub node_at : IsAt sizes events place number node
     pub role : node.role ≡ Primary
-    pub reads : Asks place number (commands.Read number levels.Local collection id) shown
     pub at : OpTime
     pub term_is : node.term ≡ at.term
     pub noted : ℕ
-    pub later : place < noted
+    pub later : place ≤ noted
     pub notes : Asks noted number (commands.Note number) (reply.Written at)
     pub acked : ℕ
     pub acks : Asks acked number (commands.Ack number (targets.At at) concerns.Majority) (reply.Acked at)
+
+  -- A linear read: a local read at a primary whose log is confirmed.
+  pub record IsLinear (place number : ℕ) (node : Node) (collection : List ℕ) (id : Value)
+      (shown : Reply) : Type 0 where
+    pub confirmed : IsConfirmed place number node
+    pub reads : Asks place number (commands.Read number levels.Local collection id) shown
 
   -- a log begins with all that any node had up to an optime that it acknowledged at majority before
   abbrev pub HoldsAcked : ℕ → Node → Type 0
