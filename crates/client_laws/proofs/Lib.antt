@@ -1,0 +1,4 @@
+mod Acked
+mod Exact
+mod Retries
+mod Shown
