@@ -2,8 +2,8 @@
 // closed, its history has the calls of each in their order, and nothing else.
 ghost use Rattle.std.specs.Prelude.{◌≡◌, true};
 ghost use Rattle.set_model.specs.Limits.{is_for};
-ghost use Rattle.shared_set.specs.Passes.{IsPass, sizes_of};
-ghost use Rattle.turn_board.specs.Passes.{IsFree, view};
+ghost use Rattle.shared_set.specs.Passes.{IsPass, sizes_of, view};
+ghost use Rattle.turn_board.specs.Passes.{IsFree};
 
 use crate::shared::shared;
 use bson_doc::Value;

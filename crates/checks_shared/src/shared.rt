@@ -2,9 +2,9 @@
 ghost use Rattle.std.specs.Prelude.{◌≡◌, true, IfOk};
 ghost use Rattle.std.specs.List.{list_all};
 ghost use Rattle.fault_script.specs.Script.{is_part_for};
-ghost use Rattle.shared_set.specs.Passes.{IsPass, sizes_of};
+ghost use Rattle.shared_set.specs.Passes.{IsPass, sizes_of, view};
 ghost use Rattle.set_model.specs.Run.{AreSizes};
-ghost use Rattle.turn_board.specs.Passes.{IsFree, view};
+ghost use Rattle.turn_board.specs.Passes.{IsFree};
 
 use fault_script::{Part, parse};
 use rs_disk::MemDisk;

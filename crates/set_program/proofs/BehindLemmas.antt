@@ -1,5 +1,5 @@
 -- Work behind a script.
-use Rattle.std.proofs.Common.{◌≡◌, ◌≢◌, ℕ, true, false, List, Option, Result, Ok, Err, refl, sym, subst, inl, inr}
+use Rattle.std.proofs.Common.{◌≡◌, ◌≢◌, ◌∙◌, ◌++◌, ℕ, true, false, List, Option, Result, Ok, Err, ap, refl, sym, subst, inl, inr}
 use Rattle.std.specs.Prelude.{Bool}
 use Rattle.std.specs.Io.KnownBytes.{Appends}
 use Rattle.rs_disk.specs.State.{State}
@@ -7,8 +7,9 @@ use Rattle.set_model.specs.declared.command.Event.{Event}
 use Rattle.set_model.specs.Run.{Sizes, opening, run}
 use Rattle.fault_script.specs.declared.script.Part.{Part}
 use Rattle.transcript.specs.Replies.{text}
-use Rattle.set_world.specs.Went.{DisksPlay, DisksRun, GoesOn, WentOn}
+use Rattle.set_world.specs.Went.{DisksPlay, GoesOn, WentOn}
 use Rattle.set_world.specs.World.{Set}
+use Rattle.shared_set.specs.Attempts.{AttemptsLeave}
 use Rattle.set_world.proofs.WentLemmas.{went_nowhere}
 use Rattle.change_watch.specs.Following.{StaysSo}
 use Rattle.set_program.specs.declared.stop.Stop.{Stop}
@@ -19,6 +20,7 @@ use Rattle.set_program.specs.Headline.{EndsRun}
 use Rattle.set_program.specs.Orders.{Follows}
 use Rattle.set_program.specs.Parts.{DisksBehind, DisksGo}
 use Rattle.set_program.proofs.DisksLemmas.{played_on}
+use Rattle.set_program.proofs.TriedLemmas.{run_tried}
 
 -- work behind a script may stop so
 abbrev pub stops_work : Stop → Bool
@@ -95,7 +97,7 @@ module _ {D : Type 0} (state : D → State) (parts : List Part) (first : List D)
     out,
     inr (record {
       earlier = broke.earlier;
-      later = broke.later;
+      tried = broke.tried;
       events_are = broke.events_are;
       block = inl broke.block;
       begun = broke.begun;
@@ -114,16 +116,16 @@ module _ {D : Type 0} (state : D → State) (parts : List Part) (first : List D)
     whole_disks Out whole = inl (played_on state first mid last went.added went.sizes went.history (went.played whole) played)
 
     broken_disks : (Out : Type 0) → Out → DisksBehind state parts first last Out
-    broken_disks Out out = inr (
+    broken_disks Out out = let tried = run_tried state (run mid.sizes mid.history).world went.added mid.disks last.disks went.ran in inr (
       out,
       inr (record {
         earlier = mid.history;
-        later = went.added;
-        events_are = went.history;
+        tried = tried.0;
+        events_are = went.history ∙ ap (λ (es : List Event). mid.history ++ es) (sym tried.1);
         block = inr follows;
         begun = mid.disks;
         played = subst (λ (s : Sizes). DisksPlay state (opening s).world mid.history first mid.disks) (sym went.sizes) played;
-        ran = subst (λ (s : Sizes). DisksRun state (run s mid.history).world went.added mid.disks last.disks) (sym went.sizes) went.ran;
+        ran = subst (λ (s : Sizes). AttemptsLeave state (run s mid.history).world tried.0 mid.disks last.disks) (sym went.sizes) tried.2;
       }),
     )
 

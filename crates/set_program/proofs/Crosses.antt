@@ -17,7 +17,9 @@ use Rattle.version_store.specs.contracts.history.History as history
 use Rattle.version_store.specs.contracts.row.Row as row
 use Rattle.version_store.specs.contracts.tree.Tree as tree
 use Rattle.version_store.specs.contracts.collection.Collection as collection
+use Rattle.version_store.specs.contracts.listing.Listing as listing
 use Rattle.version_store.specs.contracts.shard.Shard as shard
+use Rattle.version_store.specs.contracts.shard_documents.ShardDocuments as documents_of_shard
 use Rattle.version_store.specs.contracts.store.VersionStore as store
 use Rattle.oplog_entry.specs.contracts.entry.Entry as entry
 use Rattle.oplog_entry.specs.contracts.entry.Op as op
@@ -61,6 +63,7 @@ use Rattle.node_journal.proofs.journal.Journal.TheSendSync.{the_send as journal_
 use Rattle.checkpoint_store.proofs.checkpoints.Checkpoints.TheSendSync.{the_send as checkpoints_send}
 use Rattle.turn_board.proofs.pass.Pass.TheSendSync.{the_send as any_pass_send}
 use Rattle.turn_board.proofs.board.Board.TheSendSync.{the_sync as any_board_sync}
+use Rattle.shared_set.proofs.attempts.Attempts.TheSendSync.{the_send as attempts_send}
 use Rattle.set_program.specs.contracts.block.ListEnd as list_end
 use Rattle.set_program.specs.contracts.block.ListJob as list_job
 use Rattle.turn_board.specs.contracts.pass.Pass as pass
@@ -94,8 +97,14 @@ tree_send = search (sendable, heap.crosses, maps.crosses, key_send, history_send
 collection_send : IsSend collection.the_row
 collection_send = search (sendable, heap.crosses, row_send, tree_send) depth 40 fits 20000
 
+documents_send : IsSend documents_of_shard.the_row
+documents_send = search (sendable, heap.crosses, maps.crosses, collection_send) depth 40 fits 20000
+
+listing_send : IsSend listing.the_row
+listing_send = search (sendable, heap.crosses, maps.crosses, text_send, key_send) depth 40 fits 20000
+
 shard_send : IsSend shard.the_row
-shard_send = search (sendable, heap.crosses, maps.crosses, collection_send) depth 40 fits 20000
+shard_send = search (sendable, heap.crosses, documents_send, listing_send) depth 40 fits 20000
 
 store_send : IsSend store.the_row
 store_send = search (sendable, heap.crosses, shard_send) depth 40 fits 20000
@@ -286,7 +295,7 @@ module _ (d : _) (disk : _) (send : IsSend d) where
   }
 
   pub turning_send : IsSend (turning.the_row d disk)
-  turning_send = search (world_send, heap.crosses, sendable) depth 60 fits 20000
+  turning_send = search (world_send, attempts_send, heap.crosses, sendable) depth 60 fits 20000
 
   pub set_sync : IsSync (shared.the_row d disk)
   set_sync = search (any_board_sync, turning_send, heap.crosses, sendable) depth 60 fits 20000

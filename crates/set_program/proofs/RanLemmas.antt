@@ -28,7 +28,10 @@ use Rattle.set_world.proofs.DisksOpenLemmas.{there_too}
 use Rattle.set_model.proofs.LimitLemmas.{named}
 use Rattle.set_program.specs.Calls.{AsksCheck, Call}
 use Rattle.set_program.specs.Counts.{FailedAtLeast, FailuresCount, FaultsAreArmed, FaultsHaveCauses, OfNode, EitherFaultCounted, OrdersAre, OrdersCount, failures_at}
+use Rattle.shared_set.specs.declared.attempt.Attempt.{Attempt}
+use Rattle.shared_set.specs.Attempts.{done_in}
 use Rattle.set_program.specs.Disks.{DisksPlayed, DisksRan, IsUnarmed}
+use Rattle.set_program.proofs.TriedLemmas.{attempts_run}
 use Rattle.set_program.specs.Headline.{BreaksIn, ComesTo, Ends, LeavesDisks, status_of, status_of_check}
 use Rattle.set_program.specs.Orders.{ComesNext}
 use Rattle.set_program.specs.Left.{IfSet, disks_of}
@@ -141,7 +144,7 @@ abbrev pub RanTo : {D : Type 0} → (D → State) → List D → Set D → Type 
 RanTo state opened set =
     (number : ℕ) (j c : State) → NodeHas state number opened j c → PlaysOn state (opening set.sizes).world set.history set.disks number j c
 
-ran_to : {D : Type 0} (state : D → State) (OutOfMemory : Type 0) (IsNext : ℕ → Command → Type 0) (IsBlock : List Event → List Event → Type 0) (opened : List D) (set : Set D)
+ran_to : {D : Type 0} (state : D → State) (OutOfMemory : Type 0) (IsNext : ℕ → Command → Type 0) (IsBlock : List Event → List Attempt → Type 0) (opened : List D) (set : Set D)
     → DisksRan state OutOfMemory IsNext IsBlock opened set → RanTo state opened set
 ran_to state OutOfMemory IsNext IsBlock opened set (inl played) number j c has = node_played state (opening set.sizes).world set.history opened set.disks number j c has played
 ran_to state OutOfMemory IsNext IsBlock opened set (inr (out, inl began)) number j c has =
@@ -150,12 +153,13 @@ ran_to state OutOfMemory IsNext IsBlock opened set (inr (out, inl began)) number
     (behind.0, behind.1, behind.2, used_behind number (opening set.sizes).world set.history j events.0 behind.0 c events.1 behind.1 events.3 behind.3)
 ran_to state OutOfMemory IsNext IsBlock opened set (inr (out, inr block)) number j c has =
     let before = node_played state (opening set.sizes).world block.earlier opened block.begun number j c has block.played in
-    let later = node_run state (run set.sizes block.earlier).world block.later block.begun set.disks number before.0 before.1 before.2 block.ran in (
+    let later = node_run state (run set.sizes block.earlier).world (done_in block.tried) block.begun set.disks number before.0 before.1 before.2
+    (attempts_run state (run set.sizes block.earlier).world block.tried block.begun set.disks block.ran) in (
       later.0,
       later.1,
       later.2,
       subst (λ (es : List Event). NodePlay number (opening set.sizes).world es j later.0 c later.1) (sym block.events_are)
-          (plays_behind number (opening set.sizes) block.earlier block.later j before.0 later.0 c before.1 later.1 before.3 later.3),
+          (plays_behind number (opening set.sizes) block.earlier (done_in block.tried) j before.0 later.0 c before.1 later.1 before.3 later.3),
     )
 
 pub node_ran : {D : Type 0} (state : D → State) (handed opened : List D) (set : Set D) → Opens state set.sizes.nodes (Ok tt) handed opened → RanTo state opened set → (number : ℕ) → 2 * number + 1 < length handed

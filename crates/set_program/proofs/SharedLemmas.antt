@@ -1,7 +1,7 @@
 -- A block that ran on a shared set, which was closed behind it.
 use Rattle.std.proofs.Common.{ℕ, zero, suc, ◌≡◌, ◌∙◌, ◌+◌, ◌≤◌, ap, sym, subst, arith, refl, true, List, [], ◌∷◌, ◌++◌, length, length-append, take}
 use Rattle.std.specs.Prelude.{IfOk, OnErr, OnOk, Result, Ok, Err, Vec, map}
-use Rattle.std.specs.List.{AllPass, list_all}
+use Rattle.std.specs.List.{AllByRecursion, AllPass, list_all}
 use Rattle.std.specs.declared.alloc.AllocError.{AllocError}
 use Rattle.std.specs.declared.alloc.Global.{Global}
 use Rattle.std.proofs.lemmas.Bool.{and_parts}
@@ -22,6 +22,7 @@ use Rattle.set_world.specs.Went.{WentOn}
 use Rattle.set_world.specs.World.{Set}
 use Rattle.shared_set.specs.Calls.{Closes}
 use Rattle.turn_board.specs.declared.view.View.{View}
+use Rattle.shared_set.specs.Attempts.{IsInSome, WentOnBy, done_in, undone_in}
 use Rattle.turn_board.specs.History.{events}
 use Rattle.turn_board.specs.Views.{opened, seen}
 use Rattle.set_program.specs.Blocks.{AreOfSome, RanBlock, TellsBlock}
@@ -56,13 +57,14 @@ block_unshared state lists old = record {
   lines = joined lists;
   order = order_of (Par lists);
   front = refl;
-  disks = ([], refl);
+  disks = ([], refl, tt, refl);
 }
 
 -- ---- a block that ran
 
-module _ {D F : Type 0} (state : D → State) (lists : List (List (ℕ × Command))) (fixed : List F) (old new : Set D) (v w : View Event F)
-    (fresh : v ≡ opened fixed old.history) (same : w.begun ≡ old.history) (closes : Closes old.sizes w new.history) (went : WentOn state old new) where
+module _ {D F : Type 0} (state : D → State) (lists : List (List (ℕ × Command))) (undone : List (List (ℕ × Command))) (fixed : List F) (old new : Set D) (v w : View Event F)
+    (fresh : v ≡ opened fixed old.history) (same : w.begun ≡ old.history) (closes : Closes old.sizes w new.history) (went : WentOn state old new)
+    (by : WentOnBy state undone old new) (of_lists : AllByRecursion (IsInSome lists) (undone_in by.all)) where
   lines_of_added : (lines : List (ℕ × Command)) → Adds lines old.history new.history → map line_of went.added ≡ lines
   lines_of_added lines adds = ap (map line_of) (same_behind old.history went.added adds.added (sym went.history ∙ adds.events)) ∙ adds.lines_are
 
@@ -93,7 +95,7 @@ module _ {D F : Type 0} (state : D → State) (lists : List (List (ℕ × Comman
     lines = next;
     order = merge;
     front = front;
-    disks = went.ran;
+    disks = (by.all, same_behind old.history (done_in by.all) went.added (sym by.went.history ∙ went.history), of_lists, by.went.disks);
   }
 
   -- memory ran out behind it

@@ -14,7 +14,8 @@ use Rattle.fault_script.specs.declared.script.Part.TheVariants.{Line, Par}
 use Rattle.fault_script.specs.Script.{lines_in, lines_of}
 use Rattle.set_world.specs.World.{Set}
 use Rattle.set_world.specs.Disks.{DisksUndone, IsStep, NothingDone}
-use Rattle.set_world.specs.Went.{DisksPlay, DisksRun}
+use Rattle.set_world.specs.Went.{DisksPlay}
+use Rattle.shared_set.specs.Attempts.{AttemptsLeave}
 use Rattle.set_program.specs.Disks.{DisksPlayed}
 use Rattle.set_program.specs.Orders.{Follows, IsOrderOf}
 use Rattle.set_program.specs.Parts.{AllStepped, DisksCut, DisksGo, SomeStepped, Stepped, SteppedSome, can_be_run}
@@ -179,12 +180,12 @@ module _ {D : Type 0} (state : D → State) (whole left : List Part) (old mid : 
     where
       same : new.history ≡ mid.history
       same = events ∙ ap (λ (es : List Event). mid.history ++ es) none ∙ append-nil mid.history
-  cut (Par threads) new added lines Out out is sizes events order front ran = inr (
+  cut (Par threads) new added lines Out out is sizes events order front (tried, done, undone, left) = inr (
     out,
     inr (record {
       earlier = mid.history;
-      later = added;
-      events_are = events;
+      tried = tried;
+      events_are = events ∙ ap (λ (es : List Event). mid.history ++ es) (sym done);
       block = record {
         done = length up_to.done;
         follows = subst (λ (ps : List Part). Follows ps mid.history) (sym (front_parts up_to.done rest whole (Par threads) is)) up_to.follows;
@@ -192,11 +193,12 @@ module _ {D : Type 0} (state : D → State) (whole left : List Part) (old mid : 
         block = part_at up_to.done rest whole (Par threads) is;
         lines = lines;
         merge = order;
-        front = front;
+        front = subst (λ (es : List Event). map line_of es ≡ take (length es) lines) (sym done) front;
+        undone = undone;
       };
       begun = mid.disks;
       played = subst (λ (s : Sizes). DisksPlay state (opening s).world mid.history old.disks mid.disks) (sym sizes) up_to.disks;
-      ran = subst (λ (s : Sizes). DisksRun state (run s mid.history).world added mid.disks new.disks) (sym sizes) ran;
+      ran = subst (λ (s : Sizes). AttemptsLeave state (run s mid.history).world tried mid.disks new.disks) (sym sizes) left;
     }),
   )
 

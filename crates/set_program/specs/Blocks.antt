@@ -1,6 +1,6 @@
 -- What a block comes to: each of its lists is run with a pass of its own, and the passes are joined.
 use Rattle.std.specs.Prelude.{ℕ, ◌≡◌, ◌<◌, ◌≤◌, ◌==◌, Bool, All, List, [], ◌∷◌, ◌++◌, Result, Ok, Err, Vec, length, map, take, if◌then◌else◌}
-use Rattle.std.specs.List.{AllZip}
+use Rattle.std.specs.List.{AllByRecursion, AllZip, Contains}
 use Rattle.std.specs.List.Sorted.{IsNonDecreasingBy}
 use Rattle.std.specs.declared.alloc.Global.{Global}
 use mathlib.Core.List.{IsPrefix}
@@ -12,6 +12,7 @@ use Rattle.set_model.specs.Run.{HISTORY_LIMIT, Sizes}
 use Rattle.set_world.specs.declared.error.StepError.{StepError}
 use Rattle.set_world.specs.declared.error.StepError.TheVariants.{HistoryFull, Memory}
 use Rattle.fault_script.specs.Merge.{Interleaves, IsMerge}
+use Rattle.shared_set.specs.Attempts.{IsInSome}
 use Rattle.turn_board.specs.declared.view.View.{View}
 use Rattle.turn_board.specs.History.{calls_by, names, times}
 use Rattle.turn_board.specs.Views.{seen}
@@ -76,6 +77,12 @@ pub record TellsBlock {F : Type 0} (sizes : Sizes) (lists : List (List (ℕ × C
   pub merged : IsMerge each told
   pub rises : Rises told
 
+-- What passes tried in vain before and after a block: those that were joined tried lines of its lists.
+abbrev pub TriedBlock : List (List (ℕ × Command)) → List (List (ℕ × Command)) → List (List (ℕ × Command))
+    → Type 0
+TriedBlock lists before after = (joined : List (List (ℕ × Command))) × (after ≡ before ++ joined)
+    × AllByRecursion (AllByRecursion (IsInSome lists)) joined
+
 -- no history is longer, unless the one before was
 abbrev pub KeepsShort : {F : Type 0} → View Event F → View Event F → Type 0
 KeepsShort v w = length (seen v) ≤ HISTORY_LIMIT → length (seen w) ≤ HISTORY_LIMIT
@@ -110,6 +117,10 @@ pub record RanList {F : Type 0} (So : List Event → Type 0) (v w : View Event F
   pub seen : IsSeen later (pass, events)
   pub parts : w.parts ≡ v.parts
   pub answers : w.answers ≡ v.answers
+
+-- what a new pass tried in vain, each a line of the list
+abbrev pub TriedList : List (ℕ × Command) → List (List (ℕ × Command)) → Type 0
+TriedList lines after = (own : List (ℕ × Command)) × (after ≡ own ∷ []) × AllByRecursion (Contains lines) own
 
 -- and was told this
 pub record TellsList {F : Type 0} (sizes : Sizes) (lines : List (ℕ × Command)) (v w : View Event F)

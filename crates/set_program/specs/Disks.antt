@@ -6,7 +6,9 @@ use Rattle.set_model.specs.declared.command.Event.{Event}
 use Rattle.set_model.specs.Run.{opening, run}
 use Rattle.set_world.specs.World.{Set}
 use Rattle.set_world.specs.Disks.{DisksUndone}
-use Rattle.set_world.specs.Went.{DisksPlay, DisksRun}
+use Rattle.set_world.specs.Went.{DisksPlay}
+use Rattle.shared_set.specs.declared.attempt.Attempt.{Attempt}
+use Rattle.shared_set.specs.Attempts.{AttemptsLeave, done_in}
 
 -- it fails only where it is armed, and it isn't armed
 abbrev pub IsUnarmed : State → Type 0
@@ -26,22 +28,21 @@ pub record DisksBegan {D : Type 0} (state : D → State) (IsNext : ℕ → Comma
   pub next : IsNext line command
   pub undone : DisksUndone state (run set.sizes set.history).world command last set.disks
 
--- By the events before a block, and then by those of the block: before, between and behind these, commands
--- that weren't done may have used disks.
-pub record DisksBroke {D : Type 0} (state : D → State) (IsBlock : List Event → List Event → Type 0)
+-- By the events before a block, and then by what was tried in it: events, and commands that weren't done.
+pub record DisksBroke {D : Type 0} (state : D → State) (IsBlock : List Event → List Attempt → Type 0)
     (first : List D) (set : Set D) : Type 0 where
   pub earlier : List Event
-  pub later : List Event
-  pub events_are : set.history ≡ earlier ++ later
-  pub block : IsBlock earlier later
+  pub tried : List Attempt
+  pub events_are : set.history ≡ earlier ++ done_in tried
+  pub block : IsBlock earlier tried
   pub begun : List D
   pub played : DisksPlay state (opening set.sizes).world earlier first begun
-  pub ran : DisksRun state (run set.sizes earlier).world later begun set.disks
+  pub ran : AttemptsLeave state (run set.sizes earlier).world tried begun set.disks
 
 -- By its events alone. Where memory ran out at a line, maybe by one command more; where it ran out in a
--- block, maybe by commands that weren't done.
+-- block, maybe by lines of it that weren't done.
 abbrev pub DisksRan : {D : Type 0} → (D → State) → Type 0 → (ℕ → Command → Type 0)
-    → (List Event → List Event → Type 0) → List D → Set D → Type 0
+    → (List Event → List Attempt → Type 0) → List D → Set D → Type 0
 DisksRan state OutOfMemory IsNext IsBlock first set =
     DisksPlayed state first set
     ⊎ (OutOfMemory × (DisksBegan state IsNext first set ⊎ DisksBroke state IsBlock first set))

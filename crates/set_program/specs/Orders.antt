@@ -1,6 +1,6 @@
 -- Which events follow a script, and what is put of their replies.
 use Rattle.std.specs.Prelude.{ℕ, ◌≡◌, ◌≤◌, ◌++◌, ◌⊎◌, Option, Some, List, [], ◌∷◌, length, map, take, drop, slice_get}
-use Rattle.std.specs.List.{flat_map}
+use Rattle.std.specs.List.{AllByRecursion, flat_map}
 use Rattle.std.specs.Io.KnownBytes.{Appends}
 use Rattle.set_model.specs.declared.command.Command.{Command}
 use Rattle.set_model.specs.declared.command.Event.{Event}
@@ -9,6 +9,8 @@ use Rattle.set_model.specs.Run.{Sizes, run}
 use Rattle.fault_script.specs.declared.script.Part.{Part}
 use Rattle.fault_script.specs.declared.script.Part.TheVariants as parts
 use Rattle.fault_script.specs.Merge.{IsMerge}
+use Rattle.shared_set.specs.declared.attempt.Attempt.{Attempt}
+use Rattle.shared_set.specs.Attempts.{IsInSome, done_in, undone_in}
 use Rattle.transcript.specs.Replies.{line_text, text}
 use Rattle.set_program.specs.Steps.{line_of}
 
@@ -34,20 +36,21 @@ abbrev pub ComesNext : List Part → List Event → ℕ → Command → Type 0
 ComesNext parts events line command =
     (later : List (ℕ × Command)) × AreOrdersOf parts (map line_of events ++ (line, command) ∷ later)
 
--- Behind the earlier events a block comes, and the later ones are of some first of its lines, in an order in
--- which all may be played.
-pub record IsInBlock (whole : List Part) (earlier later : List Event) : Type 0 where
+-- After the earlier events a block comes. Of what was tried, the events are of some first of its lines, in
+-- an order in which all may be played, and what wasn't done is among its lines.
+pub record IsInBlock (whole : List Part) (earlier : List Event) (tried : List Attempt) : Type 0 where
   pub done : ℕ
   pub follows : Follows (take done whole) earlier
   pub threads : List (List (ℕ × Command))
   pub block : slice_get whole done ≡ Some (parts.Par threads)
   pub lines : List (ℕ × Command)
   pub merge : IsMerge threads lines
-  pub front : map line_of later ≡ take (length later) lines
+  pub front : map line_of (done_in tried) ≡ take (length (done_in tried)) lines
+  pub undone : AllByRecursion (IsInSome threads) (undone_in tried)
 
 -- in a block, or in the work behind the whole script
-abbrev pub IsInBlockOrBehind : List Part → List Event → List Event → Type 0
-IsInBlockOrBehind whole earlier later = IsInBlock whole earlier later ⊎ Follows whole earlier
+abbrev pub IsInBlockOrBehind : List Part → List Event → List Attempt → Type 0
+IsInBlockOrBehind whole earlier tried = IsInBlock whole earlier tried ⊎ Follows whole earlier
 
 -- the events are those of some first lines, in an order in which all may be played
 pub record FollowsInPart (parts : List Part) (events : List Event) : Type 0 where

@@ -1,5 +1,6 @@
 -- What playing a part, or several, does to a set.
 use Rattle.std.specs.Prelude.{ℕ, Bool, ◌≡◌, ◌++◌, ◌⊎◌, ◌&&◌, nat_le, List, [], Result, Ok, Err, length, map, take, true, ⊤}
+use Rattle.std.specs.List.{AllByRecursion}
 use Rattle.std.specs.declared.alloc.AllocError.{AllocError}
 use Rattle.rs_disk.specs.State.{State}
 use Rattle.set_model.specs.declared.command.Command.{Command}
@@ -11,7 +12,9 @@ use Rattle.fault_script.specs.declared.script.Part.{Part}
 use Rattle.fault_script.specs.declared.script.Part.TheVariants.{Line, Par}
 use Rattle.fault_script.specs.Script.{is_part_for}
 use Rattle.set_world.specs.Disks.{DisksUndone}
-use Rattle.set_world.specs.Went.{DisksPlay, DisksRun}
+use Rattle.set_world.specs.Went.{DisksPlay}
+use Rattle.shared_set.specs.declared.attempt.Attempt.{Attempt}
+use Rattle.shared_set.specs.Attempts.{AttemptsLeave, IsInSome, done_in, undone_in}
 use Rattle.set_world.specs.World.{Set}
 use Rattle.set_program.specs.Disks.{DisksRan}
 use Rattle.set_program.specs.Headline.{BreaksIn}
@@ -47,12 +50,13 @@ pub record Stepped {D : Type 0} (state : D → State) (part : Part) (old new : S
   pub disks : DisksPlay state (run old.sizes old.history).world added old.disks new.disks
   pub whole : old.whole ≡ true → new.whole ≡ true
 
--- Where memory runs out, the command of a line may have been begun. In a block commands that weren't done may
--- have used disks before, between and behind the events.
+-- Where memory runs out, the command of a line may have been begun. In a block lines of it that weren't done
+-- may have used disks before, between and after the events.
 abbrev pub DisksCut : {D : Type 0} → (D → State) → Part → World → List Event → List D → List D → Type 0
 DisksCut state (Line number command) world events old new =
     DisksPlay state world events old new ⊎ ((events ≡ []) × DisksUndone state world command old new)
-DisksCut state (Par threads) world events old new = DisksRun state world events old new
+DisksCut state (Par threads) world events old new = (tried : List Attempt) × (done_in tried ≡ events)
+    × AllByRecursion (IsInSome threads) (undone_in tried) × AttemptsLeave state world tried old new
 
 -- some first lines are played, in an order in which all may be
 pub record SteppedSome {D : Type 0} (state : D → State) (part : Part) (old new : Set D) : Type 0 where

@@ -5,10 +5,10 @@ ghost use Rattle.std.specs.Thread.{IsSync};
 ghost use Rattle.set_model.specs.Limits.{is_for};
 ghost use Rattle.set_model.specs.Run.{HISTORY_LIMIT};
 ghost use Rattle.set_world.specs.declared.error.StepError.{StepError as AStepError};
-ghost use Rattle.turn_board.specs.Passes.{IsFree, view};
+ghost use Rattle.turn_board.specs.Passes.{IsFree};
 ghost use Rattle.turn_board.specs.Views.{seen};
-ghost use Rattle.shared_set.specs.Passes.{IsPass, sizes_of};
-ghost use Rattle.set_program.specs.Blocks.{AreOfSome, EndsBlock, EndsList, IsNew, KeepsRun, KeepsShort, Merges, RanBlock, Rises, TellsBlock};
+ghost use Rattle.shared_set.specs.Passes.{IsPass, sizes_of, undone, view};
+ghost use Rattle.set_program.specs.Blocks.{AreOfSome, EndsBlock, EndsList, IsNew, KeepsRun, KeepsShort, Merges, RanBlock, Rises, TellsBlock, TriedBlock, TriedList};
 
 use crate::beside::{Job, beside};
 use crate::told_order::{Told, merged};
@@ -46,6 +46,7 @@ pub fn run_block<D: Disk + Send, G: Gate + Sync, R: Threads + Wait + Sync>(
     ensures told { IfOk result
         (λ told. TellsBlock (sizes_of set.now) lists.now (view pass.old) (view pass.new) told.items) }
     ensures err { OnErr result (RanBlock AreOfSome lists.now (view pass.old) (view pass.new)) }
+    ensures tried { TriedBlock lists.now (undone pass.old) (undone pass.new) }
     ensures full { IsErrOf result AStepError.HistoryFull → length (seen (view pass.new)) ≡ HISTORY_LIMIT }
     ensures defined { KeepsRun (sizes_of set.now) (view pass.old) (view pass.new) }
     ensures short { KeepsShort (view pass.old) (view pass.new) }
@@ -73,6 +74,7 @@ fn run_lists<'a, D: Disk + Send, G: Gate + Sync, R: Threads + Wait + Sync>(
     ensures short { KeepsShort (view pass.old) (view result.0.now) }
     ensures defined { KeepsRun (sizes_of set.now) (view pass.old) (view result.0.now) }
     ensures ends { EndsBlock (sizes_of set.now) lists.now (view pass.old) (view result.0.now) result.1 }
+    ensures tried { TriedBlock lists.now (undone pass.old) (undone result.0.now) }
 {
     let Some((lines, others)) = lists.split_last() else {
         return (pass, Ok(Vec::new(alloc)));
@@ -101,7 +103,8 @@ fn run_lists<'a, D: Disk + Send, G: Gate + Sync, R: Threads + Wait + Sync>(
                 × KeepsShort (view pass.entry.now) (view result.0.now)
                 × KeepsRun (sizes_of set.entry.now) (view pass.entry.now) (view result.0.now)
                 × EndsBlock (sizes_of set.entry.now) others.entry.now (view pass.entry.now)
-                (view result.0.now) result.1 }
+                (view result.0.now) result.1
+                × TriedBlock others.entry.now (undone pass.entry.now) (undone result.0.now) }
         { run_lists(rt, alloc, set, pass, others, gate) },
     );
     let ListEnd { pass: own, told } = ended;
@@ -147,11 +150,13 @@ impl<'a, D: Disk, G: Gate, R: Threads + Wait + Sync> Job for ListJob<'a, D, G, R
     type End = ListEnd<D>;
 
     ghost ready = { λ j. IsSync R.row × IsPass j.set.now j.pass × IsFree j.pass × IsNew (view j.pass)
+        × (undone j.pass ≡ [] ∷ [])
         × AllPass (λ line. is_for (sizes_of j.set.now).nodes line.1) j.lines.now };
 
     ghost ends = { λ j e. IsPass j.set.now e.pass × IsFree e.pass × KeepsShort (view j.pass) (view e.pass)
         × KeepsRun (sizes_of j.set.now) (view j.pass) (view e.pass)
-        × EndsList (sizes_of j.set.now) j.lines.now (view j.pass) (view e.pass) e.told };
+        × EndsList (sizes_of j.set.now) j.lines.now (view j.pass) (view e.pass) e.told
+        × TriedList j.lines.now (undone e.pass) };
 
     fn run(self) -> ListEnd<D> {
         let ListJob {
@@ -176,12 +181,14 @@ fn step_each<D: Disk, R: Threads + Wait + Sync>(
     pass: &mut Pass<D>,
     lines: &Lines,
 ) -> Result<Vec<Told>, StepError>
-    requires pass { IsPass set.now pass.old × IsFree pass.old × IsNew (view pass.old) }
+    requires pass { IsPass set.now pass.old × IsFree pass.old × IsNew (view pass.old)
+        × (undone pass.old ≡ [] ∷ []) }
     requires fits { AllPass (λ line. is_for (sizes_of set.now).nodes line.1) lines.now }
     ensures pass { IsPass set.now pass.new × IsFree pass.new }
     ensures short { KeepsShort (view pass.old) (view pass.new) }
     ensures defined { KeepsRun (sizes_of set.now) (view pass.old) (view pass.new) }
     ensures ends { EndsList (sizes_of set.now) lines.now (view pass.old) (view pass.new) result }
+    ensures tried { TriedList lines.now (undone pass.new) }
 {
     let mut told = Vec::new(alloc);
     for (line, command) in lines.as_slice() {

@@ -1,2 +1,4 @@
+mod AttemptLemmas
 mod CallLemmas
 mod CallerLemmas
+mod HeardLemmas

@@ -7,6 +7,7 @@ use Rattle.set_model.specs.declared.command.Command.{Command}
 use Rattle.set_model.specs.declared.command.Event.{Event}
 use Rattle.set_model.specs.declared.reply.Reply.{Reply}
 use Rattle.rs_disk.specs.State.{State}
+use Rattle.set_model.specs.Limits.{IsRun}
 use Rattle.set_model.specs.Run.{HISTORY_LIMIT, Sizes, run}
 use Rattle.set_model.specs.World.{step}
 use Rattle.set_model.specs.Pointed.{pointed}
@@ -86,10 +87,11 @@ keeps_on one two three first second = record {
   answers = second.answers ∙ first.answers;
 }
 
--- the number is that of the node after some history which begins with all that the pass has seen, and no
--- number that the pass saw of it was above
+-- the number is that of the node after some history which begins with all that the pass has seen and whose
+-- run is defined, and no number that the pass saw of it was above
 pub record Looks {F : Type 0} (sizes : Sizes) (v : View Event F) (node number : ℕ) : Type 0 where
   pub later : List (ℕ × Event)
+  pub defined : IsRun sizes (v.begun ++ events (v.turns ++ later))
   pub number_is : number ≡ pointed sizes (v.begun ++ events (v.turns ++ later)) node
   pub least : NoneAbove node number v.answers
 

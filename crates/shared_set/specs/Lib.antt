@@ -1,3 +1,4 @@
+pub mod Attempts
 pub mod Calls
 pub mod Sets
 pub mod Passes

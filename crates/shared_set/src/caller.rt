@@ -22,10 +22,9 @@ pub struct Caller<'a, D: Disk> {
 impl<'a, D: Disk> Stepper for Caller<'a, D> {
     ghost use Rattle.std.specs.Prelude.{◌≡◌, false};
     ghost use Rattle.std.proofs.Common.{◌∙◌};
-    ghost use Rattle.turn_board.specs.Passes.{view};
     ghost use Rattle.turn_board.specs.Views.{seen};
     ghost use Rattle.shared_set.specs.Calls.{Keeps, keeps_on, own_calls};
-    ghost use Rattle.shared_set.specs.Passes.{sizes_of};
+    ghost use Rattle.shared_set.specs.Passes.{sizes_of, view};
 
     ghost sizes = { λ caller. sizes_of caller.set.now };
 

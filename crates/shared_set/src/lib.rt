@@ -2,10 +2,13 @@
 //! a node has had committed is read without waiting.
 #![tactic(auto)]
 
+mod attempt;
+mod attempts;
 mod caller;
 mod set;
 mod shared;
 mod turning;
 
+pub use attempt::Attempt;
 pub use caller::Caller;
 pub use shared::{Pass, SharedSet};

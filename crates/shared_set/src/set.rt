@@ -1,15 +1,16 @@
 // Making a shared set, its turns, its passes and its end.
-ghost use Rattle.std.specs.Prelude.{◌≡◌, ◌<◌, ◌≤◌, ℕ, [], length, true, IfErr, IfOk, IsErrOf, OnErr};
+ghost use Rattle.std.specs.Prelude.{◌≡◌, ◌<◌, ◌≤◌, ◌++◌, ◌∷◌, ℕ, [], length, true, IfErr, IfOk, IsErrOf, OnErr, OnOk};
 ghost use mathlib.Core.List.{IsPrefix};
 ghost use Rattle.set_model.specs.Limits.{IsRun, is_for};
 ghost use Rattle.set_model.specs.Run.{HISTORY_LIMIT, AreSizes};
 ghost use Rattle.set_world.specs.declared.error.StepError.{StepError as AStepError};
 ghost use Rattle.set_world.specs.Went.{WentOn};
 ghost use Rattle.turn_board.specs.History.{calls_by, names, times};
-ghost use Rattle.turn_board.specs.Passes.{IsFree, view};
+ghost use Rattle.turn_board.specs.Passes.{IsFree};
 ghost use Rattle.turn_board.specs.Views.{answered, half, joined, less_one, numbered_as, opened, seen};
+ghost use Rattle.shared_set.specs.Attempts.{WentOnBy, one_more};
 ghost use Rattle.shared_set.specs.Calls.{Closes, Looks, Steps, Waits};
-ghost use Rattle.shared_set.specs.Passes.{IsPass, begun_as, sizes_of};
+ghost use Rattle.shared_set.specs.Passes.{IsPass, begun_as, sizes_of, undone, view};
 
 use crate::shared::{Pass, SharedSet};
 use crate::turning::Turning;
@@ -30,6 +31,7 @@ impl<D: Disk> SharedSet<D> {
         ensures begun { IfOk result (λ shared. begun_as shared.0 ≡ world) }
         ensures pass { IfOk result (λ shared. IsPass shared.0 shared.1 × IsFree shared.1
             × (view shared.1 ≡ opened (view shared.1).fixed world.history)) }
+        ensures undone { IfOk result (λ shared. undone shared.1 ≡ [] ∷ []) }
         ensures err { IfErr result (λ back. back ≡ world) }
     {
         let points = world.size();
@@ -59,6 +61,8 @@ impl<D: Disk> SharedSet<D> {
             (λ done. Steps (sizes_of self.now) (view pass.old)
             (view pass.new) line command.now done.0 done.1) }
         ensures err { OnErr result (Waits (sizes_of self.now) (view pass.old) (view pass.new)) }
+        ensures done { OnOk result (undone pass.new ≡ undone pass.old) }
+        ensures undone { OnErr result (undone pass.new ≡ one_more (line, command.now) (undone pass.old)) }
         ensures full { IsErrOf result AStepError.HistoryFull → length (seen (view pass.new)) ≡ HISTORY_LIMIT }
         ensures sizes { AreSizes (sizes_of self.now) }
         ensures defined { IsRun (sizes_of self.now) (seen (view pass.new)) }
@@ -67,6 +71,7 @@ impl<D: Disk> SharedSet<D> {
         let mut set = self.board.enter(rt, pass);
         set.recall_went();
         let (node, answer) = set.step(rt, line, command);
+        set.recall_went();
         self.board.leave(pass, set, node);
         answer
     }
@@ -78,6 +83,7 @@ impl<D: Disk> SharedSet<D> {
         requires node { node < (sizes_of self.now).nodes }
         ensures pass { IsPass self.now pass.new × IsFree pass.new
             × (view pass.new ≡ answered (view pass.old) node result) }
+        ensures undone { undone pass.new ≡ undone pass.old }
         ensures number { Looks (sizes_of self.now) (view pass.old) node result }
     {
         self.board.peek(pass, node)
@@ -90,6 +96,7 @@ impl<D: Disk> SharedSet<D> {
         requires parts { 1 < (view pass.old).parts }
         ensures pass { IsPass self.now pass.new × IsFree pass.new
             × (view pass.new ≡ less_one (view pass.old)) }
+        ensures undone { (undone pass.new ≡ undone pass.old) × (undone result ≡ [] ∷ []) }
         ensures given { IsPass self.now result × IsFree result × ((p : ℕ)
             × (view result ≡ numbered_as (half (view pass.old)) p)
             × (calls_by p (view pass.old).turns ≡ [])) }
@@ -106,6 +113,7 @@ impl<D: Disk> SharedSet<D> {
             × (view pass.new ≡ joined (view pass.old) (view other)) }
         ensures seen { IsPrefix (view pass.old).turns (view pass.new).turns
             × IsPrefix (view other).turns (view pass.new).turns }
+        ensures undone { undone pass.new ≡ undone pass.old ++ undone other }
         ensures once { (p : ℕ) → times p (names (view pass.new).calls) ≤ 1 }
     {
         self.board.join(pass, other)
@@ -118,6 +126,7 @@ impl<D: Disk> SharedSet<D> {
         requires parts { (view pass).parts ≡ 65536 }
         ensures closes { Closes (sizes_of self) (view pass) result.history }
         ensures went { WentOn D.state (begun_as self) result }
+        ensures tried { WentOnBy D.state (undone pass) (begun_as self) result }
     {
         let SharedSet { board } = self;
         board.close(pass).into_world()

@@ -1,5 +1,5 @@
 // A set on a board, and its passes.
-ghost use Rattle.std.specs.Prelude.{◌≡◌};
+ghost use Rattle.std.specs.Prelude.{◌≡◌, []};
 
 use crate::turning::Turning;
 use rs_disk::Disk;
@@ -10,6 +10,7 @@ use turn_board::Board;
 pub struct SharedSet<D: Disk> {
     pub(crate) board: Board<Turning<D>>,
     ghost points: { board.points ≡ board.value.begun.sizes.nodes },
+    ghost fresh: { board.value.tried ≡ [] },
 }
 
 /// The right of one thread to step a set. It has no bytes. Contracts see what it has seen of the history,

@@ -7,13 +7,14 @@ use Rattle.std.proofs.lemmas.List.{nil_from_length}
 use Rattle.set_model.specs.declared.command.Command.{Command}
 use Rattle.set_model.specs.Limits.{is_for}
 use Rattle.turn_board.specs.History.{calls_by}
-use Rattle.turn_board.specs.Passes.{view}
-use Rattle.shared_set.specs.Passes.{sizes_of}
+use Rattle.shared_set.specs.Passes.{sizes_of, undone, view}
+use Rattle.shared_set.specs.Sets.{history_in}
 use Rattle.set_program.specs.Blocks.{EndsList, TellsBlock}
 use Rattle.set_program.specs.contracts.block.ListEnd as list_end
 use Rattle.set_program.specs.contracts.block.ListJob as list_job
 use Rattle.set_program.proofs.BlockRuns.{block_ends, block_none, block_runs, fits_last, fits_others, list_rises}
 use Rattle.set_program.proofs.Crosses.{list_end_send, list_job_send}
+use Rattle.set_program.proofs.TriedLemmas.{tried_block, tried_none}
 use Rattle.set_program.proofs.block.+block.Goals as goal
 
 pub returns-in_default-clause-ends : goal.returns-in_default-clause-ends
@@ -48,6 +49,7 @@ beside-ended-requires-clause-job g t c κs within = (
     ap (λ v. v.calls) c.split-own.ensures.given.2.1,
     ap (λ v. calls_by c.split-own.ensures.given.2.0 v.turns) c.split-own.ensures.given.2.1 ∙ c.split-own.ensures.given.2.2,
   ),
+  c.split-own.ensures.undone.1,
   fits_last (λ (line : ℕ × Command). is_for (sizes_of c.args.set.now).nodes line.1) c.args.lists.now c.in-Some.others.now c.in-Some.lines.now c.in-Some.ensures.cases.0 c.requires.fits,
 )
 
@@ -91,7 +93,7 @@ returns-clause-ends g t c =
     let some_parts : 1 < (view c.args.pass.now).parts = let count = c.in-Some.ensures.cases.1 in let few = c.requires.parts in omega (arith, count, few) in
     block_ends (sizes_of c.args.set.now) c.args.lists.now c.in-Some.others.now c.in-Some.lines.now (view c.args.pass.now) (view c.split-own.new.pass) (view c.beside-ended.result.1.0.now)
     (view c.split-own.result) (view c.beside-ended.result.0.pass) (view c.join.new.pass) c.split-own.ensures.given.2.0 c.beside-ended.result.1.1 c.beside-ended.result.0.told c.both.result
-    c.in-Some.ensures.cases.0 some_parts c.split-own.ensures.pass.2 c.split-own.ensures.given.2.1 c.join.ensures.pass.2 (lent.1.3 ∙ sym c.requires.pass.0.3) (own.0.3 ∙ sym c.requires.pass.0.3)
+    c.in-Some.ensures.cases.0 some_parts c.split-own.ensures.pass.2 c.split-own.ensures.given.2.1 c.join.ensures.pass.2 (ap (λ l. history_in l) (lent.1.4 ∙ sym c.requires.pass.0.4)) (ap (λ l. history_in l) (own.0.4 ∙ sym c.requires.pass.0.4))
     c.join.ensures.seen.0 c.join.ensures.seen.1 c.join.ensures.once lent.3 own.2 lent.5 own.4 c.both.ensures
 
 pub returns-clause-defined : goal.returns-clause-defined
@@ -99,4 +101,14 @@ returns-clause-defined g t c =
     let own = c.beside-ended.ensures.job in
     let lent = c.beside-ended.ensures.rest in
     block_runs (sizes_of c.args.set.now) (view c.args.pass.now) (view c.split-own.new.pass) (view c.beside-ended.result.1.0.now) (view c.split-own.result) (view c.beside-ended.result.0.pass) (view c.join.new.pass)
-    c.split-own.ensures.given.2.0 c.split-own.ensures.pass.2 c.split-own.ensures.given.2.1 c.join.ensures.pass.2 (lent.1.3 ∙ sym c.requires.pass.0.3) (own.0.3 ∙ sym c.requires.pass.0.3) lent.4 own.3
+    c.split-own.ensures.given.2.0 c.split-own.ensures.pass.2 c.split-own.ensures.given.2.1 c.join.ensures.pass.2 (ap (λ l. history_in l) (lent.1.4 ∙ sym c.requires.pass.0.4)) (ap (λ l. history_in l) (own.0.4 ∙ sym c.requires.pass.0.4)) lent.4 own.3
+
+pub returns-in_default-clause-tried : goal.returns-in_default-clause-tried
+returns-in_default-clause-tried g t c = tried_none c.args.lists.now (undone c.args.pass.now)
+
+pub returns-clause-tried : goal.returns-clause-tried
+returns-clause-tried g t c =
+    let own = c.beside-ended.ensures.job in
+    let lent = c.beside-ended.ensures.rest in
+    tried_block c.args.lists.now c.in-Some.others.now c.in-Some.lines.now (undone c.args.pass.now) (undone c.split-own.new.pass) (undone c.beside-ended.result.1.0.now) (undone c.beside-ended.result.0.pass) (undone c.join.new.pass)
+    c.in-Some.ensures.cases.0 c.split-own.ensures.undone.0 lent.6 own.5 c.join.ensures.undone

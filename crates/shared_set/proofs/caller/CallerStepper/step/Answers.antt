@@ -1,6 +1,5 @@
 use Rattle.std.proofs.Common.{rules}
-use Rattle.turn_board.specs.Passes.{view}
-use Rattle.shared_set.specs.Passes.{sizes_of}
+use Rattle.shared_set.specs.Passes.{sizes_of, view}
 use Rattle.shared_set.proofs.CallerLemmas.{each_adds_one, each_full, each_idles, each_keeps, each_learns, each_steps_once}
 use Rattle.shared_set.proofs.caller.CallerStepper.step.Goals as goal
 
