@@ -161,6 +161,13 @@ impl Machine {
         self.nodes.len() as u32
     }
 
+    /// Every message that was sent, oldest first.
+    pub fn messages(&self) -> &[Message]
+        ensures { result.now ≡ self.now.messages }
+    {
+        self.pool.as_slice()
+    }
+
     /// Does one event, and gives the reply to it.
     pub fn step(&mut self, event: &Event) -> Result<Reply, StepError>
         requires reached { IsReached self.old }

@@ -57,6 +57,12 @@ impl Pool {
         self.messages.len()
     }
 
+    pub(crate) fn as_slice(&self) -> &[Message]
+        ensures { result.now ≡ self.now }
+    {
+        &self.messages
+    }
+
     /// The message of this number.
     pub(crate) fn get(&self, number: u64) -> Option<&Message>
         ensures { option_copied result ≡ slice_get self.now number }
