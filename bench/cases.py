@@ -1,6 +1,6 @@
 """The scripts that `bench/run` times: each case is a function from a size to the lines of its script."""
 from dataclasses import dataclass
-from typing import Callable, List, Optional
+from typing import Callable, List, Optional, Tuple
 
 OPENING = ["set 1", "campaign n0", "drain n0"]
 
@@ -58,11 +58,32 @@ def writers(n):
     return OPENING + lines + [f"commit n0 w{w}" for w in range(1000)]
 
 
+def traced(writes):
+    """The trace of writes of one node."""
+    lines = ["trace 1 1 1", "event 2 - 0 campaign n0", "2: won 1", "event 3 - 0 drain n0", "3: primary 1 noop 1/0/1"]
+    for k, write in enumerate(writes):
+        lines += [f"event {k + 4} - 0 {write}", f"{k + 4}: written 1/0/{k + 2}"]
+    return lines
+
+
 def inserts_traced(n):
     """The trace of inserts."""
-    lines = ["trace 1 1 1", "event 2 - 0 campaign n0", "2: won 1", "event 3 - 0 drain n0", "3: primary 1 noop 1/0/1"]
-    for k in range(n):
-        lines += [f"event {k + 4} - 0 insert n0 items {{_id: {k}}}", f"{k + 4}: written 1/0/{k + 2}"]
+    return traced(inserts(n)[len(OPENING):])
+
+
+def late_traced(n):
+    """The trace of a thousand writers that begin before all inserts, and commit after them with a flush each."""
+    writes = [(f"begin n0 w{w} insert others {{_id: {w}}}", f"begun 1/0/{w + 2}") for w in range(1000)]
+    writes += [(f"insert n0 items {{_id: {k}}}", f"written 1/0/{k + 1002}") for k in range(n)]
+    left = n + 1
+    for w in range(1000):
+        count = min(left + 1, 2000)
+        left += 1 - count
+        writes += [(f"commit n0 w{w}", f"committed 1/0/{w + 2}")]
+        writes += [("flush n0", f"flushed {count} to 1/0/{w + 2 if w < 999 else n + 1001}")]
+    lines = traced([])
+    for k, (write, reply) in enumerate(writes):
+        lines += [f"event {k + 4} - 0 {write}", f"{k + 4}: {reply}"]
     return lines
 
 
@@ -79,6 +100,42 @@ def flushed(n):
 
 def updates(n):
     return OPENING + ["insert n0 items {_id: 1, n: 0}"] + ["update n0 items 1 {$inc: {n: 1}}"] * n
+
+
+def counted_beside(fields, n):
+    """An update of one field, so many times, beside others."""
+    return OPENING + [f"insert n0 items {{_id: 1, n: 0, {fields}}}"] + ["update n0 items 1 {$inc: {n: 1}}"] * n
+
+
+def long_text(n):
+    return counted_beside(f's: "{"x" * 100_000}"', n)
+
+
+def long_array(n):
+    return counted_beside(f"a: {list(range(1000))}", n)
+
+
+def long_text_traced(n):
+    return traced(long_text(n)[len(OPENING):])
+
+
+def long_array_traced(n):
+    return traced(long_array(n)[len(OPENING):])
+
+
+def many_fields(n):
+    """One of a hundred fields is set, each time to another value."""
+    fields = ", ".join(f"f{k}: {k}" for k in range(100))
+    return OPENING + [f"insert n0 items {{_id: 1, {fields}}}"] + [f"update n0 items 1 {{$set: {{f50: {1000 + k}}}}}" for k in range(n)]
+
+
+def many_fields_traced(n):
+    return traced(many_fields(n)[len(OPENING):])
+
+
+def growing(n):
+    """A document that gets a field more with each update."""
+    return OPENING + ["insert n0 items {_id: 1}"] + [f"update n0 items 1 {{$set: {{f{k}: 1}}}}" for k in range(n)]
 
 
 def reads(n):
@@ -260,6 +317,22 @@ def deep(n):
     return OPENING + [f'insert n0 t {{_id: {k}, a: {"[" * 90}{"]" * 90}, w: {{{wide}}}}}' for k in range(n)]
 
 
+def dumps_deleted(n):
+    """Documents that are inserted and deleted, and then as many dumps, which show none."""
+    changes = [line for k in range(n) for line in (f"insert n0 t {{_id: {k}}}", f"delete n0 t {k}")]
+    return OPENING + changes + ["dump n0 local"] * n
+
+
+def dumps_uncommitted(n):
+    """Inserts that no majority has, and then as many dumps of what a majority has."""
+    return OPENING + [f"insert n0 t {{_id: {k}}}" for k in range(n)] + ["dump n0 majority"] * n
+
+
+def dumps_collections(n):
+    """The same, with each document in a collection of its own."""
+    return OPENING + [f"insert n0 c{k} {{_id: {k}}}" for k in range(n)] + ["dump n0 majority"] * n
+
+
 def listed(lists, n):
     """The inserts of a block's lists, and the same without a block."""
     each = [[f"insert n0 items {{_id: {own * n + k}}}" for k in range(n)] for own in range(lists)]
@@ -285,12 +358,13 @@ def chaos(n):
 @dataclass
 class Case:
     """A script by its size: the smaller size that it is timed at, that at which its instructions are counted, the words of the
-    program, and the status that it ends with."""
+    program, the status that it ends with, and the millions of instructions and the MiB that it may take at the latter size."""
     script: Callable[[int], List[str]]
     timed: int
     counted: int
     words: Optional[Callable[[int], List[str]]] = None
     status: int = 0
+    bound: Optional[Tuple[int, int]] = None
 
     def arguments(self, n):
         return self.words(n) if self.words else ["run"]
@@ -306,7 +380,15 @@ CASES = {
     "watched": Case(flushed, 95_000, 20_000, words=lambda n: ["watch", "items", "start", "n0"]),
     "synced": Case(flushed, 95_000, 20_000, words=lambda n: ["sync", "n0"]),
     "checked": Case(inserts_traced, 95_000, 20_000, words=lambda n: ["check"]),
+    "late_checked": Case(late_traced, 24_000, 4_000, words=lambda n: ["check"]),
     "updates": Case(updates, 50_000, 5_000),
+    "long_text": Case(long_text, 50_000, 5_000, bound=(80, 16)),
+    "long_array": Case(long_array, 10_000, 10_000, bound=(1_000, 26)),
+    "many_fields": Case(many_fields, 50_000, 20_000, bound=(600, 50)),
+    "long_text_checked": Case(long_text_traced, 50_000, 5_000, words=lambda n: ["check"], bound=(90, 8)),
+    "long_array_checked": Case(long_array_traced, 10_000, 10_000, words=lambda n: ["check"], bound=(1_000, 12)),
+    "many_checked": Case(many_fields_traced, 50_000, 20_000, words=lambda n: ["check"], bound=(800, 28)),
+    "growing": Case(growing, 2_000, 4_000, bound=(1_900, 100)),
     "mixed": Case(mixed, 90_000, 3_500),
     "writers": Case(writers, 40_000, 40_000),
     "reads": Case(reads, 90_000, 20_000),
@@ -315,6 +397,9 @@ CASES = {
     "flushes": Case(flushes, 20, 40),
     "deep": Case(deep, 300, 600),
     "parse": Case(parse, 100_000, 200_000, status=3),
+    "dumps_deleted": Case(dumps_deleted, 8_000, 8_000, bound=(250, 16)),
+    "dumps_uncommitted": Case(dumps_uncommitted, 20_000, 20_000, bound=(470, 22)),
+    "dumps_collections": Case(dumps_collections, 8_000, 8_000, bound=(250, 16)),
     "blocks_of_one": Case(blocks_of_one, 24_000, 24_000),
     "empty_blocks": Case(empty_blocks, 5_500, 5_500),
     # a set
