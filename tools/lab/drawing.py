@@ -1,13 +1,13 @@
-"""Draws a picture as SVG.
+"""Draws a picture: as elements, of which a page is made, and as a file of SVG.
 
 Nothing rests on colour alone: a primary's lane is wide and full, a draining node's hatched, a candidate's dotted, a
 secondary's thin, and where a node is down there is none; a message that wasn't taken is dashed and ends in a cross.
 """
 from __future__ import annotations
 
-from typing import List, Optional, Tuple
-from xml.sax.saxutils import escape
+from typing import List, Optional, Sequence, Tuple
 
+from .elements import Attributes, Element, all_markup, markup
 from .layout import Arrow, Band, Frame, Label, Mark, Picture, Row, Segment, Shade, Stub, Talk
 
 ROW = 18
@@ -69,26 +69,34 @@ svg.run { font: 11px ui-monospace, "DejaVu Sans Mono", Menlo, Consolas, monospac
 .run .frame { fill: none; stroke: #4b5563; stroke-width: 1.2; stroke-dasharray: 3 3; }
 """
 
-HATCH = (
-    '<pattern id="hatch" width="5" height="5" patternUnits="userSpaceOnUse" patternTransform="rotate(45)">'
-    '<rect width="5" height="5" fill="#fff"/><rect width="2.4" height="5" fill="#0b5cad"/></pattern>'
-)
+HATCH = Element("pattern", {
+    "id": "hatch", "width": 5, "height": 5, "patternUnits": "userSpaceOnUse", "patternTransform": "rotate(45)",
+}, [Element("rect", {"width": 5, "height": 5, "fill": "#fff"}), Element("rect", {"width": "2.4", "height": 5, "fill": "#0b5cad"})])
+
+
+def _path(name: str, line: str) -> Element:
+    return Element("path", {"class": name, "d": line})
+
+
+def _box(name: str, x: int, y: int, width: int, height: int) -> Element:
+    return Element("rect", {"class": name, "x": x, "y": y, "width": width, "height": height})
+
 
 #: The signs of the legend: how each is drawn, its width and what it means.
-SIGNS = (
-    ('<rect class="primary" x="0" y="-9" width="10" height="10"/>', 16, "primary"),
-    ('<rect class="draining" x="0" y="-9" width="10" height="10"/>', 16, "draining (won)"),
-    ('<path class="candidate" d="M2 -4H22"/>', 28, "candidate"),
-    ('<path class="secondary" d="M0 -4H20"/>', 26, "secondary"),
-    ('<path class="cross" d="M0 -8l8 8m0 -8l-8 8"/>', 14, "down, then a gap"),
-    ('<rect class="band c2" x="0" y="-9" width="6" height="10"/>', 12, "commit point"),
-    ('<path class="message" d="M0 -4H20"/><path class="tip" d="M26 -4l-8 -3.5v7z"/>', 32, "message"),
-    ('<path class="message lost" d="M0 -4H20"/><path class="cross" d="M18 -8l8 8m0 -8l-8 8"/>', 32, "ignored or refused"),
-    ('<path class="stub" d="M0 -4H20M20 -9v10"/>', 26, "never delivered"),
-    ('<rect class="square" x="0" y="-8" width="8" height="8"/>', 14, "write"),
-    ('<rect class="parted" x="0" y="-9" width="14" height="10"/>', 20, "parted from the others"),
-    ('<path class="check" d="M0 -4l3 4l7 -9"/>', 16, "acknowledged"),
-    ('<path class="cut" d="M0 -3l4 -5l5 8l5 -8l5 8l4 -5"/>', 30, "rollback"),
+SIGNS: Sequence[Tuple[List[Element], int, str]] = (
+    ([_box("primary", 0, -9, 10, 10)], 16, "primary"),
+    ([_box("draining", 0, -9, 10, 10)], 16, "draining (won)"),
+    ([_path("candidate", "M2 -4H22")], 28, "candidate"),
+    ([_path("secondary", "M0 -4H20")], 26, "secondary"),
+    ([_path("cross", "M0 -8l8 8m0 -8l-8 8")], 14, "down, then a gap"),
+    ([_box("band c2", 0, -9, 6, 10)], 12, "commit point"),
+    ([_path("message", "M0 -4H20"), _path("tip", "M26 -4l-8 -3.5v7z")], 32, "message"),
+    ([_path("message lost", "M0 -4H20"), _path("cross", "M18 -8l8 8m0 -8l-8 8")], 32, "ignored or refused"),
+    ([_path("stub", "M0 -4H20M20 -9v10")], 26, "never delivered"),
+    ([_box("square", 0, -8, 8, 8)], 14, "write"),
+    ([_box("parted", 0, -9, 14, 10)], 20, "parted from the others"),
+    ([_path("check", "M0 -4l3 4l7 -9")], 16, "acknowledged"),
+    ([_path("cut", "M0 -3l4 -5l5 8l5 -8l5 8l4 -5")], 30, "rollback"),
 )
 
 
@@ -121,105 +129,97 @@ class Drawing:
         """Where a client's lane is: they stand to the right of all nodes."""
         return self.lane(self.picture.nodes - 1) + 124 + CLIENT * client
 
-    def heading(self) -> str:
+    def heading(self) -> List[Element]:
         """The names of nodes and clients above their lanes."""
-        names = "".join(
-            f'<text class="head n{node}" x="{self.lane(node)}" y="22" text-anchor="middle">n{node}</text>'
-            for node in range(self.picture.nodes)
-        )
-        names += "".join(
-            f'<text class="head" x="{self.client_lane(client)}" y="22" text-anchor="middle">{escape(name)}</text>'
-            for client, name in enumerate(self.clients)
-        )
         first, last, count = self.picture.lines
-        part = f'<text class="number" x="8" y="22">lines {first} to {last} of {count}</text>' if last - first + 1 < count else ""
-        return part + names
+        part = Element("text", {"class": "number", "x": 8, "y": 22}, [f"lines {first} to {last} of {count}"])
+        parts = [part] if last - first + 1 < count else []
+        parts += [_head(f"head n{node}", self.lane(node), f"n{node}") for node in range(self.picture.nodes)]
+        return parts + [_head("head", self.client_lane(client), name) for client, name in enumerate(self.clients)]
 
-    def body(self) -> str:
+    def body(self) -> List[Element]:
         """Everything below the names and above the legend."""
         picture = self.picture
         self._taken = [self._label_room(label) for label in picture.labels]
         self._taken += [self._stub_room(stub) for stub in picture.stubs if stub.label != "heard"]
-        parts: List[str] = [self._client(client) for client in range(len(self.clients))]
+        parts = [self._client(client) for client in range(len(self.clients))]
         parts += [self._shade(place) for place, row in enumerate(picture.rows) if row.caption]
         parts += [self._side(shade) for shade in picture.shades]
         parts += [self._frame(frame) for frame in picture.frames]
         parts += [self._band(band) for band in picture.bands]
-        parts += [self._segment(segment) for segment in picture.segments]
+        parts += [self._segment(segment) for segment in picture.segments if segment.role != "Down" and segment.top < segment.bottom]
         parts += [self._stub(stub) for stub in picture.stubs]
         parts += [self._arrow(arrow) for arrow in picture.arrows]
         parts += [self._talk(talk) for talk in picture.talks if self.clients]
         parts += [self._mark(mark) for mark in picture.marks]
         parts += [self._label(label) for label in picture.labels]
-        parts += [self._caption(place, row) if row.caption else self._text(place, row) for place, row in enumerate(picture.rows)]
-        return "\n".join(part for part in parts if part)
+        return parts + [self._caption(place, row) if row.caption else self._text(place, row) for place, row in enumerate(picture.rows)]
 
-    def legend(self) -> str:
+    def legend(self) -> List[Element]:
         """What the signs mean, in as many lines as the width needs."""
-        parts, x, y = [], 8.0, 24
+        parts: List[Element] = []
+        x, y = 8.0, 24
         for sign, room, name in SIGNS:
             size = room + len(name) * 5.4 + 16
             if x + size > self.width:
                 x, y = 8.0, y + 20
-            text = f'<text class="legend" x="{room}" y="0">{name}</text>'
-            parts.append(f'<g transform="translate({x:.0f} {y})">{sign}{text}</g>')
+            text = Element("text", {"class": "legend", "x": room, "y": 0}, [name])
+            parts.append(Element("g", {"transform": f"translate({x:.0f} {y})"}, [*sign, text]))
             x += size
-        return "".join(parts)
+        return parts
 
     # The parts.
 
-    def _shade(self, place: int) -> str:
-        return f'<rect class="shade" x="0" y="{place * ROW + 1}" width="{self.width}" height="{ROW - 2}"/>'
+    def _shade(self, place: int) -> Element:
+        return _box("shade", 0, place * ROW + 1, self.width, ROW - 2)
 
-    def _side(self, shade: Shade) -> str:
+    def _side(self, shade: Shade) -> Element:
         x, height = self.lane(shade.node) - self.spread // 2, (shade.bottom - shade.top) * ROW
-        return (
-            f'<rect class="parted s{(shade.side - 1) % 3} n{shade.node}" x="{x}" y="{shade.top * ROW:.0f}" '
-            f'width="{self.spread}" height="{height:.0f}"><title>n{shade.node} is parted from the first side</title></rect>'
-        )
+        return Element("rect", {
+            "class": f"parted s{(shade.side - 1) % 3} n{shade.node}", "x": x, "y": f"{shade.top * ROW:.0f}",
+            "width": self.spread, "height": f"{height:.0f}",
+        }, [Element("title", {}, [f"n{shade.node} is parted from the first side"])])
 
-    def _caption(self, place: int, row: Row) -> str:
-        text = escape(cut(row.text, int(self.width / 6.6)))
-        return f'<text class="caption" x="8" y="{place * ROW + 13}">{text}</text>'
+    def _caption(self, place: int, row: Row) -> Element:
+        return Element("text", {"class": "caption", "x": 8, "y": place * ROW + 13}, [cut(row.text, int(self.width / 6.6))])
 
-    def _text(self, place: int, row: Row) -> str:
+    def _text(self, place: int, row: Row) -> Element:
         y = place * ROW + 13
         bad = " bad" if row.bad else ""
         node = f" n{row.step.node}" if row.step is not None and row.step.node is not None else ""
-        return (
-            f'<g class="line k-{row.kind}{node}"><text class="number" x="{self.command_at - LETTER:.1f}" y="{y}" '
-            f'text-anchor="end">{row.line}</text>'
-            f'<text class="command" x="{self.command_at:.1f}" y="{y}">{escape(cut(row.text, MOST_COMMAND))}</text>'
-            f'<text class="reply{bad}" x="{self.reply_at:.1f}" y="{y}">{escape(cut(row.reply, MOST_REPLY))}</text></g>'
-        )
+        number_at = f"{self.command_at - LETTER:.1f}"
+        return Element("g", {"class": f"line k-{row.kind}{node}"}, [
+            Element("text", {"class": "number", "x": number_at, "y": y, "text-anchor": "end"}, [str(row.line)]),
+            Element("text", {"class": "command", "x": f"{self.command_at:.1f}", "y": y}, [cut(row.text, MOST_COMMAND)]),
+            Element("text", {"class": f"reply{bad}", "x": f"{self.reply_at:.1f}", "y": y}, [cut(row.reply, MOST_REPLY)]),
+        ])
 
-    def _segment(self, segment: Segment) -> str:
+    def _segment(self, segment: Segment) -> Element:
         x, top, bottom = self.lane(segment.node), segment.top * ROW, segment.bottom * ROW
         role = segment.role.lower()
-        if role == "down" or bottom <= top:
-            return ""
         if role in ("primary", "draining"):
-            return f'<rect class="{role} n{segment.node}" x="{x - 5}" y="{top:.0f}" width="10" height="{bottom - top:.0f}"/>'
-        return f'<path class="{role} n{segment.node}" d="M{x} {top:.0f}V{bottom:.0f}"/>'
+            return Element("rect", {
+                "class": f"{role} n{segment.node}", "x": x - 5, "y": f"{top:.0f}", "width": 10, "height": f"{bottom - top:.0f}",
+            })
+        return _path(f"{role} n{segment.node}", f"M{x} {top:.0f}V{bottom:.0f}")
 
-    def _band(self, band: Band) -> str:
-        x = self.lane(band.node) + 8
+    def _band(self, band: Band) -> Element:
         height = (band.bottom - band.top) * ROW
-        return (
-            f'<rect class="band c{band.shade % 4} n{band.node}" x="{x}" y="{band.top * ROW:.0f}" width="5" height="{height:.0f}">'
-            f"<title>n{band.node}: commit point {band.commit}</title></rect>"
-        )
+        return Element("rect", {
+            "class": f"band c{band.shade % 4} n{band.node}", "x": self.lane(band.node) + 8, "y": f"{band.top * ROW:.0f}",
+            "width": 5, "height": f"{height:.0f}",
+        }, [Element("title", {}, [f"n{band.node}: commit point {band.commit}"])])
 
-    def _arrow(self, arrow: Arrow) -> str:
+    def _arrow(self, arrow: Arrow) -> Element:
         (x, y), (to_x, to_y) = self._ends(arrow)
-        lost = " lost" if arrow.bad else ""
-        parts = [f'<path class="message{lost}" d="M{x} {y:.0f}L{to_x} {to_y:.0f}"/>']
+        parts = [_path("message lost" if arrow.bad else "message", f"M{x} {y:.0f}L{to_x} {to_y:.0f}")]
         if arrow.head and arrow.bad:
-            parts.append(f'<path class="cross" d="M{to_x - 4} {to_y - 4:.0f}l8 8m0 -8l-8 8"/>')
+            parts.append(_path("cross", f"M{to_x - 4} {to_y - 4:.0f}l8 8m0 -8l-8 8"))
         elif arrow.head:
             parts.append(self._tip(x, y, to_x, to_y))
         at_x, at_y = self._clear_place(x, y, to_x, to_y, arrow.label)
-        parts.append(f'<text class="kind" x="{at_x:.0f}" y="{at_y - 2:.0f}" text-anchor="middle">{arrow.label}</text>')
+        place: Attributes = {"x": f"{at_x:.0f}", "y": f"{at_y - 2:.0f}", "text-anchor": "middle"}
+        parts.append(Element("text", {"class": "kind", **place}, [arrow.label]))
         return self._group(arrow.kind, arrow.sender, arrow.receiver, parts)
 
     def _clear_place(self, x: float, y: float, to_x: float, to_y: float, text: str) -> Tuple[float, float]:
@@ -251,18 +251,17 @@ class Drawing:
         fits = label.node == self.picture.nodes - 1 or len(label.text) * 5.6 < self.spread - 22
         return [label.text] if fits else label.text.split(", ")
 
-    def _client(self, client: int) -> str:
-        x = self.client_lane(client)
-        return f'<path class="client" d="M{x} 0V{self.height}"/>'
+    def _client(self, client: int) -> Element:
+        return _path("client", f"M{self.client_lane(client)} 0V{self.height}")
 
-    def _talk(self, talk: Talk) -> str:
+    def _talk(self, talk: Talk) -> Element:
         x, to_x, y = self.lane(talk.node) + 6, self.client_lane(talk.client), talk.top * ROW
-        bad = " bad" if talk.bad else ""
-        return (
-            f'<g class="n{talk.node}"><path class="talk" d="M{x} {y:.0f}H{to_x}"/>'
-            f'<circle class="dot" cx="{to_x}" cy="{y:.0f}" r="2.4"/>'
-            f'<text class="answer{bad}" x="{to_x + 6}" y="{y + 3.5:.1f}">{escape(cut(talk.told, MOST_ANSWER))}</text></g>'
-        )
+        place: Attributes = {"x": to_x + 6, "y": f"{y + 3.5:.1f}"}
+        return Element("g", {"class": f"n{talk.node}"}, [
+            _path("talk", f"M{x} {y:.0f}H{to_x}"),
+            _circle("dot", to_x, y, "2.4"),
+            Element("text", {"class": "answer bad" if talk.bad else "answer", **place}, [cut(talk.told, MOST_ANSWER)]),
+        ])
 
     def _ends(self, arrow: Arrow) -> Tuple[Tuple[int, float], Tuple[int, float]]:
         side = 1 if arrow.receiver > arrow.sender else -1
@@ -270,53 +269,64 @@ class Drawing:
         return (start, arrow.top * ROW), (self.lane(arrow.receiver) - 6 * side, arrow.bottom * ROW)
 
     @staticmethod
-    def _tip(x: float, y: float, to_x: float, to_y: float) -> str:
+    def _tip(x: float, y: float, to_x: float, to_y: float) -> Element:
         length = max(1.0, ((to_x - x) ** 2 + (to_y - y) ** 2) ** 0.5)
         along_x, along_y = (to_x - x) / length, (to_y - y) / length
         back_x, back_y = to_x - 8 * along_x, to_y - 8 * along_y
         one = f"{back_x - 3.5 * along_y:.1f} {back_y + 3.5 * along_x:.1f}"
         other = f"{back_x + 3.5 * along_y:.1f} {back_y - 3.5 * along_x:.1f}"
-        return f'<path class="tip" d="M{to_x} {to_y:.0f}L{one}L{other}z"/>'
+        return _path("tip", f"M{to_x} {to_y:.0f}L{one}L{other}z")
 
-    def _stub(self, stub: Stub) -> str:
+    def _stub(self, stub: Stub) -> Element:
         side = stub.side
         x, y = self.lane(stub.sender) + 5 * side, stub.top * ROW
-        parts = [f'<path class="stub" d="M{x} {y:.0f}l{20 * side} 9m0 -5v10"/>']
+        parts = [_path("stub", f"M{x} {y:.0f}l{20 * side} 9m0 -5v10")]
         if stub.label != "heard":
-            anchor = "start" if side > 0 else "end"
             text = " ".join(f"n{receiver}" for receiver in stub.receivers)
-            parts.append(f'<text class="kind" x="{x + 23 * side}" y="{y + 18:.0f}" text-anchor="{anchor}">{text}</text>')
+            place: Attributes = {"x": x + 23 * side, "y": f"{y + 18:.0f}", "text-anchor": "start" if side > 0 else "end"}
+            parts.append(Element("text", {"class": "kind", **place}, [text]))
         return self._group(stub.kind, stub.sender, stub.sender, parts)
 
     @staticmethod
-    def _group(kind: str, sender: int, receiver: int, parts: List[str]) -> str:
-        return f'<g class="k-{kind} n{sender} n{receiver}">' + "".join(parts) + "</g>"
+    def _group(kind: str, sender: int, receiver: int, parts: List[Element]) -> Element:
+        return Element("g", {"class": f"k-{kind} n{sender} n{receiver}"}, list(parts))
 
-    def _mark(self, mark: Mark) -> str:
+    def _mark(self, mark: Mark) -> Element:
         x, y = self.lane(mark.node), mark.top * ROW
         zigzag = f"M{x - 20} {y:.0f}l6 -5l8 10l8 -10l8 10l8 -10l4 5"
         check = f"M{x - 5} {y:.0f}l4 5l8 -11"
         cross, small = f"M{x - 6} {y - 6:.0f}l12 12m0 -12l-12 12", f"M{x - 4} {y - 4:.0f}l8 8m0 -8l-8 8"
         shapes = {
-            "write": f'<rect class="square" x="{x - 4}" y="{y - 4:.0f}" width="8" height="8"/>',
-            "acked": f'<path class="check under" d="{check}"/><path class="check" d="{check}"/>',
-            "crash": f'<path class="cross under" d="{cross}"/><path class="cross" d="{cross}"/>',
-            "restart": f'<circle class="ring" cx="{x}" cy="{y:.0f}" r="4.5"/>',
-            "refused": f'<path class="cross under" d="{small}"/><path class="cross" d="{small}"/>',
-            "cut": f'<path class="cut under" d="{zigzag}"/><path class="cut" d="{zigzag}"/>',
-            "plain": f'<circle class="dot" cx="{x}" cy="{y:.0f}" r="2.8"/>',
+            "write": [Element("rect", {"class": "square", "x": x - 4, "y": f"{y - 4:.0f}", "width": 8, "height": 8})],
+            "acked": [_path("check under", check), _path("check", check)],
+            "crash": [_path("cross under", cross), _path("cross", cross)],
+            "restart": [_circle("ring", x, y, "4.5")],
+            "refused": [_path("cross under", small), _path("cross", small)],
+            "cut": [_path("cut under", zigzag), _path("cut", zigzag)],
+            "plain": [_circle("dot", x, y, "2.8")],
         }
-        return f'<g class="k-{mark.kind} n{mark.node}">{shapes[mark.shape]}</g>'
+        return Element("g", {"class": f"k-{mark.kind} n{mark.node}"}, list(shapes[mark.shape]))
 
-    def _label(self, label: Label) -> str:
+    def _label(self, label: Label) -> Element:
         x, lines = self.lane(label.node) + 17, self._label_lines(label)
         y = label.top * ROW + 3.5 - 4.5 * (len(lines) - 1)
-        rows = "".join(f'<tspan x="{x}" y="{y + 9 * place:.1f}">{escape(line)}</tspan>' for place, line in enumerate(lines))
-        return f'<text class="label n{label.node}">{rows}</text>'
+        return Element("text", {"class": f"label n{label.node}"}, [
+            Element("tspan", {"x": x, "y": f"{y + 9 * place:.1f}"}, [line]) for place, line in enumerate(lines)
+        ])
 
-    def _frame(self, frame: Frame) -> str:
+    def _frame(self, frame: Frame) -> Element:
         y, height = frame.top * ROW, (frame.bottom - frame.top) * ROW
-        return f'<rect class="frame" x="2" y="{y:.0f}" width="{self.width - 4}" height="{height:.0f}" rx="4"/>'
+        return Element("rect", {
+            "class": "frame", "x": 2, "y": f"{y:.0f}", "width": self.width - 4, "height": f"{height:.0f}", "rx": 4,
+        })
+
+
+def _head(name: str, x: int, text: str) -> Element:
+    return Element("text", {"class": name, "x": x, "y": 22, "text-anchor": "middle"}, [text])
+
+
+def _circle(name: str, x: int, y: float, radius: str) -> Element:
+    return Element("circle", {"class": name, "cx": x, "cy": f"{y:.0f}", "r": radius})
 
 
 def cut(text: str, most: int) -> str:
@@ -328,19 +338,20 @@ def svg_file(picture: Picture, title: str) -> str:
     """A whole SVG, with what each row says where a pointer rests on it."""
     drawing = Drawing(picture)
     height = HEAD + drawing.height + FOOT
-    rests = "".join(
-        f'<rect x="0" y="{place * ROW}" width="{drawing.width}" height="{ROW}" fill="transparent">'
-        f"<title>{escape(resting(row))}</title></rect>"
+    rests = [
+        Element("rect", {"x": 0, "y": place * ROW, "width": drawing.width, "height": ROW, "fill": "transparent"},
+                [Element("title", {}, [resting(row)])])
         for place, row in enumerate(picture.rows)
         if row.step is not None
-    )
+    ]
+    body = all_markup(drawing.body(), "\n")
     return (
         f'<svg class="run" xmlns="http://www.w3.org/2000/svg" viewBox="0 0 {drawing.width} {height}" '
-        f'width="{drawing.width}" height="{height}" role="img">\n<title>{escape(title)}</title>\n'
-        f'<style>\n{STYLE}</style>\n<defs>{HATCH}</defs>\n<rect width="100%" height="100%" fill="#fff"/>\n'
-        f"{drawing.heading()}\n"
-        f'<g transform="translate(0 {HEAD})">\n{drawing.body()}\n{rests}\n</g>\n'
-        f'<g transform="translate(0 {HEAD + drawing.height})">{drawing.legend()}</g>\n</svg>\n'
+        f'width="{drawing.width}" height="{height}" role="img">\n{markup(Element("title", {}, [title]))}\n'
+        f'<style>\n{STYLE}</style>\n<defs>{markup(HATCH)}</defs>\n<rect width="100%" height="100%" fill="#fff"/>\n'
+        f"{all_markup(drawing.heading())}\n"
+        f'<g transform="translate(0 {HEAD})">\n{body}\n{all_markup(rests)}\n</g>\n'
+        f'<g transform="translate(0 {HEAD + drawing.height})">{all_markup(drawing.legend())}</g>\n</svg>\n'
     )
 
 

@@ -12,7 +12,7 @@ from .asking import TOLD
 from .histories import ZERO, Histories
 from .keys import Place, read_place, written_place
 from .observe import Run, Step, observe
-from .script import is_silent, words_of
+from .script import first_word, is_silent, words_of
 from .state import Optime, State, optime
 
 #: Each of a node's two disks may be told to fail once, so that the third restart succeeds.
@@ -101,14 +101,29 @@ class Story:
 
 def read_fates(lines: Sequence[str]) -> Story:
     """Plays a plain script, and tells what became of its writes and what its reads showed."""
-    nodes_down = [f"restart n{node}" for node in range(_nodes(lines)) for _ in range(RESTARTS)]
-    run = observe([*lines, *nodes_down])
-    return _Reader(run, len(lines)).read()
+    return story_of(observe([*lines, *endings(lines)]), len(lines))
+
+
+def endings(lines: Sequence[str]) -> List[str]:
+    """What is played after a script to see what the disks of nodes have that are down."""
+    return [f"restart n{node}" for node in range(_nodes(lines)) for _ in range(RESTARTS)]
+
+
+def story_of(run: Run, count: int) -> Story:
+    """What became of the writes of a run whose script has so many lines. After them it goes on, at last with the endings."""
+    return _Reader(run, count).read()
 
 
 def _nodes(lines: Sequence[str]) -> int:
     first = next((words_of(line) for line in lines if not is_silent(line)), [""])
     return int(first[1]) if first[0] == "set" and len(first) > 1 and first[1].isdecimal() else 0
+
+
+#: The first words of replies that tell something of data.
+_TOLD = {
+    "written", "begun", "committed", "aborted", "primary", "took", "applied", "rolled", "down", "refused", "up", "acked", "config",
+    "found", "missing", "documents",
+}
 
 
 class _Reader:
@@ -152,6 +167,8 @@ class _Reader:
         if after is None or step.line in self._blocks and after is step.before:
             # Within a block nodes aren't asked. The last step of each there has the state in which the block left it.
             return
+        if after is self._story.states.get(node):
+            return
         self._story.states[node] = after
         if after.role == "Primary" and node not in self._primaries:
             for other, line in self._primaries.items():
@@ -164,8 +181,10 @@ class _Reader:
             self._committed.add(optime(after.commit))
 
     def _take(self, step: Step, node: int) -> None:
+        head = step.reply.text.split(" ", 1)[0]
+        if head not in _TOLD:
+            return
         words = step.reply.text.split(" ")
-        head = words[0]
         if head in ("written", "begun", "committed", "aborted"):
             self._take_write(step, node, words)
         elif head == "primary":
@@ -311,6 +330,8 @@ def _hidden_reads(lines: Sequence[str]) -> Set[int]:
     found: Set[int] = set()
     begins = 0
     for number, line in enumerate(lines, 1):
+        if not line.startswith("#"):
+            continue
         if line.startswith("# linear "):
             begins = number
         elif line.startswith(f"{TOLD}linear refused") and begins:
@@ -323,7 +344,7 @@ def _block_lines(lines: Sequence[str]) -> Set[int]:
     """The numbers of the lines within blocks."""
     found, in_block = set(), False
     for number, line in enumerate(lines, 1):
-        word = words_of(line)[0]
+        word = first_word(line)
         in_block = word == "par" or (in_block and word != "end")
         if in_block:
             found.add(number)

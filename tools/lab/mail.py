@@ -4,9 +4,10 @@ from __future__ import annotations
 import json
 import re
 from dataclasses import dataclass, field
+from functools import lru_cache
 from typing import Dict, List, Optional, Tuple
 
-from .script import SetSize, acting_node, words_of
+from .script import KEPT, SetSize, acting_node, words_of
 from .state import read_state
 
 _ASKED = re.compile(r"(?:candidate|dryrun) \d+ sent m(\d+) (\d+)$")
@@ -14,6 +15,9 @@ _SENT = re.compile(r"sent m(\d+)(?: to n(\d+))?$")
 _REPLIED = re.compile(r"replied m(\d+)$")
 _CONFIG = re.compile(r"config (\d+)/(\d+)$")
 _DRAINED = re.compile(r"primary (\d+) noop ")
+
+#: Replies that tell of messages or of configurations.
+_TELLING = ("sent ", "candidate ", "dryrun ", "config ", "primary ")
 
 
 @dataclass
@@ -46,6 +50,13 @@ class Mail:
         self._members = {"0/1": Members(tuple(range(size.members)), tuple(range(size.voters)))}
         self._config: Dict[int, str] = {}
 
+    def branch(self) -> "Mail":
+        """The messages so far, of a run that goes on otherwise."""
+        made = Mail.__new__(Mail)
+        made.messages, made._newest = list(self.messages), dict(self._newest)
+        made._members, made._config = dict(self._members), dict(self._config)
+        return made
+
     def notice_state(self, node: int, reply: str) -> None:
         """Learns a node's configuration from its `state` line."""
         state = read_state(reply)
@@ -58,11 +69,10 @@ class Mail:
 
     def receive(self, line: str) -> Optional[Message]:
         """The message that a `deliver` line hands over, if there is one."""
-        words = words_of(line)
-        if len(words) == 2:
-            number = int(words[1][1:])
+        number, receiver = _handed(line)
+        if receiver is None:
             return self.messages[number] if number < len(self.messages) else None
-        return self._newest.get((int(words[1][1:]), int(words[2][1:])))
+        return self._newest.get((number, receiver))
 
     def deliver(self, line: str, number: int, reply: str) -> Optional[Message]:
         """Notes a delivery, and the answer that it sent."""
@@ -71,7 +81,7 @@ class Mail:
             return None
         if not reply.startswith("refused"):
             message.deliveries.append(number)
-        answered = _REPLIED.match(reply)
+        answered = _REPLIED.match(reply) if reply.startswith("replied") else None
         if answered:
             self._send(message.receiver, message.sender, message.kind, number, message.number)
         return message
@@ -80,6 +90,8 @@ class Mail:
         """Notes what a command other than `deliver` sent, and the configurations that it made."""
         node = acting_node(line)
         if node is None:
+            return []
+        if not reply.startswith(_TELLING):
             return []
         before = len(self.messages)
         words = words_of(line)
@@ -113,6 +125,13 @@ class Mail:
         message = Message(len(self.messages), sender, receiver, kind, line, answers)
         self.messages.append(message)
         self._newest[sender, receiver] = message
+
+
+@lru_cache(KEPT)
+def _handed(line: str) -> Tuple[int, Optional[int]]:
+    """What a `deliver` line hands over: a message by its number, or from one node to another."""
+    words = words_of(line)
+    return int(words[1][1:]), int(words[2][1:]) if len(words) > 2 else None
 
 
 def _members_of(text: str) -> Members:

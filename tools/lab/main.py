@@ -51,7 +51,8 @@ be read or written; 5 no program, or too old a Python; 6 the program failed; 7 a
 
 _CHECKOUT = (
     "The program that plays the scripts is the one that the environment variable REPLSET names; else the proved one of this\n"
-    "repository; else one that is built without proofs, in three minutes."
+    "repository; else one that is built without proofs, in three minutes. Where a library is built (build/libreplset.so, or what\n"
+    "REPLSET_LIBRARY names) and REPLSET names no program, it plays what it can: faster, and with the same replies."
 )
 _INSTALLED = "The program that plays the scripts is the one that the environment variable REPLSET names, or the installed one."
 

@@ -10,12 +10,14 @@ from typing import Dict, List, Optional, Sequence, Tuple
 from .errors import SCRIPT, LabError, ScriptFault
 from .mail import Mail, Message
 from .program import play
-from .script import SetSize, acting_node, is_silent, set_size, words_of
+from .script import SetSize, acting_node, first_word, set_size, words_of
 from .state import State, changes, opening_state, read_state
 from .transcript import Reply, Transcript
 
 #: A script has at most so many lines.
 MOST_LINES = 200_000
+
+_QUESTIONS = [f"state n{node}" for node in range(50)]
 
 
 class TooLong(LabError):
@@ -41,7 +43,7 @@ class Step:
     @property
     def word(self) -> str:
         """The command's name."""
-        return words_of(self.text)[0]
+        return first_word(self.text)
 
     def told_change(self) -> str:
         """What changed, for people; nothing where nothing did."""
@@ -60,23 +62,25 @@ class Run:
     steps: List[Step]
     #: The nodes' states before the first line that was watched.
     opening: Dict[int, State]
-    #: The nodes' states behind the last one.
+    #: The nodes' states after the last one.
     closing: Dict[int, State]
 
 
 class _Probed:
-    """A script with `state` lines put in. For each line `source` has the line that it was or stands behind, and the node asked."""
+    """A script with `state` lines put in. For each line `source` has the line that it was or stands after, and the node asked."""
 
     def __init__(self, lines: Sequence[str], nodes: int, first: int, last: int):
         self.lines: List[str] = []
         self.source: List[Tuple[int, Optional[int]]] = []
+        #: Of these the ones that have a reply, where there are no blocks.
+        self.answered: List[Tuple[int, Optional[int]]] = []
         self._everyone = list(range(nodes))
         in_block = begun = False
         for number, line in enumerate(lines, 1):
-            word = "" if is_silent(line) else words_of(line)[0]
+            word = first_word(line)
             if number == first and begun:
                 self._ask(number - 1, self._everyone)
-            self._put(line, number, None)
+            self._put(line, (number, None), word)
             in_block = word == "par" or (in_block and word != "end")
             if word and not in_block and first <= number <= last:
                 self._ask(number, self._touched(line, word))
@@ -95,15 +99,18 @@ class _Probed:
 
     def _named(self, line: str) -> List[int]:
         """The node that a line is for, where it names one of the set's."""
-        return [node for node in [acting_node(line)] if node in self._everyone and node is not None]
-
-    def _put(self, line: str, number: int, asked: Optional[int]) -> None:
-        self.lines.append(line)
-        self.source.append((number, asked))
+        node = acting_node(line)
+        return [node] if node is not None and node < len(self._everyone) else []
 
     def _ask(self, number: int, nodes: List[int]) -> None:
         for node in nodes:
-            self._put(f"state n{node}", number, node)
+            self._put(_QUESTIONS[node], (number, node), "state")
+
+    def _put(self, line: str, source: Tuple[int, Optional[int]], word: str) -> None:
+        self.lines.append(line)
+        self.source.append(source)
+        if word:
+            self.answered.append(source)
 
     def play(self) -> Transcript:
         """The replies, or the fault of a line by the number that it has in the script as it was."""
@@ -118,34 +125,59 @@ class _Probed:
 
 def observe(lines: Sequence[str], first: int = 1, last: int = MOST_LINES) -> Run:
     """Plays a script, and watches what its lines from `first` to `last` change. Of the others it follows the messages alone."""
-    size = set_size(lines)
     first = _before_block(lines, first)
-    probed = _Probed(lines, size.nodes, first, last)
-    states = {node: opening_state() for node in range(size.nodes)}
-    run = Run(list(lines), size, Mail(size), [], dict(states), states)
-    latest: Dict[int, Step] = {}
+    watching = Watching(list(lines), set_size(lines), first)
+    probed = _Probed(lines, watching.run.size.nodes, first, last)
     for reply in probed.play().replies:
-        number, asked = probed.source[reply.line - 1]
+        watching.take(*probed.source[reply.line - 1], reply)
+    return watching.run
+
+
+class Watching:
+    """A run of some lines, as far as its replies have come."""
+
+    def __init__(self, lines: List[str], size: SetSize, first: int = 1):
+        opening = {node: opening_state() for node in range(size.nodes)}
+        self.run = Run(lines, size, Mail(size), [], opening, dict(opening))
+        self._first = first
+        self._latest: Dict[int, Step] = {}
+
+    def branch(self, lines: List[str]) -> "Watching":
+        """One that has come as far, in a run that goes on with other lines."""
+        run = self.run
+        made = Watching(lines, run.size, self._first)
+        made.run.mail, made.run.steps = run.mail.branch(), list(run.steps)
+        made.run.closing.update(run.closing)
+        made._latest.update(self._latest)
+        return made
+
+    def take(self, number: int, asked: Optional[int], reply: Reply) -> None:
+        """The reply to a line, or to a question after it where a node is asked."""
+        run = self.run
         if asked is None:
-            step = _step(run, number, reply, states)
+            step = _step(run, number, reply, run.closing)
             run.steps.append(step)
             if step.node is not None:
-                latest[step.node] = step
-            continue
+                self._latest[step.node] = step
+            return
         run.mail.notice_state(asked, reply.text)
-        states[asked] = read_state(reply.text)
-        if number < first:
-            run.opening[asked] = states[asked]
-        elif asked in latest:
-            latest[asked].after = states[asked]
-    return run
+        run.closing[asked] = read_state(reply.text)
+        if number < self._first:
+            run.opening[asked] = run.closing[asked]
+        elif asked in self._latest:
+            self._latest[asked].after = run.closing[asked]
+
+
+def probed_part(lines: Sequence[str], nodes: int) -> _Probed:
+    """A part of a script that has no blocks, with all its lines watched."""
+    return _Probed(lines, nodes, 1, MOST_LINES)
 
 
 def _before_block(lines: Sequence[str], first: int) -> int:
     """The line, or where it stands in a block the line that begins it."""
     begins = 0
     for number, line in enumerate(lines[: first - 1], 1):
-        word = words_of(line)[0]
+        word = first_word(line)
         if word == "par":
             begins = number
         elif word == "end":
@@ -156,7 +188,7 @@ def _before_block(lines: Sequence[str], first: int) -> int:
 def _step(run: Run, number: int, reply: Reply, states: Dict[int, State]) -> Step:
     text = run.lines[number - 1]
     own = Reply(number, reply.text, reply.more)
-    if words_of(text)[0] == "deliver":
+    if first_word(text) == "deliver":
         count = len(run.mail.messages)
         message = run.mail.deliver(text, number, reply.text)
         node, sent = (message.receiver if message else None), run.mail.messages[count:]

@@ -4,11 +4,12 @@ from __future__ import annotations
 import random
 import re
 from dataclasses import dataclass
+from functools import lru_cache
 from typing import Collection, Dict, Iterator, List, Sequence, Set, Tuple
 
 from .expand import Expanded
 from .program import play
-from .script import is_silent, words_of
+from .script import KEPT, is_silent, words_of
 from .show import printable
 from .transcript import Reply
 from .variations import shortened
@@ -31,22 +32,38 @@ def outcome(
     lines: Sequence[str], source: Sequence[int], nodes: int, watch: "re.Pattern[str]", also: Collection[int] = ()
 ) -> Outcome:
     """What is watched of a run of these lines: what the pattern matches, and the lines with the numbers in `also`."""
-    transcript = play([*lines, *(f"dump n{node} local" for node in range(nodes))])
+    return outcome_of(play([*lines, *dumps(nodes)]).by_line, lines, source, nodes, watch, also)
+
+
+def dumps(nodes: int) -> List[str]:
+    """What is played after a script, for its outcome."""
+    return [f"dump n{node} local" for node in range(nodes)]
+
+
+def outcome_of(
+    replies: Dict[int, Reply], lines: Sequence[str], source: Sequence[int], nodes: int, watch: "re.Pattern[str]", also: Collection[int]
+) -> Outcome:
+    """The same, where they were played with the dumps after them."""
     endings = {}
     for node in range(nodes):
-        reply = transcript.by_line[len(lines) + 1 + node]
+        reply = replies[len(lines) + 1 + node]
         if not reply.refused:
             endings[node] = reply.more
     found: Dict[int, str] = {}
     for number, line in enumerate(lines, 1):
-        said, was = transcript.by_line.get(number), source[number - 1]
-        if said is not None and was and (was in also or watch.search(line) or watch.search(_whole(said))):
+        said, was = replies.get(number), source[number - 1]
+        if said is not None and was and (was in also or _is_watched(watch, line) or _is_watched(watch, _whole(said))):
             found[was] = _whole(said)
     return Outcome(found, endings)
 
 
+@lru_cache(KEPT)
+def _is_watched(watch: "re.Pattern[str]", text: str) -> bool:
+    return watch.search(text) is not None
+
+
 def _whole(reply: Reply) -> str:
-    return "\n".join([reply.text, *reply.more])
+    return "\n".join([reply.text, *reply.more]) if reply.more else reply.text
 
 
 def usual_outcomes(lines: Sequence[str], nodes: int, watch: "re.Pattern[str]") -> List[Outcome]:

@@ -8,6 +8,7 @@ from typing import Any, Dict, List, Optional, Sequence
 
 from .documents import Documents
 from .drawing import FOOT, HATCH, HEAD, ROW, SIGNS, STYLE, Drawing, resting
+from .elements import Element, all_markup, markup
 from .layout import Picture, Row
 from .show import printable
 from .state import State
@@ -30,25 +31,28 @@ KINDS = {
 def page(picture: Picture, title: str, documents: Optional[Dict[int, Documents]], found: Sequence[Verdict] = ()) -> str:
     """The whole page. The verdicts are marked in it."""
     drawing = Drawing(picture, clients=True)
-    template = (HERE / "page.html").read_text(encoding="utf-8")
+    template = _file("page.html")
     parts = {
         "TITLE": escape(title),
-        "STYLE": STYLE + (HERE / "page.css").read_text(encoding="utf-8") + _filter_rules(picture),
+        "STYLE": STYLE + _file("drawing.css") + _file("page.css") + _filter_rules(picture),
         "NODES": _boxes({f"n{node}": f"n{node}" for node in range(picture.nodes)}, ""),
         "KINDS": _boxes({kind: name for kind, name in KINDS.items() if _has(picture, kind)}, "k-"),
-        "DEFS": HATCH,
-        "HEAD": _svg("", drawing.heading(), drawing.width, 0, HEAD),
-        "BODY": _svg("body", f'<g id="drawing" class="run">{drawing.body()}</g>{_flags(drawing, found)}{_rests(drawing)}',
-                     drawing.width, 0, drawing.height),
+        "DEFS": markup(HATCH),
+        "HEAD": _svg("", all_markup(drawing.heading()), drawing.width, 0, HEAD),
+        "BODY": _svg("body", _body(drawing, found), drawing.width, 0, drawing.height),
         "VERDICTS": _verdicts(drawing, found),
         "LEGEND": _legend(),
         "SHEETS": _sheets(drawing, title),
         "DATA": json.dumps(_data(drawing, documents, found), separators=(",", ":"), ensure_ascii=True).replace("<", "\\u003c"),
-        "SCRIPT": (HERE / "page.js").read_text(encoding="utf-8"),
+        "SCRIPT": _file("page.js"),
     }
     for name, text in parts.items():
         template = template.replace("{{" + name + "}}", text)
     return template
+
+
+def _file(name: str) -> str:
+    return (HERE / name).read_text(encoding="utf-8")
 
 
 def _has(picture: Picture, kind: str) -> bool:
@@ -62,10 +66,16 @@ def _svg(identity: str, content: str, width: int, top: int, height: int) -> str:
     )
 
 
+def _body(drawing: Drawing, found: Sequence[Verdict]) -> str:
+    drawn = all_markup(drawing.body(), "\n")
+    over = all_markup([*flags(drawing, found), *rests(drawing)])
+    return f'<g id="drawing" class="run">{drawn}</g>{over}'
+
+
 def _legend() -> str:
     """The signs and what they mean, as words that wrap."""
     return "".join(
-        f'<span class="sign"><svg class="run" width="{room}" height="14" viewBox="0 -11 {room} 14">{sign}</svg>{name}</span>'
+        f'<span class="sign"><svg class="run" width="{room}" height="14" viewBox="0 -11 {room} 14">{all_markup(sign)}</svg>{name}</span>'
         for sign, room, name in SIGNS
     )
 
@@ -86,14 +96,14 @@ def _filter_rules(picture: Picture) -> str:
     return "\n".join(rules)
 
 
-def _rests(drawing: Drawing) -> str:
+def rests(drawing: Drawing) -> List[Element]:
     """What is pointed at and tapped: a clear stripe over each row."""
-    return "".join(
-        f'<rect class="rest" data-row="{place}" x="0" y="{place * ROW}" width="{drawing.width}" height="{ROW}">'
-        f"<title>{escape(resting(row))}</title></rect>"
+    return [
+        Element("rect", {"class": "rest", "data-row": place, "x": 0, "y": place * ROW, "width": drawing.width, "height": ROW},
+                [Element("title", {}, [resting(row)])])
         for place, row in enumerate(drawing.picture.rows)
         if row.step is not None
-    )
+    ]
 
 
 def _rows_of(drawing: Drawing, verdict: Verdict) -> List[int]:
@@ -113,17 +123,17 @@ def _verdicts(drawing: Drawing, found: Sequence[Verdict]) -> str:
     return "verdicts " + " ".join(shown) if shown else "no verdicts"
 
 
-def _flags(drawing: Drawing, found: Sequence[Verdict]) -> str:
+def flags(drawing: Drawing, found: Sequence[Verdict]) -> List[Element]:
     """A mark in front of each row that shows a verdict."""
     rows: Dict[int, List[str]] = {}
     for verdict in found:
         for place in _rows_of(drawing, verdict):
             rows.setdefault(place, []).append(verdict.name)
-    return "".join(
-        f'<rect class="flag" x="0" y="{place * ROW + 1}" width="4" height="{ROW - 2}">'
-        f'<title>{escape(", ".join(dict.fromkeys(names)))}</title></rect>'
+    return [
+        Element("rect", {"class": "flag", "x": 0, "y": place * ROW + 1, "width": 4, "height": ROW - 2},
+                [Element("title", {}, [", ".join(dict.fromkeys(names))])])
         for place, names in rows.items()
-    )
+    ]
 
 
 def _sheets(drawing: Drawing, title: str) -> str:
@@ -132,14 +142,15 @@ def _sheets(drawing: Drawing, title: str) -> str:
     count = len(drawing.picture.rows)
     for top in range(0, max(count, 1), SHEET):
         rows = min(SHEET, count - top)
-        legend = f'<g transform="translate(0 {HEAD + rows * ROW})">{drawing.legend()}</g>' if top + rows >= count else ""
+        signs = f'<g transform="translate(0 {HEAD + rows * ROW})">{all_markup(drawing.legend())}</g>'
+        legend = signs if top + rows >= count else ""
         height = HEAD + rows * ROW + (FOOT if legend else 0)
         inner = (
             f'<svg x="0" y="{HEAD}" width="{drawing.width}" height="{rows * ROW}" '
             f'viewBox="0 {top * ROW} {drawing.width} {rows * ROW}"><use href="#drawing"/></svg>'
         )
         name = escape(title) + (f", part {top // SHEET + 1} of {-(-count // SHEET)}" if count > SHEET else "")
-        svg = f'<svg class="run" viewBox="0 0 {drawing.width} {height}">{drawing.heading()}{inner}{legend}</svg>'
+        svg = f'<svg class="run" viewBox="0 0 {drawing.width} {height}">{all_markup(drawing.heading())}{inner}{legend}</svg>'
         sheets.append(f'<section class="sheet"><h2>{name}</h2>{svg}</section>')
     return "".join(sheets)
 

@@ -1,15 +1,16 @@
-"""A script that grows line by line, and what the program replies to it. Each question plays the whole script anew."""
+"""A script that grows line by line, and what the program replies to it. By the program each question plays all of it anew."""
 from __future__ import annotations
 
 import re
 from typing import Dict, List, Optional
 
+from .inside import Follower
 from .mail import Mail, Members, Message
 from .observe import observe
 from .program import last_replies, play
 from .script import SetSize, acting_node, is_silent, set_size, words_of
 from .state import State, read_state
-from .transcript import Reply, Transcript
+from .transcript import Reply, Transcript, read_transcript
 
 #: A line that is repeated is looked at so often at a time.
 AT_A_TIME = 6
@@ -18,9 +19,10 @@ AT_A_TIME = 6
 class Player:
     """The lines so far. Lines that nobody asks about are played with the next question only."""
 
-    def __init__(self, lines: Optional[List[str]] = None):
+    def __init__(self, lines: Optional[List[str]] = None, follower: Optional[Follower] = None):
         self.lines: List[str] = list(lines or [])
         self._played: Optional[Transcript] = None
+        self._follower = follower or Follower()
 
     def add(self, line: str) -> None:
         """Adds a line, and doesn't ask for its reply."""
@@ -30,6 +32,7 @@ class Player:
     def forget(self) -> None:
         """Must be called where lines were taken away."""
         self._played = None
+        self._follower.forget()
 
     def ask(self, line: str) -> Reply:
         """Adds a line and gives its reply."""
@@ -48,15 +51,21 @@ class Player:
         """Adds a line as often as it isn't refused. Several at a time are looked at."""
         taken = AT_A_TIME
         while taken == AT_A_TIME:
-            replies = last_replies([*self.lines, *[line] * AT_A_TIME], len(self.lines) + 1).replies
+            replies = self._next([line] * AT_A_TIME).replies
             taken = next((place for place, reply in enumerate(replies) if reply.refused), AT_A_TIME)
             for _ in range(taken):
                 self.add(line)
 
     def look(self, line: str) -> Reply:
         """The reply that a line would have here. It isn't added."""
-        number = len(self.lines) + 1
-        return last_replies([*self.lines, line], number).by_line[number]
+        return self._next([line]).by_line[len(self.lines) + 1]
+
+    def _next(self, asked: List[str]) -> Transcript:
+        """The replies that lines would have here. They aren't added."""
+        told = self._follower.replies(self.lines, asked)
+        if told is None:
+            return last_replies([*self.lines, *asked], len(self.lines) + 1)
+        return read_transcript(told.decode("utf-8", "surrogateescape"))
 
     def transcript(self) -> Transcript:
         """All replies so far."""
@@ -73,7 +82,7 @@ class Player:
         nodes = range(self.size().nodes)
         asked = [f"state n{node}" for node in nodes]
         first = len(self.lines) + 1
-        transcript = last_replies([*self.lines, *asked], first)
+        transcript = self._next(asked)
         return {node: read_state(transcript.text(first + node)) for node in nodes}
 
     def members(self, node: int) -> Members:

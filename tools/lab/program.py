@@ -8,6 +8,7 @@ from pathlib import Path
 from typing import Dict, List, Sequence
 
 from .errors import FAILED, FILE, PROGRAM, LabError, ScriptFault
+from .inside import played
 from .quick import run
 from .transcript import Transcript, read_transcript
 
@@ -76,12 +77,18 @@ def write_file(name: str, content: bytes) -> None:
 
 def script_bytes(lines: Sequence[str]) -> bytes:
     """The lines as a script's bytes. What wasn't UTF-8 when it was read comes out as it was."""
-    return "".join(line + "\n" for line in lines).encode("utf-8", "surrogateescape")
+    return "\n".join([*lines, ""]).encode("utf-8", "surrogateescape")
 
 
 def transcript_bytes(lines: Sequence[str]) -> bytes:
     """The transcript of a script, or a ScriptFault where the lines are none."""
-    done = run_program(["run"], script_bytes(lines))
+    script = script_bytes(lines)
+    inside = played(script)
+    if inside is not None and inside.fault is None:
+        return inside.text
+    if inside is not None and inside.fault is not None:
+        raise ScriptFault(*inside.fault, _line(lines, inside.fault[0]))
+    done = run_program(["run"], script)
     if done.returncode == 0:
         return done.stdout
     said = done.stdout.decode("utf-8", "replace").strip()

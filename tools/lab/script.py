@@ -3,6 +3,7 @@ from __future__ import annotations
 
 import sys
 from dataclasses import dataclass
+from functools import lru_cache
 from pathlib import Path
 from typing import List, Optional, Sequence
 
@@ -20,6 +21,9 @@ KINDS = {
 }
 #: So many members of a set vote at most.
 MOST_VOTERS = 7
+
+#: What is known of so many lines is kept: variations of a script have the same lines.
+KEPT = 4096
 COMMANDS = ("set", *KINDS, "deliver", "par", "thread", "end")
 
 
@@ -59,11 +63,18 @@ def words_of(line: str) -> List[str]:
     return line.rstrip("\r").split(" ")
 
 
+@lru_cache(KEPT)
+def first_word(line: str) -> str:
+    """A command's name, or nothing where the line says nothing to the program."""
+    return "" if is_silent(line) else words_of(line)[0]
+
+
 def node_number(word: str) -> Optional[int]:
     """The number of a node's name, such as `n2`."""
     return int(word[1:]) if word[:1] == "n" and word[1:].isdecimal() else None
 
 
+@lru_cache(KEPT)
 def acting_node(line: str) -> Optional[int]:
     """The node that a command names first, or none for `deliver mK`, a comment or a block's words."""
     words = words_of(line)

@@ -3,7 +3,10 @@ from __future__ import annotations
 
 import re
 from dataclasses import dataclass
+from functools import lru_cache
 from typing import List, Tuple
+
+from .script import KEPT
 
 _STATE = re.compile(
     r"state (\w+) term (\d+) vote (\w+) last (\S+) durable (\S+) applied (\S+) commit (\S+) config (\S+) rollback (\d+)$"
@@ -12,6 +15,7 @@ _STATE = re.compile(
 Optime = Tuple[int, int, int]
 
 
+@lru_cache(KEPT)
 def optime(text: str) -> Optime:
     """An optime as three numbers, which are ordered as optimes are."""
     term, seconds, increment = text.split("/")
@@ -47,6 +51,7 @@ def opening_state() -> State:
     return State("Secondary", "0", "none", zero, zero, zero, zero, "0/1", "0")
 
 
+@lru_cache(KEPT)
 def read_state(reply: str) -> State:
     """The state that a `state` line's reply tells; a refusal says that the node is down."""
     found = _STATE.match(reply)

@@ -1,12 +1,15 @@
 """The replies of a run, by the number of their line and in the order in which they were given."""
 from __future__ import annotations
 
+import re
 from dataclasses import dataclass, field
-from typing import Dict, List, Tuple
+from typing import Dict, List, NamedTuple, Tuple
+
+#: A reply, with the lines below it.
+_REPLY = re.compile(r"^([0-9]+): (.*)((?:\n  .*)*)$", re.MULTILINE)
 
 
-@dataclass(frozen=True)
-class Reply:
+class Reply(NamedTuple):
     """The reply to one line: its text, and what stands below it."""
 
     line: int
@@ -39,16 +42,11 @@ class Transcript:
 
 def read_transcript(text: str) -> Transcript:
     """The replies in what the program put."""
-    transcript = Transcript()
-    heads: List[Tuple[int, str, List[str]]] = []
-    for line in text.split("\n"):
-        if line.startswith("  "):
-            heads[-1][2].append(line[2:])
-        elif line:
-            head, told = line.split(": ", 1)
-            heads.append((int(head), told, []))
-    for number, said, more in heads:
-        reply = Reply(number, said, tuple(more))
-        transcript.replies.append(reply)
-        transcript.by_line[number] = reply
-    return transcript
+    replies = read_replies(text)
+    return Transcript(replies, {reply.line: reply for reply in replies})
+
+
+def read_replies(text: str) -> List[Reply]:
+    """The same, in their order."""
+    found = _REPLY.findall(text)
+    return [Reply(int(number), said, tuple(more[3:].split("\n  ")) if more else ()) for number, said, more in found]

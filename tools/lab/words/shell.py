@@ -91,6 +91,7 @@ class Shell:
             replies = self.player.transcript() if self.player.open_block() is None else None
         except LabError as fault:
             del self.player.lines[before[0]:]
+            self.player.forget()
             self._expander.macros.restore(before[1])
             if isinstance(fault, CannotGoOn):
                 self._show_tried(fault.lines, before[0])

@@ -11,7 +11,7 @@ from typing import List, Tuple
 
 from ..errors import NOTHING, WORDS, LabError, ScriptFault
 from ..expand import Expanded, read_script
-from ..program import find_program, run_program, script_bytes
+from ..program import find_program, script_bytes, transcript_bytes
 from ..smaller import Test, named_by_nodes, smallest
 from ..telling import names_of, what_happened
 from ..verdicts import MEANINGS
@@ -50,8 +50,11 @@ def pattern(text: str) -> "re.Pattern[str]":
 
 def _keeps(wanted: "re.Pattern[str]") -> Test:
     def test(lines: List[str]) -> bool:
-        done = run_program(["run"], script_bytes(lines))
-        return done.returncode == 0 and wanted.search(done.stdout.decode("utf-8", "replace")) is not None
+        try:
+            told = transcript_bytes(lines)
+        except ScriptFault:
+            return False
+        return wanted.search(told.decode("utf-8", "replace")) is not None
 
     return test
 

@@ -5,14 +5,16 @@ import argparse
 import os
 import re
 import sys
-from typing import Dict, List, NamedTuple, Tuple
+from collections import Counter
+from typing import Dict, List, NamedTuple, Optional, Tuple
 
 from ..chance import script_of_seed
 from ..errors import FAILED, FILE, INTERRUPT, WORDS, LabError
-from ..program import run_program
+from ..inside import played
+from ..program import run_program, script_bytes
 from ..script import read_lines
 from ..show import Progress
-from ..state import optime
+from ..state import optime, read_state
 from ..telling import names_of
 from ..totals import Totals, read_totals
 from ..verdicts import MEANINGS
@@ -64,6 +66,11 @@ def _part(text: str) -> Tuple[int, int]:
     return int(found[1]), int(found[2])
 
 
+#: A reply of a transcript, and what a summary counts by the first word of one.
+_REPLY = re.compile(rb"^[0-9]+: ([a-z]+)(.*)$", re.MULTILINE)
+_COUNTED = (("written", b"written"), ("won", b"won"), ("rolled back", b"rolled"), ("refused", b"refused"))
+
+
 class Summary(NamedTuple):
     """What one seed came to."""
 
@@ -86,6 +93,28 @@ def _summary(text: str, verdicts: List[str]) -> Summary:
             name, count = line.rsplit(" ", 1)
             counts[name] = int(count)
     return Summary(counts, max(commits, key=optime), down, verdicts)
+
+
+def _by_program(seed: int, events: int, nodes: int) -> str:
+    """What the program says of a seed, for which it makes the script by itself."""
+    done = run_program(["chaos", str(seed), str(events), str(nodes)])
+    if done.returncode != 0:
+        raise LabError(FAILED, f"seed {seed} ended with status {done.returncode}")
+    return done.stdout.decode()
+
+
+def _inside(lines: List[str], nodes: int) -> Optional[str]:
+    """The same of a seed's script that is played inside of this process, or nothing where it can't be."""
+    asked = [f"state n{node}" for node in range(nodes)]
+    told = played(script_bytes([*lines, *asked]))
+    if told is None:
+        return None
+    replies = _REPLY.findall(told.text)
+    heads = Counter(head for head, _ in replies[: len(replies) - nodes])
+    states = [read_state((head + rest).decode()) for head, rest in replies[len(replies) - nodes :]]
+    counts = [f"events {len(lines) - 1}", *(f"{name} {heads[head]}" for name, head in _COUNTED)]
+    ends = ["down" if state.down else f"last {state.last} commit {state.commit}" for state in states]
+    return "\n".join([*counts, *(f"n{node} {end}" for node, end in enumerate(ends))])
 
 
 def _seeds(bounds: Tuple[int, int], part: Tuple[int, int]) -> range:
@@ -137,11 +166,10 @@ def _play(arguments: argparse.Namespace, totals: Totals) -> bool:
     seeds = _seeds(arguments.seeds, arguments.part or (1, 1))
 
     def summary(seed: int) -> Summary:
-        done = run_program(["chaos", str(seed), str(events), str(nodes)])
-        if done.returncode != 0:
-            raise LabError(FAILED, f"seed {seed} ended with status {done.returncode}")
-        names = [] if arguments.no_verdicts else names_of(script_of_seed(seed, events, nodes))
-        return _summary(done.stdout.decode(), [name for name in names if arguments.verdict in (None, name)])
+        lines = [] if arguments.no_verdicts else script_of_seed(seed, events, nodes)
+        names = names_of(lines) if lines else []
+        told = (_inside(lines, nodes) if lines else None) or _by_program(seed, events, nodes)
+        return _summary(told, [name for name in names if arguments.verdict in (None, name)])
 
     progress = Progress(len(seeds), "seeds")
     try:

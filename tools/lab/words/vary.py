@@ -8,15 +8,17 @@ from collections import Counter
 from itertools import compress, repeat
 from typing import Callable, Dict, Iterable, Iterator, List, NamedTuple, Tuple
 
+from ..branches import Base
 from ..errors import DIFFERENT, INTERRUPT, NOTHING, WORDS, LabError
 from ..expand import Expanded, read_expanded
-from ..outcomes import differences, outcome, usual_outcomes
+from ..fates import story_of
+from ..outcomes import differences, dumps, outcome, outcome_of, usual_outcomes
 from ..program import script_bytes, write_file
 from ..script import set_size
 from ..show import Progress
 from ..telling import of_name, verdicts_of
 from ..variations import KINDS, Variation, faults, orders, played
-from ..verdicts import MEANINGS
+from ..verdicts import MEANINGS, verdicts
 from ..workers import in_order
 from .shrink import pattern
 
@@ -103,14 +105,19 @@ def _answers(arguments: argparse.Namespace, script: Expanded) -> Callable[[Numbe
     watch, nodes, name = pattern(arguments.watch), set_size(script.lines).nodes, arguments.verdict
     usual = usual_outcomes(script.lines, nodes, watch)
     watched = {number for one in usual for number in one.replies}
+    base = Base(script.lines)
 
     def answer(numbered: Numbered) -> Answer:
         lines, source = played(numbered[1], script.lines)
-        found = [] if arguments.no_verdicts else of_name(verdicts_of(lines), name)
+        run = None if arguments.no_verdicts else base.run(lines, dumps(nodes))
+        found = [] if run is None else of_name(verdicts(story_of(run, len(lines))), name)
         names = tuple(dict.fromkeys(verdict.name for verdict in found))
         if name is not None:
             return Answer(tuple(dict.fromkeys(verdict.told for verdict in found)), names)
-        return Answer(differences(script, usual, outcome(lines, source, nodes, watch, watched)), names)
+        if run is None:
+            return Answer(differences(script, usual, outcome(lines, source, nodes, watch, watched)), names)
+        replies = {step.line: step.reply for step in run.steps}
+        return Answer(differences(script, usual, outcome_of(replies, lines, source, nodes, watch, watched)), names)
 
     return answer
 
