@@ -10,6 +10,7 @@ usage: replset run < SCRIPT
 
        replset --prove [WORD ..]    proves and builds the program first, then runs it on the words, where there are any
        replset --unproved WORD ..   runs the program that is built without proofs, even where a proved one stands
+       replset --web [PORT]         serves a page in which scripts are played, on 127.0.0.1, and prints its address
        replset --install PREFIX     puts the program, the lab, the manual page and shell completion below PREFIX
        replset --uninstall PREFIX   removes all that was put below PREFIX; an installed program needs none
        replset --help | --version
@@ -203,6 +204,18 @@ def prove(words):
     return run([program.PROVED], words) if words else 0
 
 
+def web(words):
+    """Makes the folder of the page, where it isn't that of the present sources, and serves it."""
+    if is_installed() or len(words) > 1 or not all(map(str.isdecimal, words)):
+        say("usage: ./replset --web [PORT], in a checkout")
+        return WRONG_WORDS
+    folder = os.path.join(TOP, "build", "web")
+    if subprocess.run([os.path.join(program.TOOLS, "build_web"), folder], stdin=subprocess.DEVNULL).returncode:
+        raise Stop(NOT_BUILT, "the page could not be made")
+    serve = [sys.executable, os.path.join(program.TOOLS, "web", "serve.py"), folder, *words]
+    os.execv(sys.executable, serve)
+
+
 def version():
     """The commit of the checkout, and its date."""
     kept = os.path.join(TOP, "version")
@@ -270,7 +283,7 @@ def tell_help(_):
     """An installed program has no use for what needs a checkout."""
     told = __doc__.strip()
     if is_installed():
-        told = re.sub(r"\n *replset --(prove|install) .*", "", told)
+        told = re.sub(r"\n *replset --(prove|web|install) .*", "", told)
         told = re.sub(r"\nWhere no proved program of these sources stands.*?builds\nall\.", "", told, flags=re.DOTALL)
         told = re.sub(r"\n +(69|70) .*", "", told)
     print(told)
@@ -284,6 +297,7 @@ OPTIONS = {
     "--install": install,
     "--uninstall": uninstall,
     "--prove": prove,
+    "--web": web,
     "--unproved": run_unproved,
 }
 

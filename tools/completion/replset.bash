@@ -1,7 +1,7 @@
 # Completes the words of `replset` in bash.
 
 _replset() {
-    local word=${COMP_WORDS[COMP_CWORD]} at=1 options="--prove --unproved --install --uninstall --help --version"
+    local word=${COMP_WORDS[COMP_CWORD]} at=1 options="--prove --unproved --web --install --uninstall --help --version"
     if ((COMP_CWORD > 1)) && [[ ${COMP_WORDS[1]} == --prove || ${COMP_WORDS[1]} == --unproved ]]; then
         at=2 options=
     fi
