@@ -22,8 +22,8 @@ pub fn acknowledged_logs_chain()
 }
 
 /// A linear read shows exactly the acknowledged entries that were written before it, and what it showed each
-/// later one shows. So acknowledged writes and linear reads are linearizable: each takes effect at its own
-/// event.
+/// later one shows: linearizability, by the places at which entries were written. That the entries of one
+/// document stand in a log in that order is no law here: an open writer holds its document.
 pub fn linearizable()
     ensures logs { InEveryRun ConfirmedLogsAreExact }
     ensures reads { InEveryRun LinearReadsAreExact }
