@@ -49,7 +49,7 @@ def sessions(n):
 
 
 def writers(n):
-    """A thousand writers that begin among the inserts and commit behind them all."""
+    """A thousand writers that begin among the inserts and commit after them all."""
     lines = []
     for k in range(n):
         if k % (n // 1000) == 0 and k // (n // 1000) < 1000:
@@ -94,7 +94,7 @@ def parse(n):
 
 
 def flushed(n):
-    """Inserts that are flushed behind them all; a flush takes two thousand entries."""
+    """Inserts that are flushed after them all; a flush takes two thousand entries."""
     return inserts(n) + ["flush n0"] * (n // 2000 + 1)
 
 
@@ -225,7 +225,7 @@ def turns(nodes, count, each, more=()):
 
 
 def flushes(n):
-    """A thousand inserts and a flush, and behind every tenth of these a checkpoint, a crash and a restart."""
+    """A thousand inserts and a flush, and after every tenth of these a checkpoint, a crash and a restart."""
     lines = []
     for turn in range(n):
         lines += [f"insert n0 t {{_id: {turn * 1000 + k}}}" for k in range(1000)] + ["flush n0"]
@@ -253,7 +253,7 @@ def pulls_of_one(n):
 
 
 def batches_of_5000(n):
-    """Documents of five fields, taken and applied five thousand at a time behind them all."""
+    """Documents of five fields, taken and applied five thousand at a time after them all."""
     lines = [f'insert n0 items {{_id: {k}, name: "Kettle, 1.7 l", price: {k}, tags: ["wood", "large"], n: 0}}' for k in range(n)]
     lines += ["flush n0"] * (n // 2000) + pulled(1, 0) * (n // 5000) + ["apply n1 1"] * (n // 5000)
     return ["set 2 1", *OPENING[1:], *lines]

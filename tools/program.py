@@ -51,7 +51,7 @@ def say(text):
 
 
 def own_crates():
-    """The program's crate and its libraries in this repository, each behind those that it stands on."""
+    """The program's crate and its libraries in this repository, each after those that it stands on."""
     with open(os.path.join(TOP, "crates.txt")) as file:
         lines = [line.partition("#")[0].partition(":") for line in file]
     needs = {head.split()[0]: libraries.split() for head, colon, libraries in lines if colon}
@@ -100,7 +100,7 @@ def note(program, what, text):
 
 def is_current(program, parts):
     """Whether a program stands that is made of the present sources: none has changed since it was begun, or their
-    times alone have, as in a copy or behind a checkout of another revision and back."""
+    times alone have, as in a copy or after a checkout of another revision and back."""
     if not os.access(program, os.X_OK):
         return False
     began = os.stat(program).st_mtime_ns

@@ -30,7 +30,7 @@ status: 0 the script was run, or the trace is that of a run
         6 the script has more than 8,388,608 bytes, or the trace more than 67,108,864
         7 a disk failed while the set was opened
         8 a disk of a new member failed
-        9 what was to come behind the script was refused; the last line tells why
+        9 what was to come after the script was refused; the last line tells why
         10 the input is no trace; the line that shows it is written
         69 there is no toolchain to build the program
         70 the program could not be built, proved or installed

@@ -4,7 +4,7 @@ from __future__ import annotations
 from pathlib import Path
 from typing import List, Optional
 
-from .lab.documents import documents_behind
+from .lab.documents import documents_after
 from .lab.drawing import svg_file
 from .lab.expand import Expanded
 from .lab.layout import picture_of, window
@@ -65,7 +65,7 @@ def draw(lines: List[str], output: Path, title: Optional[str]) -> None:
     elif output.suffix == ".html":
         first, last = _window(lines)
         run = observe(lines, first, last)
-        text = page(picture_of(run, first, last), named, documents_behind(run, first, last), verdicts_of(lines))
+        text = page(picture_of(run, first, last), named, documents_after(run, first, last), verdicts_of(lines))
     else:
         raise ValueError(f"a picture is a page (.html) or a picture alone (.svg), and {output} is none")
     output.write_text(text, encoding="utf-8")

@@ -59,9 +59,9 @@ def is_as_written(block: Block, lines: List[str], written: List[Reply], told: Li
     """The replies before the block and the last ones are as written."""
     begin = lines.index("par")
     before = sum(reply.line <= begin for reply in written)
-    behind = len(written) - block.ending
+    after = len(written) - block.ending
     hold(len(told) == len(written), f"{len(told)} replies, of {len(written)}")
-    for reply, other in [*zip(written[:before], told[:before]), *zip(written[behind:], told[behind:])]:
+    for reply, other in [*zip(written[:before], told[:before]), *zip(written[after:], told[after:])]:
         hold(other == reply, f"line {reply.line} is answered {said(other)!r}, and not {said(reply)!r}")
 
 
@@ -85,19 +85,19 @@ def is_merged(lines: List[str], told: List[Reply]) -> None:
 
 
 def never_goes_back(block: Block, lines: List[str], told: List[Reply]) -> None:
-    """Each read tells one of the states, and none an older one behind a newer one."""
+    """Each read tells one of the states, and none an older one after a newer one."""
     newest = 0
     for reply in told:
         if lines[reply.line - 1].startswith("read "):
             shown = f"line {reply.line} reads {said(reply)!r}"
             hold(said(reply) in block.states, f"{shown}, which the document never was")
             place = block.states.index(said(reply))
-            hold(newest <= place, f"{shown}, behind a newer one")
+            hold(newest <= place, f"{shown}, after a newer one")
             newest = place
 
 
 def writes_rise(block: Block, told: List[Reply]) -> None:
-    """So many writes are done, each behind the one before it in the log."""
+    """So many writes are done, each after the one before it in the log."""
     places = [int(reply.text.rpartition("/")[2]) for reply in told if reply.text.startswith("written 1/0/")]
     hold(len(places) == block.written, f"{len(places)} writes are done, of {block.written}")
     hold(all(place < later for place, later in zip([0, *places], places)), f"the writes are done at {places}")

@@ -7,7 +7,7 @@ from typing import Iterator, List, NamedTuple
 
 EXAMPLES = Path(__file__).resolve().parents[2] / "examples"
 
-#: What may be asked for behind a script, by what the file's name ends in.
+#: What may be asked for after a script, by what the file's name ends in.
 QUESTIONS = {"watch": "changes", "linear": "linear reads", "sync": "new members"}
 
 #: What a file beside a script may end in.
@@ -24,7 +24,7 @@ class Row(NamedTuple):
 
 
 class Question(NamedTuple):
-    """Words that ask for something behind a script, and the lines that tell it."""
+    """Words that ask for something after a script, and the lines that tell it."""
 
     words: List[str]
     lines: str
@@ -48,7 +48,7 @@ def table(name: str) -> Iterator[Row]:
 
 
 def questions(name: str, ending: str) -> Iterator[Question]:
-    """What is asked behind a script. An empty line ends each question's lines."""
+    """What is asked after a script. An empty line ends each question's lines."""
     for question in read(name, ending).split("\n\n"):
         words, _, lines = question.partition("\n")
         yield Question(words.split(" "), lines.rstrip() + "\n")

@@ -94,7 +94,7 @@ ONE_ENDS = """\
 
 
 def comes_in_batches(opening: str, ending: str, workers: int, program: Program) -> None:
-    """The primary writes 5,000 entries behind its no-op; node 1 fetches and applies them in two batches."""
+    """The primary writes 5,000 entries after its no-op; node 1 fetches and applies them in two batches."""
     lines = [f"insert n0 t {{_id: {key}, n: 0}}\n" for key in range(1, PAST)]
     lines += ["update n0 t 1 {$inc: {n: 1}}\n"] * UPDATED
     batches = f"apply n1 {workers}\napply n1 {workers}\nread n1 local t 1\n"

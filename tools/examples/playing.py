@@ -81,7 +81,7 @@ def hold(holds: bool, fault: str) -> None:
 
 
 def said(reply: Reply) -> str:
-    """All that a reply says behind the number of its line."""
+    """All that a reply says after the number of its line."""
     return "\n".join((reply.text, *reply.more))
 
 

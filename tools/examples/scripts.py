@@ -1,4 +1,4 @@
-"""Each script with its transcript and its trace, what is asked behind it; what is no script or no trace."""
+"""Each script with its transcript and its trace, what is asked after it; what is no script or no trace."""
 from __future__ import annotations
 
 from functools import partial
@@ -18,7 +18,7 @@ def tasks() -> Iterator[Task]:
     for ending, what in QUESTIONS.items():
         for name in names(ending):
             for question in questions(name, ending):
-                asked = f"{what} behind {name}, {' '.join(question.words)}"
+                asked = f"{what} after {name}, {' '.join(question.words)}"
                 yield Task(asked, partial(is_told, name, question))
     for row in table("refused"):
         yield Task(f"a script that is refused with {row.heading}", partial(is_refused, row))
@@ -37,7 +37,7 @@ def is_traced(name: str, program: Program) -> None:
 
 
 def is_told(name: str, question: Question, program: Program) -> None:
-    """The lines stand behind the transcript. A refusal ends the run with a status of its own."""
+    """The lines stand after the transcript. A refusal ends the run with a status of its own."""
     status = REFUSED if " refused " in question.lines else 0
     expect(program.ask(question.words, read(name, "replset")), status, read(name, "out") + question.lines)
 

@@ -290,7 +290,7 @@ class Author(Members, Sessions):
             self.say(self.stray())
 
     def part(self):
-        """Some steps, behind an election where none leads."""
+        """Some steps, after an election where none leads."""
         if self.primary is None:
             self.elect()
         if self.dice.random() < 0.3:

@@ -77,7 +77,7 @@ class SessionChecks:
             session, number = write
             numbers = has.setdefault(session, {})
             if max(numbers, default=0) >= number:
-                self.fault(f"the log has the write {number} of session {session} behind {max(numbers)}")
+                self.fault(f"the log has the write {number} of session {session} after {max(numbers)}")
             numbers[number] = at
         self.logs[node] = has
 

@@ -85,11 +85,11 @@ def check_questions(player: Player, dice) -> Iterator[str]:
 
 
 def unless_answered(player: Player, words: List[str], status: int, told: str) -> Iterator[str]:
-    """A fault where the words are answered otherwise behind the transcript."""
+    """A fault where the words are answered otherwise after the transcript."""
     ended, put = ask(player.program, words, player.script())
     if (ended, put) != (status, player.transcript + told):
-        behind = put[len(player.transcript) :] if put.startswith(player.transcript) else put
-        yield f"`{' '.join(words)}` ends with status {ended} and tells {behind[:300]!r}, and not {told[:300]!r}"
+        after = put[len(player.transcript) :] if put.startswith(player.transcript) else put
+        yield f"`{' '.join(words)}` ends with status {ended} and tells {after[:300]!r}, and not {told[:300]!r}"
 
 
 def member(number: int, seen: Shown) -> Tuple[int, str]:

@@ -20,7 +20,7 @@ HABITS = (
     (r"ObjectId\s*\(", 'an ObjectId is written Id("24 HEX DIGITS")'),
     (r"ISODate\s*\(|new\s+Date\s*\(|Date\s*\(\s*[\"')]", "a date is written Date(MILLISECONDS), as a number since 1970 "
      "(mongosh's Date(..) and ISODate(..) take a text)"),
-    (r"NumberLong\s*\(|Long\s*\(", "an integer of 64 bits is written with L behind it, as 5L"),
+    (r"NumberLong\s*\(|Long\s*\(", "an integer of 64 bits is written with L after it, as 5L"),
     (r"NumberInt\s*\(|Int32\s*\(", "an integer of 32 bits is written by itself, as 5"),
     (r"NumberDecimal\s*\(|Decimal128\s*\(", "there are no decimals: write an integer, or a string"),
     (r"Timestamp\s*\(", "a timestamp is written Time(SECONDS, INCREMENT)"),
@@ -32,7 +32,7 @@ HABITS = (
     (r"\bundefined\b", "there is no undefined: write null, or leave the field out"),
     (r"'", "strings have double quotes, as \"a\""),
     (r"/[^/]+/[a-z]*", "there are no regular expressions"),
-    (r",\s*[}\]]", "no comma stands behind the last member"),
+    (r",\s*[}\]]", "no comma follows the last member"),
     (r"//|/\*", "a comment is a line of its own that begins with #"),
 )
 
@@ -41,8 +41,8 @@ CONFIG_KEYS = {"version", "members", "settings"}
 MEMBER_KEYS = {"_id", "votes", "priority", "arbiterOnly", "secondaryDelaySecs"}
 #: What a fault of another kind than Unexpected comes to.
 FAULTS = {
-    "Number": "the number is out of its range; an integer of more than 32 bits has L behind it",
-    "Escape": "behind a backslash only these stand: \" \\ n r t, or u and four hex digits",
+    "Number": "the number is out of its range; an integer of more than 32 bits has L after it",
+    "Escape": "only these stand after a backslash: \" \\ n r t, or u and four hex digits",
     "Hex": "hex digits stand here, two for each byte (24 in an ObjectId)",
     "DuplicateName": "this name stands twice in one document",
     "TooDeep": "level 101 begins here",

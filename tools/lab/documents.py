@@ -1,4 +1,4 @@
-"""Which documents a node has behind the lines of a run, found by `dump` lines that are put in and taken out again."""
+"""Which documents a node has after the lines of a run, found by `dump` lines that are put in and taken out again."""
 from __future__ import annotations
 
 from typing import Dict, List, Optional, Tuple
@@ -10,13 +10,13 @@ from .script import WRITES
 #: More documents than these at one node aren't listed.
 MOST = 60
 
-#: What a node has is dumped behind these; a delivery may roll back or end a primary.
+#: What a node has is dumped after these; a delivery may roll back or end a primary.
 CHANGING = (*WRITES, "retry", "commit", "abort", "apply", "drain", "stepdown", "restart", "deliver")
 
 Documents = Tuple[str, ...]
 
 
-def documents_behind(run: Run, first: int, last: int) -> Optional[Dict[int, Documents]]:
+def documents_after(run: Run, first: int, last: int) -> Optional[Dict[int, Documents]]:
     """For each line that may change what its node shows, the documents at that node then; none where there are too many."""
     ends = play([*run.lines, *(f"dump n{node} local" for node in range(run.size.nodes))])
     if any(len(reply.more) > MOST for reply in ends.replies[-run.size.nodes :]):
@@ -36,7 +36,7 @@ def cut_short(documents: Documents) -> Documents:
 
 
 def _with_dumps(run: Run, first: int, last: int) -> Tuple[List[str], Dict[int, int]]:
-    """The script with `dump` lines outside its blocks, and of each of these the line that it stands behind."""
+    """The script with `dump` lines outside its blocks, and of each of these the line that it stands after."""
     steps = run_steps(run)
     lines: List[str] = []
     asked: Dict[int, int] = {}

@@ -1,6 +1,6 @@
 """What the comments of a script expect, and whether it is so.
 
-`# expect: TEXT` behind a command speaks of its reply: the reply is TEXT, or goes on behind it after a space; `..` in TEXT
+`# expect: TEXT` after a command speaks of its reply: the reply is TEXT, or begins with it and a space; `..` in TEXT
 stands for anything. Several such comments in a row speak of the reply's lines, one after another. Where a macro tells what came
 of it, they speak of that.
 """

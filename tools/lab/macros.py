@@ -276,7 +276,7 @@ class Macros:
         """Delivers the newest message to the other, and its answer back; what that came to."""
         if not self.linked(node, other):
             self.player.add(f"# lost in the partition: deliver n{node} n{other}")
-            return "is behind the partition"
+            return "is cut off by the partition"
         asked = self.player.attempt(f"deliver n{node} n{other}")
         if asked.refused:
             return "is down" if asked.text.startswith("refused 1 ") else f"answers {asked.text}"
@@ -287,7 +287,7 @@ class Macros:
     def _tell(self, node: int, other: int) -> None:
         """A heartbeat from the node to the other, which must be heard."""
         if not self.linked(node, other):
-            raise CannotGoOn(f"n{other} doesn't hear n{node}, which is behind the partition")
+            raise CannotGoOn(f"n{other} doesn't hear n{node}, which the partition cuts off")
         sent = self.player.ask(f"heartbeat n{node} n{other}")
         heard = sent if sent.refused else self.player.ask(f"deliver n{node} n{other}")
         if heard.text == "ignored OldTerm":

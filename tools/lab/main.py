@@ -1,4 +1,4 @@
-"""Reads the words behind `lab`, and sees to it that whatever goes wrong is told in one sentence."""
+"""Reads the words after `lab`, and sees to it that whatever goes wrong is told in one sentence."""
 from __future__ import annotations
 
 import argparse

@@ -24,7 +24,7 @@ class NotationFault(Exception):
 
 
 def read_value(text: str, place: int, level: int = 1) -> int:
-    """The place behind the value that begins at `place`; a NotationFault where none stands there."""
+    """The place after the value that begins at `place`; a NotationFault where none stands there."""
     first = text[place : place + 1]
     if first in ("{", "["):
         return _members(text, place, level)
@@ -76,7 +76,7 @@ def _spaces(text: str, place: int) -> int:
 
 
 def _sign(text: str, place: int, sign: str) -> int:
-    """The place behind a sign, with spaces on both of its sides."""
+    """The place after a sign, with spaces on both of its sides."""
     place = _spaces(text, place)
     if text[place : place + 1] != sign:
         raise NotationFault(place, "Unexpected")

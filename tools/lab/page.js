@@ -18,7 +18,7 @@
   }
 
   function putStates(row) {
-    put(told, "h2", "The nodes behind it");
+    put(told, "h2", "The nodes after it");
     const table = put(put(told, "div", undefined, "states"), "table");
     const head = put(table, "tr");
     for (const name of ["node", "role", "term", "last", "durable", "applied", "commit", "config"]) put(head, "th", name);

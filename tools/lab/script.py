@@ -84,7 +84,7 @@ def acting_node(line: str) -> Optional[int]:
 
 
 def kind_of_write(line: str) -> str:
-    """The kind of a write, which `begin` and `retry` name behind words of their own; of any other command its first word."""
+    """The kind of a write, which `begin` and `retry` name after words of their own; of any other command its first word."""
     words = line.split(" ")
     place = {"begin": 3, "retry": 4}.get(words[0], 0)
     return words[place if place < len(words) else 0]

@@ -34,7 +34,7 @@ def named_by_nodes(lines: Sequence[str]) -> List[str]:
 
 
 def shortest_front(lines: List[str], test: Test) -> List[str]:
-    """The lines up to the first place behind which the rest isn't needed, where halving finds it."""
+    """The lines up to the first place after which the rest isn't needed, where halving finds it."""
     too_few, enough = 0, len(lines)
     while enough - too_few > 1:
         middle = (too_few + enough) // 2

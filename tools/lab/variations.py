@@ -19,7 +19,7 @@ Token = Union[int, str]
 
 
 class Change(NamedTuple):
-    """One change to a script, behind or at the line at `place`: `swap` has another place, and a crash its node."""
+    """One change to a script, after or at the line at `place`: `swap` has another place, and a crash its node."""
 
     kind: str
     place: int

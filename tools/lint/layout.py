@@ -3,8 +3,8 @@ from terms import AFTER_EQUALS, AFTER_IN, AFTER_LAMBDA, LONE_LAMBDA, Bracket, Fi
 
 # What more there is to pay, beside what `terms.py` says of each break.
 RECORD = 24  # a field of a record, or a part of a tuple, to a line
-INSIDE = 12  # a piece that is broken, though more stands behind it on its line
-GOES_ON = 14  # what stands on a line behind a piece that was broken
+INSIDE = 12  # a piece that is broken, though more stands after it on its line
+GOES_ON = 14  # what stands on a line after a piece that was broken
 DEEPER = 1.3  # for each level
 SHORT, SHORT_LINE = 18, 9  # a last line that is shorter
 EMPTY = 1 / 30  # each column that is left over where a line ends
@@ -18,7 +18,7 @@ class Layout:
 
     def lay(self, node, column, tail, line, deeper):
         """What the layout of a tree costs, and its text. It begins in this column of a line with the indent `line`, and
-        `tail` more columns have to fit behind it."""
+        `tail` more columns have to fit after it."""
         if column + len(node.flat) + tail <= self.width:
             return 0, node.flat
         if isinstance(node, Text):
@@ -59,7 +59,7 @@ class Layout:
         parts, known = node.parts, {}
 
         def rest(at, column, line, was_broken):
-            """The parts from this one on, behind a text that ends in this column."""
+            """The parts from this one on, after a text that ends in this column."""
             if at == len(parts):
                 return 0, ""
             key = at, column, line, was_broken
@@ -90,8 +90,8 @@ class Layout:
                 end = column + len(text)
             if is_last and before.startswith("\n") and not is_broken and len(lead) + len(text) + len(trail) + tail < SHORT:
                 own += SHORT_LINE
-            more, behind = rest(at + 1, end + len(trail), line, is_broken)
-            return cost + own + more, before + lead + text + trail + behind
+            more, after = rest(at + 1, end + len(trail), line, is_broken)
+            return cost + own + more, before + lead + text + trail + after
 
         return rest(0, column, line, False)
 

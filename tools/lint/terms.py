@@ -22,21 +22,21 @@ OPERATORS = [
     (("*", "/", "%"), 24),
     (("^",), 40),
 ]
-AFTER_EQUALS = 3  # behind the `=` of a definition
-AFTER_COLON = 20  # behind the `:` of a signature or a field
-AFTER_LAMBDA = 5  # behind `λ x.`
-LONE_LAMBDA = 14  # behind one with which its line begins, or before which its function has another long argument
+AFTER_EQUALS = 3  # after the `=` of a definition
+AFTER_COLON = 20  # after the `:` of a signature or a field
+AFTER_LAMBDA = 5  # after `λ x.`
+LONE_LAMBDA = 14  # after one with which its line begins, or before which its function has another long argument
 BEFORE_ELSE = 9
 BEFORE_THEN = 12
 AFTER_IN = 6
 ARGUMENT = 14  # before an argument in brackets
 WORD_ARGUMENT = 20  # before one that is a word
-FIRST_ARGUMENT = 30  # behind the function's own name
+FIRST_ARGUMENT = 30  # after the function's own name
 PARAMETER = 16  # before a parameter of a record
 RESULT = 12  # before its `: Type 0 where`
 NEVER = 10000
 BINDER = -2  # more before `(x : A)`
-BEHIND_BINDER = 4  # more behind one
+AFTER_BINDER = 4  # more after one
 
 TOKEN = re.compile(r'(\s+)|("(?:\\.|[^"\\])*")|([(){}\[\],;])|([^\s(){}\[\],;"]+)')
 CLOSING = {"(": ")", "[": "]", "{": "}"}
@@ -112,7 +112,7 @@ class Bracket:
 
 
 class Row:
-    """Parts, each with what stands before it on its line, what stands behind, and what a break before it costs."""
+    """Parts, each with what stands before it on its line, what stands after it, and what a break before it costs."""
 
     def __init__(self, parts, kind):
         self.parts, self.kind = parts, kind
@@ -157,9 +157,9 @@ def tree_of_piece(piece):
     if not groups:
         return Text(flat_piece(piece))
     at = max(groups, key=lambda k: len(flat_group(piece.parts[k])))
-    group, before, behind = piece.parts[at], Piece(), Piece()
-    before.parts, behind.parts = piece.parts[:at], piece.parts[at + 1:]
-    opening, closing = flat_piece(before) + group.opening, group.closing + flat_piece(behind)
+    group, before, after = piece.parts[at], Piece(), Piece()
+    before.parts, after.parts = piece.parts[:at], piece.parts[at + 1:]
+    opening, closing = flat_piece(before) + group.opening, group.closing + flat_piece(after)
     if group.opening == "{" and group.closing.startswith(" "):
         if place(group.pieces, ("=",)) is not None:
             return Fields(opening, fields(group.pieces, ";"), ";", closing)
@@ -241,7 +241,7 @@ def chain(pieces, places, cost):
         parts.append((lead, tree(inner), "", cost))
     is_binder = [re.match(r"\([\w' ]+ : ", part[1].flat) is not None for part in parts]
     for at in range(1, len(parts)):
-        more = (BINDER if is_binder[at] else 0) + (BEHIND_BINDER if is_binder[at - 1] else 0)
+        more = (BINDER if is_binder[at] else 0) + (AFTER_BINDER if is_binder[at - 1] else 0)
         parts[at] = (*parts[at][:3], cost + more)
     return Row(parts, "chain")
 

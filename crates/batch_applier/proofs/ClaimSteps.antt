@@ -10,7 +10,7 @@ use Rattle.turn_board.specs.History.{times, below}
 use Rattle.turn_board.proofs.Sums.{total_set, two_of_total, total_append, one_if_same, below_more}
 use Rattle.turn_board.proofs.Steps.{there, each_set}
 use Rattle.batch_applier.specs.declared.view.View.{View}
-use Rattle.batch_applier.specs.Claims.{opened, one_part, other_parts, joined, spent, holding, ending, IsFree, HasDone, Fits, IsOut, Stands, AreReadyJobs, claimed, Kept, AreDone}
+use Rattle.batch_applier.specs.Claims.{opened, one_part, other_parts, joined, spent, holding, ending, IsFree, HasDone, Fits, IsOut, Stands, AreReadyJobs, claimed, Invariant, AreDone}
 
 module _ {A : Type 0} where
   pub inside : (l : List A) (i : ℕ) (a : A) → get_elem? l i ≡ some a → i < length l
@@ -75,7 +75,7 @@ module _ {T : Type 0} (ready : T → Type 0) (done : T → T → Type 0) (jobs :
   St = State (Option T) (View T)
 
   abbrev Rule : St → Type 0
-  Rule = Kept ready done jobs
+  Rule = Invariant ready done jobs
 
   abbrev word : St → ℕ
   word s = get_or s.words 0 0

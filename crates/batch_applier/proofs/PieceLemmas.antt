@@ -18,13 +18,13 @@ use Rattle.batch_applier.specs.Parts.{is_in, part_of, joined, AreParts, AreJoine
 use Rattle.batch_applier.proofs.PastLemmas.{after_all}
 use Rattle.batch_applier.proofs.EachLemmas.{applied_then}
 
--- ---- entries behind others
+-- ---- entries after others
 
 abbrev Rise : Entry → Entry → Type 0
 Rise one two = is_before one.optime two.optime ≡ true
 
-abbrev Behind : Version → Entry → Type 0
-Behind version entry = is_before version.at entry.optime ≡ true
+abbrev After : Version → Entry → Type 0
+After version entry = is_before version.at entry.optime ≡ true
 
 rising_front : (xs ys : List Entry) → AllPairs Rise (xs ++ ys) → AllPairs Rise xs
 rising_front xs ys rising i j d less inside =
@@ -32,8 +32,8 @@ rising_front xs ys rising i j d less inside =
     subst (λ (e : Entry). Rise (slice_index_or xs i d) e) (get_or_append_left xs ys d j inside)
     (subst (λ (e : Entry). Rise e (slice_index_or (xs ++ ys) j d)) (get_or_append_left xs ys d i (omega (arith, less, inside))) (rising i j d less (omega (arith, long, inside))))
 
-rising_behind : (xs ys : List Entry) → AllPairs Rise (xs ++ ys) → AllPairs Rise ys
-rising_behind xs ys rising i j d less inside =
+rising_after : (xs ys : List Entry) → AllPairs Rise (xs ++ ys) → AllPairs Rise ys
+rising_after xs ys rising i j d less inside =
     let long : length (xs ++ ys) ≡ length xs + length ys = length-append xs ys in
     subst (λ (e : Entry). Rise (slice_index_or ys i d) e) (get_or-append-add xs ys j d)
     (subst (λ (e : Entry). Rise e (slice_index_or (xs ++ ys) (length xs + j) d)) (get_or-append-add xs ys i d) (rising (length xs + i) (length xs + j) d (omega (arith, less)) (omega (arith, long, inside))))
@@ -52,24 +52,24 @@ ready_front : (shard : Shard) (xs ys : List Entry) → IsReady shard (xs ++ ys) 
 ready_front shard xs ys ready = record {
   own = subst (All Own) (take_at xs ys _ refl) (All-take Own (length xs) (xs ++ ys) ready.own);
   rising = rising_front xs ys ready.rising;
-  later = λ place own k v inside. subst (All (Behind (slice_index_or (past_of shard place).versions k v))) (take_at xs ys _ refl)
-      (All-take (Behind (slice_index_or (past_of shard place).versions k v)) (length xs) (xs ++ ys) (ready.later place own k v inside));
+  later = λ place own k v inside. subst (All (After (slice_index_or (past_of shard place).versions k v))) (take_at xs ys _ refl)
+      (All-take (After (slice_index_or (past_of shard place).versions k v)) (length xs) (xs ++ ys) (ready.later place own k v inside));
 }
   where
     Own : Entry → Type 0
     Own e = (place : Place) → place_of e.op ≡ Some place → BelongsTo shard.number shard.count place
 
-ready_behind : (shard now : Shard) (xs ys : List Entry) → IsReady shard (xs ++ ys) → IsApplied shard now xs → IsReady now ys
-ready_behind shard now xs ys ready applied = record {
+ready_after : (shard now : Shard) (xs ys : List Entry) → IsReady shard (xs ++ ys) → IsApplied shard now xs → IsReady now ys
+ready_after shard now xs ys ready applied = record {
   own = λ k d inside place at. rw (applied.number, applied.count)
       (subst (All Own) (drop_at xs ys _ refl) (All-drop Own (length xs) (xs ++ ys) ready.own) k d inside place at);
-  rising = rising_behind xs ys ready.rising;
+  rising = rising_after xs ys ready.rising;
   later = λ place own.
       let was : BelongsTo shard.number shard.count place = rw (← applied.number, ← applied.count) own in
       subst (λ (past : Past). All Early past.versions) (sym (applied.each place))
       (after_all Early place xs (past_of shard place)
-      (λ k v inside. subst (All (Behind (slice_index_or (past_of shard place).versions k v))) (drop_at xs ys _ refl)
-      (All-drop (Behind (slice_index_or (past_of shard place).versions k v)) (length xs) (xs ++ ys) (ready.later place was k v inside)))
+      (λ k v inside. subst (All (After (slice_index_or (past_of shard place).versions k v))) (drop_at xs ys _ refl)
+      (All-drop (After (slice_index_or (past_of shard place).versions k v)) (length xs) (xs ++ ys) (ready.later place was k v inside)))
       (λ k d inside doc. rising_across xs ys ready.rising k d inside));
 }
   where
@@ -77,9 +77,9 @@ ready_behind shard now xs ys ready applied = record {
     Own e = (place : Place) → place_of e.op ≡ Some place → BelongsTo shard.number shard.count place
 
     Early : Version → Type 0
-    Early version = All (Behind version) ys
+    Early version = All (After version) ys
 
--- a piece stands behind those before it, and before those behind
+-- a piece comes after those before it, and before those after
 pieces_at : (pieces : List (List Entry)) (i : ℕ) (piece : List Entry) → i < length pieces → piece ≡ slice_index_or pieces i piece
     → joined pieces ≡ joined (take i pieces) ++ (piece ++ joined (drop (suc i) pieces))
 pieces_at [] i piece inside is = absurd (omega arith)
@@ -91,7 +91,7 @@ pub ready_piece : (shard now : Shard) (pieces : List (List Entry)) (i : ℕ) (pi
     → IsReady shard (joined pieces) → IsApplied shard now (joined (take i pieces)) → IsReady now piece
 ready_piece shard now pieces i piece inside is ready applied =
     ready_front now piece (joined (drop (suc i) pieces))
-    (ready_behind shard now (joined (take i pieces)) (piece ++ joined (drop (suc i) pieces)) (subst (IsReady shard) (pieces_at pieces i piece inside is) ready) applied)
+    (ready_after shard now (joined (take i pieces)) (piece ++ joined (drop (suc i) pieces)) (subst (IsReady shard) (pieces_at pieces i piece inside is) ready) applied)
 
 pub piece_applied : (shard now left : Shard) (pieces : List (List Entry)) (i : ℕ) (piece : List Entry) → i < length pieces → piece ≡ slice_index_or pieces i piece
     → IsApplied shard now (joined (take i pieces)) → IsApplied now left piece → IsApplied shard left (joined (take (i + 1) pieces))
@@ -111,14 +111,14 @@ piece_begun shard now left pieces i piece inside is first (done, some) =
     before : List Entry
     before = joined (take i pieces)
 
-    behind : List Entry
-    behind = joined (drop (suc i) pieces)
+    after : List Entry
+    after = joined (drop (suc i) pieces)
 
-    whole : joined pieces ≡ (before ++ take done piece) ++ (drop done piece ++ behind)
+    whole : joined pieces ≡ (before ++ take done piece) ++ (drop done piece ++ after)
     whole =
         pieces_at pieces i piece inside is
-        ∙ ap (λ (p : List Entry). before ++ p) (ap (λ (p : List Entry). p ++ behind) (sym (take-append-drop done piece)) ∙ append_assoc (take done piece) (drop done piece) behind)
-        ∙ sym (append_assoc before (take done piece) (drop done piece ++ behind))
+        ∙ ap (λ (p : List Entry). before ++ p) (ap (λ (p : List Entry). p ++ after) (sym (take-append-drop done piece)) ∙ append_assoc (take done piece) (drop done piece) after)
+        ∙ sym (append_assoc before (take done piece) (drop done piece ++ after))
 
     front : take (length (before ++ take done piece)) (joined pieces) ≡ before ++ take done piece
     front = ap (take (length (before ++ take done piece))) whole ∙ take_at (before ++ take done piece) _ _ refl

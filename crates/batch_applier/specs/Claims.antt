@@ -89,7 +89,7 @@ module _ {T : Type 0} (ready : T → Type 0) where
 
 module _ {T : Type 0} (ready : T → Type 0) (done : T → T → Type 0) where
   -- each number below the word was drawn by one seat
-  pub record Kept (jobs : List (Option T)) (s : State (Option T) (View T)) : Type 0 where
+  pub record Invariant (jobs : List (Option T)) (s : State (Option T) (View T)) : Type 0 where
     pub wide : length s.words ≡ 1
     pub long : length s.homes ≡ length jobs
     pub few : length jobs ≤ 2 ^ 32

@@ -24,6 +24,6 @@ AreBack jobs shards = (length shards ≡ length jobs)
     × ((k : ℕ) (job : ShardJob) (s : Shard) → get_elem? jobs k ≡ some (Some job)
     → slice_index_or shards k s ≡ job.shard)
 
--- no job was without memory
+-- no job ran out of memory
 abbrev pub AreAllApplied : List (Option ShardJob) → Type 0
 AreAllApplied jobs = (k : ℕ) (job : ShardJob) → get_elem? jobs k ≡ some (Some job) → IsOk job.applied

@@ -23,16 +23,16 @@ pub record AreParts (entries : List Entry) (count : ℕ) (parts : List (List Ent
   pub long : length parts ≡ count
   pub each : (k : ℕ) (d : List Entry) → k < count → slice_index_or parts k d ≡ part_of entries count k
 
--- one entry stands behind those of its shard
+-- one entry comes after those of its shard
 abbrev pub IsAdded : (old new : List (List Entry)) → ℕ → Entry → Type 0
 IsAdded old new count entry = (k : ℕ) (d : List Entry) → k < length old
     → slice_index_or new k d ≡ slice_index_or old k d ++ part_of (entry ∷ []) count k
 
--- the entries of a batch's pieces, one piece behind the other
+-- the entries of a batch's pieces, one piece after the other
 abbrev pub joined : List (List Entry) → List Entry
 joined pieces = flat_map (λ piece. piece) pieces
 
--- each part has those of the next piece behind its own
+-- each part has those of the next piece after its own
 pub record AreJoined (parts piece joined : List (List Entry)) : Type 0 where
   pub long : length joined ≡ length parts
   pub each : (k : ℕ) (d : List Entry) → k < length parts
@@ -53,7 +53,7 @@ pub record IsApplied (old new : Shard) (entries : List Entry) : Type 0 where
   pub number : new.number ≡ old.number
   pub count : new.count ≡ old.count
 
--- so far as some of the entries, from the first on
+-- the first entries are applied, some or all of them
 abbrev pub IsBegun : Shard → Shard → List Entry → Type 0
 IsBegun old new entries = (done : ℕ) × IsApplied old new (take done entries)
 
@@ -72,7 +72,7 @@ pub record IsReadyFor (shards : List Shard) (entry : Entry) : Type 0 where
       → All (λ version. is_before version.at entry.optime ≡ true)
       (past_of (slice_index_or shards k s) place).versions
 
--- each shard has come so far with the entries on its documents
+-- this holds of each shard and the entries on its documents
 pub record EachOf (So : Shard → Shard → List Entry → Type 0) (old new : List Shard)
     (entries : List Entry) : Type 0 where
   pub long : length new ≡ length old
@@ -85,13 +85,13 @@ pub record AreReady (shards : List Shard) (parts : List (List Entry)) : Type 0 w
   pub each : (k : ℕ) (s : Shard) (p : List Entry) → k < length shards
       → IsReady (slice_index_or shards k s) (slice_index_or parts k p)
 
--- each shard has come so far with its part
+-- this holds of each shard and its part
 pub record Each (So : Shard → Shard → List Entry → Type 0) (old new : List Shard)
     (parts : List (List Entry)) : Type 0 where
   pub long : length new ≡ length old
   pub each : (k : ℕ) (s : Shard) (p : List Entry) → k < length old
       → So (slice_index_or old k s) (slice_index_or new k s) (slice_index_or parts k p)
 
--- all parts are applied to their shards; where memory runs out, of each some entries, from the first on
+-- all parts are applied to their shards; where memory runs out, of each part the first entries
 abbrev pub AreApplied : {A E : Type 0} → Result A E → (old new : List Shard) → List (List Entry) → Type 0
 AreApplied result old new parts = OnOk result (Each IsApplied old new parts) × Each IsBegun old new parts

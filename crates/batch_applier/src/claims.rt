@@ -1,7 +1,7 @@
 // Jobs that workers claim, each once.
 ghost use Rattle.std.specs.Prelude.{◌≡◌, ◌⊎◌, ℕ, ◌+◌, ◌^◌, ◌<◌, ◌≤◌, [], length, Some, IfOk, IfErr, IfSome, MatchOption};
 ghost use Rattle.std.specs.Mem.Slots.{slots_items, slots_len, IsFull};
-ghost use Rattle.batch_applier.specs.Claims.{opened, one_part, other_parts, joined, spent, IsFree, HasNone, HasJob, HasClaimed, HasDone, AreReadyJobs, AreDone, claimed, Kept};
+ghost use Rattle.batch_applier.specs.Claims.{opened, one_part, other_parts, joined, spent, IsFree, HasNone, HasJob, HasClaimed, HasDone, AreReadyJobs, AreDone, claimed, Invariant};
 
 use crate::view::View;
 use atomic_table::{Closed, Join, Play, Refused, Seat, Split, Table, TableRule};
@@ -24,7 +24,7 @@ pub(crate) trait Job {
 pub(crate) struct ClaimRule;
 
 impl<T: Job> TableRule<Option<T>, View<T>, Snapshot<Vec<Option<T>>>> for ClaimRule {
-    ghost holds = { λ key. Kept T.ready T.done key.value.items };
+    ghost holds = { λ key. Invariant T.ready T.done key.value.items };
 
     ghost first = { λ key. opened };
 }

@@ -38,7 +38,7 @@ impl<'a> Part<'a> {
         }
     }
 
-    /// Puts those of the next piece behind the others.
+    /// Puts those of the next piece after the others.
     pub(crate) fn append(&mut self, touches: Touches<'a>) -> Mem<()>
         ensures ok { OnOk result (self.new ≡ self.old ++ touches.entry) }
         ensures err { OnErr result (self.new ≡ self.old) }

@@ -56,7 +56,7 @@ fn empty_parts<'a>(alloc: Global, count: u32) -> Mem<Vec<Part<'a>>>
     Ok(parts)
 }
 
-/// Puts what belongs to each part of the next piece of a batch behind it.
+/// Puts what belongs to each part of the next piece of a batch after it.
 fn appended<'a>(mut parts: Vec<Part<'a>>, piece: Vec<Touches<'a>>) -> Mem<Vec<Part<'a>>>
     requires { length parts.items ≡ length piece.items }
     ensures { IfOk result (λ all. AreJoined parts.entry.items piece.entry.items all.items) }

@@ -103,7 +103,7 @@ impl<'a> Piece<'a> {
     }
 }
 
-/// Adds an entry behind those on documents of its shard.
+/// Adds an entry after those on documents of its shard.
 fn add<'a>(parts: &mut [Touches<'a>], count: u32, entry: &'a Entry) -> Mem<()>
     requires some { (0 < count) × (length parts.old ≡ count) }
     requires lawful { IsLawful entry.now }

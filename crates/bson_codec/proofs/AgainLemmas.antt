@@ -143,14 +143,14 @@ unfolding fields_in
 fields_again zero levels inner within seen more enough names sound flat short = absurd (omega arith)
 fields_again (suc turns) levels inner within seen no_fields enough names sound flat short = ap (λ (fs : Fields). Ok fs) (sym (joined-none seen))
 fields_again (suc turns) levels inner within seen (field name value more) enough names sound flat short =
-    let behind = fields_bytes more ++ 0 ∷ [] in
-    let regrouped : fields_bytes (field name value more) ++ 0 ∷ [] ≡ element (type_byte value) name (value_bytes value) ++ behind = append_assoc (element (type_byte value) name (value_bytes value)) (fields_bytes more) (0 ∷ []) in
+    let after = fields_bytes more ++ 0 ∷ [] in
+    let regrouped : fields_bytes (field name value more) ++ 0 ∷ [] ≡ element (type_byte value) name (value_bytes value) ++ after = append_assoc (element (type_byte value) name (value_bytes value)) (fields_bytes more) (0 ∷ []) in
     let next = next_name seen name value more names in
-    let one = field_again levels inner within seen name value behind next.0 sound.0 next.1 sound.1 (omega arith) (omega arith) in
+    let one = field_again levels inner within seen name value after next.0 sound.0 next.1 sound.1 (omega arith) (omega arith) in
     let moved : IsDocument (joined (with_field seen name value) more) = subst (λ (fs : Fields). IsDocument fs) (sym (joined-with seen name value more)) names in
     let later = fields_again turns levels inner within (with_field seen name value) more (omega arith) moved sound.2 (omega arith) (omega arith) in
     ap (fields_in (suc turns) inner seen) regrouped
-    ∙ rw (goes_on value ((name ++ 0 ∷ value_bytes value) ++ behind), one, later) (ap (λ (fs : Fields). Ok fs) (joined-with seen name value more))
+    ∙ rw (goes_on value ((name ++ 0 ∷ value_bytes value) ++ after), one, later) (ap (λ (fs : Fields). Ok fs) (joined-with seen name value more))
 
 -- ---- items
 
@@ -181,12 +181,12 @@ unfolding items_in
 items_again zero levels inner within place seen more enough sound flat short = absurd (omega arith)
 items_again (suc turns) levels inner within place seen no_items enough sound flat short = ap (λ (ts : Trees). Ok ts) (sym (items-none seen))
 items_again (suc turns) levels inner within place seen (item value more) enough sound flat short =
-    let behind = items_bytes (place + 1) more ++ 0 ∷ [] in
-    let regrouped : items_bytes place (item value more) ++ 0 ∷ [] ≡ element (type_byte value) (decimal place) (value_bytes value) ++ behind = append_assoc (element (type_byte value) (decimal place) (value_bytes value)) (items_bytes (place + 1) more) (0 ∷ []) in
-    let one = item_again levels inner within place value behind sound.0 (omega arith) (omega arith) in
+    let after = items_bytes (place + 1) more ++ 0 ∷ [] in
+    let regrouped : items_bytes place (item value more) ++ 0 ∷ [] ≡ element (type_byte value) (decimal place) (value_bytes value) ++ after = append_assoc (element (type_byte value) (decimal place) (value_bytes value)) (items_bytes (place + 1) more) (0 ∷ []) in
+    let one = item_again levels inner within place value after sound.0 (omega arith) (omega arith) in
     let later = items_again turns levels inner within (place + 1) (with_item seen value) more (omega arith) sound.1 (omega arith) (omega arith) in
     ap (items_in (suc turns) inner place seen) regrouped
-    ∙ rw (goes_on value ((decimal place ++ 0 ∷ value_bytes value) ++ behind), one, later) (ap (λ (ts : Trees). Ok ts) (items-with seen value more))
+    ∙ rw (goes_on value ((decimal place ++ 0 ∷ value_bytes value) ++ after), one, later) (ap (λ (ts : Trees). Ok ts) (items-with seen value more))
 
 -- ---- documents and arrays inside
 
@@ -238,8 +238,8 @@ document_again bound levels bytes fs small sound spelling =
     let long : length bytes ≡ 5 + fields_length fs = ap length spelling.spelled ∙ length-value_bytes (tree.document fs) in
     let regrouped : bytes ≡ number_bytes 4 (5 + fields_length fs) ++ (fields_bytes fs ++ 0 ∷ []) = spelling.spelled ∙ append_assoc (number_bytes 4 (5 + fields_length fs)) (fields_bytes fs) (0 ∷ []) in
     let first : number_in 4 bytes ≡ length bytes = ap (number_in 4) regrouped ∙ number_back 4 (5 + fields_length fs) (fields_bytes fs ++ 0 ∷ []) (omega (arith, long, spelling.in_bytes)) ∙ sym long in
-    let behind : drop 4 bytes ≡ fields_bytes fs ++ 0 ∷ [] = ap (drop 4) regrouped ∙ drop_at (number_bytes 4 (5 + fields_length fs)) (fields_bytes fs ++ 0 ∷ []) 4 (length-number_bytes 4 (5 + fields_length fs)) in
-    rw (outer_again bound bytes (omega (arith, long)) spelling.in_bytes small first, behind) (within_again levels fs sound spelling.in_levels (omega (arith, long, spelling.in_bytes)))
+    let after : drop 4 bytes ≡ fields_bytes fs ++ 0 ∷ [] = ap (drop 4) regrouped ∙ drop_at (number_bytes 4 (5 + fields_length fs)) (fields_bytes fs ++ 0 ∷ []) 4 (length-number_bytes 4 (5 + fields_length fs)) in
+    rw (outer_again bound bytes (omega (arith, long)) spelling.in_bytes small first, after) (within_again levels fs sound spelling.in_levels (omega (arith, long, spelling.in_bytes)))
 
 abbrev done : Fields → Result Fields DecodeError
 done fs = Ok fs

@@ -19,7 +19,7 @@ use Rattle.bson_codec.specs.Outcome.{Gives}
 use Rattle.bson_codec.specs.Reading.{Inner, number_at, bytes_at, byte_at, kind_of, value_at, ends_at, fields_in, item_at, items_in, content_at, members_in, inner_at, known_name_at, length_at}
 use Rattle.bson_codec.specs.Sound.{IsSoundValue, AreSoundItems, IsSound}
 use Rattle.bson_codec.specs.Spelling.{element, value_bytes, fields_bytes, items_bytes, IsSpelling}
-use Rattle.bson_codec.specs.Wholes.{outer_length, fields_within, fields_behind, read_document}
+use Rattle.bson_codec.specs.Wholes.{outer_length, fields_within, fields_after, read_document}
 use Rattle.bson_codec.proofs.PartLemmas.{IsBytes, IsBytes-drop, ok_is, Takes, Takes-then, bytes_take, length_takes, byte_takes, known_name_takes, wide4, number_takes}
 use Rattle.bson_codec.proofs.SpellingLemmas.{length-fields_bytes, length-items_bytes}
 use Rattle.bson_codec.proofs.ValueLemmas.{ValueTakes, InnerTakes, read_pair, kind_takes, value_takes, ends_here, fields_take}
@@ -32,15 +32,15 @@ pub record ItemTakes (levels place : ℕ) (bytes : List ℕ) (value : Tree) (res
   pub sound : IsSoundValue value
   pub in_levels : value_levels value ≤ levels
 
-abbrev behind_kind : Inner → ℕ → List ℕ → declared.Kind → Result (Tree × List ℕ) DecodeError
-behind_kind inner place rest kind = known_name_at (decimal place ++ 0 ∷ []) rest >>= λ behind. value_at inner kind behind
+abbrev after_kind : Inner → ℕ → List ℕ → declared.Kind → Result (Tree × List ℕ) DecodeError
+after_kind inner place rest kind = known_name_at (decimal place ++ 0 ∷ []) rest >>= λ after. value_at inner kind after
 
 item_takes : (levels : ℕ) (inner : Inner) → InnerTakes levels inner → (place : ℕ) (bytes : List ℕ) (next : Tree × List ℕ) → IsBytes bytes → item_at inner place bytes ≡ Ok next → ItemTakes levels place bytes next.0 next.1
 unfolding item_at
 item_takes levels inner within place bytes next fits e =
-    let a = bind_ok (byte_at bytes) (λ byte. kind_of byte.0 >>= behind_kind inner place byte.1) next e in
-    let b = bind_ok (kind_of a.0.0) (behind_kind inner place a.0.1) next a.2 in
-    let c = bind_ok (known_name_at (decimal place ++ 0 ∷ []) a.0.1) (λ behind. value_at inner b.0 behind) next b.2 in
+    let a = bind_ok (byte_at bytes) (λ byte. kind_of byte.0 >>= after_kind inner place byte.1) next e in
+    let b = bind_ok (kind_of a.0.0) (after_kind inner place a.0.1) next a.2 in
+    let c = bind_ok (known_name_at (decimal place ++ 0 ∷ []) a.0.1) (λ after. value_at inner b.0 after) next b.2 in
     let first = byte_takes bytes a.0.0 a.0.1 fits a.1 in
     let second = known_name_takes (decimal place ++ 0 ∷ []) a.0.1 c.0 first.rest_fits c.1 in
     let third = value_takes levels inner within b.0 c.0 next.0 next.1 second.rest_fits c.2 in
@@ -73,8 +73,8 @@ pub record ItemsTake (levels : ℕ) (seen : Trees) (bytes : List ℕ) (all : Tre
   pub sound : AreSoundItems all
   pub in_levels : items_levels all ≤ levels
 
-abbrev behind_end : ℕ → Inner → ℕ → Trees → List ℕ → Bool → Result Trees DecodeError
-behind_end turns inner place seen bytes ended =
+abbrev after_end : ℕ → Inner → ℕ → Trees → List ℕ → Bool → Result Trees DecodeError
+after_end turns inner place seen bytes ended =
     if ended then Ok seen else
     (item_at inner place bytes >>= λ next. items_in turns inner (place + 1) (with_item seen next.0) next.1)
 
@@ -82,15 +82,15 @@ items_take : (turns levels : ℕ) (inner : Inner) → InnerTakes levels inner �
 unfolding items_in
 items_take zero levels inner within place seen bytes all fits e counts sound flat = absurd cc
 items_take (suc turns) levels inner within place seen bytes all fits e counts sound flat =
-    let a = bind_ok (ends_at bytes) (behind_end turns inner place seen bytes) all e in
+    let a = bind_ok (ends_at bytes) (after_end turns inner place seen bytes) all e in
     elim (cases_Bool a.0) [
       | inl ended ↦
           let here : bytes ≡ 0 ∷ [] = ends_here bytes (a.1 ∙ ap (λ (b : Bool). Ok b) ended) in
-          let is : seen ≡ all = ok_is seen all (sym (ap (behind_end turns inner place seen bytes) ended) ∙ a.2) in
+          let is : seen ≡ all = ok_is seen all (sym (ap (after_end turns inner place seen bytes) ended) ∙ a.2) in
           subst (λ (items : Trees). ItemsTake levels seen bytes items) is
           (record { parts = ap (λ (t : List ℕ). items_bytes 0 seen ++ t) here; sound = sound; in_levels = flat })
       | inr more ↦
-          let step = sym (ap (behind_end turns inner place seen bytes) more) ∙ a.2 in
+          let step = sym (ap (after_end turns inner place seen bytes) more) ∙ a.2 in
           let b = bind_ok (item_at inner place bytes) (λ next. items_in turns inner (place + 1) (with_item seen next.0) next.1) all step in
           let one = item_takes levels inner within place bytes b.0 fits b.1 in
           let later = items_take turns levels inner within (place + 1) (with_item seen b.0.0) b.0.1 all one.takes.rest_fits b.2
@@ -102,7 +102,7 @@ items_take (suc turns) levels inner within place seen bytes all fits e counts so
 
 -- ---- documents and arrays inside
 
--- the bytes behind a length, as the document's body and its closing zero
+-- the bytes after a length, as the document's body and its closing zero
 framed : (n : ℕ) (content body : List ℕ) (long : ℕ) → content ≡ body ++ 0 ∷ [] → 5 ≤ n → length content ≡ n - 4 → length body ≡ long → number_bytes 4 n ++ content ≡ number_bytes 4 (5 + long) ++ body ++ 0 ∷ []
 framed n content body long is least counts own =
     let whole : n ≡ 5 + long = omega (arith, ap length is, length-append body (0 ∷ [])) in
@@ -192,9 +192,9 @@ number_first bytes n four is =
     let long : ltb (length bytes) 4 ≡ false = le-ltb _ _ four in
     rw (long, is) refl
 
-behind_takes : (bound levels : ℕ) (bytes : List ℕ) (fs : Fields) (o : Result ℕ DecodeError) → IsBytes bytes → outer_length bound bytes ≡ o → fields_behind levels bytes o ≡ Ok fs → IsSound fs × IsSpelling bound levels fs bytes
-behind_takes bound levels bytes fs (Err rule) fits passed e = absurd cc
-behind_takes bound levels bytes fs (Ok n) fits passed e =
+after_takes : (bound levels : ℕ) (bytes : List ℕ) (fs : Fields) (o : Result ℕ DecodeError) → IsBytes bytes → outer_length bound bytes ≡ o → fields_after levels bytes o ≡ Ok fs → IsSound fs × IsSpelling bound levels fs bytes
+after_takes bound levels bytes fs (Err rule) fits passed e = absurd cc
+after_takes bound levels bytes fs (Ok n) fits passed e =
     let outer = outer_passes bound bytes n passed in
     let inside = within_takes levels (drop 4 bytes) fs (IsBytes-drop 4 bytes fits) e in
     let first = number_takes 4 wide4 bytes n (drop 4 bytes) fits (number_first bytes n outer.four outer.read) in
@@ -204,7 +204,7 @@ behind_takes bound levels bytes fs (Ok n) fits passed e =
 
 pub document_takes : (bound levels : ℕ) (bytes : List ℕ) (fs : Fields) → IsBytes bytes → read_document bound levels bytes ≡ Ok fs → IsSound fs × IsSpelling bound levels fs bytes
 unfolding read_document
-document_takes bound levels bytes fs fits e = behind_takes bound levels bytes fs (outer_length bound bytes) fits refl e
+document_takes bound levels bytes fs fits e = after_takes bound levels bytes fs (outer_length bound bytes) fits refl e
 
 pub is_found : (bound levels : ℕ) (bytes : List ℕ) (result : Result Fields DecodeError) → IsBytes bytes → Gives (λ d. d) result (read_document bound levels bytes) → IfOk result (λ d. IsSound d × IsSpelling bound levels d bytes)
 is_found bound levels bytes (Ok d) fits given = document_takes bound levels bytes d fits given

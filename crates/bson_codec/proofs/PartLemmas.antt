@@ -140,19 +140,19 @@ last_zero (x ∷ xs) (suc m) counts ends = ap (λ (t : List ℕ). x ∷ t) (last
 framed : (n : ℕ) (whole letters : List ℕ) → whole ≡ letters ++ 0 ∷ [] → n ≡ length letters + 1 → number_bytes 4 n ++ whole ≡ number_bytes 4 (length letters + 1) ++ letters ++ 0 ∷ []
 framed n whole letters is counts = rw (is, counts) (sym (append_assoc (number_bytes 4 (length letters + 1)) letters (0 ∷ [])))
 
-abbrev behind_letters : ℕ → List ℕ × List ℕ → List ℕ → Result (List ℕ × List ℕ) DecodeError
-behind_letters n whole letters = cond (slice_index whole.0 (n - 1) == 0) (Ok (letters, whole.1)) (Err rules.Length)
+abbrev after_letters : ℕ → List ℕ × List ℕ → List ℕ → Result (List ℕ × List ℕ) DecodeError
+after_letters n whole letters = cond (slice_index whole.0 (n - 1) == 0) (Ok (letters, whole.1)) (Err rules.Length)
 
-abbrev behind_whole : ℕ → List ℕ × List ℕ → Result (List ℕ × List ℕ) DecodeError
-behind_whole n whole = utf8 (take (n - 1) whole.0) >>= behind_letters n whole
+abbrev after_whole : ℕ → List ℕ × List ℕ → Result (List ℕ × List ℕ) DecodeError
+after_whole n whole = utf8 (take (n - 1) whole.0) >>= after_letters n whole
 
 pub text_takes : (bytes letters rest : List ℕ) → IsBytes bytes → text_at bytes ≡ Ok (letters, rest) → Takes bytes (number_bytes 4 (length letters + 1) ++ letters ++ 0 ∷ []) rest × (is_utf8 letters ≡ true)
 unfolding text_at
 text_takes bytes letters rest fits e =
-    let a = bind_ok (length_at 1 bytes) (λ n. bytes_at n.0 n.1 >>= behind_whole n.0) (letters, rest) e in
+    let a = bind_ok (length_at 1 bytes) (λ n. bytes_at n.0 n.1 >>= after_whole n.0) (letters, rest) e in
     let n = a.0.0 in
-    let b = bind_ok (bytes_at n a.0.1) (behind_whole n) (letters, rest) a.2 in
-    let c = bind_ok (utf8 (take (n - 1) b.0.0)) (behind_letters n b.0) (letters, rest) b.2 in
+    let b = bind_ok (bytes_at n a.0.1) (after_whole n) (letters, rest) a.2 in
+    let c = bind_ok (utf8 (take (n - 1) b.0.0)) (after_letters n b.0) (letters, rest) b.2 in
     let g = guard_held (slice_index b.0.0 (n - 1) == 0) rules.Length (c.0, b.0.1) (letters, rest) c.2 in
     let valid = utf8-ok (take (n - 1) b.0.0) c.0 c.1 in
     let t0 = length_takes 1 bytes n a.0.1 fits a.1 in
@@ -240,7 +240,7 @@ known_name_again (b ∷ name) rest =
     let same : (b == b) ≡ true = grind (arith, nat_tests) in
     rw same (known_name_again name rest)
 
--- the first zero behind a name without one
+-- the first zero after a name without one
 first_at : (name rest : List ℕ) → ¬ Contains name 0 → position_or_len (λ b. b == 0) (name ++ 0 ∷ rest) ≡ length name
 first_at [] rest clean = refl
 first_at (b ∷ name) rest clean = elim (cases_Bool (b == 0)) [
@@ -254,8 +254,8 @@ name_again name rest valid clean =
     let first = first_at name rest clean in
     let there : ltb (length name) (length (name ++ 0 ∷ rest)) ≡ true = lt-ltb _ _ (omega (arith, length-append name (0 ∷ rest))) in
     let found : position (λ b. b == 0) (name ++ 0 ∷ rest) ≡ Some (length name) = rw (first, there) refl in
-    let behind : drop (length name + 1) (name ++ 0 ∷ rest) ≡ rest =
+    let after : drop (length name + 1) (name ++ 0 ∷ rest) ≡ rest =
     ap (drop (length name + 1)) (sym (append_assoc name (0 ∷ []) rest)) ∙ drop_at (name ++ 0 ∷ []) rest (length name + 1) (length-append name (0 ∷ [])) in
-    rw (found, take_at name (0 ∷ rest) (length name) refl, valid, behind) refl
+    rw (found, take_at name (0 ∷ rest) (length name) refl, valid, after) refl
 
 pub ruleset part_lemmas = (number_again, text_takes, text_again, name_takes, name_again, known_name_takes, known_name_again, byte_takes)

@@ -48,15 +48,15 @@ pub closed : (old room body out : List ℕ) → length room ≡ 4 → out ≡ (o
     → (take (length old) out ++ number_bytes 4 (length out + 1 - length old)) ++ (drop (length old + 4) out ++ 0 ∷ []) ≡ old ++ (number_bytes 4 (5 + length body) ++ body ++ 0 ∷ [])
 closed old room body out four whole =
     let front : take (length old) out ≡ old = rw (whole, append_assoc) (take_at old (room ++ body) (length old) refl) in
-    let behind : drop (length old + 4) out ≡ body = rw whole (drop_at (old ++ room) body (length old + 4) (omega (arith, length-append old room))) in
+    let after : drop (length old + 4) out ≡ body = rw whole (drop_at (old ++ room) body (length old + 4) (omega (arith, length-append old room))) in
     let count : length out + 1 - length old ≡ 5 + length body = omega (arith, ap length whole, length-append (old ++ room) body, length-append old room) in
-    rw (front, behind, count) (simp append_assoc)
+    rw (front, after, count) (simp append_assoc)
 
--- how many bytes stand behind, put into its room once they are written
-pub sized_behind : (old room body out : List ℕ) → length room ≡ 4 → out ≡ (old ++ room) ++ body
+-- how many bytes follow, put into its room once they are written
+pub sized_after : (old room body out : List ℕ) → length room ≡ 4 → out ≡ (old ++ room) ++ body
     → (take (length old) out ++ number_bytes 4 (length out - (length old + 4))) ++ drop (length old + 4) out ≡ old ++ (number_bytes 4 (length body) ++ body)
-sized_behind old room body out four whole =
+sized_after old room body out four whole =
     let front : take (length old) out ≡ old = rw (whole, append_assoc) (take_at old (room ++ body) (length old) refl) in
-    let behind : drop (length old + 4) out ≡ body = rw whole (drop_at (old ++ room) body (length old + 4) (omega (arith, length-append old room))) in
+    let after : drop (length old + 4) out ≡ body = rw whole (drop_at (old ++ room) body (length old + 4) (omega (arith, length-append old room))) in
     let count : length out - (length old + 4) ≡ length body = omega (arith, ap length whole, length-append (old ++ room) body, length-append old room) in
-    rw (front, behind, count) (simp append_assoc)
+    rw (front, after, count) (simp append_assoc)

@@ -68,12 +68,12 @@ abbrev pub read_pair : Tree → List ℕ → Tree × List ℕ
 read_pair value rest = (value, rest)
 
 -- a number of a kind, made of the bytes' number
-made_takes : (n levels : ℕ) (bytes : List ℕ) (make : ℕ → Tree) (value : Tree) (rest : List ℕ) (x : ℕ) (behind : List ℕ)
-    → Takes bytes (number_bytes n x) behind → value_bytes (make x) ≡ number_bytes n x → IsSoundValue (make x) → value_levels (make x) ≤ levels → read_pair (make x) behind ≡ read_pair value rest
+made_takes : (n levels : ℕ) (bytes : List ℕ) (make : ℕ → Tree) (value : Tree) (rest : List ℕ) (x : ℕ) (after : List ℕ)
+    → Takes bytes (number_bytes n x) after → value_bytes (make x) ≡ number_bytes n x → IsSoundValue (make x) → value_levels (make x) ≤ levels → read_pair (make x) after ≡ read_pair value rest
     → ValueTakes levels bytes value rest × (type_byte value ≡ type_byte (make x))
-made_takes n levels bytes make value rest x behind t spelled sound flat is =
+made_takes n levels bytes make value rest x after t spelled sound flat is =
     subst (λ (p : Tree × List ℕ). ValueTakes levels bytes p.0 p.1 × (type_byte p.0 ≡ type_byte (make x))) is
-    (record { takes = subst (λ (text : List ℕ). Takes bytes text behind) (sym spelled) t; sound = sound; in_levels = flat }, refl)
+    (record { takes = subst (λ (text : List ℕ). Takes bytes text after) (sym spelled) t; sound = sound; in_levels = flat }, refl)
 
 int32_takes : (levels : ℕ) (inner : Inner) (bytes : List ℕ) (value : Tree) (rest : List ℕ) → IsBytes bytes → value_at inner kinds.Int32 bytes ≡ Ok (value, rest) → ValueTakes levels bytes value rest × (type_byte value ≡ 16)
 int32_takes levels inner bytes value rest fits e =
@@ -100,8 +100,8 @@ timestamp_takes levels inner bytes value rest fits e =
     made_takes 8 levels bytes (λ x. tree.timestamp x) value rest b.0.0 b.0.1 t.0 refl t.1 (omega arith) (ok_is _ _ b.2)
 
 -- any other kind
-plain_takes : (levels : ℕ) (bytes : List ℕ) (made value : Tree) (rest behind : List ℕ) → Takes bytes (value_bytes made) behind → IsSoundValue made → value_levels made ≤ levels → read_pair made behind ≡ read_pair value rest → ValueTakes levels bytes value rest × (type_byte value ≡ type_byte made)
-plain_takes levels bytes made value rest behind t sound flat is =
+plain_takes : (levels : ℕ) (bytes : List ℕ) (made value : Tree) (rest after : List ℕ) → Takes bytes (value_bytes made) after → IsSoundValue made → value_levels made ≤ levels → read_pair made after ≡ read_pair value rest → ValueTakes levels bytes value rest × (type_byte value ≡ type_byte made)
+plain_takes levels bytes made value rest after t sound flat is =
     subst (λ (p : Tree × List ℕ). ValueTakes levels bytes p.0 p.1 × (type_byte p.0 ≡ type_byte made)) is (record { takes = t; sound = sound; in_levels = flat }, refl)
 
 text_value_takes : (levels : ℕ) (inner : Inner) (bytes : List ℕ) (value : Tree) (rest : List ℕ) → IsBytes bytes → value_at inner kinds.Text bytes ≡ Ok (value, rest) → ValueTakes levels bytes value rest × (type_byte value ≡ 2)
@@ -138,8 +138,8 @@ binary_takes levels bytes value rest fits e =
     let t0 = length_takes 0 bytes a.0.0 a.0.1 fits a.1 in
     let t1 = byte_takes a.0.1 b.0.0 b.0.1 t0.0.rest_fits b.1 in
     let t2 = bytes_take a.0.0 b.0.1 c.0.0 c.0.1 t1.rest_fits c.1 in
-    let behind = Takes-then a.0.1 (b.0.0 ∷ []) b.0.1 c.0.0 c.0.1 t1 t2.0 in
-    let whole = Takes-then bytes (number_bytes 4 a.0.0) a.0.1 (b.0.0 ∷ c.0.0) c.0.1 t0.0 behind in
+    let after = Takes-then a.0.1 (b.0.0 ∷ []) b.0.1 c.0.0 c.0.1 t1 t2.0 in
+    let whole = Takes-then bytes (number_bytes 4 a.0.0) a.0.1 (b.0.0 ∷ c.0.0) c.0.1 t0.0 after in
     let spelled = subst (λ (n : ℕ). Takes bytes (number_bytes 4 n ++ b.0.0 ∷ c.0.0) c.0.1) (sym t2.1) whole in
     plain_takes levels bytes (tree.binary b.0.0 c.0.0) value rest c.0.1 spelled tt (omega arith) (ok_is _ _ c.2)
 
@@ -162,7 +162,7 @@ value_takes levels inner within kinds.Int64 bytes value rest fits e = int64_take
 
 -- ---- fields
 
--- a field that was read behind others
+-- a field that was read after others
 pub record FieldTakes (levels : ℕ) (seen : Fields) (bytes name : List ℕ) (value : Tree) (rest : List ℕ) : Type 0 where
   pub takes : Takes bytes (element (type_byte value) name (value_bytes value)) rest
   pub new : found name seen ≡ None
@@ -171,20 +171,20 @@ pub record FieldTakes (levels : ℕ) (seen : Fields) (bytes name : List ℕ) (va
   pub sound : IsSoundValue value
   pub in_levels : value_levels value ≤ levels
 
-element_takes : (bytes behind_kind behind_name rest name value : List ℕ) (kind : ℕ) → Takes bytes (kind ∷ []) behind_kind → Takes behind_kind (name ++ 0 ∷ []) behind_name → Takes behind_name value rest → Takes bytes (element kind name value) rest
-element_takes bytes behind_kind behind_name rest name value kind first second third =
-    let both = Takes-then bytes (kind ∷ []) behind_kind (name ++ 0 ∷ []) behind_name first second in
-    let all = Takes-then bytes (kind ∷ (name ++ 0 ∷ [])) behind_name value rest both third in
+element_takes : (bytes after_kind after_name rest name value : List ℕ) (kind : ℕ) → Takes bytes (kind ∷ []) after_kind → Takes after_kind (name ++ 0 ∷ []) after_name → Takes after_name value rest → Takes bytes (element kind name value) rest
+element_takes bytes after_kind after_name rest name value kind first second third =
+    let both = Takes-then bytes (kind ∷ []) after_kind (name ++ 0 ∷ []) after_name first second in
+    let all = Takes-then bytes (kind ∷ (name ++ 0 ∷ [])) after_name value rest both third in
     subst (λ (t : List ℕ). Takes bytes (kind ∷ t) rest) (append_assoc name (0 ∷ []) value) all
 
-abbrev behind_new : Inner → declared.Kind → List ℕ × List ℕ → List ℕ → Result ((List ℕ × Tree) × List ℕ) DecodeError
-behind_new inner kind name new = value_at inner kind name.1 >>= λ value. Ok ((new, value.0), value.1)
+abbrev after_new : Inner → declared.Kind → List ℕ × List ℕ → List ℕ → Result ((List ℕ × Tree) × List ℕ) DecodeError
+after_new inner kind name new = value_at inner kind name.1 >>= λ value. Ok ((new, value.0), value.1)
 
-abbrev behind_name : Inner → Fields → declared.Kind → List ℕ × List ℕ → Result ((List ℕ × Tree) × List ℕ) DecodeError
-behind_name inner seen kind name = new_name seen name.0 >>= behind_new inner kind name
+abbrev after_name : Inner → Fields → declared.Kind → List ℕ × List ℕ → Result ((List ℕ × Tree) × List ℕ) DecodeError
+after_name inner seen kind name = new_name seen name.0 >>= after_new inner kind name
 
-abbrev behind_kind : Inner → Fields → List ℕ → declared.Kind → Result ((List ℕ × Tree) × List ℕ) DecodeError
-behind_kind inner seen rest kind = name_at rest >>= behind_name inner seen kind
+abbrev after_kind : Inner → Fields → List ℕ → declared.Kind → Result ((List ℕ × Tree) × List ℕ) DecodeError
+after_kind inner seen rest kind = name_at rest >>= after_name inner seen kind
 
 abbrev field_read : List ℕ → Tree → List ℕ → (List ℕ × Tree) × List ℕ
 field_read name value rest = ((name, value), rest)
@@ -192,10 +192,10 @@ field_read name value rest = ((name, value), rest)
 field_takes : (levels : ℕ) (inner : Inner) → InnerTakes levels inner → (seen : Fields) (bytes : List ℕ) (next : (List ℕ × Tree) × List ℕ) → IsBytes bytes → field_at inner seen bytes ≡ Ok next → FieldTakes levels seen bytes next.0.0 next.0.1 next.1
 unfolding field_at
 field_takes levels inner within seen bytes next fits e =
-    let a = bind_ok (byte_at bytes) (λ byte. kind_of byte.0 >>= behind_kind inner seen byte.1) next e in
-    let b = bind_ok (kind_of a.0.0) (behind_kind inner seen a.0.1) next a.2 in
-    let c = bind_ok (name_at a.0.1) (behind_name inner seen b.0) next b.2 in
-    let d = bind_ok (new_name seen c.0.0) (behind_new inner b.0 c.0) next c.2 in
+    let a = bind_ok (byte_at bytes) (λ byte. kind_of byte.0 >>= after_kind inner seen byte.1) next e in
+    let b = bind_ok (kind_of a.0.0) (after_kind inner seen a.0.1) next a.2 in
+    let c = bind_ok (name_at a.0.1) (after_name inner seen b.0) next b.2 in
+    let d = bind_ok (new_name seen c.0.0) (after_new inner b.0 c.0) next c.2 in
     let f = bind_ok (value_at inner b.0 c.0.1) (λ value. Ok ((d.0, value.0), value.1)) next d.2 in
     let first = byte_takes bytes a.0.0 a.0.1 fits a.1 in
     let names = name_takes a.0.1 c.0.0 c.0.1 first.rest_fits c.1 in
@@ -236,8 +236,8 @@ pub record FieldsTake (levels : ℕ) (seen : Fields) (bytes : List ℕ) (all : F
   pub sound : AreSoundFields all
   pub in_levels : fields_levels all ≤ levels
 
-abbrev behind_end : ℕ → Inner → Fields → List ℕ → Bool → Result Fields DecodeError
-behind_end turns inner seen bytes ended =
+abbrev after_end : ℕ → Inner → Fields → List ℕ → Bool → Result Fields DecodeError
+after_end turns inner seen bytes ended =
     if ended then Ok seen else
     (field_at inner seen bytes >>= λ next. fields_in turns inner (with_field seen next.0.0 next.0.1) next.1)
 
@@ -245,15 +245,15 @@ pub fields_take : (turns levels : ℕ) (inner : Inner) → InnerTakes levels inn
 unfolding fields_in
 fields_take zero levels inner within seen bytes all fits e names sound flat = absurd cc
 fields_take (suc turns) levels inner within seen bytes all fits e names sound flat =
-    let a = bind_ok (ends_at bytes) (behind_end turns inner seen bytes) all e in
+    let a = bind_ok (ends_at bytes) (after_end turns inner seen bytes) all e in
     elim (cases_Bool a.0) [
       | inl ended ↦
           let here : bytes ≡ 0 ∷ [] = ends_here bytes (a.1 ∙ ap (λ (b : Bool). Ok b) ended) in
-          let is : seen ≡ all = ok_is seen all (sym (ap (behind_end turns inner seen bytes) ended) ∙ a.2) in
+          let is : seen ≡ all = ok_is seen all (sym (ap (after_end turns inner seen bytes) ended) ∙ a.2) in
           subst (λ (fields : Fields). FieldsTake levels seen bytes fields) is
           (record { parts = ap (λ (t : List ℕ). fields_bytes seen ++ t) here; names = names; sound = sound; in_levels = flat })
       | inr more ↦
-          let step = sym (ap (behind_end turns inner seen bytes) more) ∙ a.2 in
+          let step = sym (ap (after_end turns inner seen bytes) more) ∙ a.2 in
           let b = bind_ok (field_at inner seen bytes) (λ next. fields_in turns inner (with_field seen next.0.0 next.0.1) next.1) all step in
           let one = field_takes levels inner within seen bytes b.0 fits b.1 in
           let later = fields_take turns levels inner within (with_field seen b.0.0.0 b.0.0.1) b.0.1 all one.takes.rest_fits b.2

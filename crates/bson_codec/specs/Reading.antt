@@ -1,4 +1,4 @@
--- Reading bytes from front to back. Each word gives what it reads and the bytes behind that, or the rule
+-- Reading bytes from front to back. Each word gives what it reads and the bytes after that, or the rule
 -- that it meets first. The bytes are those up to the end of the document that is read.
 use Rattle.std.specs.Prelude.{ℕ, zero, suc, ◌+◌, ◌-◌, ◌^◌, Bool, true, false, List, [], ◌∷◌, ◌++◌, length, take, drop, slice_index, Option, Some, None, Result, Ok, Err, nat_lt, nat_le, ◌==◌, ◌||◌, ◌&&◌, is_some, position, if◌then◌else◌}
 use Rattle.std.specs.Int.{w32, w64, cast_signed}
@@ -14,7 +14,7 @@ use Rattle.bson_codec.specs.declared.error.DecodeError.{DecodeError}
 use Rattle.bson_codec.specs.declared.error.DecodeError.TheVariants as rules
 use Rattle.bson_codec.specs.Numbers.{number_in}
 
--- what is read, and the bytes behind it
+-- what is read, and the bytes after it
 abbrev pub Read : Type 0 → Type 0
 Read X = Result (X × List ℕ) DecodeError
 
@@ -115,7 +115,7 @@ value_at inner kinds.Int64 bytes = number_at 8 bytes >>= λ n. Ok (tree.int64 (c
 abbrev pub new_name : Fields → List ℕ → Result (List ℕ) DecodeError
 new_name seen name = if is_some (found name seen) then Err rules.DuplicateName else Ok name
 
--- a field behind those that were seen: kind, name, which isn't one of theirs, and value
+-- a field after those that were seen: kind, name, which isn't one of theirs, and value
 unfoldable pub field_at : Inner → Fields → List ℕ → Read (List ℕ × Tree)
 field_at inner seen bytes = do
   byte ← byte_at bytes
@@ -132,7 +132,7 @@ ends_at (zero ∷ []) = Ok true
 ends_at (zero ∷ b ∷ rest) = Err rules.Length
 ends_at (suc b ∷ rest) = Ok false
 
--- the fields behind those that were seen, up to the closing zero. Each takes a byte, so there are as many
+-- the fields after those that were seen, up to the closing zero. Each takes a byte, so there are as many
 -- turns as bytes.
 unfoldable pub fields_in : ℕ → Inner → Fields → List ℕ → Result Fields DecodeError
 fields_in zero inner seen bytes = Err rules.Length
@@ -146,10 +146,10 @@ unfoldable pub item_at : Inner → ℕ → List ℕ → Read Tree
 item_at inner place bytes = do
   byte ← byte_at bytes
   kind ← kind_of byte.0
-  behind ← known_name_at (decimal place ++ 0 ∷ []) byte.1
-  value_at inner kind behind
+  after ← known_name_at (decimal place ++ 0 ∷ []) byte.1
+  value_at inner kind after
 
--- the items behind those that were seen, up to the closing zero
+-- the items after those that were seen, up to the closing zero
 unfoldable pub items_in : ℕ → Inner → ℕ → Trees → List ℕ → Result Trees DecodeError
 items_in zero inner place seen bytes = Err rules.Length
 items_in (suc turns) inner place seen bytes =
@@ -157,7 +157,7 @@ items_in (suc turns) inner place seen bytes =
     if ended then Ok seen else
     (item_at inner place bytes >>= λ next. items_in turns inner (place + 1) (with_item seen next.0) next.1)
 
--- the bytes of a document behind its length, and those behind the document
+-- the bytes of a document after its length, and those after the document
 unfoldable pub content_at : List ℕ → Read (List ℕ)
 content_at bytes = do
   n ← length_at 5 bytes

@@ -7,7 +7,7 @@ use Rattle.bson_doc.specs.Key.{type_byte}
 use Rattle.bson_doc.specs.Length.{fields_length, items_length, document_levels}
 use Rattle.bson_codec.specs.Numbers.{number_bytes}
 
--- an element: its kind, its name with a zero byte behind it, and its value
+-- an element: its kind, its name with a zero byte after it, and its value
 abbrev pub element : ℕ → List ℕ → List ℕ → List ℕ
 element kind name value = kind ∷ (name ++ 0 ∷ value)
 

@@ -21,10 +21,10 @@ abbrev pub fields_within : ℕ → List ℕ → Result Fields DecodeError
 fields_within zero content = Err rules.TooDeep
 fields_within (suc levels) content = fields_in (length content) (inner_at levels) no_fields content
 
-abbrev pub fields_behind : ℕ → List ℕ → Result ℕ DecodeError → Result Fields DecodeError
-fields_behind levels bytes (Ok n) = fields_within levels (drop 4 bytes)
-fields_behind levels bytes (Err rule) = Err rule
+abbrev pub fields_after : ℕ → List ℕ → Result ℕ DecodeError → Result Fields DecodeError
+fields_after levels bytes (Ok n) = fields_within levels (drop 4 bytes)
+fields_after levels bytes (Err rule) = Err rule
 
 -- the document that the bytes spell, or the first rule that they break
 unfoldable pub read_document : ℕ → ℕ → List ℕ → Result Fields DecodeError
-read_document bound levels bytes = fields_behind levels bytes (outer_length bound bytes)
+read_document bound levels bytes = fields_after levels bytes (outer_length bound bytes)

@@ -65,7 +65,7 @@ pub fn set_u32(bytes: &mut [u8], place: usize, number: u32)
     bytes[place..place + 4].copy_from_slice(&digits);
 }
 
-/// The first `count` bytes, and those behind them. `Length` where there are fewer.
+/// The first `count` bytes, and those after them. `Length` where there are fewer.
 pub fn bytes_of(bytes: &[u8], count: usize) -> Result<(&[u8], &[u8]), DecodeError>
     ensures { Gives (λ x. (x.0.now, x.1.now)) result (bytes_at count bytes.now) }
 {
@@ -75,7 +75,7 @@ pub fn bytes_of(bytes: &[u8], count: usize) -> Result<(&[u8], &[u8]), DecodeErro
     Ok(bytes.split_at(count))
 }
 
-/// The number in the first four bytes, and the bytes behind it. `Length` where there are fewer.
+/// The number in the first four bytes, and the bytes after it. `Length` where there are fewer.
 #[tactic(auto, unfolding(crate::specs::Numbers::number_in))]
 pub fn u32_of(bytes: &[u8]) -> Result<(u32, &[u8]), DecodeError>
     ensures { Gives (λ x. (x.0, x.1.now)) result (number_at 4 bytes.now) }
@@ -86,7 +86,7 @@ pub fn u32_of(bytes: &[u8]) -> Result<(u32, &[u8]), DecodeError>
     Ok((LittleEndian::read_u32(bytes), &bytes[4..]))
 }
 
-/// The number in the first eight bytes, and the bytes behind it. `Length` where there are fewer.
+/// The number in the first eight bytes, and the bytes after it. `Length` where there are fewer.
 #[tactic(auto, unfolding(crate::specs::Numbers::number_in))]
 pub fn u64_of(bytes: &[u8]) -> Result<(u64, &[u8]), DecodeError>
     ensures { Gives (λ x. (x.0, x.1.now)) result (number_at 8 bytes.now) }

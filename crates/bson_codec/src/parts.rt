@@ -11,7 +11,7 @@ use bson_doc::{Bytes, Text, Value};
 use std::alloc::Global;
 use std::str::from_utf8;
 
-/// The first byte, and the bytes behind it. `Length` where there is none.
+/// The first byte, and the bytes after it. `Length` where there is none.
 pub fn byte_of(bytes: &[u8]) -> Result<(u8, &[u8]), DecodeError>
     ensures { Gives (λ x. (x.0, x.1.now)) result (byte_at bytes.now) }
 {
@@ -42,7 +42,7 @@ fn letters_of(bytes: &[u8]) -> Result<&str, DecodeError>
     }
 }
 
-/// A string, and the bytes behind it: a length in four bytes, which counts the closing zero, the letters, and
+/// A string, and the bytes after it: a length in four bytes, which counts the closing zero, the letters, and
 /// that zero. `Length` where the length is 0 or doesn't fit, else `Utf8` where the letters are no UTF-8, else
 /// `Length` where the last byte is no zero.
 #[tactic(auto, unfolding(crate::specs::Reading::text_at))]
@@ -58,7 +58,7 @@ pub fn text_of(alloc: Global, bytes: &[u8]) -> Result<(Text, &[u8]), DecodeError
     Ok((Text::from_str(alloc, letters)?, rest))
 }
 
-/// A binary, and the bytes behind it: a length in four bytes, the subtype, and so many bytes. `Length` where
+/// A binary, and the bytes after it: a length in four bytes, the subtype, and so many bytes. `Length` where
 /// fewer are left.
 #[tactic(auto, unfolding(crate::specs::Reading::binary_at))]
 pub fn binary_of(alloc: Global, bytes: &[u8]) -> Result<(Value, &[u8]), DecodeError>
@@ -71,7 +71,7 @@ pub fn binary_of(alloc: Global, bytes: &[u8]) -> Result<(Value, &[u8]), DecodeEr
     Ok((Value::Binary(subtype, content), rest))
 }
 
-/// A boolean, and the bytes behind it. `Length` where there is no byte, and `Bool` where the byte is neither
+/// A boolean, and the bytes after it. `Length` where there is no byte, and `Bool` where the byte is neither
 /// 0 nor 1.
 #[tactic(auto, unfolding(crate::specs::Reading::boolean_at))]
 pub fn boolean_of(bytes: &[u8]) -> Result<(Value, &[u8]), DecodeError>
@@ -100,7 +100,7 @@ fn breaks_utf8(bytes: &[u8]) -> bool
     }
 }
 
-/// A name, and the bytes behind the zero that closes it. `Utf8` where it is no UTF-8, and `Length` where no
+/// A name, and the bytes after the zero that closes it. `Utf8` where it is no UTF-8, and `Length` where no
 /// zero closes it.
 #[tactic(auto, unfolding(crate::specs::Reading::name_at))]
 pub fn name_of(bytes: &[u8]) -> Result<(&str, &[u8]), DecodeError>
@@ -117,7 +117,7 @@ pub fn name_of(bytes: &[u8]) -> Result<(&str, &[u8]), DecodeError>
     }
 }
 
-/// The bytes behind a name that is known beforehand, with its zero, as that of an array's item is.
+/// The bytes after a name that is known beforehand, with its zero, as that of an array's item is.
 /// `ArrayName` where another name stands there, `Utf8` where the other byte begins no UTF-8, and `Length`
 /// where the bytes end.
 #[tactic(auto, unfolding(crate::specs::Reading::known_name_at))]
@@ -128,7 +128,7 @@ pub fn known_name_of<'a>(name: &[u8], bytes: &'a [u8]) -> Result<&'a [u8], Decod
     for wanted in name {
         match rest {
             [] => return Err(DecodeError::Length),
-            [byte, behind @ ..] if byte == wanted => rest = behind,
+            [byte, after @ ..] if byte == wanted => rest = after,
             [0..0x80 | 0xC2..0xF5, ..] => return Err(DecodeError::ArrayName),
             _ => return Err(DecodeError::Utf8),
         }
@@ -136,7 +136,7 @@ pub fn known_name_of<'a>(name: &[u8], bytes: &'a [u8]) -> Result<&'a [u8], Decod
     Ok(rest)
 }
 
-/// The bytes of a document behind its length, and the bytes behind the document. `Length` where the length is
+/// The bytes of a document after its length, and the bytes after the document. `Length` where the length is
 /// below 5 or doesn't fit.
 #[tactic(auto, unfolding(crate::specs::Reading::content_at))]
 pub fn content_of(bytes: &[u8]) -> Result<(&[u8], &[u8]), DecodeError>

@@ -60,7 +60,7 @@ fn object_id_of(bytes: &[u8]) -> Result<(Value, &[u8]), DecodeError>
     Ok((Value::ObjectId(id), rest))
 }
 
-/// A document or an array behind its length.
+/// A document or an array after its length.
 #[cycle(read)]
 fn inner_of(
     alloc: Global,
@@ -116,7 +116,7 @@ fn field_of<'a>(
     Ok(((name, value), rest))
 }
 
-/// The fields of a document behind its length. Each takes a byte, so there are as many turns as bytes.
+/// The fields of a document after its length. Each takes a byte, so there are as many turns as bytes.
 #[cycle(read)]
 pub fn fields_of(alloc: Global, bytes: &[u8], levels: u32) -> Result<Doc, DecodeError>
     ensures { Gives (λ d. d) result (fields_in (length bytes.now) (inner_at levels) no_fields bytes.now) }
@@ -127,9 +127,9 @@ pub fn fields_of(alloc: Global, bytes: &[u8], levels: u32) -> Result<Doc, Decode
         if is_over(rest)? {
             return Ok(fields.finish());
         }
-        let ((name, value), behind) = field_of(alloc, &fields, rest, levels)?;
+        let ((name, value), after) = field_of(alloc, &fields, rest, levels)?;
         fields = fields.with(Text::from_str(alloc, name)?, value)?;
-        rest = behind;
+        rest = after;
     }
     Err(DecodeError::Length)
 }
@@ -152,7 +152,7 @@ fn item_of(
     value_of(alloc, kind, rest, levels)
 }
 
-/// The items of an array behind its length, as `fields_of`.
+/// The items of an array after its length, as `fields_of`.
 #[cycle(read)]
 fn items_of(alloc: Global, bytes: &[u8], levels: u32) -> Result<Items, DecodeError>
     ensures { Gives (λ i. i) result (items_in (length bytes.now) (inner_at levels) 0 no_items bytes.now) }
@@ -163,9 +163,9 @@ fn items_of(alloc: Global, bytes: &[u8], levels: u32) -> Result<Items, DecodeErr
         if is_over(rest)? {
             return Ok(items);
         }
-        let (value, behind) = item_of(alloc, place, rest, levels)?;
+        let (value, after) = item_of(alloc, place, rest, levels)?;
         items.push(value)?;
-        rest = behind;
+        rest = after;
     }
     Err(DecodeError::Length)
 }

@@ -36,7 +36,7 @@ fn whole_length(bytes: &[u8], bound: u32) -> Result<usize, DecodeError>
     Ok(length)
 }
 
-/// The fields of a document behind its length.
+/// The fields of a document after its length.
 fn fields_within_levels(alloc: Global, content: &[u8], levels: u32) -> Result<Doc, DecodeError>
     ensures { Gives (λ d. d) result (fields_within levels content.now) }
 {

@@ -198,7 +198,7 @@ pub fn put_document(alloc: Global, out: &mut Vec<u8>, name: &str, document: &Doc
     write(alloc, document, out)
 }
 
-/// Writes over the four bytes at a place how many bytes stand behind them.
+/// Writes over the four bytes at a place how many bytes come after them.
 pub fn put_size(out: &mut Vec<u8>, start: usize)
     requires room { start + 4 ≤ length out.old.items }
     requires short { length out.old.items < start + 4 + 2 ^ 32 }

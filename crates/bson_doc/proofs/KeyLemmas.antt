@@ -46,14 +46,14 @@ key_cmp-antisymmetric x y e =
     let by_subtype = ordering_then (nat_cmp (subtype x) (subtype y)) by_bytes in
     let by_size = ordering_then (nat_cmp (size x) (size y)) by_subtype in
     let by_number = ordering_then (int_cmp (number x) (number y)) by_size in
-    let behind_rank = then_second (nat_cmp (rank x) (rank y)) by_number e in
-    let behind_number = then_second (int_cmp (number x) (number y)) by_size behind_rank in
-    let behind_size = then_second (nat_cmp (size x) (size y)) by_subtype behind_number in
+    let after_rank = then_second (nat_cmp (rank x) (rank y)) by_number e in
+    let after_number = then_second (int_cmp (number x) (number y)) by_size after_rank in
+    let after_size = then_second (nat_cmp (size x) (size y)) by_subtype after_number in
     same_parts x y
     (nat_cmp-IsAntisymmetric _ _ (then_first (nat_cmp (rank x) (rank y)) by_number e))
-    (int_cmp-IsAntisymmetric _ _ (then_first (int_cmp (number x) (number y)) by_size behind_rank))
-    (nat_cmp-IsAntisymmetric _ _ (then_first (nat_cmp (subtype x) (subtype y)) by_bytes behind_size))
-    (slice_cmp-IsAntisymmetric nat_cmp-IsAntisymmetric _ _ (then_second (nat_cmp (subtype x) (subtype y)) by_bytes behind_size))
+    (int_cmp-IsAntisymmetric _ _ (then_first (int_cmp (number x) (number y)) by_size after_rank))
+    (nat_cmp-IsAntisymmetric _ _ (then_first (nat_cmp (subtype x) (subtype y)) by_bytes after_size))
+    (slice_cmp-IsAntisymmetric nat_cmp-IsAntisymmetric _ _ (then_second (nat_cmp (subtype x) (subtype y)) by_bytes after_size))
 
 same_pair : (x y : Place) → x.0 ≡ y.0 → x.1 ≡ y.1 → x ≡ y
 same_pair (a, b) (c, d) first second = cc

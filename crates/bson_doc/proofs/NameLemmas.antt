@@ -48,16 +48,16 @@ found-at name (g ∷ fs) (suc i) d first =
 not_within : (p : SharedField → Bool) (fs : List SharedField) → position p fs ≡ None → length fs ≤ position_or_len p fs
 not_within p fs none = grind (arith, common_steps)
 
-behind : (name : List ℕ) (fs : List SharedField) → length fs ≤ position_or_len (λ f. bytes_eq f.value.name name) fs → found name (fields_of fs) ≡ None
-behind name [] past = refl
-behind name (f ∷ fs) past = elim (cases_Bool (bytes_eq f.value.name name)) [
+after : (name : List ℕ) (fs : List SharedField) → length fs ≤ position_or_len (λ f. bytes_eq f.value.name name) fs → found name (fields_of fs) ≡ None
+after name [] past = refl
+after name (f ∷ fs) past = elim (cases_Bool (bytes_eq f.value.name name)) [
   | inl same ↦ absurd (omega (arith, rw same at past))
-  | inr other ↦ rw other (behind name fs (omega (arith, rw other at past)))
+  | inr other ↦ rw other (after name fs (omega (arith, rw other at past)))
 ]
 
 -- no field has the name
 pub found-none : (name : List ℕ) (fs : List SharedField) → position (λ f. bytes_eq f.value.name name) fs ≡ None → found name (fields_of fs) ≡ None
-found-none name fs none = behind name fs (not_within _ fs none)
+found-none name fs none = after name fs (not_within _ fs none)
 
 pub first_place : (name : List ℕ) (fs : List SharedField) (i : ℕ) (d : SharedField) → position (λ f. bytes_eq f.value.name name) fs ≡ Some i → IsFirst name fs i d
 first_place name fs i d some =

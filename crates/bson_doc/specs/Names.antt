@@ -9,7 +9,7 @@ use Rattle.bson_doc.specs.Tree.{Fields, count, found}
 abbrev pub zeros : List ℕ
 zeros = 0 ∷ 0 ∷ 0 ∷ 0 ∷ 0 ∷ 0 ∷ 0 ∷ 0 ∷ 0 ∷ 0 ∷ 0 ∷ 0 ∷ 0 ∷ 0 ∷ 0 ∷ []
 
--- a name of at most 15 bytes, behind its length, and filled up with zeros
+-- a name of at most 15 bytes, after its length, and filled up with zeros
 abbrev pub short_form : List ℕ → List ℕ
 short_form name = length name ∷ (name ++ drop (length name) zeros)
 

@@ -18,7 +18,7 @@ pub(crate) struct FieldNames {
     long: BTreeSet<String>,
 }
 
-/// The length of a short name, the name, and zeros behind it.
+/// The length of a short name, the name, and zeros after it.
 fn form_of(name: &str) -> [u8; 16]
     requires { length name.now ≤ 15 }
     ensures { result ≡ short_form name.now }

@@ -63,11 +63,11 @@ fn same_document(one: &Doc, two: &Doc) -> bool
     true
 }
 
-/// A text of so many bytes is compared where values are looked at shortly.
+/// Texts of at most so many bytes are compared at a glance.
 const SHORT: usize = 64;
 
-/// Whether two values differ by what is seen shortly: numbers, lengths of texts, and short texts.
-fn differs_shortly(one: &Value, two: &Value) -> bool
+/// Whether two values differ in what is cheap to compare: numbers and short texts.
+fn values_differ_at_a_glance(one: &Value, two: &Value) -> bool
     ensures { IsTrue result → same_tree (tree_of one.now) (tree_of two.now) ≡ false }
 {
     match (one, two) {
@@ -81,9 +81,9 @@ fn differs_shortly(one: &Value, two: &Value) -> bool
     }
 }
 
-/// Whether two documents differ in the number of their fields, or shortly in one of these.
+/// Whether two documents differ in the number of their fields, or at a glance in one of them.
 #[tactic(auto, using(crate::proofs::SameLemmas::sameness))]
-fn differ_shortly(one: &Doc, two: &Doc) -> bool
+fn documents_differ_at_a_glance(one: &Doc, two: &Doc) -> bool
     ensures { IsTrue result → same_fields one.now two.now ≡ false }
 {
     if one.len() != two.len() {
@@ -91,7 +91,7 @@ fn differ_shortly(one: &Doc, two: &Doc) -> bool
     }
     for place in 0..one.len() {
         if let (Some(first), Some(second)) = (one.at(place), two.at(place))
-            && differs_shortly(first.1, second.1)
+            && values_differ_at_a_glance(first.1, second.1)
         {
             return true;
         }
@@ -122,7 +122,7 @@ impl Eq for Value {
 }
 
 /// Two documents are equal where they have the same fields in the same order, so where they have
-/// the same bytes. A number that differs is found without a look at long fields.
+/// the same bytes. What is cheap to compare is compared first.
 impl PartialEq for Doc {
     ghost use Rattle.bson_doc.specs.Same.{same_fields};
     ghost use Rattle.bson_doc.specs.SameLaws.{same_fields-laws};
@@ -132,7 +132,7 @@ impl PartialEq for Doc {
     ghost laws = { same_fields-laws.1 };
 
     fn eq(&self, other: &Doc) -> bool {
-        if differ_shortly(self, other) {
+        if documents_differ_at_a_glance(self, other) {
             return false;
         }
         same_document(self, other)

@@ -12,7 +12,7 @@ const ROOM: usize = 16;
 #[derive(Drop)]
 pub struct ShortText {
     length: u32,
-    /// The text, and zeros behind it.
+    /// The text, and zeros after it.
     bytes: [u8; ROOM],
 }
 

@@ -30,11 +30,11 @@ use Rattle.chance_script.specs.declared.happening.Happening.TheVariants.{Insert,
 abbrev pub seeded : ℕ → Lcg
 seeded seed = pcg32_of_seed (pcg32_seed 16 seed)
 
--- one of so many numbers from 0, and the generator behind it
+-- one of so many numbers from 0, and the generator after it
 abbrev pub drawn : ℕ → Lcg → ℕ × Lcg
 drawn count generator = ((pcg32 generator).0 % count, (pcg32 generator).1)
 
--- another node of so many, and the generator behind it
+-- another node of so many, and the generator after it
 abbrev pub other_node : (nodes node : ℕ) → Lcg → Option ℕ × Lcg
 other_node nodes node generator =
     if nat_lt 1 nodes
@@ -75,17 +75,17 @@ at_node kind event node (other, generator) = of_kind kind event node other gener
 abbrev pub of_this_kind : (nodes event kind : ℕ) → ℕ × Lcg → Happening × Lcg
 of_this_kind nodes event kind (node, generator) = at_node kind event node (other_node nodes node generator)
 
-abbrev pub behind_kind : (nodes event : ℕ) → ℕ × Lcg → Happening × Lcg
-behind_kind nodes event (kind, generator) = of_this_kind nodes event kind (drawn nodes generator)
+abbrev pub after_kind : (nodes event : ℕ) → ℕ × Lcg → Happening × Lcg
+after_kind nodes event (kind, generator) = of_this_kind nodes event kind (drawn nodes generator)
 
 unfoldable pub happening : (nodes event : ℕ) → Lcg → Happening × Lcg
-happening nodes event generator = behind_kind nodes event (drawn 16 generator)
+happening nodes event generator = after_kind nodes event (drawn 16 generator)
 
 -- an event more
 abbrev pub with_event : List Happening → Happening × Lcg → List Happening × Lcg
 with_event events (event, generator) = (events ++ event ∷ [], generator)
 
--- so many events, and the generator behind them
+-- so many events, and the generator after them
 abbrev pub happenings : (nodes seed count : ℕ) → List Happening × Lcg
 happenings nodes seed zero = ([], seeded seed)
 happenings nodes seed (suc event) =
@@ -94,8 +94,8 @@ happenings nodes seed (suc event) =
 -- ---- its lines
 
 -- a node is asked for something
-abbrev pub ask : (word : List ℕ) (node : ℕ) (behind : List ℕ) → List ℕ
-ask word node behind = word ++ codes " n" ++ decimal node ++ behind ++ codes "\n"
+abbrev pub ask : (word : List ℕ) (node : ℕ) (after : List ℕ) → List ℕ
+ask word node after = word ++ codes " n" ++ decimal node ++ after ++ codes "\n"
 
 -- the same, with another node
 abbrev pub ask_with : (word : List ℕ) (node other : ℕ) → List ℕ

@@ -117,13 +117,13 @@ impl Happening {
     }
 }
 
-/// `WORD A` and what stands behind it.
-fn ask(word: &str, node: u32, behind: &str, out: &mut String) -> Mem<()>
-    ensures { OnOk result (string_bytes out.new ≡ string_bytes out.old ++ ask word.now node behind.now) }
+/// `WORD A` and what follows it.
+fn ask(word: &str, node: u32, after: &str, out: &mut String) -> Mem<()>
+    ensures { OnOk result (string_bytes out.new ≡ string_bytes out.old ++ ask word.now node after.now) }
 {
     out.push_str(word)?;
     write!(out, " n{node}")?;
-    out.push_str(behind)?;
+    out.push_str(after)?;
     out.push_str("\n")
 }
 

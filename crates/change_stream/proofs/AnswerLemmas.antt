@@ -13,11 +13,11 @@ use Rattle.commit_machine.specs.Words.{Has, Rises}
 use Rattle.commit_machine.proofs.Lists.{has_last, has_up_to, last_up_to, up_to_has}
 use Rattle.safety_laws.proofs.Fetches.{entry_is}
 use Rattle.safety_laws.proofs.Merges.{has_entry_of}
-use Rattle.change_stream.specs.Calls.{token_behind}
+use Rattle.change_stream.specs.Calls.{token_of_last}
 use Rattle.safety_laws.proofs.Orders.{rises_of}
 use Rattle.change_stream.proofs.PartLemmas.{last_is_token}
 
-pub token_is : (token : OpTime) (entries : List Entry) (last : Entry) → Some last ≡ slice_get entries (length entries - 1) → last.optime ≡ token_behind token entries
+pub token_is : (token : OpTime) (entries : List Entry) (last : Entry) → Some last ≡ slice_get entries (length entries - 1) → last.optime ≡ token_of_last token entries
 token_is token [] last is = cc is
 token_is token (entry ∷ rest) last is = last_is (entry ∷ rest) last is ∙ sym (last_is_token token entry rest)
 

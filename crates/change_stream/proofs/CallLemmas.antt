@@ -6,10 +6,10 @@ use Rattle.rs_optime.specs.Membership.{In}
 use Rattle.rs_optime.specs.declared.optime.OpTime.{OpTime}
 use Rattle.rs_optime.proofs.Optimes.{at_most_before_trans, at_most_refl, at_most_trans, before_at_most}
 use Rattle.oplog_entry.specs.declared.entry.Entry.{Entry}
-use Rattle.oplog_entry.specs.Visible.{ZERO, log_behind, log_up_to}
+use Rattle.oplog_entry.specs.Visible.{ZERO, log_after, log_up_to}
 use Rattle.commit_machine.specs.Words.{AtMost, Before, Has, Rises}
 use Rattle.change_stream.specs.declared.error.WatchError.TheVariants.{UnknownToken}
-use Rattle.change_stream.specs.Calls.{Call, after, entries_of, given, is_unknown, joined, part, token_after, token_behind}
+use Rattle.change_stream.specs.Calls.{Call, after, entries_of, given, is_unknown, joined, part, token_after, token_of_last}
 use Rattle.change_stream.proofs.PartLemmas.{IsFront, front_is_part, last_is_token, part_none, parts_join, zero_least}
 
 -- ---- one call
@@ -21,14 +21,14 @@ Gives token call entries next = ((entries ≡ []) × (next ≡ token)) ⊎ IsFro
 pub gives : (token : OpTime) (call : Call) → Rises call.log → Gives token call (given token call) (after token call)
 gives token call rises = by_test (is_unknown token call.commit call.log)
   where
-    by_taken : (taken : List Entry) → take call.most (part token call.commit call.log) ≡ taken → Gives token call taken (token_behind token taken)
+    by_taken : (taken : List Entry) → take call.most (part token call.commit call.log) ≡ taken → Gives token call taken (token_of_last token taken)
     by_taken [] is = inl (refl, refl)
     by_taken (entry ∷ rest) is = inr (subst (λ o. IsFront token call.commit call.log (entry ∷ rest) o) (sym (last_is_token token entry rest))
         (front_is_part call.most token call.commit call.log rises entry rest is))
 
     by_test : (test : Bool)
         → Gives token call (entries_of (cond test (Err UnknownToken) (Ok (take call.most (part token call.commit call.log)))))
-        (token_behind token (entries_of (cond test (Err UnknownToken) (Ok (take call.most (part token call.commit call.log))))))
+        (token_of_last token (entries_of (cond test (Err UnknownToken) (Ok (take call.most (part token call.commit call.log))))))
     by_test true = inl (refl, refl)
     by_test false = by_taken (take call.most (part token call.commit call.log)) refl
 
@@ -84,7 +84,7 @@ joined_next token call calls bound log rises rise agree within rest = elim (give
       ∙ ap (λ o. part o (token_after (after token call) calls) log) none.1
   | inr front ↦
       ap₂ (λ (l m : List Entry). l ++ m)
-      (front.is ∙ ap (log_behind token) (agree (after token call) (at_most_before_trans ZERO token (after token call) (zero_least token) front.later) front.within
+      (front.is ∙ ap (log_after token) (agree (after token call) (at_most_before_trans ZERO token (after token call) (zero_least token) front.later) front.within
       (at_most_trans (after token call) (token_after (after token call) calls) bound on within)))
       rest
       ∙ parts_join token (after token call) (token_after (after token call) calls) log rises (goes_on token call rise.0) on

@@ -5,10 +5,10 @@ use Rattle.std.proofs.lemmas.List.Elements.{filter-append}
 use Rattle.rs_optime.specs.declared.optime.OpTime.{OpTime}
 use Rattle.rs_optime.proofs.Optimes.{at_most_from, at_most_before_trans, at_most_trans}
 use Rattle.oplog_entry.specs.declared.entry.Entry.{Entry}
-use Rattle.oplog_entry.specs.Visible.{ZERO, is_before, last_of, log_behind, log_up_to}
+use Rattle.oplog_entry.specs.Visible.{ZERO, is_before, last_of, log_after, log_up_to}
 use Rattle.commit_machine.specs.Words.{AtMost, Before, Begins, Has, Rises}
-use Rattle.commit_machine.proofs.Lists.{behind_has, has_last, has_left, has_right, has_up_to, last_append, rises_up_to, split_at, take_begins, up_to_has, up_to_last, up_to_same, up_to_twice}
-use Rattle.change_stream.specs.Calls.{part, token_behind}
+use Rattle.commit_machine.proofs.Lists.{after_has, has_last, has_left, has_right, has_up_to, last_append, rises_up_to, split_at, take_begins, up_to_has, up_to_last, up_to_same, up_to_twice}
+use Rattle.change_stream.specs.Calls.{part, token_of_last}
 
 -- ---- the order of optimes
 
@@ -18,38 +18,38 @@ zero_least o = elim (cases_order 0 o.term) [
   | inr other ↦ elim other [ inl less ↦ at_most_from ZERO o (inl less) | inr more ↦ absurd (omega (arith, more)) ]
 ]
 
--- ---- behind an optime
+-- ---- after an optime
 
-behind_append : (at : OpTime) (one two : List Entry) → log_behind at (one ++ two) ≡ log_behind at one ++ log_behind at two
-behind_append at one two = filter-append (λ (entry : Entry). is_before at entry.optime) one two
+after_append : (at : OpTime) (one two : List Entry) → log_after at (one ++ two) ≡ log_after at one ++ log_after at two
+after_append at one two = filter-append (λ (entry : Entry). is_before at entry.optime) one two
 
-behind_all : (at : OpTime) (log : List Entry) → ((o : OpTime) → Has o log → Before at o) → log_behind at log ≡ log
-behind_all at [] all = refl
-behind_all at (entry ∷ log) all = rw (all entry.optime (inl refl)) (ap (λ rest. entry ∷ rest) (behind_all at log (λ o has. all o (inr has))))
+after_all : (at : OpTime) (log : List Entry) → ((o : OpTime) → Has o log → Before at o) → log_after at log ≡ log
+after_all at [] all = refl
+after_all at (entry ∷ log) all = rw (all entry.optime (inl refl)) (ap (λ rest. entry ∷ rest) (after_all at log (λ o has. all o (inr has))))
 
-behind_none : (at : OpTime) (log : List Entry) → ((o : OpTime) → Has o log → AtMost o at) → log_behind at log ≡ []
-behind_none at [] all = refl
-behind_none at (entry ∷ log) all = rw (all entry.optime (inl refl)) (behind_none at log (λ o has. all o (inr has)))
+after_none : (at : OpTime) (log : List Entry) → ((o : OpTime) → Has o log → AtMost o at) → log_after at log ≡ []
+after_none at [] all = refl
+after_none at (entry ∷ log) all = rw (all entry.optime (inl refl)) (after_none at log (λ o has. all o (inr has)))
 
 -- nothing is between an optime and itself
 pub part_none : (at : OpTime) (log : List Entry) → part at at log ≡ []
-part_none at log = behind_none at (log_up_to at log) (λ o has. (up_to_has o at log has).1)
+part_none at log = after_none at (log_up_to at log) (λ o has. (up_to_has o at log has).1)
 
--- two parts, the one behind the other, are one
+-- two parts, the one after the other, are one
 pub parts_join : (one two three : OpTime) (log : List Entry) → Rises log → AtMost one two → AtMost two three
     → part one two log ++ part two three log ≡ part one three log
 parts_join one two three log rises first second = sym (
-    ap (log_behind one) (split_at two front (rises_up_to three log rises))
-    ∙ behind_append one (log_up_to two front) (log_behind two front)
-    ∙ ap₂ (λ (l m : List Entry). l ++ m) (ap (log_behind one) (up_to_twice two three log second))
-    (behind_all one (log_behind two front) (λ o has. at_most_before_trans one two o first (behind_has o two front has).1)))
+    ap (log_after one) (split_at two front (rises_up_to three log rises))
+    ∙ after_append one (log_up_to two front) (log_after two front)
+    ∙ ap₂ (λ (l m : List Entry). l ++ m) (ap (log_after one) (up_to_twice two three log second))
+    (after_all one (log_after two front) (λ o has. at_most_before_trans one two o first (after_has o two front has).1)))
   where
     front : List Entry
     front = log_up_to three log
 
 -- ---- the first entries of a part
 
-pub last_is_token : (token : OpTime) (entry : Entry) (rest : List Entry) → token_behind token (entry ∷ rest) ≡ last_of (entry ∷ rest)
+pub last_is_token : (token : OpTime) (entry : Entry) (rest : List Entry) → token_of_last token (entry ∷ rest) ≡ last_of (entry ∷ rest)
 last_is_token token entry [] = refl
 last_is_token token entry (next ∷ rest) = last_is_token entry.optime next rest
 
@@ -67,9 +67,9 @@ front_is_part many start end log rises entry rest taken = record {
   within = within;
   later = in_whole.1;
   is = sym (
-      ap (log_behind start) (sym (up_to_twice at end log within) ∙ whole_up_to)
-      ∙ behind_append start (log_up_to start whole) entries
-      ∙ ap₂ (λ (l m : List Entry). l ++ m) (part_none start whole) (behind_all start entries (λ o has. (in_part o has).1)));
+      ap (log_after start) (sym (up_to_twice at end log within) ∙ whole_up_to)
+      ∙ after_append start (log_up_to start whole) entries
+      ∙ ap₂ (λ (l m : List Entry). l ++ m) (part_none start whole) (after_all start entries (λ o has. (in_part o has).1)));
 }
   where
     entries : List Entry
@@ -81,11 +81,11 @@ front_is_part many start end log rises entry rest taken = record {
     whole : List Entry
     whole = log_up_to end log
 
-    begins : Begins entries (log_behind start whole)
-    begins = subst (λ (l : List Entry). Begins l (log_behind start whole)) taken (take_begins many (log_behind start whole))
+    begins : Begins entries (log_after start whole)
+    begins = subst (λ (l : List Entry). Begins l (log_after start whole)) taken (take_begins many (log_after start whole))
 
     in_part : (o : OpTime) → Has o entries → Has o whole × Before start o
-    in_part o has = behind_has o start whole (subst (λ (l : List Entry). Has o l) (sym begins.1) (has_left o entries begins.0 has))
+    in_part o has = after_has o start whole (subst (λ (l : List Entry). Has o l) (sym begins.1) (has_left o entries begins.0 has))
 
     in_whole : Has at whole × Before start at
     in_whole = in_part at (has_last entry rest)

@@ -12,7 +12,7 @@ use Rattle.rs_optime.specs.declared.optime.OpTime.{OpTime}
 use Rattle.rs_optime.proofs.Optimes.{at_most_antisym, at_most_or_before, at_most_refl, not_both}
 use Rattle.oplog_entry.specs.declared.entry.Entry.{Entry}
 use Rattle.oplog_entry.specs.Log.{StandsBefore}
-use Rattle.oplog_entry.specs.Visible.{ZERO, log_behind, log_up_to}
+use Rattle.oplog_entry.specs.Visible.{ZERO, log_after, log_up_to}
 use Rattle.repl_msg.specs.Logs.{has_entry, same_optime}
 use Rattle.set_model.specs.declared.command.Event.{Event}
 use Rattle.set_model.specs.Node.{Node}
@@ -248,7 +248,7 @@ module _ (sizes : Sizes) (events : List Event) (safe : Safe sizes events) (compl
             let here : Has token call.log = (up_to_has token token call.log
             (subst (λ (l : List Entry). Has token l) same (has_up_to token token where_is.2.log (entry_is where_is.2.log token where_is.4) (at_most_refl token)))).0 in
             let has : has_entry call.log token ≡ true = has_entry_of call.log token here in
-            let absent : has_entry call.log token ≡ false = not-true (has_entry call.log token) behind.1 in
+            let absent : has_entry call.log token ≡ false = not-true (has_entry call.log token) after.1 in
             absurd (cc (has, absent))
       ]
     ]
@@ -256,19 +256,19 @@ module _ (sizes : Sizes) (events : List Event) (safe : Safe sizes events) (compl
         tests : (not (same_optime token ZERO) ≡ true) × ((not (is_before call.commit token) && not (has_entry call.log token)) ≡ true)
         tests = and_parts (not (same_optime token ZERO)) (not (is_before call.commit token) && not (has_entry call.log token)) unknown
 
-        behind : (not (is_before call.commit token) ≡ true) × (not (has_entry call.log token) ≡ true)
-        behind = and_parts (not (is_before call.commit token)) (not (has_entry call.log token)) tests.1
+        after : (not (is_before call.commit token) ≡ true) × (not (has_entry call.log token) ≡ true)
+        after = and_parts (not (is_before call.commit token)) (not (has_entry call.log token)) tests.1
 
         none : same_optime token ZERO ≡ true → ⊥
         none same = let other : same_optime token ZERO ≡ false = not-true (same_optime token ZERO) tests.0 in absurd (cc (same, other))
 
         reached : AtMost token call.commit
-        reached = not-true (is_before call.commit token) behind.0
+        reached = not-true (is_before call.commit token) after.0
 
     streams : Streams sizes events start calls
     streams = record {
       committed = λ place number node at within. of_log place number node at within
-          ∙ ap (log_behind start) (sym (up_to_twice token node.commit node.log within));
+          ∙ ap (log_after start) (sym (up_to_twice token node.commit node.log within));
       leaders = of_leader;
       once = once;
       known = λ premise call shown is. known call shown (committed_point premise) (unknown_is call is);

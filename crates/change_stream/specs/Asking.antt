@@ -21,7 +21,7 @@ abbrev pub Does : Bool → Sizes → List Event → List Event → Command → R
 Does alone sizes old new command answered = StepsOnce alone sizes old new 0 command answered
 
 module _ (alone : Bool) (sizes : Sizes) (old new : List Event) where
-  -- the two events of a call, one behind the other, and what they show
+  -- the two events of a call, one after the other, and what they show
   pub record Asks (node term : ℕ) (commit : OpTime) (log : List Entry) : Type 0 where
     pub between : List Event
     pub state : Reply

@@ -2,22 +2,23 @@
 use Rattle.std.specs.Prelude.{ℕ, Bool, not, ◌&&◌, if◌then◌else◌, List, [], ◌∷◌, ◌++◌, take, Result, Ok, Err}
 use Rattle.rs_optime.specs.Order.{is_before}
 use Rattle.rs_optime.specs.declared.optime.OpTime.{OpTime}
-use Rattle.oplog_entry.specs.Visible.{ZERO, log_behind, log_up_to}
+use Rattle.oplog_entry.specs.Visible.{ZERO, log_after, log_up_to}
 use Rattle.oplog_entry.specs.declared.entry.Entry.{Entry}
 use Rattle.repl_msg.specs.Logs.{has_entry, same_optime}
 use Rattle.change_stream.specs.declared.error.WatchError.{WatchError}
 use Rattle.change_stream.specs.declared.error.WatchError.TheVariants.{UnknownToken}
 
--- the entries of a log behind one optime, up to another
+-- the entries of a log after one optime, up to another
 abbrev pub part : OpTime → OpTime → List Entry → List Entry
-part start end log = log_behind start (log_up_to end log)
+part start end log = log_after start (log_up_to end log)
 
 -- the optime of the last of some entries, or the one before them where there is none
-abbrev pub token_behind : OpTime → List Entry → OpTime
-token_behind token [] = token
-token_behind token (entry ∷ entries) = token_behind entry.optime entries
+abbrev pub token_of_last : OpTime → List Entry → OpTime
+token_of_last token [] = token
+token_of_last token (entry ∷ entries) = token_of_last entry.optime entries
 
--- What a call was shown: a node's term and its commit point, and then its log. It may give so many entries.
+-- What a call was shown: a node's term and its commit point, and then its log. It gives at most so many
+-- entries.
 pub record Call : Type 0 where
   pub node : ℕ
   pub term : ℕ
@@ -25,12 +26,12 @@ pub record Call : Type 0 where
   pub log : List Entry
   pub most : ℕ
 
--- A token is unknown where the log is committed as far and has no such entry. ZERO is always known.
+-- A token is unknown where the log is committed that far and has no such entry. ZERO is always known.
 abbrev pub is_unknown : OpTime → OpTime → List Entry → Bool
 is_unknown token commit log =
     not (same_optime token ZERO) && (not (is_before commit token) && not (has_entry log token))
 
--- the next entries behind the token that are committed
+-- the next entries after the token that are committed
 abbrev pub answer : OpTime → Call → Result (List Entry) WatchError
 answer token call =
     if is_unknown token call.commit call.log then Err UnknownToken
@@ -46,7 +47,7 @@ given token call = entries_of (answer token call)
 
 -- the stream's token once a call is answered
 abbrev pub after : OpTime → Call → OpTime
-after token call = token_behind token (given token call)
+after token call = token_of_last token (given token call)
 
 -- the token after some calls, one after another
 abbrev pub token_after : OpTime → List Call → OpTime

@@ -1,5 +1,5 @@
 -- What the calls of a change stream give, over a whole run (MongoDB manual, change streams: a stream shows
--- changes that a majority has, and goes on behind a resume token).
+-- changes that a majority has, and goes on after a resume token).
 use Rattle.std.specs.Prelude.{◌≡◌, ◌≢◌, ◌⊎◌, ◌<◌, ℕ, List, [], Err}
 use Rattle.std.specs.List.{All, AllPairs}
 use Rattle.rs_optime.specs.declared.optime.OpTime.{OpTime}
@@ -21,9 +21,10 @@ module _ (sizes : Sizes) (events : List Event) where
       ⊎ ((place number : ℕ) × (node : Node) × IsAt sizes events place number node × Has node.log at
       × AtMost at node.commit)
 
-  -- What the calls gave is a part of every log that is committed as far, wherever and whenever. It is one of
-  -- the log of whoever leads in a later term than all nodes asked had. Timestamps rise along it, so each
-  -- entry stands in it once. A token that was given, or that was committed, is known to each call.
+  -- What the calls gave is a part of every log that is committed that far, wherever and whenever. It is also
+  -- a part of the log of whoever leads in a later term than any node that was asked had. Timestamps rise
+  -- along it, so each entry stands in it once. A token that was given, or that was committed, is known to
+  -- each call.
   pub record Streams (start : OpTime) (calls : List Call) : Type 0 where
     pub committed :
         (place number : ℕ) (node : Node) → IsAt sizes events place number node

@@ -22,7 +22,7 @@ shown_log (reply.Entries log) = Some log
 shown_log _ = None
 
 module _ (sizes : Sizes) (events : List Event) where
-  -- the event behind a place has this command and this reply
+  -- the event after a place has this command and this reply
   pub record IsAnswered (place : ℕ) (command : Command) (answer : Reply) : Type 0 where
     pub event : Event
     pub there : slice_get events place ≡ Some event

@@ -4,13 +4,13 @@ ghost use Rattle.oplog_entry.specs.Lawful.{IsLawful};
 ghost use Rattle.oplog_entry.specs.Log.{IsOplog};
 ghost use Rattle.oplog_entry.specs.Visible.{is_before, log_up_to};
 ghost use Rattle.repl_msg.specs.Logs.{has_entry};
-ghost use Rattle.change_stream.specs.Calls.{is_unknown, part, token_behind};
+ghost use Rattle.change_stream.specs.Calls.{is_unknown, part, token_of_last};
 
 use oplog_entry::Entry;
-use oplog_fetcher::behind;
+use oplog_fetcher::log_after;
 use rs_optime::OpTime;
 
-/// The next committed entries behind a token, at most so many. None where the token is unknown.
+/// The next committed entries after a token, at most so many. None where the token is unknown.
 pub(crate) fn next_entries(
     log: &[Entry],
     token: OpTime,
@@ -26,7 +26,7 @@ pub(crate) fn next_entries(
     if is_unknown(log, token, commit) {
         return None;
     }
-    let entries = behind(up_to(log, commit), token);
+    let entries = log_after(up_to(log, commit), token);
     Some(&entries[..entries.len().min(most as usize)])
 }
 
@@ -64,8 +64,8 @@ pub fn up_to(log: &[Entry], at: OpTime) -> &[Entry]
 }
 
 /// The token once these entries were given.
-pub(crate) fn token_behind(token: OpTime, entries: &[Entry]) -> OpTime
-    ensures { result ≡ token_behind token entries.now }
+pub(crate) fn token_of_last(token: OpTime, entries: &[Entry]) -> OpTime
+    ensures { result ≡ token_of_last token entries.now }
 {
     match entries.last() {
         Some(last) => last.optime,

@@ -5,12 +5,12 @@ ghost use Rattle.set_world.specs.declared.error.StepError.{StepError as AStepErr
 ghost use Rattle.set_world.specs.Stepper.{AddsOne, IsDefined, Learns};
 ghost use Rattle.change_stream.specs.declared.error.WatchError.{WatchError as AWatchError};
 ghost use Rattle.change_stream.specs.Asking.{Does, OwnBreaks, OwnFails, OwnReads, OwnTells};
-ghost use Rattle.change_stream.specs.Calls.{token_behind};
+ghost use Rattle.change_stream.specs.Calls.{token_of_last};
 ghost use Rattle.change_stream.specs.Shown.{shown_log, shown_state};
 ghost use Rattle.set_model.specs.Run.{HISTORY_LIMIT};
 
 use crate::WatchError;
-use crate::answering::{next_entries, token_behind};
+use crate::answering::{next_entries, token_of_last};
 use oplog_entry::Entry;
 use repl_msg::EntryList;
 use rs_optime::OpTime;
@@ -31,7 +31,7 @@ pub struct ChangeStream {
     pub token: OpTime,
 }
 
-/// A stream of what is behind a token. ZERO is before all entries.
+/// A stream of what is after a token. ZERO is before all entries.
 pub fn open(token: OpTime) -> ChangeStream
     ensures { result ≡ record { start = token; token = token } }
 {
@@ -41,7 +41,7 @@ pub fn open(token: OpTime) -> ChangeStream
     }
 }
 
-/// Asks a node for its state and then for its log. It gives the entries of the log behind the token that are
+/// Asks a node for its state and then for its log. It gives the entries of the log after the token that are
 /// at or before the commit point in that state, the first so many of them.
 ///
 /// # Errors
@@ -64,7 +64,7 @@ pub fn next<R: Threads + Wait + Sync, S: Stepper>(
     ensures lawful { IfOk result (λ entries. All IsLawful entries.items) }
     ensures start { stream.new.start ≡ stream.old.start }
     ensures token { IfOk result (λ entries. stream.new.token
-        ≡ token_behind stream.old.token entries.items) }
+        ≡ token_of_last stream.old.token entries.items) }
     ensures left { OnErr result (stream.new ≡ stream.old) }
     ensures sizes { S.sizes set.new ≡ S.sizes set.old }
     ensures stays { S.stays set.old set.new }
@@ -76,7 +76,7 @@ pub fn next<R: Threads + Wait + Sync, S: Stepper>(
         return Err(WatchError::UnknownToken);
     };
     let given = EntryList::of_slice(*log.allocator(), entries)?.into_entries();
-    stream.token = token_behind(stream.token, &given);
+    stream.token = token_of_last(stream.token, &given);
     Ok(given)
 }
 

@@ -7,7 +7,7 @@ use Rattle.rs_optime.specs.declared.optime.OpTime.{OpTime}
 use Rattle.set_model.specs.declared.command.Event.{Event}
 use Rattle.set_model.specs.Run.{Sizes}
 use Rattle.change_stream.specs.Asking.{Fails, Tells}
-use Rattle.change_stream.specs.Calls.{Call, answer, entries_of, given, joined, token_behind}
+use Rattle.change_stream.specs.Calls.{Call, answer, entries_of, given, joined, token_of_last}
 use Rattle.change_stream.specs.declared.error.WatchError.{WatchError}
 use Rattle.change_stream.specs.declared.error.WatchError.TheVariants as errors
 use Rattle.change_words.specs.Texts.{change_lines, entry_lines}
@@ -17,16 +17,16 @@ use Rattle.change_watch.specs.Causes.{of_stream}
 use Rattle.change_watch.specs.declared.stop.WatchStop.{WatchStop}
 use Rattle.change_watch.specs.declared.stop.WatchStop.TheVariants.{Refused, WriteFault, Memory}
 use Rattle.change_watch.specs.Following.{AreMade, AskedSo, AsksAll, AsksOnce, AsksSome, BreaksAt, EndsSo, GoesBy, PutsLines, PutsUpTo, RefusesAt, StaysSo, gave_nothing, left_of, most, still_to_ask}
-use Rattle.change_watch.proofs.LineLemmas.{behind_on, both_put, none_put}
+use Rattle.change_watch.proofs.LineLemmas.{after_on, both_put, none_put}
 
--- ---- calls behind calls
+-- ---- calls after calls
 
 goes_on : (token : OpTime) (nodes : List ℕ) (calls more : List Call) (mid end : OpTime) (left last : List ℕ) → GoesBy token nodes calls mid left → GoesBy mid left more end last → GoesBy token nodes (calls ++ more) end last
 goes_on token nodes [] more mid end left last (mid_is, left_is) next =
     subst (λ (t : OpTime). GoesBy t nodes more end last) mid_is (subst (λ (ns : List ℕ). GoesBy mid ns more end last) left_is next)
 goes_on token [] (call ∷ calls) more mid end left last never next = absurd never
 goes_on token (node ∷ nodes) (call ∷ calls) more mid end left last (node_is, most_is, (entries, told, goes)) next =
-    (node_is, most_is, (entries, told, goes_on (token_behind token entries) (still_to_ask node nodes entries) calls more mid end left last goes next))
+    (node_is, most_is, (entries, told, goes_on (token_of_last token entries) (still_to_ask node nodes entries) calls more mid end left last goes next))
 
 left_before : (node : ℕ) (nodes others : List ℕ) (entries : List Entry) → still_to_ask node nodes entries ++ others ≡ still_to_ask node (nodes ++ others) entries
 left_before node nodes others [] = refl
@@ -42,8 +42,8 @@ goes_before others token (node ∷ nodes) (call ∷ calls) end left (node_is, mo
   (
     entries,
     told,
-    subst (λ (ns : List ℕ). GoesBy (token_behind token entries) ns calls end (left ++ others)) (left_before node nodes others entries)
-        (goes_before others (token_behind token entries) (still_to_ask node nodes entries) calls end left goes),
+    subst (λ (ns : List ℕ). GoesBy (token_of_last token entries) ns calls end (left ++ others)) (left_before node nodes others entries)
+        (goes_before others (token_of_last token entries) (still_to_ask node nodes entries) calls end left goes),
   ),
 )
 
@@ -51,9 +51,9 @@ joined_on : (token : OpTime) (nodes : List ℕ) (calls more : List Call) (mid : 
 joined_on token nodes [] more mid left (mid_is, left_is) = ap (λ (t : OpTime). joined t more) (sym mid_is)
 joined_on token [] (call ∷ calls) more mid left never = absurd never
 joined_on token (node ∷ nodes) (call ∷ calls) more mid left (node_is, most_is, (entries, told, goes)) =
-    subst (λ (r : Result (List Entry) WatchError). entries_of r ++ joined (token_behind token (entries_of r)) (calls ++ more) ≡ (entries_of r ++ joined (token_behind token (entries_of r)) calls) ++ joined mid more) (sym told)
-    (ap (λ (es : List Entry). entries ++ es) (joined_on (token_behind token entries) (still_to_ask node nodes entries) calls more mid left goes)
-    ∙ sym (append_assoc entries (joined (token_behind token entries) calls) (joined mid more)))
+    subst (λ (r : Result (List Entry) WatchError). entries_of r ++ joined (token_of_last token (entries_of r)) (calls ++ more) ≡ (entries_of r ++ joined (token_of_last token (entries_of r)) calls) ++ joined mid more) (sym told)
+    (ap (λ (es : List Entry). entries ++ es) (joined_on (token_of_last token entries) (still_to_ask node nodes entries) calls more mid left goes)
+    ∙ sym (append_assoc entries (joined (token_of_last token entries) calls) (joined mid more)))
 
 module _ (alone : Bool) (sizes : Sizes) where
   made_on : (old mid new : List Event) (calls more : List Call) → AreMade alone sizes old calls mid → AreMade alone sizes mid more new → AreMade alone sizes old (calls ++ more) new
@@ -99,7 +99,7 @@ module _ (alone : Bool) (sizes : Sizes) where
 
   -- ---- some are asked, and then more
 
-  -- behind nodes that were asked
+  -- after nodes that were asked
   pub asks_on : {A : Type 0} (left_by : A → List ℕ) (collection : List ℕ) (token mid end : OpTime) (nodes left : List ℕ) (old between new : List Event) (held told now : Option (List ℕ)) (result : Result A WatchStop)
       → AsksSome alone sizes {A = Unit {0}} (λ (done : Unit {0}). left) collection token nodes mid old between held told (Ok tt) → AsksSome alone sizes left_by collection mid left end between new told now result
       → AsksSome alone sizes left_by collection token nodes end old new held now result
@@ -125,7 +125,7 @@ module _ (alone : Bool) (sizes : Sizes) where
     still = loses.still;
     goes = loses.goes;
     made = loses.made;
-    put = behind_on held told now lines loses.lines (change_lines collection (given loses.before loses.last)) stop put loses.put;
+    put = after_on held told now lines loses.lines (change_lines collection (given loses.before loses.last)) stop put loses.put;
   })
 
   -- the first of more nodes are asked
@@ -191,7 +191,7 @@ module _ (alone : Bool) (sizes : Sizes) where
   left_after node [] = refl
   left_after node (entry ∷ entries) = refl
 
-  module _ (collection : List ℕ) (token end : OpTime) (node : ℕ) (old new : List Event) (entries : List Entry) (tells : Tells alone sizes old new token node most (Ok entries)) (end_is : end ≡ token_behind token entries) where
+  module _ (collection : List ℕ) (token end : OpTime) (node : ℕ) (old new : List Event) (entries : List Entry) (tells : Tells alone sizes old new token node most (Ok entries)) (end_is : end ≡ token_of_last token entries) where
     call_asked : AskedSo alone sizes collection token (node ∷ []) end (still_to_ask node [] entries) old new (change_lines collection entries)
     call_asked = record {
       calls = tells.call ∷ [];

@@ -12,7 +12,7 @@ use Rattle.change_words.specs.declared.refusal.WatchRefusal.{WatchRefusal}
 use Rattle.change_watch.specs.declared.stop.WatchStop.{WatchStop}
 use Rattle.change_watch.specs.declared.stop.WatchStop.TheVariants.{Refused, WriteFault, Memory}
 use Rattle.change_watch.specs.Following.{AskedSo, AsksAll, EndsSo, Follows, LosesChange, PutsLines, StopsSo, Watched, last_lines, stop_lines}
-use Rattle.change_watch.proofs.LineLemmas.{behind_kept, both_put, none_refused}
+use Rattle.change_watch.proofs.LineLemmas.{after_kept, both_put, none_refused}
 
 abbrev IsDone : Result (Unit {0}) WatchStop → Type 0
 IsDone result = result ≡ Ok tt
@@ -60,7 +60,7 @@ module _ (alone : Bool) (sizes : Sizes) (watch : Watch) (end : OpTime) (old new 
     still = loses.still;
     goes = loses.goes;
     made = loses.made;
-    put = behind_kept held mid now loses.lines (change_lines watch.collection (given loses.before loses.last)) stop loses.put kept;
+    put = after_kept held mid now loses.lines (change_lines watch.collection (given loses.before loses.last)) stop loses.put kept;
   }
 
   -- where it was refused no line was lost

@@ -15,7 +15,7 @@ use Rattle.change_words.specs.declared.refusal.WatchRefusal.{WatchRefusal}
 use Rattle.change_watch.specs.Causes.{of_sink}
 use Rattle.change_watch.specs.declared.stop.WatchStop.{WatchStop}
 use Rattle.change_watch.specs.declared.stop.WatchStop.TheVariants.{Refused, WriteFault, Memory}
-use Rattle.change_watch.specs.Following.{PutsBehind, PutsLines, PutsUpTo, together}
+use Rattle.change_watch.specs.Following.{PutsAfter, PutsLines, PutsUpTo, together}
 use Rattle.change_watch.proofs.KeepLemmas.{Appends-nothing, Keeps-same}
 
 -- no line is put
@@ -25,11 +25,11 @@ none_put held = Appends-nothing held held (Keeps-same held)
 pub nothing_put : (held : Option (List ℕ)) (line : List ℕ) → PutsLines held held (line ∷ []) (Err Memory)
 nothing_put held line = (0, omega arith, none_put held)
 
--- a front of one list is one of the list with more behind it
-pub front_of : {A : Type 0} (count : ℕ) (xs ys : List A) → (long : ℕ) × (take long (xs ++ ys) ≡ take count xs)
-front_of zero xs ys = (0, refl)
-front_of (suc count) [] ys = (0, refl)
-front_of (suc count) (x ∷ xs) ys = let front = front_of count xs ys in (suc front.0, ap (λ (zs : List _). x ∷ zs) front.1)
+-- a prefix of one list is one of the list with more after it
+pub prefix_of : {A : Type 0} (count : ℕ) (xs ys : List A) → (long : ℕ) × (take long (xs ++ ys) ≡ take count xs)
+prefix_of zero xs ys = (0, refl)
+prefix_of (suc count) [] ys = (0, refl)
+prefix_of (suc count) (x ∷ xs) ys = let front = prefix_of count xs ys in (suc front.0, ap (λ (zs : List _). x ∷ zs) front.1)
 
 take_within : {A : Type 0} (count : ℕ) (xs ys : List A) → count < length xs → take count (xs ++ ys) ≡ take count xs
 take_within zero xs ys within = refl
@@ -45,7 +45,7 @@ pub line_stops : (held now : Option (List ℕ)) (line : List ℕ) (error : SinkE
 line_stops held now line Failed (count, put) = (count, subst (λ (text : List ℕ). Appends held now (take count text)) (sym (append-nil line)) put)
 line_stops held now line NoRoom kept = (0, omega arith, Appends-nothing held now kept)
 
--- ---- lines behind lines
+-- ---- lines after lines
 
 pub together_append : (lines more : List (List ℕ)) → together (lines ++ more) ≡ together lines ++ together more
 together_append lines more = flat_map-append (λ (line : List ℕ). line) lines more
@@ -54,7 +54,7 @@ pub both_put : (held mid now : Option (List ℕ)) (lines more : List (List ℕ))
 both_put held mid now lines more put next =
     subst (λ (text : List ℕ). Appends held now text) (sym (together_append lines more)) (Appends-append held mid now (together lines) (together more) put next)
 
--- Behind lines that were put more of them are put, up to a stop.
+-- After lines that were put more of them are put, up to a stop.
 pub puts_on : (held mid now : Option (List ℕ)) (lines more : List (List ℕ)) (stop : WatchStop) → Appends held mid (together lines) → PutsUpTo mid now more stop → PutsUpTo held now (lines ++ more) stop
 puts_on held mid now lines more (Refused why) put never = absurd never
 puts_on held mid now lines more WriteFault put (count, next) =
@@ -67,12 +67,12 @@ puts_on held mid now lines more Memory put (count, within, next) =
     ap (λ (ls : List (List ℕ)). together ls) (take-append-add lines more count) ∙ together_append lines (take count more) in
     (length lines + count, omega (arith, long, within), subst (λ (text : List ℕ). Appends held now text) (sym is) (Appends-append held mid now (together lines) (together (take count more)) put next))
 
--- Lines are put in front of lines that are put, and of those behind them not all.
-pub behind_on : (held mid now : Option (List ℕ)) (lines first behind : List (List ℕ)) (stop : WatchStop) → Appends held mid (together lines) → PutsBehind mid now first behind stop → PutsBehind held now (lines ++ first) behind stop
-behind_on held mid now lines first behind stop put (told, next, lost) = (told, both_put held mid told lines first put next, lost)
+-- Lines are put in front of lines that are put, and of those after them not all.
+pub after_on : (held mid now : Option (List ℕ)) (lines first after : List (List ℕ)) (stop : WatchStop) → Appends held mid (together lines) → PutsAfter mid now first after stop → PutsAfter held now (lines ++ first) after stop
+after_on held mid now lines first after stop put (told, next, lost) = (told, both_put held mid told lines first put next, lost)
 
-pub none_refused : (held now : Option (List ℕ)) (first behind : List (List ℕ)) (why : WatchRefusal) → PutsBehind held now first behind (Refused why) → ⊥
-none_refused held now first behind why (told, put, never) = never
+pub none_refused : (held now : Option (List ℕ)) (first after : List (List ℕ)) (why : WatchRefusal) → PutsAfter held now first after (Refused why) → ⊥
+none_refused held now first after why (told, put, never) = never
 
 kept_up_to : (held mid now : Option (List ℕ)) (lines : List (List ℕ)) (stop : WatchStop) → PutsUpTo held mid lines stop → Appends mid now [] → PutsUpTo held now lines stop
 kept_up_to held mid now lines (Refused why) never kept = absurd never
@@ -82,14 +82,14 @@ kept_up_to held mid now lines Memory (count, within, put) kept =
     (count, within, subst (λ (text : List ℕ). Appends held now text) (append-nil (together (take count lines))) (Appends-append held mid now (together (take count lines)) [] put kept))
 
 -- nothing more is put
-pub behind_kept : (held mid now : Option (List ℕ)) (first behind : List (List ℕ)) (stop : WatchStop) → PutsBehind held mid first behind stop → Appends mid now [] → PutsBehind held now first behind stop
-behind_kept held mid now first behind stop (told, put, lost) kept = (told, put, kept_up_to told mid now behind stop lost kept)
+pub after_kept : (held mid now : Option (List ℕ)) (first after : List (List ℕ)) (stop : WatchStop) → PutsAfter held mid first after stop → Appends mid now [] → PutsAfter held now first after stop
+after_kept held mid now first after stop (told, put, lost) kept = (told, put, kept_up_to told mid now after stop lost kept)
 
 -- where some lines stop, later ones aren't put
 pub puts_front : (held now : Option (List ℕ)) (lines more : List (List ℕ)) (stop : WatchStop) → PutsLines held now lines (Err stop) → PutsUpTo held now (lines ++ more) stop
 puts_front held now lines more (Refused why) never = absurd never
 puts_front held now lines more WriteFault (count, put) =
-    let front = front_of count (together lines) (together more) in
+    let front = prefix_of count (together lines) (together more) in
     (front.0, subst (λ (text : List ℕ). Appends held now text) (sym front.1 ∙ ap (λ (text : List ℕ). take front.0 text) (sym (together_append lines more))) put)
 puts_front held now lines more Memory (count, within, put) =
     let long = length-append lines more in
@@ -156,7 +156,7 @@ module _ (collection : List ℕ) (entries : List Entry) (i : ℕ) (entry : Entry
       (puts_on first old new (change_lines collection (take i entries)) (entry_lines collection entry ++ change_lines collection (drop (suc i) entries)) Memory put
       (puts_front old new (entry_lines collection entry) (change_lines collection (drop (suc i) entries)) Memory cut))
 
--- behind the last entry
+-- after the last entry
 pub all_put : (collection : List ℕ) (entries : List Entry) (i : ℕ) (first now : Option (List ℕ)) → length entries ≤ i → Appends first now (together (change_lines collection (take i entries)))
     → Appends first now (together (change_lines collection entries))
 all_put collection entries i first now past put = subst (λ (es : List Entry). Appends first now (together (change_lines collection es))) (take_past entries i past) put

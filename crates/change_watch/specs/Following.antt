@@ -7,7 +7,7 @@ use Rattle.rs_optime.specs.declared.optime.OpTime.{OpTime}
 use Rattle.set_model.specs.declared.command.Event.{Event}
 use Rattle.set_model.specs.Run.{Sizes}
 use Rattle.change_stream.specs.Asking.{Asks, Fails, IsRefused, Tells}
-use Rattle.change_stream.specs.Calls.{Call, answer, given, joined, token_behind}
+use Rattle.change_stream.specs.Calls.{Call, answer, given, joined, token_of_last}
 use Rattle.change_stream.specs.declared.error.WatchError.TheVariants as errors
 use Rattle.change_words.specs.declared.asked.Watch.{Watch}
 use Rattle.change_words.specs.declared.refusal.WatchRefusal.{WatchRefusal}
@@ -16,11 +16,11 @@ use Rattle.change_watch.specs.declared.stop.WatchStop.{WatchStop}
 use Rattle.change_watch.specs.declared.stop.WatchStop.TheVariants.{Refused, WriteFault, Memory}
 use Rattle.change_words.specs.Texts.{change_lines, refusal_text, resume_text}
 
--- lines, one behind the other
+-- lines, one after the other
 abbrev pub together : List (List ℕ) → List ℕ
 together lines = flat_map (λ (line : List ℕ). line) lines
 
--- Lines are put up to a stop: out of memory, some first ones and not all; where the sink fails, a front of
+-- Lines are put up to a stop: out of memory, some first ones and not all; where the sink fails, a prefix of
 -- their bytes. What puts lines refuses nothing.
 abbrev pub PutsUpTo : Option (List ℕ) → Option (List ℕ) → List (List ℕ) → WatchStop → Type 0
 PutsUpTo held now lines (Refused why) = ⊥
@@ -34,11 +34,11 @@ abbrev pub PutsLines : Option (List ℕ) → Option (List ℕ) → List (List �
 PutsLines held now lines (Ok done) = Appends held now (together lines)
 PutsLines held now lines (Err stop) = PutsUpTo held now lines stop
 
--- all of the first lines are put, and of those behind them not all
-abbrev pub PutsBehind : Option (List ℕ) → Option (List ℕ) → List (List ℕ) → List (List ℕ) → WatchStop
+-- all of the first lines are put, and of those after them not all
+abbrev pub PutsAfter : Option (List ℕ) → Option (List ℕ) → List (List ℕ) → List (List ℕ) → WatchStop
     → Type 0
-PutsBehind held now first behind stop =
-    (told : Option (List ℕ)) × Appends held told (together first) × PutsUpTo told now behind stop
+PutsAfter held now first after stop =
+    (told : Option (List ℕ)) × Appends held told (together first) × PutsUpTo told now after stop
 
 -- the line of a refusal
 abbrev pub stop_lines : WatchStop → List (List ℕ)
@@ -81,7 +81,7 @@ GoesBy token [] (call ∷ calls) end left = ⊥
 GoesBy token (node ∷ nodes) (call ∷ calls) end left =
     (call.node ≡ node) × (call.most ≡ most)
     × ((entries : List Entry) × (answer token call ≡ Ok entries)
-    × GoesBy (token_behind token entries) (still_to_ask node nodes entries) calls end left)
+    × GoesBy (token_of_last token entries) (still_to_ask node nodes entries) calls end left)
 
 module _ (alone : Bool) (sizes : Sizes) where
   -- these calls were made one after another, by the events from the old ones to the new ones
@@ -105,7 +105,7 @@ module _ (alone : Bool) (sizes : Sizes) where
     BreaksAt [] old new = new ≡ old
     BreaksAt (node ∷ others) old new = (new ≡ old) ⊎ Fails alone sizes old new token node most errors.Memory
 
-    -- What comes behind the calls, by the nodes that are left then: nothing, or what stopped the next one.
+    -- What comes after the calls, by the nodes that are left then: nothing, or what stopped the next one.
     -- The sink stops no call.
     abbrev pub EndsSo : List ℕ → List Event → List Event → Result (Unit {0}) WatchStop → Type 0
     EndsSo left old new (Ok done) = (left ≡ []) × (new ≡ old)
@@ -122,7 +122,7 @@ module _ (alone : Bool) (sizes : Sizes) where
     pub made : AreMade old calls new
     pub lines_are : lines ≡ change_lines collection (joined token calls)
 
-  -- The changes of all calls but the last one are put. Of that one's not all are, and nothing is asked behind
+  -- The changes of all calls but the last one are put. Of that one's not all are, and nothing is asked after
   -- it.
   pub record LosesChange (collection : List ℕ) (token : OpTime) (nodes : List ℕ) (token' : OpTime)
       (old new : List Event) (held now : Option (List ℕ)) (stop : WatchStop) : Type 0 where
@@ -135,7 +135,7 @@ module _ (alone : Bool) (sizes : Sizes) where
     pub still : List ℕ
     pub goes : GoesBy before left (last ∷ []) token' still
     pub made : AreMade between (last ∷ []) new
-    pub put : PutsBehind held now lines (change_lines collection (given before last)) stop
+    pub put : PutsAfter held now lines (change_lines collection (given before last)) stop
 
   -- ---- a watch
 
@@ -162,7 +162,7 @@ module _ (alone : Bool) (sizes : Sizes) where
       → Type 0
   LosesLast watch old new held now stop =
       (ended : Result (Unit {0}) WatchStop) × (lines : List (List ℕ)) × (line : List ℕ)
-      × Watched watch old new ended lines (line ∷ []) × PutsBehind held now lines (line ∷ []) stop
+      × Watched watch old new ended lines (line ∷ []) × PutsAfter held now lines (line ∷ []) stop
 
   -- A line isn't put, and that ends the watch: one of the last call's, or the last.
   abbrev pub LosesLine : Watch → List Event → List Event → Option (List ℕ) → Option (List ℕ) → WatchStop

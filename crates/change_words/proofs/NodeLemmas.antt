@@ -5,17 +5,17 @@ use Rattle.std.specs.declared.alloc.Global.{Global}
 use Rattle.std.proofs.lemmas.List.{append-nil}
 use Rattle.change_words.specs.Asked.{node_of, nodes_of, with_node}
 
--- these nodes, and then those of the words behind
-abbrev pub behind : List ℕ → Option (List ℕ) → Option (List ℕ)
-behind nodes (Some others) = Some (nodes ++ others)
-behind nodes None = None
+-- these nodes, and then those of the words that follow
+abbrev pub after : List ℕ → Option (List ℕ) → Option (List ℕ)
+after nodes (Some others) = Some (nodes ++ others)
+after nodes None = None
 
 abbrev pub named : List (String Global) → Option (List ℕ)
 named words = nodes_of (map string_bytes words)
 
-pub behind_none : (all : Option (List ℕ)) → all ≡ behind [] all
-behind_none (Some nodes) = refl
-behind_none None = refl
+pub after_none : (all : Option (List ℕ)) → all ≡ after [] all
+after_none (Some nodes) = refl
+after_none None = refl
 
 rest_at : (words : List (String Global)) (i : ℕ) (word : String Global) → i < length words → word ≡ get_or words i word → drop i words ≡ word ∷ drop (suc i) words
 rest_at [] i word within is = absurd (omega arith)
@@ -24,23 +24,23 @@ rest_at (first ∷ words) (suc i) word within is = rest_at words i word (omega a
 
 -- one node more
 pub node_more : (words : List (String Global)) (i : ℕ) (word : String Global) (nodes : List ℕ) (node : ℕ) → i < length words → word ≡ get_or words i word → Some node ≡ node_of (string_bytes word)
-    → behind nodes (named (drop i words)) ≡ behind (nodes ++ node ∷ []) (named (drop (suc i) words))
+    → after nodes (named (drop i words)) ≡ after (nodes ++ node ∷ []) (named (drop (suc i) words))
 node_more words i word nodes node within is known =
-    ap (λ (ws : List (String Global)). behind nodes (named ws)) (rest_at words i word within is)
-    ∙ ap (λ (n : Option ℕ). behind nodes (with_node n (named (drop (suc i) words)))) (sym known) ∙ more (named (drop (suc i) words))
+    ap (λ (ws : List (String Global)). after nodes (named ws)) (rest_at words i word within is)
+    ∙ ap (λ (n : Option ℕ). after nodes (with_node n (named (drop (suc i) words)))) (sym known) ∙ more (named (drop (suc i) words))
   where
-    more : (others : Option (List ℕ)) → behind nodes (with_node (Some node) others) ≡ behind (nodes ++ node ∷ []) others
+    more : (others : Option (List ℕ)) → after nodes (with_node (Some node) others) ≡ after (nodes ++ node ∷ []) others
     more (Some others) = ap Some (sym (append_assoc nodes (node ∷ []) others))
     more None = refl
 
 -- a word that names none
 pub no_node : (words : List (String Global)) (i : ℕ) (word : String Global) (nodes : List ℕ) → i < length words → word ≡ get_or words i word → None ≡ node_of (string_bytes word)
-    → behind nodes (named (drop i words)) ≡ None
+    → after nodes (named (drop i words)) ≡ None
 no_node words i word nodes within is none =
-    ap (λ (ws : List (String Global)). behind nodes (named ws)) (rest_at words i word within is) ∙ ap (λ (n : Option ℕ). behind nodes (with_node n (named (drop (suc i) words)))) (sym none)
+    ap (λ (ws : List (String Global)). after nodes (named ws)) (rest_at words i word within is) ∙ ap (λ (n : Option ℕ). after nodes (with_node n (named (drop (suc i) words)))) (sym none)
 
--- behind the last word
-pub all_nodes : (words : List (String Global)) (i : ℕ) (nodes : List ℕ) → i ≡ length words → behind nodes (named (drop i words)) ≡ Some nodes
-all_nodes [] i nodes is = ap (λ (n : ℕ). behind nodes (named (drop n []))) is ∙ ap Some (append-nil nodes)
+-- after the last word
+pub all_nodes : (words : List (String Global)) (i : ℕ) (nodes : List ℕ) → i ≡ length words → after nodes (named (drop i words)) ≡ Some nodes
+all_nodes [] i nodes is = ap (λ (n : ℕ). after nodes (named (drop n []))) is ∙ ap Some (append-nil nodes)
 all_nodes (word ∷ words) zero nodes is = absurd (omega arith)
 all_nodes (word ∷ words) (suc i) nodes is = all_nodes words i nodes (omega arith)

@@ -1,6 +1,6 @@
 -- The words that ask for the changes of a collection.
 --
---     COLLECTION TOKEN NODE..    what nodes have behind a token
+--     COLLECTION TOKEN NODE..    what nodes have after a token
 --
 -- TOKEN is a resume token, or `start`: before all entries. There are 1 to 50 nodes, each `n` and a number of
 -- one or two digits.

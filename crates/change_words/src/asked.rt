@@ -14,7 +14,7 @@ use std::marker::Model;
 pub struct Watch {
     /// The collection whose changes are told.
     pub collection: Text,
-    /// They begin behind this optime.
+    /// They begin after this optime.
     pub token: OpTime,
     /// The nodes that are asked, one after another.
     pub nodes: NodeNumbers,

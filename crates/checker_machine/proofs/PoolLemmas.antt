@@ -10,19 +10,19 @@ use Rattle.set_model.specs.World.{is_between, last_message, latest_between}
 use Rattle.checker_machine.specs.Newest.{AreNewest, IsNewest, pair_of}
 use Rattle.node_data.proofs.MapLemmas.{get-from_pairs, get-with-other, get-with-same, same_or_apart}
 
-last_behind : (messages : List Message) (message : Message) (b : Bool) → last_message (messages ++ cond b (message ∷ []) []) ≡ cond b (Some message) (last_message messages)
-last_behind [] message true = refl
-last_behind [] message false = refl
-last_behind (first ∷ []) message true = refl
-last_behind (first ∷ []) message false = refl
-last_behind (first ∷ next ∷ messages) message b = last_behind (next ∷ messages) message b
+last_after : (messages : List Message) (message : Message) (b : Bool) → last_message (messages ++ cond b (message ∷ []) []) ≡ cond b (Some message) (last_message messages)
+last_after [] message true = refl
+last_after [] message false = refl
+last_after (first ∷ []) message true = refl
+last_after (first ∷ []) message false = refl
+last_after (first ∷ next ∷ messages) message b = last_after (next ∷ messages) message b
 
 -- a message between the two is then the newest, and another one doesn't count
-latest_behind : (messages : List Message) (message : Message) (from to : ℕ)
+latest_after : (messages : List Message) (message : Message) (from to : ℕ)
     → latest_between (messages ++ message ∷ []) from to ≡ cond (is_between from to message) (Some message) (latest_between messages from to)
-latest_behind messages message from to =
+latest_after messages message from to =
     ap last_message (filter-append (is_between from to) messages (message ∷ []))
-    ∙ last_behind (filter (is_between from to) messages) message (is_between from to message)
+    ∙ last_after (filter (is_between from to) messages) message (is_between from to message)
 
 front_kept : {A : Type 0} (xs ys : List A) (place : ℕ) → place < length xs → slice_get xs place ≡ slice_get (xs ++ ys) place
 front_kept [] ys place within = absurd (omega (arith, within))
@@ -36,17 +36,17 @@ next_there (other ∷ xs) x ys = next_there xs x ys
 pub newest_here : (messages : List Message) (message : Message) (from to : ℕ) → message.from ≡ from → message.to ≡ to → IsNewest (messages ++ message ∷ []) from to (Some (length messages))
 newest_here messages message from to sender receiver = (
   omega (arith, length-append messages (message ∷ [])),
-  latest_behind messages message from to ∙ ap (λ b. cond b (Some message) (latest_between messages from to)) between ∙ next_there messages message [],
+  latest_after messages message from to ∙ ap (λ b. cond b (Some message) (latest_between messages from to)) between ∙ next_there messages message [],
 )
   where
     between : is_between from to message ≡ true
     between = grind (arith, sender, receiver)
 
 pub newest_there : (messages : List Message) (message : Message) (from to : ℕ) (found : Option ℕ) → is_between from to message ≡ false → IsNewest messages from to found → IsNewest (messages ++ message ∷ []) from to found
-newest_there messages message from to None other is = latest_behind messages message from to ∙ ap (λ b. cond b (Some message) (latest_between messages from to)) other ∙ is
+newest_there messages message from to None other is = latest_after messages message from to ∙ ap (λ b. cond b (Some message) (latest_between messages from to)) other ∙ is
 newest_there messages message from to (Some place) other is = (
   let within : place < length messages = is.0 in omega (arith, within, length-append messages (message ∷ [])),
-  latest_behind messages message from to ∙ ap (λ b. cond b (Some message) (latest_between messages from to)) other ∙ is.1 ∙ front_kept messages (message ∷ []) place is.0,
+  latest_after messages message from to ∙ ap (λ b. cond b (Some message) (latest_between messages from to)) other ∙ is.1 ∙ front_kept messages (message ∷ []) place is.0,
 )
 
 -- the places, once they name a message more

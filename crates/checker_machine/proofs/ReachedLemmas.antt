@@ -14,7 +14,7 @@ use Rattle.safety_laws.specs.Taking.{MessagesCanBeTaken}
 use Rattle.checker_machine.specs.Reached.{AreSound, CanBeTaken, IsReached}
 use Rattle.node_commands.proofs.VoterLemmas.{few_members}
 
--- the world behind all events
+-- the world after all events
 pub whole_world : (sizes : Sizes) (events : List Event) → world_at sizes events (length events) ≡ (run sizes events).world
 whole_world sizes events = ap (λ (es : List Event). (run sizes es).world) (take_all (length events) events (omega arith))
 

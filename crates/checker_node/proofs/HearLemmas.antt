@@ -1,4 +1,4 @@
--- What a message may bring, and entries that go on behind a node's log.
+-- What a message may bring, and entries that go on after a node's log.
 use Rattle.std.proofs.Common.{◌≡◌, ◌&&◌, Bool, true, false, List, ◌++◌, sym, subst}
 use Rattle.std.specs.List.{All}
 use Rattle.rs_optime.specs.declared.optime.OpTime.{OpTime}

@@ -1,4 +1,4 @@
--- What a node is that has lost what it had in memory.
+-- A node that has lost what it had in memory.
 use Rattle.std.specs.Prelude.{Bool}
 use Rattle.set_model.specs.Node.{Node, down}
 

@@ -39,7 +39,7 @@ pub record CanLog (node : Node) (op : Op) (session : Option Session) : Type 0 wh
   pub numbered : IfSome session IsSession
   pub touches : IfSome session (λ _. IsSome (place_of op))
 
--- the entries of an answer are in order, and go on behind its base
+-- the entries of an answer are in order, and go on after its base
 pub record GoOn (reply : FetchReply) : Type 0 where
   pub order : IsOplog reply.entries
   pub base : All (Follows reply.base) reply.entries

@@ -49,7 +49,7 @@ impl Node {
     {
         let entries = self.log.log().as_slice();
         self.journaled = pass_kept(entries, self.journal.entries(), self.journaled);
-        let more = behind_first(entries, self.journaled);
+        let more = without_first(entries, self.journaled);
         copy_unkept(self.alloc, more, self.journal.entries(), most)
     }
 
@@ -124,7 +124,7 @@ impl Node {
         self.recover(failed)
     }
 
-    /// The node comes up, once the entries are cut behind which one is missing.
+    /// The node comes up, once the entries are cut after which one is missing.
     fn recover(&mut self, failed: &mut Option<u32>) -> Mem<Answer>
         requires settled { self.old.doubt ≡ None }
         requires rollback { self.old.rollback < 2 ^ 62 }
@@ -193,15 +193,15 @@ fn first_of(entries: &[Entry], most: usize) -> &[Entry]
     &entries[..entries.len().min(most)]
 }
 
-/// The entries behind the first `count`.
-fn behind_first(entries: &[Entry], count: usize) -> &[Entry]
+/// The entries after the first `count`.
+fn without_first(entries: &[Entry], count: usize) -> &[Entry]
     requires { count ≤ length entries.now }
     ensures { result.now ≡ drop count entries.now }
 {
     &entries[count..]
 }
 
-/// Cuts the entries behind those of one record, and gives how far the log is durable with that record: what
+/// Cuts the entries after those of one record, and gives how far the log is durable with that record: what
 /// is visible, or the record's last entry where more remain and that is earlier.
 fn next_durable(next: &mut Vec<Entry>, visible: OpTime) -> OpTime
     requires { length next.old.items ≤ 2001 }

@@ -58,7 +58,7 @@ impl Node {
         }
     }
 
-    /// Takes the entries of an answer, where they go on behind a secondary's log.
+    /// Takes the entries of an answer, where they go on after a secondary's log.
     pub fn entries_told(&mut self, from: u32, reply: &FetchReply) -> Mem<Reply>
         requires fetched { GoOn reply.now }
         ensures { IfOk result (λ told.
@@ -81,7 +81,7 @@ impl Node {
         })
     }
 
-    /// Writes entries behind the log.
+    /// Writes entries after the log.
     fn append(&mut self, entries: &[Entry]) -> Mem<()>
         requires stays { IsOplog (self.old.log ++ entries.now) }
         ensures { OnOk result (self.new ≡ fetching.with_fetched self.old entries.now) }

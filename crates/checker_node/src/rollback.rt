@@ -1,7 +1,7 @@
 // Rolling back what a later primary doesn't have.
 ghost use Rattle.std.specs.Prelude.{◌≡◌, ◌<◌, ◌^◌, None, map, IfOk, OnOk};
 ghost use Rattle.std.specs.FinMap as maps;
-ghost use Rattle.oplog_entry.specs.Visible.{log_behind, log_up_to};
+ghost use Rattle.oplog_entry.specs.Visible.{log_after, log_up_to};
 ghost use Rattle.repl_msg.specs.Rollback as words;
 ghost use Rattle.set_model.specs.Points.{visible_point};
 ghost use Rattle.set_model.specs.Reads.{local_documents};
@@ -17,7 +17,7 @@ use bson_doc::{IdKey, Mem, Text};
 use checker_tables::earlier;
 use doc_shelf::Shelf;
 use oplog_entry::Entry;
-use oplog_fetcher::behind;
+use oplog_fetcher::log_after;
 use repl_msg::{Body, OptimeList, Record};
 use rollback_core::{RollbackRefusal, plan, touched};
 use rs_optime::OpTime;
@@ -63,11 +63,11 @@ impl Node {
         self.sends(Reply::Sent(next), to, body)
     }
 
-    /// The entries behind one optime and up to another.
+    /// The entries after one optime and up to another.
     fn between(&self, after: OpTime, to: OpTime) -> &[Entry]
-        ensures { result.now ≡ log_behind after (log_up_to to self.now.log) }
+        ensures { result.now ≡ log_after after (log_up_to to self.now.log) }
     {
-        behind(self.log.log().up_to(to), after)
+        log_after(self.log.log().up_to(to), after)
     }
 
     /// Up to where the log is visible once a message of this term is taken.
@@ -91,7 +91,7 @@ impl Node {
         None
     }
 
-    /// Tells the visible optimes behind one.
+    /// Tells the visible optimes after one.
     pub fn common_asked(&self, next: u64, from: u32, after: OpTime) -> Mem<Answer>
         ensures { IfOk result (λ answer.
             Answers (rollbacks.common_asked next self.now from after) answer self.now) }
@@ -141,10 +141,10 @@ impl Node {
         }
     }
 
-    /// The documents that the entries behind a point touched, as they stand.
-    fn lost_behind(&mut self, point: OpTime) -> Mem<LostList>
+    /// The documents that the entries after a point touched, as they stand.
+    fn lost_after(&mut self, point: OpTime) -> Mem<LostList>
         ensures lost { IfOk result (λ lost. lost
-            ≡ rollbacks.lost_documents (local_documents self.old) (log_behind point self.old.log)) }
+            ≡ rollbacks.lost_documents (local_documents self.old) (log_after point self.old.log)) }
         ensures same { OnOk result (self.new ≡ self.old) }
     {
         self.recall_log();
@@ -180,12 +180,12 @@ impl Node {
         Ok(self.replies(Reply::RolledBack { to: point, removed }))
     }
 
-    /// Cuts the log behind a point.
+    /// Cuts the log after a point.
     fn cut_back(&mut self, point: OpTime) -> Mem<()>
         requires { self.old.rollback < 2 ^ 62 }
         ensures { OnOk result (self.new ≡ rollbacks.cut_back self.old point) }
     {
-        self.lost = self.lost_behind(point)?;
+        self.lost = self.lost_after(point)?;
         self.journaled = self.journaled.min(self.log.log().up_to(point).len());
         self.log.cut(point);
         self.applied = point;

@@ -52,7 +52,7 @@ fn stable_after(stable: OpTime, item: &Store) -> OpTime
     }
 }
 
-/// The optime behind which something that is stored cuts.
+/// The optime after which something that is stored cuts.
 fn cut_of(item: &Store) -> Option<OpTime>
     ensures { result ≡ cut_of item.now }
 {

@@ -1,4 +1,4 @@
--- What stands beside a log is still that of its front, once the log changes behind it.
+-- What stands beside a log is still that of its prefix, once the log changes after it.
 use Rattle.std.proofs.Common.{◌≡◌, ◌∙◌, ◌≤◌, ℕ, List, ◌++◌, length, take, ap, sym, subst, refl, arith}
 use Rattle.std.specs.Prelude.{filter, insert}
 use Rattle.std.specs.List.{AllPairs}
@@ -25,9 +25,9 @@ front_alike log other shelf count less within alike front =
 abbrev pub StandBeside : List Entry → Shelf → Shelf → Table → Type 0
 StandBeside log local majority sessions = IsOfFront log local × IsOfFront log majority × IsTableOf log sessions
 
--- entries come behind it
-pub beside_behind : (log more : List Entry) (local majority : Shelf) (sessions : Table) → StandBeside log local majority sessions → StandBeside (log ++ more) local majority sessions
-beside_behind log more local majority sessions are =
+-- entries come after it
+pub beside_after : (log more : List Entry) (local majority : Shelf) (sessions : Table) → StandBeside log local majority sessions → StandBeside (log ++ more) local majority sessions
+beside_after log more local majority sessions are =
     let alike : take (length log) (log ++ more) ≡ take (length log) log = take_at log more (length log) refl ∙ sym (take_all (length log) log (omega arith)) in
     let within : length log ≤ length (log ++ more) = omega (arith, length-append log more) in (
       front_alike log (log ++ more) local (length log) are.0.within within alike are.0,

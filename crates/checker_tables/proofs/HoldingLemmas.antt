@@ -130,8 +130,8 @@ first_holds (e ∷ es) place number sorted is = by_test (holds e.1 place) refl i
     some_same : Some e.0 ≡ Some number → e.0 ≡ number
     some_same same = cc
 
-    behind : (writer : Writer) → maps.find nat_cmp number es ≡ Some writer → maps.find nat_cmp number (e ∷ es) ≡ Some writer
-    behind writer found = elim (same_or_apart number e.0) [
+    after : (writer : Writer) → maps.find nat_cmp number es ≡ Some writer → maps.find nat_cmp number (e ∷ es) ≡ Some writer
+    after writer found = elim (same_or_apart number e.0) [
       | inl same ↦
           let none : maps.find nat_cmp number es ≡ None = ap (λ (n : ℕ). maps.find nat_cmp n es) same.0 ∙ absent e.0 es (first_of _ _ sorted) in
           absurd (cc (found, none))
@@ -141,7 +141,7 @@ first_holds (e ∷ es) place number sorted is = by_test (holds e.1 place) refl i
     by_test : (b : Bool) → holds e.1 place ≡ b → cond b (Some e.0) (holder_among es place) ≡ Some number
         → (holder_among es place ≡ Some number → HoldsAt es place number) → HoldsAt (e ∷ es) place number
     by_test true held found again = subst (HoldsAt (e ∷ es) place) (some_same found) (e.1, here, held)
-    by_test false free found again = let there = again found in (there.0, behind there.0 there.1, there.2)
+    by_test false free found again = let there = again found in (there.0, after there.0 there.1, there.2)
 
 -- where a place leads to a writer that holds it, that one is the first, and where to none that does, there is none
 abbrev IsHeldBy : Writers → Place → ℕ → Type 0

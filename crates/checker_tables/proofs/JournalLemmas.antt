@@ -1,4 +1,4 @@
--- Which first entries of a log are in the records, and what may stand behind these.
+-- Which first entries of a log are in the records, and what may come after these.
 use Rattle.std.proofs.Common.{◌≡◌, ◌∙◌, ◌≤◌, ◌<◌, ◌+◌, ◌||◌, ℕ, zero, suc, Bool, true, false, cond, not, nat_lt, None, Some, List, [], ◌∷◌, ◌++◌, length, take, drop, get_or, ap, sym, subst, refl, arith}
 use Rattle.std.specs.Prelude.{◌==◌, filter, insert}
 use Rattle.std.specs.List.{All, AllPairs, list_any}
@@ -45,7 +45,7 @@ other_oplog items (stores.Record item) other oplog = subst (λ (k : Kept). IsOpl
     by_record found (records.Cut at) other oplog = oplog_filter (λ (entry : Entry). not (is_before at entry.optime)) found.entries oplog
     by_record found (records.Form form) other oplog = oplog
 
--- where entries stand behind a point
+-- where entries come after a point
 some_passed : (test : Entry → Bool) (log : List Entry) → not (length (filter test log) == 0) ≡ list_any test log
 some_passed test [] = refl
 some_passed test (entry ∷ log) = by_test (test entry) (some_passed test log)
@@ -54,9 +54,9 @@ some_passed test (entry ∷ log) = by_test (test entry) (some_passed test log)
     by_test true again = let some : (suc (length (filter test log)) == 0) ≡ false = grind (arith, nat_tests) in ap not some
     by_test false again = again
 
-pub more_behind : (items : List Record) (behind entries : List Entry) (point : OpTime) → entries ≡ (kept items).entries → point ≡ (kept items).point
-    → behind ≡ filter (λ (entry : Entry). is_before point entry.optime) entries → not (length behind == 0) ≡ has_more (kept items)
-more_behind items behind entries point entries_are point_is is =
+pub more_after : (items : List Record) (after entries : List Entry) (point : OpTime) → entries ≡ (kept items).entries → point ≡ (kept items).point
+    → after ≡ filter (λ (entry : Entry). is_before point entry.optime) entries → not (length after == 0) ≡ has_more (kept items)
+more_after items after entries point entries_are point_is is =
     ap (λ (l : List Entry). not (length l == 0)) is ∙ some_passed (λ (entry : Entry). is_before point entry.optime) entries
     ∙ ap (λ (l : List Entry). list_any (λ (entry : Entry). is_before point entry.optime) l) entries_are
     ∙ ap (λ (o : OpTime). list_any (λ (entry : Entry). is_before o entry.optime) (kept items).entries) point_is
@@ -88,7 +88,7 @@ without_more log (entry ∷ more) oplog =
     let next : IsOplog (with_entry log entry) = without_more (with_entry log entry) more oplog in
     record { order = order_less log entry next.order; lawful = all_less IsLawful log entry next.lawful }
 
--- where they leave a log in order, so does each front of them
+-- where they leave a log in order, so does each prefix of them
 front_stays : (log entries : List Entry) → IsOplog (with_entries log entries) → (count : ℕ) → IsOplog (with_entries log (take count entries))
 front_stays log entries oplog count =
     without_more (with_entries log (take count entries)) (drop count entries)
@@ -116,9 +116,9 @@ journaled_fewer count fewer log items less are = record {
       (sym (ap (λ (l : List Entry). l ++ drop fewer (take count log)) (sym (take-take fewer count log less)) ∙ take-append-drop fewer (take count log))) are.there);
 }
 
--- entries that come behind them
-pub journaled_behind : (count : ℕ) (log more : List Entry) (items : List Record) → AreJournaled count log items → AreJournaled count (log ++ more) items
-journaled_behind count log more items are = record {
+-- entries that come after them
+pub journaled_after : (count : ℕ) (log more : List Entry) (items : List Record) → AreJournaled count log items → AreJournaled count (log ++ more) items
+journaled_after count log more items are = record {
   within = omega (arith, are.within, length-append log more);
   there = subst (λ (l : List Entry). All (IsThere items) l) (sym (take-append-le count log more are.within)) are.there;
 }
@@ -143,7 +143,7 @@ one_more_kept count log entry found less is here are = record {
       (All-cons (λ (e : Entry). has_entry found e.optime ≡ true) entry [] here (λ k d within. absurd (omega (arith, within)))));
 }
 
--- the log is cut behind them
+-- the log is cut after them
 journaled_front : (count : ℕ) (log front rest : List Entry) (items : List Record) → log ≡ front ++ rest → count ≤ length front → AreJournaled count log items → AreJournaled count front items
 journaled_front count log front rest items is within are = record {
   within = within;
@@ -183,9 +183,9 @@ grown_one : (log : List Entry) (entry : Entry) (o : OpTime) → has_entry log o 
 grown_one [] entry o none = absurd (cc none)
 grown_one (other ∷ log) entry o here = by_time (nat_lt other.optime.ts entry.optime.ts) (grown_one log entry o) here
   where
-    behind : (b : Bool) → (b || has_entry (other ∷ log) o) ≡ true
-    behind true = refl
-    behind false = here
+    after : (b : Bool) → (b || has_entry (other ∷ log) o) ≡ true
+    after true = refl
+    after false = here
 
     with_first : (c : Bool) → (has_entry log o ≡ true → has_entry (with_entry log entry) o ≡ true) → (c || has_entry log o) ≡ true → (c || has_entry (with_entry log entry) o) ≡ true
     with_first true again found = refl
@@ -194,7 +194,7 @@ grown_one (other ∷ log) entry o here = by_time (nat_lt other.optime.ts entry.o
     by_time : (b : Bool) → (has_entry log o ≡ true → has_entry (with_entry log entry) o ≡ true) → (same_optime other.optime o || has_entry log o) ≡ true
         → has_entry (cond b (other ∷ with_entry log entry) (entry ∷ other ∷ log)) o ≡ true
     by_time true again found = with_first (same_optime other.optime o) again found
-    by_time false again found = behind (same_optime entry.optime o)
+    by_time false again found = after (same_optime entry.optime o)
 
 grown : (found more : List Entry) (o : OpTime) → has_entry found o ≡ true → has_entry (with_entries found more) o ≡ true
 grown found [] o has = has

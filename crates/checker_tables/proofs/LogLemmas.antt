@@ -24,9 +24,9 @@ of_new P (other ∷ log) entry all = by_time (nat_lt other.optime.ts entry.optim
 pub entry_lawful : (log : List Entry) (entry : Entry) → IsOplog (with_entry log entry) → IsLawful entry
 entry_lawful log entry oplog = of_new IsLawful log entry oplog.lawful
 
--- ---- behind those before it
+-- ---- after those before it
 
--- none of the entries behind another one is before it
+-- none of the entries after another one is before it
 none_before : (entry : Entry) (log : List Entry) → All (StandsBefore entry) log → filter (λ (e : Entry). is_before e.optime entry.optime) log ≡ []
 none_before entry [] all = refl
 none_before entry (other ∷ log) all = by_test (is_before other.optime entry.optime) refl (none_before entry log (All-tail (StandsBefore entry) other log all))

@@ -38,7 +38,7 @@ spare_more spare now done rest whole entry room sum list = omega (arith, room, s
 pub spare_less : (spare now next : ℕ) (done : List Entry) (entry : Entry) → 0 < now → now + length done ≡ spare → next ≡ now - 1 → next + length (done ++ entry ∷ []) ≡ spare
 spare_less spare now next done entry some sum next_is = omega (arith, some, sum, next_is, length-append done (entry ∷ []))
 
--- ---- entries that go behind a log
+-- ---- entries that go after a log
 
 all_back : (P : Entry → Type 0) (xs ys : List Entry) → All P (xs ++ ys) → All P ys
 all_back P [] ys all = all
@@ -50,18 +50,18 @@ earlier (first ∷ log) entry rest order =
     let before : StandsBefore first entry = All-head (StandsBefore first) entry rest (all_back (StandsBefore first) log (entry ∷ rest) (pairs_head StandsBefore first (log ++ entry ∷ rest) order)) in
     All-cons (λ (other : Entry). other.optime.ts < entry.optime.ts) first log before.earlier (earlier log entry rest (pairs_tail StandsBefore first (log ++ entry ∷ rest) order))
 
-pub behind_all : (log entries : List Entry) → IsOplog (log ++ entries) → with_entries log entries ≡ log ++ entries
-behind_all log [] oplog = sym (append-nil log)
-behind_all log (entry ∷ rest) oplog =
+pub after_all : (log entries : List Entry) → IsOplog (log ++ entries) → with_entries log entries ≡ log ++ entries
+after_all log [] oplog = sym (append-nil log)
+after_all log (entry ∷ rest) oplog =
     let next : with_entry log entry ≡ log ++ entry ∷ [] = with_last log entry (earlier log entry rest oplog.order) in
     let joined : (log ++ entry ∷ []) ++ rest ≡ log ++ entry ∷ rest = append_assoc log (entry ∷ []) rest in
-    ap (λ (l : List Entry). with_entries l rest) next ∙ behind_all (log ++ entry ∷ []) rest (subst (λ (l : List Entry). IsOplog l) (sym joined) oplog) ∙ joined
+    ap (λ (l : List Entry). with_entries l rest) next ∙ after_all (log ++ entry ∷ []) rest (subst (λ (l : List Entry). IsOplog l) (sym joined) oplog) ∙ joined
 
-pub behind_stays : (log entries : List Entry) → IsOplog (log ++ entries) → (count : ℕ) → IsOplog (with_entries log (take count entries))
-behind_stays log entries oplog count =
+pub after_stays : (log entries : List Entry) → IsOplog (log ++ entries) → (count : ℕ) → IsOplog (with_entries log (take count entries))
+after_stays log entries oplog count =
     let parted : (log ++ take count entries) ++ drop count entries ≡ log ++ entries = append_assoc log (take count entries) (drop count entries) ∙ ap (λ (l : List Entry). log ++ l) (take-append-drop count entries) in
     let front : IsOplog (log ++ take count entries) = oplog_front (log ++ take count entries) (drop count entries) (subst (λ (l : List Entry). IsOplog l) (sym parted) oplog) in
-    subst (λ (l : List Entry). IsOplog l) (sym (behind_all log (take count entries) front)) front
+    subst (λ (l : List Entry). IsOplog l) (sym (after_all log (take count entries) front)) front
 
 -- what follows where something is told
 pub on_ok : {A E : Type 0} (result : Result A E) (P Q : Type 0) → (P → Q) → OnOk result P → OnOk result Q

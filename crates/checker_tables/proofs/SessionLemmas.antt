@@ -20,8 +20,8 @@ use Rattle.node_data.proofs.MapLemmas.{get-with-other, get-with-same, same_or_ap
 abbrev with_later : ℕ → Option LastWrite → Entry → Option LastWrite
 with_later id last entry = later_write id last entry.optime entry.session
 
-last_behind : (id : ℕ) (log : List Entry) (entry : Entry) → last_write id (log ++ entry ∷ []) ≡ with_later id (last_write id log) entry
-last_behind id log entry = fold-append (with_later id) None log (entry ∷ [])
+last_after : (id : ℕ) (log : List Entry) (entry : Entry) → last_write id (log ++ entry ∷ []) ≡ with_later id (last_write id log) entry
+last_after id log entry = fold-append (with_later id) None log (entry ∷ [])
 
 -- ---- one entry more
 
@@ -47,10 +47,10 @@ pub counts_more : (log : List Entry) (entry : Entry) (old new : Table) → new.c
     → Counts log old → Counts (log ++ entry ∷ []) new
 counts_more log entry old new count more counts = record {
   count_is = omega (arith, count, counts.count_is, length-append log (entry ∷ []));
-  writes_are = λ id. more id ∙ ap (λ (last : Option LastWrite). with_later id last entry) (counts.writes_are id) ∙ sym (last_behind id log entry);
+  writes_are = λ id. more id ∙ ap (λ (last : Option LastWrite). with_later id last entry) (counts.writes_are id) ∙ sym (last_after id log entry);
 }
 
--- ---- a table of a front
+-- ---- a table of a prefix
 
 pub table_next : (log : List Entry) (place : ℕ) (entry : Entry) (old new : Table) → IsTableOf log old → place ≡ old.count → place < length log → entry ≡ get_or log place entry
     → (Counts (take place log) old → Counts (take place log ++ entry ∷ []) new) → new.count ≡ place + 1 → IsTableOf log new
@@ -88,8 +88,8 @@ inserted_front count place log entry early within =
     let own : count ≤ length (take place log) = omega (arith, early, long) in
     take-append-le count (take place log) (entry ∷ drop place log) own ∙ take-take count place log early
 
-pub table_behind : (log : List Entry) (place : ℕ) (entry : Entry) (table : Table) → table.count ≤ place → place ≤ length log → IsTableOf log table → IsTableOf (insert log place entry) table
-table_behind log place entry table early within is = table_alike log (insert log place entry) table place early (inserted_front place place log entry (omega arith) within) is
+pub table_after : (log : List Entry) (place : ℕ) (entry : Entry) (table : Table) → table.count ≤ place → place ≤ length log → IsTableOf log table → IsTableOf (insert log place entry) table
+table_after log place entry table early within is = table_alike log (insert log place entry) table place early (inserted_front place place log entry (omega arith) within) is
 
 pub table_back : (log : List Entry) (place : ℕ) (entry : Entry) → place ≤ length log → take place (insert log place entry) ≡ take place log
 table_back log place entry within = inserted_front place place log entry (omega arith) within

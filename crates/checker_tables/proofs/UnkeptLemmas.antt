@@ -13,7 +13,7 @@ use Rattle.oplog_store.proofs.PlaceLemmas.{oplog_front}
 use Rattle.repl_msg.specs.Logs.{has_entry}
 use Rattle.checker_tables.specs.Journal.{AreKept, unkept}
 
--- ---- fronts of the log
+-- ---- prefixes of the log
 
 -- no more are asked for
 pub unkept_full : (log found so_far : List Entry) (place most : ℕ) → so_far ≡ unkept (take place log) found → length so_far ≡ most → so_far ≡ take most (unkept log found)
@@ -30,8 +30,8 @@ none_unkept found (entry ∷ log) all =
     rw here (none_unkept found log (All-tail (λ (e : Entry). has_entry found e.optime ≡ true) entry log all))
 
 -- those of the first entries that are kept aren't among them
-pub unkept_behind : (count : ℕ) (log found : List Entry) → AreKept count log found → unkept log found ≡ unkept (drop count log) found
-unkept_behind count log found are =
+pub unkept_after : (count : ℕ) (log found : List Entry) → AreKept count log found → unkept log found ≡ unkept (drop count log) found
+unkept_after count log found are =
     ap (λ (l : List Entry). unkept l found) (sym (take-append-drop count log)) ∙ filter-append (λ (e : Entry). not (has_entry found e.optime)) (take count log) (drop count log)
     ∙ ap (λ (l : List Entry). l ++ unkept (drop count log) found) (none_unkept found (take count log) are.there)
 

@@ -33,7 +33,7 @@ AreJournaled count log items = AreKept count log (kept items).entries
 abbrev pub unkept : List Entry → List Entry → List Entry
 unkept log found = filter (λ entry. not (has_entry found entry.optime)) log
 
--- what is in doubt may stand behind the records
+-- what is in doubt may come after the records
 abbrev pub MayStand : List Record → Option Store → Type 0
 MayStand records doubt = IfSome doubt (λ store. IsOplog (kept (records_after records store)).entries)
 
@@ -46,7 +46,7 @@ has_entries (stores.Record (records.Cut at)) = false
 has_entries (stores.Record (records.Form form)) = false
 has_entries (stores.Checkpoint at) = false
 
--- the optime behind which it cuts
+-- the optime after which it cuts
 abbrev pub cut_of : Store → Option OpTime
 cut_of (stores.Record (records.Cut at)) = Some at
 cut_of (stores.Record (records.Entries list point)) = None

@@ -1,4 +1,4 @@
--- What a log is once its documents are lent no more.
+-- A log once its documents are no longer lent.
 use Rattle.std.specs.Prelude.{◌≡◌, List}
 use Rattle.std.specs.Borrow.{Fml, MutBor}
 use Rattle.std.specs.Io.BufRead.{Rests}

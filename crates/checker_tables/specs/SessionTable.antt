@@ -1,4 +1,4 @@
--- A table of the last write of each session in a front of a log.
+-- A table of the last write of each session in a prefix of a log.
 use Rattle.std.specs.Prelude.{◌≡◌, ◌≤◌, ℕ, List, length, take, refl}
 use Rattle.std.specs.Ordering.{nat_cmp}
 use Rattle.std.specs.Coded.{Coded, code_by, coded×, coded_ℕ}
@@ -31,7 +31,7 @@ pub record Counts (entries : List Entry) (table : Table) : Type 0 where
   pub count_is : table.count ≡ length entries
   pub writes_are : (id : ℕ) → maps.get table.writes id ≡ last_write id entries
 
--- it is the table of a front of this log
+-- it is the table of a prefix of this log
 pub record IsTableOf (log : List Entry) (table : Table) : Type 0 where
   pub within : table.count ≤ length log
   pub counts : Counts (take table.count log) table

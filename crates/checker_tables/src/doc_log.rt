@@ -1,4 +1,4 @@
-// A log, with the documents that its fronts leave.
+// A log, with the documents that its prefixes leave.
 ghost use Rattle.std.specs.Prelude.{◌≡◌, ◌≤◌, ◌++◌, [], length, take, IfOk, OnOk, OnErr};
 ghost use Rattle.std.specs.Option.{option_copied};
 ghost use Rattle.std.specs.FinMap as maps;
@@ -19,7 +19,7 @@ use set_model::LastWrite;
 use std::alloc::Global;
 use std::marker::Model;
 
-/// A log, with the documents of two of its fronts and the last write of each session. These follow the log
+/// A log, with the documents of two of its prefixes and the last write of each session. These follow the log
 /// where they are asked for, by the entries that came since, so each entry is applied once to each.
 #[derive(Drop)]
 pub struct DocLog {
@@ -87,7 +87,7 @@ impl DocLog {
         Ok(())
     }
 
-    /// Puts entries behind the log. Out of memory leaves it as it was.
+    /// Puts entries after the log. Out of memory leaves it as it was.
     pub fn append(&mut self, alloc: Global, entries: &[Entry]) -> Mem<()>
         requires { IsOplog (self.old ++ entries.now) }
         ensures ok { OnOk result (self.new ≡ self.old ++ entries.now) }
@@ -97,7 +97,7 @@ impl DocLog {
         Ok(())
     }
 
-    /// Drops the entries behind an optime.
+    /// Drops the entries after an optime.
     pub fn cut(&mut self, to: OpTime)
         ensures { self.new ≡ log_up_to to self.old }
     {

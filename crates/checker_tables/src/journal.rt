@@ -90,7 +90,7 @@ impl Journal {
         self.point
     }
 
-    /// Whether there are entries behind that point.
+    /// Whether there are entries after that point.
     pub fn has_more(&self) -> bool
         ensures { result ≡ has_more (kept self.now) }
     {

@@ -1,4 +1,4 @@
-// The last write of each session in a front of a log.
+// The last write of each session in a prefix of a log.
 ghost use Rattle.std.specs.Prelude.{◌≡◌, ◌++◌, ◌∷◌, ◌<◌, ◌≤◌, ◌-◌, ◌^◌, ◌+◌, [], ℕ, List, None, length, insert, take, IfOk, OnOk, OnErr};
 ghost use Rattle.oplog_entry.specs.declared.entry.Entry.{Entry};
 ghost use Rattle.set_model.specs.Sessions.{last_write};
@@ -55,7 +55,7 @@ impl Sessions {
         *self = Sessions::new(self.alloc);
     }
 
-    /// Forgets the entries behind the first `kept`, where more are counted: the table is then made anew.
+    /// Forgets the entries after the first `kept`, where more are counted: the table is then made anew.
     pub(crate) fn back_to(&mut self, kept: usize)
         ensures { (log other : List Entry) → take kept other ≡ take kept log → IsTableOf log self.old
             → IsTableOf other self.new }

@@ -9,7 +9,7 @@ use oplog_store::Oplog;
 use rs_optime::OpTime;
 use std::alloc::Global;
 
-/// How many first entries of a log are known to be kept, once those behind the first `count` are looked up.
+/// How many first entries of a log are known to be kept, once those after the first `count` are looked up.
 pub fn pass_kept(entries: &[Entry], kept: &Oplog, count: usize) -> usize
     requires { AreKept count entries.now kept.now.entries }
     ensures { AreKept result entries.now kept.now.entries }

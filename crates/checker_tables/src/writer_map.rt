@@ -57,7 +57,7 @@ impl WriterMap {
         self.writers.get(&number)
     }
 
-    /// Puts a writer at a number. Out of memory is the one error, behind which the writers are of no use.
+    /// Puts a writer at a number. Out of memory is the one error, after which the writers are of no use.
     pub fn insert(&mut self, number: u32, writer: Writer) -> Mem<()>
         ensures { OnOk result (self.new ≡ maps.insert self.old number writer) }
     {

@@ -19,7 +19,7 @@ use Rattle.checkpoint_store.specs.Spelled.{PIECE}
 use Rattle.checkpoint_store.specs.Checkpoint.{SoFar, nothing_yet, with_record, with_documents, last_whole, checkpoint_of, checkpoint}
 use Rattle.checkpoint_store.specs.declared.stable.Stable.{Stable}
 
--- ---- the front of a checkpoint leaves the last whole one as it was
+-- ---- a prefix of a checkpoint leaves the last whole one as it was
 
 same_rest : (x y : Record) (xs ys : List Record) → x ∷ xs ≡ y ∷ ys → xs ≡ ys
 same_rest x y xs ys same = cc

@@ -30,7 +30,7 @@ rests_still old new records same rest = record {
   rests = record { front = rest.rests.front; open_records = rest.rests.open_records; file = ap (λ (s : State). s.file) same ∙ rest.rests.file };
 }
 
--- the records, and behind them the first of those that are added
+-- the records, and after them the first of those that are added
 abbrev pub IsFront : List Record → List Record → List ℕ → Type 0
 IsFront records added image =
     (front : List Record) × (rest : List Record) × (added ≡ front ++ rest) × HasList image (records ++ front)

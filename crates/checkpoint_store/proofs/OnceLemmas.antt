@@ -59,12 +59,12 @@ documents_once one two ones twos is =
 first_byte : (x y : ℕ) (xs ys : List ℕ) → x ∷ xs ≡ y ∷ ys → x ≡ y
 first_byte x y xs ys is = ap (λ (l : List ℕ). slice_index l 0) is
 
-behind_first : (x y : ℕ) (xs ys : List ℕ) → x ∷ xs ≡ y ∷ ys → xs ≡ ys
-behind_first x y xs ys is = ap (λ (l : List ℕ). drop 1 l) is
+same_tails : (x y : ℕ) (xs ys : List ℕ) → x ∷ xs ≡ y ∷ ys → xs ≡ ys
+same_tails x y xs ys is = ap (λ (l : List ℕ). drop 1 l) is
 
 record_once : (one two : Record) → IsRecord one → IsRecord two → record_bytes one ≡ record_bytes two → one ≡ two
-record_once (begins a) (begins b) first second is = ap begins (optime_once a b first second (behind_first 1 1 (optime_bytes a) (optime_bytes b) is))
-record_once (holds a) (holds b) first second is = ap holds (documents_once a b first second (behind_first 2 2 (documents_bytes a) (documents_bytes b) is))
+record_once (begins a) (begins b) first second is = ap begins (optime_once a b first second (same_tails 1 1 (optime_bytes a) (optime_bytes b) is))
+record_once (holds a) (holds b) first second is = ap holds (documents_once a b first second (same_tails 2 2 (documents_bytes a) (documents_bytes b) is))
 record_once ends ends first second is = refl
 record_once (begins a) (holds b) first second is = absurd (omega (arith, first_byte 1 2 (optime_bytes a) (documents_bytes b) is))
 record_once (begins a) ends first second is = absurd (omega (arith, first_byte 1 3 (optime_bytes a) [] is))

@@ -5,12 +5,12 @@ use Rattle.bson_codec.specs.Spelling.{IsSpelling, document_bytes}
 use Rattle.checkpoint_store.specs.Layout.{Saved, saved_bytes, sized}
 use Rattle.checkpoint_store.specs.Spelled.{IsSaved}
 
-pub sized_parts : (piece behind bytes : List ℕ) → bytes ≡ sized piece ++ behind → bytes ≡ number_bytes 4 (length piece) ++ (piece ++ behind)
-sized_parts piece behind bytes is = is ∙ append_assoc (number_bytes 4 (length piece)) piece behind
+pub sized_parts : (piece after bytes : List ℕ) → bytes ≡ sized piece ++ after → bytes ≡ number_bytes 4 (length piece) ++ (piece ++ after)
+sized_parts piece after bytes is = is ∙ append_assoc (number_bytes 4 (length piece)) piece after
 
-pub saved_parts : (saved : Saved) (behind bytes : List ℕ) → bytes ≡ saved_bytes saved ++ behind
-    → bytes ≡ sized saved.0.0 ++ (sized (document_bytes saved.1) ++ behind)
-saved_parts saved behind bytes is = is ∙ append_assoc (sized saved.0.0) (sized (document_bytes saved.1)) behind
+pub saved_parts : (saved : Saved) (after bytes : List ℕ) → bytes ≡ saved_bytes saved ++ after
+    → bytes ≡ sized saved.0.0 ++ (sized (document_bytes saved.1) ++ after)
+saved_parts saved after bytes is = is ∙ append_assoc (sized saved.0.0) (sized (document_bytes saved.1)) after
 
 pub name_short : (saved : Saved) → IsSaved saved → length saved.0.0 < 2 ^ 32
 name_short saved is = omega (arith, is.short)

@@ -52,7 +52,7 @@ first_piece documents some =
     ap (λ (k : ℕ). map holds (first_chunks PIECE k documents))
     (one_fewer (length documents) some ∙ ap (λ (n : ℕ). suc ((n + 999) / 1000)) (sym (length-drop PIECE documents)))
 
--- the piece at a place, and those behind it
+-- the piece at a place, and those after it
 next_piece : (f : Shown → Saved) (documents piece : List Shown) (place : ℕ) → piece ≡ take PIECE (drop place documents) → place < length documents
     → pieces (map f (drop place documents)) ≡ holds (map f piece) ∷ pieces (map f (drop (place + PIECE) documents))
 next_piece f documents piece place is within =
@@ -70,5 +70,5 @@ with_next f documents piece place whole last laid is within so_far =
 
 pub none_left : (f : Shown → Saved) (documents : List Shown) (place : ℕ) (whole last : List Record) (laid : List (Vec ℕ Global)) → length documents ≤ place
     → LaidSoFar whole (pieces (map f (drop place documents)) ++ last) laid → LaidSoFar whole last laid
-none_left f documents place whole last laid behind so_far =
-    subst (λ (l : List Shown). LaidSoFar whole (pieces (map f l) ++ last) laid) (drop_all place documents behind) so_far
+none_left f documents place whole last laid after so_far =
+    subst (λ (l : List Shown). LaidSoFar whole (pieces (map f l) ++ last) laid) (drop_all place documents after) so_far

@@ -41,15 +41,15 @@ record_short (holds documents) is =
     omega (arith, length-append count (flat_map saved_bytes documents), length-number_bytes 4 (length documents), documents_size documents is.1, is.0)
 record_short ends is = omega arith
 
--- a document behind the room for its length
-pub document_behind : (d : Fields) (old before out : List ℕ) → before ≡ old ++ number_bytes 4 0 → out ≡ before ++ document_bytes d → out ≡ (old ++ number_bytes 4 0) ++ document_bytes d
-document_behind d old before out first second = second ∙ ap (λ (l : List ℕ). l ++ document_bytes d) first
+-- a document after the room for its length
+pub document_after : (d : Fields) (old before out : List ℕ) → before ≡ old ++ number_bytes 4 0 → out ≡ before ++ document_bytes d → out ≡ (old ++ number_bytes 4 0) ++ document_bytes d
+document_after d old before out first second = second ∙ ap (λ (l : List ℕ). l ++ document_bytes d) first
 
 pub document_room : (d : Fields) (old before out : List ℕ) → before ≡ old ++ number_bytes 4 0 → out ≡ before ++ document_bytes d → length out ≡ length old + 4 + document_length d
 document_room d old before out first second =
     omega (
       arith,
-      ap length (document_behind d old before out first second),
+      ap length (document_after d old before out first second),
       length-append (old ++ number_bytes 4 0) (document_bytes d),
       length-append old (number_bytes 4 0),
       length-number_bytes 4 0,

@@ -16,7 +16,7 @@ no_stable = record { at = record { term = 0; ts = 0 }; documents = empty }
 abbrev pub with_documents : Documents → List Saved → Documents
 with_documents documents more = fold (λ so_far saved. insert so_far saved.0 saved.1) documents more
 
--- the last checkpoint that was ended, and the one that was begun behind it
+-- the last checkpoint that was ended, and the one that was begun after it
 pub record SoFar : Type 0 where
   pub whole : Stable
   pub begun : Option Stable

@@ -20,7 +20,7 @@ pub data Record : Type 0 where
   -- it ends
   ends : Record
 
--- some bytes behind their length
+-- some bytes after their length
 abbrev pub sized : List ℕ → List ℕ
 sized bytes = number_bytes 4 (length bytes) ++ bytes
 

@@ -18,7 +18,7 @@ use crate::{DocumentMap, Stable};
 use rs_optime::{Mem, OpTime};
 use std::alloc::Global;
 
-// The last whole checkpoint of the records so far, and the one that was begun behind it.
+// The last whole checkpoint of the records so far, and the one that was begun after it.
 #[derive(Drop)]
 struct Fold {
     whole: Stable,
@@ -121,14 +121,14 @@ fn add_each(alloc: Global, begun: &mut Begun, count: u32, bytes: &[u8]) -> Mem<(
 {
     let mut rest = bytes;
     for _ in 0..count {
-        let ((place, document), behind) = saved_of(alloc, rest)?;
+        let ((place, document), later) = saved_of(alloc, rest)?;
         begun.insert(place, document)?;
-        rest = behind;
+        rest = later;
     }
     Ok(())
 }
 
-// The last whole checkpoint of the records of these bytes. What stands before it and behind it is not read.
+// The last whole checkpoint of the records of these bytes. What stands before it and after it is not read.
 pub(crate) fn stable_of(alloc: Global, pieces: &[Vec<u8>]) -> Mem<Stable>
     requires { (records : List ARecord) × All IsRecord records
         × (lists pieces.now ≡ map record_bytes records) }

@@ -6,7 +6,7 @@ ghost use Rattle.checkpoint_store.specs.Layout.{Record as ARecord, record_bytes}
 ghost use Rattle.checkpoint_store.specs.Marked.{Marks};
 ghost use Rattle.checkpoint_store.specs.Spelled.{IsRecord};
 
-// The places of the last whole checkpoint, and where one begins behind it that has not ended.
+// The places of the last whole checkpoint, and where one begins after it that has not ended.
 #[derive(Clone, Copy)]
 pub(crate) struct Marked {
     pub(crate) from: usize,

@@ -23,7 +23,7 @@ pub(crate) fn put_u64(out: &mut Vec<u8>, number: u64) -> Mem<()>
     out.extend_from_slice(&bytes)
 }
 
-// The number in the first four bytes, and what stands behind them.
+// The number in the first four bytes, and what follows them.
 #[tactic(auto, unfolding(bson_codec::specs::Numbers::number_in))]
 pub(crate) fn u32_of(bytes: &[u8]) -> (u32, &[u8])
     requires { 4 ≤ length bytes.now }

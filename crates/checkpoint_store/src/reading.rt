@@ -27,7 +27,7 @@ pub(crate) fn optime_of(bytes: &[u8]) -> OpTime
     OpTime { term, ts }
 }
 
-// The bytes behind their length, and what stands behind them.
+// The bytes after their length, and what follows them.
 fn sized_of(bytes: &[u8]) -> (&[u8], &[u8])
     requires { BeginsWith (λ (piece : List ℕ). length piece < 2 ^ 32) sized bytes.now }
     ensures { Reads (λ (piece : List ℕ). length piece < 2 ^ 32) sized bytes.now result.0.now result.1.now }
@@ -73,7 +73,7 @@ fn key_of(document: &Doc) -> Mem<IdKey>
     }
 }
 
-// A document at its place, and what stands behind it.
+// A document at its place, and what follows it.
 pub(crate) fn saved_of(alloc: Global, bytes: &[u8]) -> Mem<(((Text, IdKey), Doc), &[u8])>
     requires { BeginsWith IsSaved saved_bytes bytes.now }
     ensures { IfOk result (λ read. Reads IsSaved saved_bytes bytes.now read.0 read.1.now) }

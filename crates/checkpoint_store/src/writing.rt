@@ -45,7 +45,7 @@ fn put_few(out: &mut Vec<u8>, bytes: &[u8]) -> Mem<()>
     Ok(())
 }
 
-// Appends a document behind its collection's name, with room for its length until it has been written.
+// Appends a document after its collection's name, with room for its length until it has been written.
 fn put_saved(out: &mut Vec<u8>, shown: &Shown<'_>) -> Mem<()>
     requires { CanBeSaved (place_of shown.now) shown.now.document.now }
     ensures laid { OnOk result (out.new.items ≡ out.old.items ++ saved_bytes (placed shown.now)) }

@@ -13,7 +13,7 @@ const AT: OpTime = OpTime { term: 1, ts: 2 };
 
 const LATER: OpTime = OpTime { term: 1, ts: 3 };
 
-/// A text that has room in no value, but lies behind a box.
+/// A text too long to stand in a value itself: it lies in a box.
 const LONG: &str = "a text of more than sixteen bytes";
 
 /// A document with an array in which bytes stand.
@@ -246,7 +246,7 @@ fn a_message_is_copied_with_its_beat(rt: HostRuntime) -> Result<(), Fail> {
     Ok(())
 }
 
-/// Whether a body answers with the one optime `AT`, behind none and up to `LATER`.
+/// Whether a body answers with the one optime `AT`, after none and up to `LATER`.
 fn is_of_one_optime(body: &Body) -> bool {
     match body {
         Body::CommonReply {

@@ -64,7 +64,7 @@ fn an_insert_without_an_id_is_refused(rt: HostRuntime) -> Result<(), Fail> {
 }
 
 #[test]
-fn an_entry_with_a_byte_behind_it_is_refused(rt: HostRuntime) -> Result<(), Fail> {
+fn an_entry_with_a_byte_after_it_is_refused(rt: HostRuntime) -> Result<(), Fail> {
     assert!(rt; of_bytes(rt.alloc(), TOO_LONG).is_err());
     Ok(())
 }

@@ -24,7 +24,7 @@ const CONFIG: &[u8] = b"\x02\x03\0\0\0\0\0\0\0\x01\0\0\0\x01\x01\0\0\0\0\0\0\0\x
 const ENTRIES: &[u8] =
     b"\x03\x01\0\0\0\0\0\0\0\x02\0\0\0\0\0\0\0\x02\0\0\0S\0\0\0S\0\0\0\x11ts\0\x01\0\0\0\0\0\0\0\x12t\0\x01\0\0\0\0\0\0\0\x10v\0\x02\0\0\0\x02op\0\x02\0\0\0n\0\x02ns\0\x01\0\0\0\0\x03o\0\x1a\0\0\0\x02msg\0\x0c\0\0\0new primary\0\0\0H\0\0\0H\0\0\0\x11ts\0\x02\0\0\0\0\0\0\0\x12t\0\x01\0\0\0\0\0\0\0\x10v\0\x02\0\0\0\x02op\0\x02\0\0\0i\0\x02ns\0\x02\0\0\0t\0\x03o\0\x0e\0\0\0\x10_id\0\x05\0\0\0\0\0";
 
-// A cut behind the insert.
+// A cut after the insert.
 const CUT: &[u8] = b"\x04\x01\0\0\0\0\0\0\0\x02\0\0\0\0\0\0\0";
 
 // The form 2.
@@ -103,7 +103,7 @@ fn is_of_one(config: &Config) -> bool {
     config.term == 3 && config.version == 1 && config.members.as_slice().len() == 1
 }
 
-// Whether this is what the records come to with the form behind them.
+// Whether this is what the records come to with the form after them.
 fn is_whole(kept: &Kept) -> bool {
     let vote = Vote {
         term: 3,
@@ -125,7 +125,7 @@ fn is_whole(kept: &Kept) -> bool {
 }
 
 // Whether the records are those that were written, and the form.
-fn has_form_behind(alloc: Global, disk: MemDisk) -> Result<bool, Fail>
+fn has_form_after(alloc: Global, disk: MemDisk) -> Result<bool, Fail>
     requires { IsJournalDisk (state_of disk) }
 {
     let Ok((_, pieces)) = RecordFile::open(alloc, disk) else {
@@ -151,7 +151,7 @@ fn a_journal_of_the_first_form_gets_the_newest(rt: HostRuntime) -> Result<(), Fa
         return Err(Fail::from(FileError::Disk));
     };
     assert!(rt; is_whole(&kept));
-    assert!(rt; has_form_behind(alloc, disk)?);
+    assert!(rt; has_form_after(alloc, disk)?);
     Ok(())
 }
 
@@ -177,7 +177,7 @@ fn the_form_is_added_once_where_a_call_fails(rt: HostRuntime) -> Result<(), Fail
                 return Err(Fail::from(FileError::Disk));
             };
             assert!(rt; is_whole(&kept), "armed for call {call}");
-            assert!(rt; has_form_behind(alloc, disk)?, "armed for call {call}");
+            assert!(rt; has_form_after(alloc, disk)?, "armed for call {call}");
         }
     }
     Ok(())

@@ -91,7 +91,7 @@ fn each_line_has_its_fault(rt: HostRuntime) -> Result<(), Fail> {
     Ok(())
 }
 
-/// Fails where of the line behind a front, which has this number, another rule is told.
+/// Fails where another rule is told of the line after these first bytes, which has this number.
 fn tells_of(alloc: Global, front: &str, number: u32, line: &str, rule: &str) -> Result<(), Fail> {
     let mut script = String::from_str(alloc, front)?;
     script.push_str(line)?;
@@ -107,12 +107,12 @@ fn a_value_has_a_hundred_levels(rt: HostRuntime) -> Result<(), Fail> {
     let alloc = rt.alloc();
     tells(
         alloc,
-        &behind(alloc, b"set 1\ndelete n0 t ", 100, b'[')?,
+        &padded(alloc, b"set 1\ndelete n0 t ", 100, b'[')?,
         "line 2: BadText 1 Unexpected\n",
     )?;
     tells(
         alloc,
-        &behind(alloc, b"set 1\ndelete n0 t ", 101, b'[')?,
+        &padded(alloc, b"set 1\ndelete n0 t ", 101, b'[')?,
         "line 2: BadText 6 TooDeep\n",
     )
 }
@@ -131,17 +131,17 @@ fn blocks_have_their_faults(rt: HostRuntime) -> Result<(), Fail> {
     tells(alloc, b"set 1\npar\nthread\n", "line 4: OpenPar\n")
 }
 
-/// A front, and behind it so many times a byte.
-fn behind(alloc: Global, front: &[u8], count: usize, byte: u8) -> Result<Vec<u8>, Fail> {
+/// These first bytes, and after them so many times a byte.
+fn padded(alloc: Global, front: &[u8], count: usize, byte: u8) -> Result<Vec<u8>, Fail> {
     let mut script = Vec::from_slice(alloc, front)?;
     let line = Vec::from_elem(alloc, byte, count)?;
     script.extend_from_slice(line.as_slice())?;
     Ok(script)
 }
 
-/// `set 1`, and behind it a line with so many times this byte.
+/// `set 1`, and after it a line with so many times this byte.
 fn long(alloc: Global, count: usize, byte: u8) -> Result<Vec<u8>, Fail> {
-    behind(alloc, b"set 1\n", count, byte)
+    padded(alloc, b"set 1\n", count, byte)
 }
 
 #[test]

@@ -145,7 +145,7 @@ read n0 snapshot t 1|BadWord
 reconfig n0 {}|BadConfigText
 delete n0 t 1 |BadText(Unexpected)";
 
-/// Texts of events and replies behind a header, after what is printed of a check of them. `$` stands for a
+/// Texts of events and replies after a header, after what is printed of a check of them. `$` stands for a
 /// line feed.
 const CHECKED: &str =
     r"yes 4|trace 1 1 1$event 2 - 0 campaign n0$2: won 1$event 3 - 0 drain n0$3: primary 1 noop 1/0/1$event 4 - 0 insert n0 t {_id: 1}$4: written 1/0/2$event 5 - 0 read n0 local t 1$5: found {_id: 1}$
@@ -154,7 +154,7 @@ line 3: OtherReply|trace 1 1 1$event 2 0 0 campaign n0$2: won 1$event 3 - 0 drai
 line 2: NoFit|trace 1 1 1$event 2 1 0 campaign n0$2: won 1$event 3 - 0 drain n0$3: primary 1 noop 1/0/1$
 line 1: BadHeader|";
 
-/// What is written of the event that a line is, with a reply behind it, or `BadEvent`.
+/// What is written of the event that a line is, with a reply after it, or `BadEvent`.
 fn written(alloc: Global, line: &[u8]) -> Result<String, Fail> {
     let mut text = String::new(alloc);
     match read_event(alloc, 3, line) {
@@ -202,7 +202,7 @@ fn trace_of(alloc: Global, line: &[u8]) -> Result<String, Fail> {
 }
 
 #[test]
-fn a_trace_is_written_behind_what_is_there(rt: HostRuntime) -> Result<(), Fail> {
+fn a_trace_is_written_after_what_is_there(rt: HostRuntime) -> Result<(), Fail> {
     is_text(
         trace_of(rt.alloc(), b"event 2 0 1 log n0")?,
         "before trace 3 2 2\nevent 2 0 1 log n0\n2: down\n",

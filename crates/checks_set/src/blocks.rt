@@ -75,7 +75,7 @@ pub fn block(alloc: Global) -> Result<String, AllocError> {
 }
 
 /// Whether as many events as there are lists are each of the line that some list begins with: the first of
-/// them stands behind `set 1`, `par` and `thread`, and each list has a line `thread` of its own.
+/// them comes after `set 1`, `par` and `thread`, and each list has a line `thread` of its own.
 fn are_first(events: &[Event]) -> bool {
     for event in events.iter().take(LISTS as usize) {
         if event.line % (LINES + 1) != 4 {
@@ -86,7 +86,7 @@ fn are_first(events: &[Event]) -> bool {
 }
 
 // Where two lists run one after another the first never sees that all have passed. Where a list passed the
-// gate behind its first line, those of all lists would be done before any second one.
+// gate after its first line, those of all lists would be done before any second one.
 #[test]
 fn lists_run_side_by_side(rt: HostRuntime) -> Result<(), Fail> {
     let held = Held::new();

@@ -61,7 +61,7 @@ const SYNC: &[&str] = &["sync", "n0"];
 
 /// Words, a script, one of the set's disks, its opening, and how many calls it gets where none fails: a
 /// record that is stored takes four, and so does opening a file that has one. The nodes' journals and
-/// checkpoints come in turn, and behind them those of a new member.
+/// checkpoints come in turn, and after them those of a new member.
 type OnDisk = (&'static [&'static str], &'static str, usize, Opening, u32);
 
 const DISKS: [OnDisk; 15] = [
@@ -89,7 +89,7 @@ const PICKS: [Option<u64>; 4] = [None, Some(0), Some(1), Some(2)];
 /// it was: that one alone is refused for it.
 fn is_refused_once(put: &str, whole: &str) -> bool {
     match put.split_once(": refused 29 DiskFailed\n") {
-        Some((before, behind)) => whole.starts_with(before) && !behind.contains("DiskFailed"),
+        Some((before, after)) => whole.starts_with(before) && !after.contains("DiskFailed"),
         None => false,
     }
 }
@@ -109,7 +109,7 @@ fn is_refused<R: Threads + Wait + Sync>(
     is_brought_back(rt, alloc, script, put, failing)
 }
 
-/// Whether the run ends as it is to, whichever of the disk's calls fails, and in whichever way. Behind the
+/// Whether the run ends as it is to, whichever of the disk's calls fails, and in whichever way. After the
 /// last call there is none to fail.
 fn is_borne<R: Threads + Wait + Sync>(rt: &R, alloc: Global, on: OnDisk) -> Result<bool, Fail> {
     let (words, script, disk, opening, calls) = on;

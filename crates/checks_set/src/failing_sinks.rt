@@ -103,7 +103,7 @@ const SINKS: [IntoSink; 7] = [
     ),
 ];
 
-/// Whether the first call that fails ends the run, and what was put is what comes before. Behind the last
+/// Whether the first call that fails ends the run, and what was put is what comes before. After the last
 /// call there is none to fail.
 fn is_borne<R: Threads + Wait + Sync>(rt: &R, alloc: Global, into: IntoSink) -> Result<bool, Fail> {
     let (words, script, told) = into;

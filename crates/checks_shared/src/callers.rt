@@ -55,7 +55,7 @@ fn clock_told<R: Threads + Wait + Sync>(
 }
 
 // Whether something stands between the place before and this one.
-fn is_behind_another(before: Option<u32>, place: u32) -> bool {
+fn is_after_another(before: Option<u32>, place: u32) -> bool {
     match before {
         Some(before) => place.saturating_sub(before) > 1,
         None => false,
@@ -78,7 +78,7 @@ fn meets<R: Threads + Wait + Sync>(
         let Some(place) = set_clock(rt, set, &mut pass, caller, step) else {
             return false;
         };
-        if is_behind_another(before, place) {
+        if is_after_another(before, place) {
             return true;
         }
         before = Some(place);

@@ -1,4 +1,4 @@
-// A stream that asks all nodes in turn behind each line of a script, over a failover.
+// A stream that asks all nodes in turn after each line of a script, over a failover.
 ghost use Rattle.std.specs.Prelude.{◌≡◌, true};
 ghost use Rattle.std.specs.List.{list_all};
 ghost use Rattle.fault_script.specs.Script.{is_part_for};
@@ -42,7 +42,7 @@ fn ask_each<R: Threads + Wait + Sync>(
     Ok(())
 }
 
-// Does each line, and asks every node behind it.
+// Does each line, and asks every node after it.
 fn follow<R: Threads + Wait + Sync>(
     rt: &R,
     world: &mut World<MemDisk>,
@@ -61,7 +61,7 @@ fn follow<R: Threads + Wait + Sync>(
     Ok(())
 }
 
-// The set behind the script, and all that the stream gave.
+// The set after the script, and all that the stream gave.
 fn followed<R: Threads + Wait + Sync>(
     rt: &R,
     alloc: Global,

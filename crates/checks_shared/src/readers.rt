@@ -149,7 +149,7 @@ fn is_answered_so<R: Threads + Wait + Sync, S: Stepper>(
 }
 
 // The writer: whether it writes and a read brings that to the others, a majority then acknowledges it, and a
-// read that begins behind this answer shows it.
+// read that begins after this answer shows it.
 fn writes<R: Threads + Wait + Sync>(
     rt: &R,
     alloc: Global,
@@ -203,7 +203,7 @@ fn two_read<R: Threads + Wait + Sync>(
     first && second
 }
 
-// Whether all are answered as they may be, and a read behind them shows the document.
+// Whether all are answered as they may be, and a read after them shows the document.
 fn meet<R: Threads + Wait + Sync>(rt: &R, alloc: Global) -> Result<bool, Fail> {
     let (set, mut pass) = shared(alloc, 3, 3, 3)?;
     let one = set.split(&mut pass);
@@ -224,7 +224,7 @@ fn meet<R: Threads + Wait + Sync>(rt: &R, alloc: Global) -> Result<bool, Fail> {
 }
 
 #[test]
-fn a_read_behind_an_acknowledgement_shows_what_was_written(rt: HostRuntime) -> Result<(), Fail> {
+fn a_read_after_an_acknowledgement_shows_what_was_written(rt: HostRuntime) -> Result<(), Fail> {
     for _ in 0..MEETINGS {
         assert!(rt; meet(&rt, rt.alloc())?);
     }

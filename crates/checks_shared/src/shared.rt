@@ -69,7 +69,7 @@ const COMMITTED: &str =
     "set 3\ncampaign n0\ndeliver m0\ndeliver m2\ndrain n0\ninsert n0 t {_id: 1}\nflush n0
 heartbeat n0 n1\ndeliver n0 n1\nfetch n1\ndeliver n1 n0\ndeliver n0 n1\nflush n1\nreport n1 n0\ndeliver n1 n0\n";
 
-// The commit points of the first two nodes behind that.
+// The commit points of the first two nodes after that.
 fn committed<R: Threads + Wait + Sync>(rt: &R, alloc: Global) -> Result<(u64, u64), Fail> {
     let script = parse(alloc, COMMITTED.as_bytes())?;
     let (set, mut pass) = shared(alloc, script.nodes, script.voters, script.members)?;

@@ -20,7 +20,7 @@ fn noop(optime: OpTime) -> Entry
 }
 
 #[test]
-fn an_open_slot_hides_what_is_behind_it(rt: HostRuntime) -> Result<(), Fail> {
+fn an_open_slot_hides_what_is_after_it(rt: HostRuntime) -> Result<(), Fail> {
     let alloc = rt.alloc();
     let first = OpTime { term: 1, ts: 1 };
     let third = OpTime { term: 1, ts: 3 };

@@ -128,7 +128,7 @@ fn a_copy_is_whole(rt: HostRuntime) -> Result<(), Fail> {
     Ok(())
 }
 
-// A copy that is cut off at this call, and a second one behind it.
+// A copy that is cut off at this call, and a second one after it.
 fn cut_and_gone_on(
     alloc: Global,
     pinned: &Pinned,
@@ -200,7 +200,7 @@ const ALL_DOCUMENTS: Contents = Contents {
 };
 
 // The opening of an empty disk makes 3 calls, and each record 4: the checkpoint has four, one for each of
-// its two pieces, one before them and one behind.
+// its two pieces, one before them and one after.
 #[test]
 fn a_copy_of_documents_goes_on_where_it_was_cut_off(rt: HostRuntime) -> Result<(), Fail> {
     let alloc = rt.alloc();

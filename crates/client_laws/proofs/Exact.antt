@@ -30,7 +30,7 @@ module _ (sizes : Sizes) (events : List Event) (safe : Safe sizes events) (logs 
   writer_keeps place number node entry was leads_there =
       keeps (suc was.0) place number entry.optime.term was.2.new node (let first : was.0 < place = was.1 in omega (arith, first))
       (subst (λ n. Leads sizes events (suc was.0) n entry.optime.term was.2.new)
-      (safe.one_primary (suc was.0) place was.2.number number entry.optime.term was.2.new node was.2.behind leads_there) was.2.behind)
+      (safe.one_primary (suc was.0) place was.2.number number entry.optime.term was.2.new node was.2.next leads_there) was.2.next)
       leads_there entry (subst (λ l. In entry l) (sym was.2.more) (entries_in entry was.2.old.log (entry ∷ []) (inr (inl refl))))
 
   module _ (place number : ℕ) (node : Node) (confirmed : IsConfirmed sizes events place number node) where

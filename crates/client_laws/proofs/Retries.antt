@@ -158,7 +158,7 @@ module _ (sizes : Sizes) (events : List Event) (safe : Safe sizes events) (logs 
 
         after : IsAt sizes events (suc asked.place) asked.number asked.node
         after = record {
-          there = there.behind ∙ ap (λ n. Some (does n).node) same_node ∙ ap (λ (o : Outcome). Some o.node) is;
+          there = there.next ∙ ap (λ n. Some (does n).node) same_node ∙ ap (λ (o : Outcome). Some o.node) is;
           up = asked.by.node_at.up;
         }
 

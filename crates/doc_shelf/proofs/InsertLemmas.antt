@@ -1,4 +1,4 @@
--- An entry in the middle of a log leaves what it leaves behind all entries that touch other documents.
+-- An entry in the middle of a log leaves what it leaves after all entries that touch other documents.
 use Rattle.std.proofs.Common.{◌≡◌, ℕ, suc, ◌+◌, ◌≤◌, cond, Bool, true, false, List, [], ◌∷◌, ◌++◌, length, take, drop, insert, fold, subst, ◌-◌, Option, None, Some, refl, sym, ap, ◌∙◌, append_assoc, arith}
 use Rattle.std.specs.Cmp.{Equal-is, eq_by_cmp_equiv}
 use Rattle.std.specs.Ordering.{eq_by_cmp}
@@ -77,7 +77,7 @@ swapped documents one other apart = by_places (place_of one.op) (place_of other.
             let is_q2 : r ≡ q = place_cmp-antisymmetric r q ((Equal-is _).0 at_q) in
             cc (ap (λ (x : Place). eq_by_cmp place_cmp x p) (sym is_q2), at_p, away)
 
--- ---- entries behind the place
+-- ---- entries after the place
 
 -- a shelf is another one with an entry put in at a place
 record IsInserted (place : ℕ) (entry : Entry) (stood : Before) (old new : Shelf) : Type 0 where
@@ -89,9 +89,9 @@ record IsInserted (place : ℕ) (entry : Entry) (stood : Before) (old new : Shel
 insert_more : (xs : List Before) (place : ℕ) (x y : Before) → place ≤ length xs → insert xs place x ++ y ∷ [] ≡ insert (xs ++ y ∷ []) place x
 insert_more xs place x y within = sym (insert-append_left xs (y ∷ []) place x within)
 
-one_behind : (place : ℕ) (entry other : Entry) (stood : Before) (old new : Shelf) → Apart entry other → Apart other entry → IsInserted place entry stood old new
+one_after : (place : ℕ) (entry other : Entry) (stood : Before) (old new : Shelf) → Apart entry other → Apart other entry → IsInserted place entry stood old new
     → IsInserted place entry stood (with_applied old other) (with_applied new other)
-one_behind place entry other stood old new apart apart_too is = record {
+one_after place entry other stood old new apart apart_too is = record {
   documents = ap (λ (d : Documents). applied d other) is.documents ∙ swapped old.documents entry other apart;
   before =
       ap (λ (b : List Before). b ++ stood_before new.documents other ∷ []) is.before
@@ -123,14 +123,14 @@ abbrev AreAway : Documents → Entry → List Entry → Type 0
 AreAway documents entry later =
     (place : Place) → place_of entry.op ≡ Some place → list_any (λ before. touches before place) (befores documents later) ≡ false
 
-all_behind : (place : ℕ) (entry : Entry) (stood : Before) (old new : Shelf) (later : List Entry) → AreAway old.documents entry later → IsInserted place entry stood old new
+all_after : (place : ℕ) (entry : Entry) (stood : Before) (old new : Shelf) (later : List Entry) → AreAway old.documents entry later → IsInserted place entry stood old new
     → IsInserted place entry stood (fold with_applied old later) (fold with_applied new later)
-all_behind place entry stood old new [] away is = is
-all_behind place entry stood old new (other ∷ later) away is =
+all_after place entry stood old new [] away is = is
+all_after place entry stood old new (other ∷ later) away is =
     let apart : Apart entry other = λ p q is_p is_q. apart_of old.documents entry other p is_p (or_parts _ _ (away p is_p)).0 p q is_p is_q in
     let apart_too : Apart other entry = λ q p is_q is_p. turned p q (apart p q is_p is_q) in
     let rest : AreAway (applied old.documents other) entry later = λ p is_p. (or_parts _ _ (away p is_p)).1 in
-    all_behind place entry stood (with_applied old other) (with_applied new other) later rest (one_behind place entry other stood old new apart apart_too is)
+    all_after place entry stood (with_applied old other) (with_applied new other) later rest (one_after place entry other stood old new apart apart_too is)
 
 -- what is found of the applied entries from a place on is so of them
 are_away : (documents now : Documents) (entry : Entry) (later : List Entry) (befores_are : List Before) → befores_are ≡ befores documents later → is_touched (stood_before now entry) befores_are ≡ false → AreAway documents entry later
@@ -140,23 +140,23 @@ are_away documents now entry later befores_are are untouched place at =
 
 -- ---- an entry put into a log
 
--- behind the front that is applied
+-- after the prefix that is applied
 pub still_front : (log : List Entry) (shelf : Shelf) (place : ℕ) (entry : Entry) → IsOfFront log shelf → place ≤ length log → length shelf.before ≤ place → IsOfFront (insert log place entry) shelf
-still_front log shelf place entry front within behind =
+still_front log shelf place entry front within after =
     let count : ℕ = length shelf.before in
-    let own : count ≤ length (take place log) = omega (arith, behind, length-take-le place log within) in
+    let own : count ≤ length (take place log) = omega (arith, after, length-take-le place log within) in
     let same : take count (insert log place entry) ≡ take count log =
     take-append-le count (take place log) (entry ∷ drop place log) own
     ∙ sym (take-append-le count (take place log) (drop place log) own)
     ∙ ap (take count) (take-append-drop place log) in
     record { within = omega (arith, front.within, length-insert log place entry within); is = front.is ∙ ap shelf_of (sym same) }
 
--- so many entries of a log, and then those behind them
+-- so many entries of a log, and then those after them
 pub parted : (log other : List Entry) (place more : ℕ) → place ≤ length log → take (place + more) (take place log ++ other) ≡ take place log ++ take more other
 parted log other place more within =
     ap (λ (n : ℕ). take (n + more) (take place log ++ other)) (sym (length-take-le place log within)) ∙ take_past (take place log) other more
 
--- in the front that is applied, where no entry behind it touches its document
+-- in the prefix that is applied, where no entry after it touches its document
 put_in_front : (log : List Entry) (old new : Shelf) (place more : ℕ) (entry : Entry) → IsOfFront log old → place + more ≡ length old.before → place ≤ length log
     → is_touched (stood_before old.documents entry) (drop place old.before) ≡ false
     → new.documents ≡ applied old.documents entry → new.before ≡ insert old.before place (stood_before old.documents entry)
@@ -182,8 +182,8 @@ put_in_front log old new place more entry front counts in_log untouched document
     base_count : length base.before ≡ place
     base_count = length_shelf first ∙ length-take-le place log in_log
 
-    behind_are : drop place old.before ≡ befores base.documents later
-    behind_are =
+    after_are : drop place old.before ≡ befores base.documents later
+    after_are =
         ap (drop place) (ap (λ (s : Shelf). s.before) old_is ∙ shows_before base later)
         ∙ ap (λ (n : ℕ). drop n (base.before ++ befores base.documents later)) (sym base_count)
         ∙ drop_at base.before (befores base.documents later) (length base.before) refl
@@ -201,7 +201,7 @@ put_in_front log old new place more entry front counts in_log untouched document
 
     done : IsInserted place entry (stood_before base.documents entry) old made
     done =
-        let at_base = all_behind place entry (stood_before base.documents entry) base (with_applied base entry) later (are_away base.documents old.documents entry later (drop place old.before) behind_are untouched) begun in
+        let at_base = all_after place entry (stood_before base.documents entry) base (with_applied base entry) later (are_away base.documents old.documents entry later (drop place old.before) after_are untouched) begun in
         subst (λ (s : Shelf). IsInserted place entry (stood_before base.documents entry) s made) (sym old_is) at_base
 
     new_is : new ≡ made

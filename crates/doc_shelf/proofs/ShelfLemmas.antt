@@ -59,7 +59,7 @@ shows shelf (entry ∷ log) = shows (with_applied shelf entry) log
 pub documents_shelf : (log : List Entry) → (shelf_of log).documents ≡ docs log
 documents_shelf log = shows empty_shelf log
 
--- the shelf of a front with the entry behind it
+-- the shelf of a prefix with the entry after it
 shelf_more : (log : List Entry) (place : ℕ) (entry : Entry) → place < length log → entry ≡ get_or log place entry → shelf_of (take (place + 1) log) ≡ with_applied (shelf_of (take place log)) entry
 shelf_more log place entry within is =
     ap shelf_of (take_more log place entry within ∙ ap (λ (e : Entry). take place log ++ e ∷ []) (sym is)) ∙ fold-append with_applied empty_shelf (take place log) (entry ∷ [])
@@ -96,7 +96,7 @@ one_less log old new place front at back = by_entries log refl
 pub none_of_front : (log : List Entry) (shelf : Shelf) → shelf ≡ empty_shelf → IsOfFront log shelf
 none_of_front log shelf none = subst (λ (s : Shelf). IsOfFront log s) (sym none) (record { within = omega arith; is = refl })
 
--- the shelf of a front of so many entries
+-- the shelf of a prefix of so many entries
 pub of_count : (log : List Entry) (shelf : Shelf) (count : ℕ) → IsOfFront log shelf → count ≡ length shelf.before → shelf ≡ shelf_of (take count log)
 of_count log shelf count front is = front.is ∙ ap (λ (n : ℕ). shelf_of (take n log)) (sym is)
 

@@ -1,4 +1,4 @@
--- The documents that a front of a log leaves, with what stood before each of its entries.
+-- The documents that a prefix of a log leaves, with what stood before each of its entries.
 use Rattle.std.specs.Prelude.{◌≡◌, ◌≤◌, Bool, false, List, [], ◌∷◌, ◌++◌, Option, None, Some, fold, length, take}
 use Rattle.std.specs.FinMap as maps
 use Rattle.std.specs.List.{list_any}
@@ -41,7 +41,7 @@ with_applied shelf entry =
 abbrev pub shelf_of : List Entry → Shelf
 shelf_of log = fold with_applied empty_shelf log
 
--- it is the shelf of a front of this log
+-- it is the shelf of a prefix of this log
 pub record IsOfFront (log : List Entry) (shelf : Shelf) : Type 0 where
   pub within : length shelf.before ≤ length log
   pub is : shelf ≡ shelf_of (take (length shelf.before) log)

@@ -1,4 +1,4 @@
-//! The documents that a front of a log leaves, which goes on by single entries, and back by single entries.
+//! The documents that a prefix of a log leaves, which goes on by single entries, and back by single entries.
 #![tactic(auto)]
 
 mod documents;

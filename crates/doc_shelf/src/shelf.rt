@@ -110,7 +110,7 @@ impl Shelf {
         }
     }
 
-    /// An entry is put into the log at a place. Where no applied entry behind it touches the same document,
+    /// An entry is put into the log at a place. Where no applied entry after it touches the same document,
     /// none of these is taken back. Where memory runs out, no entry is applied.
     pub fn insert(&mut self, entries: &[Entry], place: usize, entry: &Entry)
         requires front { IsOfFront entries.now self.old }

@@ -27,7 +27,7 @@ name_byte_is_ascii c h = grind arith
 pub escaped_is_ascii : (c : ℕ) → is_plain c ≡ false → c < 128
 escaped_is_ascii c h = grind arith
 
--- behind the longest front of ASCII bytes
+-- after the longest prefix of ASCII bytes
 after_run : (p : ℕ → Bool) → ((c : ℕ) → p c ≡ true → c < 128) → (text : List ℕ) → IsUtf8 text → IsCharBoundary text (prefix_len p text)
 after_run p ascii text utf8 =
     elim (cases_lt 0 (prefix_len p text)) [

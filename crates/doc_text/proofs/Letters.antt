@@ -84,14 +84,14 @@ unfolding letters_at
 letters_at-end in_name zero = refl
 letters_at-end in_name (suc most) = refl
 
--- ---- one turn of a reader, which takes a run and then what stands behind it
+-- ---- one turn of a reader, which takes a run and then what follows it
 
--- what is still read behind the run
-pub behind_run : (in_name : Bool) (most : ℕ) (front text run stop : List ℕ) (total : Read (List ℕ)) → length text ≤ most
+-- what is still read after the run
+pub past_run : (in_name : Bool) (most : ℕ) (front text run stop : List ℕ) (total : Read (List ℕ)) → length text ≤ most
     → run ≡ take (prefix_len is_plain text) text → stop ≡ drop (prefix_len is_plain text) text
     → with_front front (letters_at in_name most text) ≡ total
     → with_front (front ++ run) (letters_at in_name (most - prefix_len is_plain text) stop) ≡ total
-behind_run in_name most front text run stop total within run-is stop-is so_far =
+past_run in_name most front text run stop total within run-is stop-is so_far =
     with_front-append front run (letters_at in_name (most - prefix_len is_plain text) stop)
     ∙ rw (run-is, stop-is) (ap (with_front front) (sym (letters_at-run in_name most text within)) ∙ so_far)
 
@@ -102,7 +102,7 @@ closed in_name zero front stop rest total within is so_far = absurd (omega (arit
 closed in_name (suc most) front stop rest total within is so_far =
     sym so_far ∙ rw (is, letters_at-mark in_name most rest) (ap (λ (bytes : List ℕ). Ok (bytes, rest)) (append-nil front))
 
--- the string goes on behind an escape
+-- the string goes on after an escape
 pub escaped : (in_name : Bool) (most code : ℕ) (front stop inside rest : List ℕ) (total : Read (List ℕ)) → length stop ≤ most → stop ≡ 92 ∷ inside
     → escape_at in_name inside ≡ Ok (code, rest) → with_front front (letters_at in_name most stop) ≡ total
     → with_front (front ++ encode_utf8 code) (letters_at in_name (most - 1) rest) ≡ total

@@ -10,12 +10,12 @@ use Rattle.hex.specs.Hex.{is_hex_digit}
 use Rattle.bson_doc.specs.Tree.{Tree, int32, int64}
 use Rattle.doc_text.specs.declared.fault.Rule.TheVariants.{Unexpected, Number, Hex}
 use Rattle.doc_text.specs.Bytes.{is_space}
-use Rattle.doc_text.specs.Class.{behind_spaces}
+use Rattle.doc_text.specs.Class.{after_spaces}
 use Rattle.doc_text.specs.Fault.{Read, fails}
 use Rattle.doc_text.specs.Marks.{mark_at, spaced_at, closing_at, word_at, opened_at}
 use Rattle.doc_text.specs.Integers.{fits, digits_at, integer_at, natural_at, long_at, kind_at, number_at}
 use Rattle.doc_text.specs.HexText.{bytes_of, closed_at, hex_fault, binary_hex_at, id_hex_at}
-use Rattle.doc_text.proofs.Locality.{mark, read, Within, Alike, Local, within_more, alike_within, cond_within, cond_alike, bind_within, bind_alike, bind_local, front_alike, refused, ok_alike, marked_alike, map_local, cut, run_same, run_past, run_alike, behind_alike, drop_within}
+use Rattle.doc_text.proofs.Locality.{mark, read, Within, Alike, Local, within_more, alike_within, cond_within, cond_alike, bind_within, bind_alike, bind_local, front_alike, refused, ok_alike, marked_alike, map_local, cut, run_same, run_past, run_alike, after_alike, drop_within}
 
 -- ---- marks
 
@@ -30,19 +30,19 @@ mark_local byte = record {
     within [] = λ _. omega arith
     within (c ∷ rest) = cond_within mark (suc (length rest)) (c == byte) (Ok rest) (fails Unexpected (c ∷ rest)) (omega arith) (λ _. omega arith)
 
-pub spaces_local : Local mark (λ text. Ok (behind_spaces text))
+pub spaces_local : Local mark (λ text. Ok (after_spaces text))
 spaces_local = record {
   within = λ text. drop_within (prefix_len is_space text) text;
-  alike = λ c front after other. behind_alike is_space (c ∷ front) after other;
+  alike = λ c front after other. after_alike is_space (c ∷ front) after other;
 }
 
 pub closing_local : (byte : ℕ) → Local mark (closing_at byte)
 unfolding closing_at
-closing_local byte = bind_local mark mark (λ text. Ok (behind_spaces text)) (mark_at byte) spaces_local (λ _. mark_local byte)
+closing_local byte = bind_local mark mark (λ text. Ok (after_spaces text)) (mark_at byte) spaces_local (λ _. mark_local byte)
 
 pub spaced_local : (byte : ℕ) → Local mark (spaced_at byte)
 unfolding spaced_at closing_at
-spaced_local byte = bind_local mark mark (closing_at byte) (λ rest. Ok (behind_spaces rest)) (closing_local byte) (λ _. spaces_local)
+spaced_local byte = bind_local mark mark (closing_at byte) (λ rest. Ok (after_spaces rest)) (closing_local byte) (λ _. spaces_local)
 
 pub word_local : (word : List ℕ) → Local mark (word_at word)
 unfolding word_at
@@ -79,7 +79,7 @@ digits_alike c front after other = step (is_ascii_digit c) (prefix_len is_ascii_
 pub digits_local : Local read digits_at
 digits_local = record { within = digits_within; alike = digits_alike }
 
--- digits behind a minus sign
+-- digits after a minus sign
 abbrev signed_at : List ℕ → Read (List ℕ)
 signed_at text = digits_at text >>= λ digits. Ok (45 ∷ digits.0, digits.1)
 
@@ -167,7 +167,7 @@ closed_alike : (right : Bool) (digits : List ℕ) (c : ℕ) (front after other :
 closed_alike right digits c front after other =
     cond_alike read after other (c == 34 && right) _ _ _ _ (ok_alike (bytes_of digits) front after other) (refused read after other Hex (c ∷ (front ++ after)) (c ∷ (front ++ other)))
 
--- where the digits are cut at one place, whatever is behind the front
+-- where the digits are cut at one place, whatever follows the prefix
 cut_alike : (right : ℕ → Bool) (n k : ℕ) (front after other : List ℕ) → (n < length front → k ≡ n)
     → Alike read after other (closed_at (right n) (take n (front ++ after)) (drop n (front ++ after))) (closed_at (right k) (take k (front ++ other)) (drop k (front ++ other)))
 cut_alike right n k front after other same =

@@ -39,7 +39,7 @@ digit_local : Local read hex_digit_at
 unfolding hex_digit_at
 digit_local = record { within = digit_within; alike = λ c front after other. found_alike (hex_digit_value c) c front after other }
 
--- A digit with a test, which refuses it where it stands, and what is read behind it.
+-- A digit with a test, which refuses it where it stands, and what is read after it.
 abbrev guarded_at : (ℕ → Bool) → Rule → (ℕ → List ℕ → Read ℕ) → List ℕ → Read ℕ
 guarded_at bad rule next text = hex_digit_at text >>= λ digit. cond (bad digit.0) (fails rule text) (next digit.0 digit.1)
 
@@ -123,10 +123,10 @@ letters_alike in_name (suc most) (suc most2) (c ∷ front) after other fits fits
     (more_alike (c ∷ []) after other _ _ (letters_alike in_name most most2 front after other (omega arith) (omega arith)))
     (refused read after other Unexpected (c ∷ (front ++ after)) (c ∷ (front ++ other)))))
 
-abbrev pub string_behind : Bool → List ℕ → Read (List ℕ)
-string_behind in_name text = letters_at in_name (length text) text
+abbrev pub string_after : Bool → List ℕ → Read (List ℕ)
+string_after in_name text = letters_at in_name (length text) text
 
-pub letters_local : (in_name : Bool) → Local read (string_behind in_name)
+pub letters_local : (in_name : Bool) → Local read (string_after in_name)
 letters_local in_name = record {
   within = λ text. letters_within in_name (length text) text;
   alike = λ c front after other. letters_alike in_name (length (c ∷ (front ++ after))) (length (c ∷ (front ++ other))) (c ∷ front) after other (omega arith) (omega arith);
@@ -138,7 +138,7 @@ name_within : (text : List ℕ) → Within read (length text) (name_at text)
 unfolding name_at
 name_within [] = λ _. omega arith
 name_within (c ∷ rest) =
-    cond_within read (suc (length rest)) (c == 34) _ _ (within_more read (length rest) (suc (length rest)) (string_behind true rest) (omega arith) (letters_within true (length rest) rest))
+    cond_within read (suc (length rest)) (c == 34) _ _ (within_more read (length rest) (suc (length rest)) (string_after true rest) (omega arith) (letters_within true (length rest) rest))
     (cond_within read (suc (length rest)) (is_name_start c) _ _ (drop_within (prefix_len is_name_byte (c ∷ rest)) (c ∷ rest)) (λ _. omega arith))
 
 pub name_local : Local read name_at
@@ -146,7 +146,7 @@ unfolding name_at
 name_local = record {
   within = name_within;
   alike = λ c front after other.
-      cond_alike read after other (c == 34) _ _ _ _ (front_alike read (string_behind true) (letters_local true) front after other)
+      cond_alike read after other (c == 34) _ _ _ _ (front_alike read (string_after true) (letters_local true) front after other)
       (cond_alike read after other (is_name_start c) _ _ _ _ (run_alike is_name_byte (c ∷ front) after other) (refused read after other Unexpected (c ∷ (front ++ after)) (c ∷ (front ++ other))));
 }
 
@@ -154,7 +154,7 @@ name_local = record {
 
 string_local : Local read string_at
 unfolding string_at
-string_local = bind_local mark read (mark_at 34) (λ rest. string_behind false rest >>= λ string. Ok (tree.text string.0, string.1)) (mark_local 34) (λ _. map_local (string_behind false) tree.text (letters_local false))
+string_local = bind_local mark read (mark_at 34) (λ rest. string_after false rest >>= λ string. Ok (tree.text string.0, string.1)) (mark_local 34) (λ _. map_local (string_after false) tree.text (letters_local false))
 
 -- a value with its closing mark
 closed_local : (value : Tree) → Local read (λ rest. closing_at 41 rest >>= λ end. Ok (value, end))

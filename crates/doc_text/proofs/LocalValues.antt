@@ -8,7 +8,7 @@ use Rattle.bson_doc.specs.Tree.{Tree, document, array, Fields, no_fields, Trees,
 use Rattle.doc_text.specs.declared.fault.Fault.{Fault}
 use Rattle.doc_text.specs.declared.fault.Rule.TheVariants.{Unexpected, DuplicateName, TooDeep}
 use Rattle.doc_text.specs.Bytes.{is_space}
-use Rattle.doc_text.specs.Class.{behind_spaces}
+use Rattle.doc_text.specs.Class.{after_spaces}
 use Rattle.doc_text.specs.Fault.{Read, fails}
 use Rattle.doc_text.specs.Marks.{begins_with, mark_at, spaced_at}
 use Rattle.doc_text.specs.Names.{name_at}
@@ -45,15 +45,15 @@ item_local : (member : List ℕ → Read Tree) → Local read member → (so_far
 unfolding item_at
 item_local member local so_far = map_local member (λ value. with_item so_far value) local
 
--- the closing mark behind a member, or a comma and further members
+-- the closing mark after a member, or a comma and further members
 abbrev pub ending_at : {A : Type 0} → ℕ → A → (List ℕ → Read A) → List ℕ → Read A
-ending_at close so_far next text = cond (begins_with close text) (Ok (so_far, drop 1 text)) (mark_at 44 text >>= λ rest. next (behind_spaces rest))
+ending_at close so_far next text = cond (begins_with close text) (Ok (so_far, drop 1 text)) (mark_at 44 text >>= λ rest. next (after_spaces rest))
 
 ending_within : {A : Type 0} (close n : ℕ) (so_far : A) (next : List ℕ → Read A) (text : List ℕ) → length text ≤ n → ((rest : List ℕ) → Within read (length rest) (next rest)) → Within read n (ending_at close so_far next text)
 ending_within close n so_far next text small inner =
     cond_within read n (begins_with close text) _ _ (omega (arith, length-drop 1 text))
     (bind_within mark read n (mark_at 44 text) _ (within_more mark (length text) n (mark_at 44 text) small ((mark_local 44).within text)) (λ rest fewer.
-    within_more read (length (behind_spaces rest)) n (next (behind_spaces rest)) (omega (arith, drop_within (prefix_len is_space rest) rest)) (inner (behind_spaces rest))))
+    within_more read (length (after_spaces rest)) n (next (after_spaces rest)) (omega (arith, drop_within (prefix_len is_space rest) rest)) (inner (after_spaces rest))))
 
 -- further members are read of shorter texts
 ending_alike : {A : Type 0} (close : ℕ) (so_far : A) (next next2 : List ℕ → Read A) (c : ℕ) (front after other : List ℕ)
@@ -64,44 +64,44 @@ unfolding mark_at
 ending_alike close so_far next next2 c front after other inner later =
     cond_alike read after other (c == close) _ _ _ _ (ok_alike so_far front after other) (by_comma (c == 44))
   where
-    spaced : Alike read after other (next (behind_spaces (front ++ after))) (next2 (behind_spaces (front ++ other)))
+    spaced : Alike read after other (next (after_spaces (front ++ after))) (next2 (after_spaces (front ++ other)))
     spaced =
-        let spaces = front_alike mark (λ text. Ok (behind_spaces text)) spaces_local front after other in
-        bind_alike mark read (length (front ++ after)) after other (Ok (behind_spaces (front ++ after))) (Ok (behind_spaces (front ++ other))) next next2 (drop_within (prefix_len is_space (front ++ after)) (front ++ after)) spaces
+        let spaces = front_alike mark (λ text. Ok (after_spaces text)) spaces_local front after other in
+        bind_alike mark read (length (front ++ after)) after other (Ok (after_spaces (front ++ after))) (Ok (after_spaces (front ++ other))) next next2 (drop_within (prefix_len is_space (front ++ after)) (front ++ after)) spaces
         (λ rest close. within_more read (length rest) (length after) (next rest) close (inner rest))
         (λ _ d m small. later (d ∷ m) (omega (arith, length-append (d ∷ m) after, length-append front after)))
 
-    by_comma : (b : Bool) → Alike read after other (cond b (Ok (front ++ after)) (fails Unexpected (c ∷ (front ++ after))) >>= λ rest. next (behind_spaces rest)) (cond b (Ok (front ++ other)) (fails Unexpected (c ∷ (front ++ other))) >>= λ rest. next2 (behind_spaces rest))
+    by_comma : (b : Bool) → Alike read after other (cond b (Ok (front ++ after)) (fails Unexpected (c ∷ (front ++ after))) >>= λ rest. next (after_spaces rest)) (cond b (Ok (front ++ other)) (fails Unexpected (c ∷ (front ++ other))) >>= λ rest. next2 (after_spaces rest))
     by_comma true = spaced
     by_comma false = refused read after other Unexpected (c ∷ (front ++ after)) (c ∷ (front ++ other))
 
--- the same behind spaces
+-- the same after spaces
 spaced_ending_alike : {A : Type 0} (close : ℕ) (so_far : A) (next next2 : List ℕ → Read A) (c : ℕ) (front after other : List ℕ)
     → ((rest : List ℕ) → Within read (length rest) (next rest))
     → ((front2 : List ℕ) → length front2 ≤ length front → Alike read after other (next (front2 ++ after)) (next2 (front2 ++ other)))
-    → Alike read after other (ending_at close so_far next (behind_spaces (c ∷ (front ++ after)))) (ending_at close so_far next2 (behind_spaces (c ∷ (front ++ other))))
+    → Alike read after other (ending_at close so_far next (after_spaces (c ∷ (front ++ after)))) (ending_at close so_far next2 (after_spaces (c ∷ (front ++ other))))
 spaced_ending_alike close so_far next next2 c front after other inner later =
-    bind_alike mark read (length (c ∷ (front ++ after))) after other (Ok (behind_spaces (c ∷ (front ++ after)))) (Ok (behind_spaces (c ∷ (front ++ other)))) (ending_at close so_far next) (ending_at close so_far next2) (spaces_local.within (c ∷ (front ++ after))) (spaces_local.alike c front after other)
+    bind_alike mark read (length (c ∷ (front ++ after))) after other (Ok (after_spaces (c ∷ (front ++ after)))) (Ok (after_spaces (c ∷ (front ++ other)))) (ending_at close so_far next) (ending_at close so_far next2) (spaces_local.within (c ∷ (front ++ after))) (spaces_local.alike c front after other)
     (λ rest near. ending_within close (length after) so_far next rest near inner)
     (λ _ d m small. ending_alike close so_far next next2 d m after other inner (λ front2 fewer. later front2 (omega (arith, length-append m after, length-append front after))))
 
--- a member, the spaces behind it, and what comes then
-comma_step : {A : Type 0} (next : List ℕ → Read A) (text : List ℕ) → (spaced_at 44 text >>= λ rest. next rest) ≡ (mark_at 44 (behind_spaces text) >>= λ rest. next (behind_spaces rest))
+-- a member, the spaces after it, and what comes then
+comma_step : {A : Type 0} (next : List ℕ → Read A) (text : List ℕ) → (spaced_at 44 text >>= λ rest. next rest) ≡ (mark_at 44 (after_spaces text) >>= λ rest. next (after_spaces rest))
 unfolding spaced_at
-comma_step {A = A} next text = step (mark_at 44 (behind_spaces text))
+comma_step {A = A} next text = step (mark_at 44 (after_spaces text))
   where
-    step : (r : Result (List ℕ) Fault) → ((r >>= λ rest. Ok (behind_spaces rest)) >>= λ rest. next rest) ≡ (r >>= λ rest. next (behind_spaces rest))
+    step : (r : Result (List ℕ) Fault) → ((r >>= λ rest. Ok (after_spaces rest)) >>= λ rest. next rest) ≡ (r >>= λ rest. next (after_spaces rest))
     step (Ok rest) = refl
     step (Err e) = refl
 
 members_step : {A : Type 0} (more : A → List ℕ → Read A) (close most : ℕ) (so_far : A) (text : List ℕ)
-    → members_at more close (suc most) so_far text ≡ (more so_far text >>= λ one. ending_at close one.0 (members_at more close most one.0) (behind_spaces one.1))
+    → members_at more close (suc most) so_far text ≡ (more so_far text >>= λ one. ending_at close one.0 (members_at more close most one.0) (after_spaces one.1))
 unfolding members_at
 members_step {A = A} more close most so_far text = step (more so_far text)
   where
-    step : (r : Read A) → (r >>= λ one. cond (begins_with close (behind_spaces one.1)) (Ok (one.0, drop 1 (behind_spaces one.1))) (spaced_at 44 one.1 >>= λ rest. members_at more close most one.0 rest))
-        ≡ (r >>= λ one. ending_at close one.0 (members_at more close most one.0) (behind_spaces one.1))
-    step (Ok one) = ap (λ (x : Read A). cond (begins_with close (behind_spaces one.1)) (Ok (one.0, drop 1 (behind_spaces one.1))) x) (comma_step (members_at more close most one.0) one.1)
+    step : (r : Read A) → (r >>= λ one. cond (begins_with close (after_spaces one.1)) (Ok (one.0, drop 1 (after_spaces one.1))) (spaced_at 44 one.1 >>= λ rest. members_at more close most one.0 rest))
+        ≡ (r >>= λ one. ending_at close one.0 (members_at more close most one.0) (after_spaces one.1))
+    step (Ok one) = ap (λ (x : Read A). cond (begins_with close (after_spaces one.1)) (Ok (one.0, drop 1 (after_spaces one.1))) x) (comma_step (members_at more close most one.0) one.1)
     step (Err e) = refl
 
 members_within : {A : Type 0} (more : A → List ℕ → Read A) (close : ℕ) → ((so_far : A) → Local read (more so_far)) → (most : ℕ) (so_far : A) (text : List ℕ) → Within read (length text) (members_at more close most so_far text)
@@ -110,7 +110,7 @@ members_within more close local zero so_far text = λ _. omega arith
 members_within more close local (suc most) so_far text =
     subst (λ r. Within read (length text) r) (sym (members_step more close most so_far text))
     (bind_within read read (length text) (more so_far text) _ ((local so_far).within text) (λ one small.
-    ending_within close (length text) one.0 (members_at more close most one.0) (behind_spaces one.1) (omega (arith, drop_within (prefix_len is_space one.1) one.1)) (members_within more close local most one.0)))
+    ending_within close (length text) one.0 (members_at more close most one.0) (after_spaces one.1) (omega (arith, drop_within (prefix_len is_space one.1) one.1)) (members_within more close local most one.0)))
 
 -- enough members may be read of either text
 members_alike : {A : Type 0} (more : A → List ℕ → Read A) (close : ℕ) → ((so_far : A) → Local read (more so_far)) → (most most2 : ℕ) (so_far : A) (front after other : List ℕ) → length (front ++ after) < most → length (front ++ other) < most2
@@ -120,7 +120,7 @@ members_alike more close local (suc most) zero so_far front after other fits fit
 members_alike more close local (suc most) (suc most2) so_far front after other fits fits2 =
     rw (members_step more close most so_far (front ++ after), members_step more close most2 so_far (front ++ other))
     (bind_alike read read (length (front ++ after)) after other (more so_far (front ++ after)) (more so_far (front ++ other)) _ _ ((local so_far).within (front ++ after)) (front_alike read (more so_far) (local so_far) front after other)
-    (λ one near. ending_within close (length after) one.0 (members_at more close most one.0) (behind_spaces one.1) (omega (arith, drop_within (prefix_len is_space one.1) one.1)) (members_within more close local most one.0))
+    (λ one near. ending_within close (length after) one.0 (members_at more close most one.0) (after_spaces one.1) (omega (arith, drop_within (prefix_len is_space one.1) one.1)) (members_within more close local most one.0))
     (λ one d m small. spaced_ending_alike close one.0 (members_at more close most one.0) (members_at more close most2 one.0) d m after other (members_within more close local most one.0) (λ front2 fewer.
     let a = length-append front2 after in
     let b = length-append front2 other in
@@ -147,7 +147,7 @@ listed_local : {A : Type 0} (more : A → List ℕ → Read A) (opening close : 
 unfolding listed_at inside_at
 listed_local more opening close none local =
     bind_local mark read (mark_at opening) _ (mark_local opening) (λ _.
-    bind_local mark read (λ inside. Ok (behind_spaces inside)) (λ text. inside_at more close none text) spaces_local (λ _.
+    bind_local mark read (λ inside. Ok (after_spaces inside)) (λ text. inside_at more close none text) spaces_local (λ _.
     inside_local close none _ (members_local more close none local)))
 
 document_local : (member : List ℕ → Read Tree) → Local read member → Local read (λ text. document_at member text >>= λ fields. Ok (document fields.0, fields.1))

@@ -1,4 +1,4 @@
--- How far a reader looks: up to the first byte that can't go on, nothing behind that byte counts.
+-- How far a reader looks: up to the first byte that can't go on, nothing after that byte counts.
 use Rattle.std.proofs.Common.{◌≡◌, ℕ, zero, suc, ◌+◌, ◌<◌, ◌≤◌, Bool, true, false, cond, List, [], ◌∷◌, ◌++◌, length, take, drop, Result, Ok, Err, refl, sym, ap, subst, ◌∙◌, inl, inr, arith}
 use Rattle.std.specs.List.{prefix_len}
 use Rattle.std.proofs.lemmas.Bool.{cases_lt}
@@ -16,7 +16,7 @@ IsLocal Number = ⊥
 IsLocal DuplicateName = ⊥
 IsLocal _ = Unit {0}
 
--- what a reader gives has a text behind it
+-- what a reader gives has a text after it
 pub record Kind (B : Type 0) : Type 0 where
   pub rest : B → List ℕ
   pub at : B → List ℕ → B
@@ -93,7 +93,7 @@ bind_local {B = B} K L f g one next = record {
     inner : (x : B) → Within L (length (K.rest x)) (g x)
     inner x = subst (λ y. Within L (length (K.rest x)) (g y)) (K.same x) ((next x).within (K.rest x))
 
--- a front that may be empty
+-- a prefix that may be empty
 pub front_alike : {B : Type 0} (K : Kind B) (f : List ℕ → Result B Fault) → Local K f → (front after other : List ℕ) → Alike K after other (f (front ++ after)) (f (front ++ other))
 front_alike K f local [] after other = alike_within K after other (f after) (f other) (local.within after)
 front_alike K f local (c ∷ front) after other = local.alike c front after other
@@ -117,7 +117,7 @@ map_local f v one = bind_local read read f (λ x. Ok (v x.0, x.1)) one (λ x. ok
 
 -- ---- runs of bytes of a class
 
--- a text cut inside a front
+-- a text cut inside a prefix
 pub record Cut (n : ℕ) (front after other : List ℕ) : Type 0 where
   pub first : ℕ
   pub later : List ℕ
@@ -132,7 +132,7 @@ cut (suc n) (c ∷ front) after other inside =
     let inner = cut n front after other (omega arith) in
     record { first = inner.first; later = inner.later; rest = inner.rest; other_rest = inner.other_rest; same = ap (λ (x : List ℕ). c ∷ x) inner.same }
 
--- a run that ends inside the front is the same
+-- a run that ends inside the prefix is the same
 pub run_same : (p : ℕ → Bool) (front after other : List ℕ) → prefix_len p (front ++ after) < length front → prefix_len p (front ++ other) ≡ prefix_len p (front ++ after)
 run_same p [] after other inside = absurd (omega arith)
 run_same p (c ∷ front) after other inside = step (p c) (prefix_len p (front ++ after)) (prefix_len p (front ++ other)) inside (run_same p front after other)
@@ -141,7 +141,7 @@ run_same p (c ∷ front) after other inside = step (p c) (prefix_len p (front ++
     step true n k inside same = ap (λ (i : ℕ). 1 + i) (same (omega arith))
     step false n k inside same = refl
 
--- a run that ends behind the front does so whatever is there
+-- a run that ends after the prefix does so whatever is there
 pub run_past : (p : ℕ → Bool) (front after other : List ℕ) → length front ≤ prefix_len p (front ++ after) → length front ≤ prefix_len p (front ++ other)
 run_past p [] after other past = omega arith
 run_past p (c ∷ front) after other past = step (p c) (prefix_len p (front ++ after)) (prefix_len p (front ++ other)) past (run_past p front after other)
@@ -160,9 +160,9 @@ run_alike p front after other = λ far.
     let parts = cut (prefix_len p (front ++ after)) front after other inside in
     (parts.first, parts.later, parts.rest, rw (run_same p front after other inside, parts.same, parts.other_rest) refl)
 
-pub behind_alike : (p : ℕ → Bool) (front after other : List ℕ)
+pub after_alike : (p : ℕ → Bool) (front after other : List ℕ)
     → Alike mark after other (Ok (drop (prefix_len p (front ++ after)) (front ++ after))) (Ok (drop (prefix_len p (front ++ other)) (front ++ other)))
-behind_alike p front after other = λ far.
+after_alike p front after other = λ far.
     let inside = inside_front (prefix_len p (front ++ after)) front after far in
     let parts = cut (prefix_len p (front ++ after)) front after other inside in
     (parts.first, parts.later, parts.rest, rw (run_same p front after other inside, parts.other_rest) refl)

@@ -4,7 +4,7 @@ use Rattle.std.proofs.lemmas.Bool.{cases_eq}
 use Rattle.bson_doc.specs.Tree.{Tree, Fields, Trees, with_field, with_item}
 use Rattle.doc_text.specs.declared.fault.ReadError.{ReadError}
 use Rattle.doc_text.specs.declared.fault.ReadError.TheVariants as stops
-use Rattle.doc_text.specs.Class.{behind_spaces}
+use Rattle.doc_text.specs.Class.{after_spaces}
 use Rattle.doc_text.specs.Fault.{Read, Fails}
 use Rattle.doc_text.specs.Marks.{begins_with, mark_at, spaced_at}
 use Rattle.doc_text.specs.Values.{key_at, field_at, item_at, members_at, inside_at, listed_at}
@@ -17,12 +17,12 @@ not_begun mark (c ∷ rest) other =
       | inr wrong ↦ grind arith
     ]
 
-pub opened : {A : Type 0} (more : A → List ℕ → Read A) (opening close : ℕ) (none : A) (text inside rest : List ℕ) → mark_at opening text ≡ Ok inside → begins_with close (behind_spaces inside) ≡ false → rest ≡ behind_spaces inside
+pub opened : {A : Type 0} (more : A → List ℕ → Read A) (opening close : ℕ) (none : A) (text inside rest : List ℕ) → mark_at opening text ≡ Ok inside → begins_with close (after_spaces inside) ≡ false → rest ≡ after_spaces inside
     → members_at more close (suc (length rest)) none rest ≡ listed_at more opening close none text
 unfolding listed_at inside_at
 opened more opening close none text inside rest begun other is = rw (begun, other, is) refl
 
-pub nothing : {A : Type 0} (more : A → List ℕ → Read A) (opening close : ℕ) (none : A) (text inside rest : List ℕ) → mark_at opening text ≡ Ok inside → behind_spaces inside ≡ close ∷ rest
+pub nothing : {A : Type 0} (more : A → List ℕ → Read A) (opening close : ℕ) (none : A) (text inside rest : List ℕ) → mark_at opening text ≡ Ok inside → after_spaces inside ≡ close ∷ rest
     → listed_at more opening close none text ≡ Ok (none, rest)
 unfolding listed_at inside_at
 nothing more opening close none text inside rest begun closed =
@@ -37,7 +37,7 @@ failed more close (suc most) so_far text stops.Memory total within is refused = 
 failed more close (suc most) so_far text (stops.Fault fault) total within is refused = sym is ∙ rw refused refl
 
 pub ended : {A : Type 0} (more : A → List ℕ → Read A) (close most : ℕ) (so_far grown : A) (text after end : List ℕ) (total : Read A) → length text < most
-    → members_at more close most so_far text ≡ total → more so_far text ≡ Ok (grown, after) → behind_spaces after ≡ close ∷ end → total ≡ Ok (grown, end)
+    → members_at more close most so_far text ≡ total → more so_far text ≡ Ok (grown, after) → after_spaces after ≡ close ∷ end → total ≡ Ok (grown, end)
 unfolding members_at
 ended more close zero so_far grown text after end total within is read closed = absurd (omega arith)
 ended more close (suc most) so_far grown text after end total within is read closed =
@@ -45,14 +45,14 @@ ended more close (suc most) so_far grown text after end total within is read clo
     sym is ∙ rw (read, closed, begun) refl
 
 pub uncommaed : {A : Type 0} (more : A → List ℕ → Read A) (close most : ℕ) (so_far grown : A) (text after : List ℕ) (error : ReadError) (total : Read A) → length text < most
-    → members_at more close most so_far text ≡ total → more so_far text ≡ Ok (grown, after) → begins_with close (behind_spaces after) ≡ false → Fails error (spaced_at 44 after) → Fails error total
+    → members_at more close most so_far text ≡ total → more so_far text ≡ Ok (grown, after) → begins_with close (after_spaces after) ≡ false → Fails error (spaced_at 44 after) → Fails error total
 unfolding members_at
 uncommaed more close zero so_far grown text after error total within is read other refused = absurd (omega arith)
 uncommaed more close (suc most) so_far grown text after stops.Memory total within is read other refused = tt
 uncommaed more close (suc most) so_far grown text after (stops.Fault fault) total within is read other refused = sym is ∙ rw (read, other, refused) refl
 
 pub further : {A : Type 0} (more : A → List ℕ → Read A) (close most : ℕ) (so_far grown : A) (text after next : List ℕ) (total : Read A) → length text < most
-    → members_at more close most so_far text ≡ total → more so_far text ≡ Ok (grown, after) → begins_with close (behind_spaces after) ≡ false → spaced_at 44 after ≡ Ok next
+    → members_at more close most so_far text ≡ total → more so_far text ≡ Ok (grown, after) → begins_with close (after_spaces after) ≡ false → spaced_at 44 after ≡ Ok next
     → members_at more close (most - 1) grown next ≡ total
 unfolding members_at
 further more close zero so_far grown text after next total within is read other commaed = absurd (omega arith)

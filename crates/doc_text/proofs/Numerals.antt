@@ -25,7 +25,7 @@ pub run_of_digits : (text : List ℕ) → AllDigits 10 (take (prefix_len is_asci
 run_of_digits [] = tt
 run_of_digits (c ∷ rest) = all_digits (is_ascii_digit c) c rest (prefix_len is_ascii_digit rest) refl (run_of_digits rest)
 
--- the digits are the front of the text
+-- the digits are a prefix of the text
 pub digits_parts : (text digits rest : List ℕ) → digits_at text ≡ Ok (digits, rest) → text ≡ digits ++ rest
 unfolding digits_at
 digits_parts text digits rest e =
@@ -44,7 +44,7 @@ integer_plain (c ∷ rest) other =
       | inr digit ↦ grind arith
     ]
 
--- behind a minus sign, an integer is that sign and the digits
+-- after a minus sign, an integer is that sign and the digits
 pub integer_minus : (text unsigned digits rest : List ℕ) → text ≡ 45 ∷ unsigned → digits_at unsigned ≡ Ok (digits, rest) → integer_at text ≡ Ok (45 ∷ digits, rest)
 unfolding integer_at
 integer_minus text unsigned digits rest is read = rw (is, read) refl
@@ -62,19 +62,19 @@ back_at text front rest parts =
     let len : length front ≡ length text - length rest = omega (arith, length-append front rest, ap length parts) in
     subst (λ (t : List ℕ). drop (length text - length rest) t ≡ rest) (sym parts) (drop_at front rest (length text - length rest) len)
 
-utf8_behind : (c : ℕ) (rest : List ℕ) → c < 128 → IsUtf8 (c ∷ rest) → IsUtf8 rest
-utf8_behind c rest ascii utf8 = IsUtf8-drop (c ∷ rest) 1 utf8 (IsCharBoundary-after_ascii (c ∷ rest) 0 utf8 (omega arith) ascii)
+utf8_after : (c : ℕ) (rest : List ℕ) → c < 128 → IsUtf8 (c ∷ rest) → IsUtf8 rest
+utf8_after c rest ascii utf8 = IsUtf8-drop (c ∷ rest) 1 utf8 (IsCharBoundary-after_ascii (c ∷ rest) 0 utf8 (omega arith) ascii)
 
-utf8_behind_digits : (digits rest : List ℕ) → AllDigits 10 digits → IsUtf8 (digits ++ rest) → IsUtf8 rest
-utf8_behind_digits [] rest all utf8 = utf8
-utf8_behind_digits (c ∷ digits) rest all utf8 =
+utf8_after_digits : (digits rest : List ℕ) → AllDigits 10 digits → IsUtf8 (digits ++ rest) → IsUtf8 rest
+utf8_after_digits [] rest all utf8 = utf8
+utf8_after_digits (c ∷ digits) rest all utf8 =
     let digit = digit_from_value c all.0 in
-    utf8_behind_digits digits rest all.1 (utf8_behind c (digits ++ rest) (omega arith) utf8)
+    utf8_after_digits digits rest all.1 (utf8_after c (digits ++ rest) (omega arith) utf8)
 
--- a text may be cut behind a minus sign and digits
+-- a text may be cut after a minus sign and digits
 pub boundary_at : (text digits rest : List ℕ) → text ≡ (45 ∷ digits) ++ rest → AllDigits 10 digits → IsUtf8 text → IsCharBoundary text (length text - length rest)
 boundary_at text digits rest parts all utf8 =
     let whole : IsUtf8 (45 ∷ digits ++ rest) = subst (λ (t : List ℕ). IsUtf8 t) parts utf8 in
-    let behind = utf8_behind_digits digits rest all (utf8_behind 45 (digits ++ rest) (lit< tt) whole) in
+    let after = utf8_after_digits digits rest all (utf8_after 45 (digits ++ rest) (lit< tt) whole) in
     let len : length (45 ∷ digits) ≡ length text - length rest = omega (arith, length-append (45 ∷ digits) rest, ap length parts) in
-    subst (λ (n : ℕ). IsCharBoundary text n) len (IsCharBoundary-at_seam text (45 ∷ digits) rest parts behind)
+    subst (λ (n : ℕ). IsCharBoundary text n) len (IsCharBoundary-at_seam text (45 ∷ digits) rest parts after)

@@ -5,7 +5,7 @@ use Rattle.std.proofs.lemmas.List.{append-nil}
 use Rattle.bson_doc.specs.Tree.{Tree, document, array, Fields, no_fields, field, Trees, no_items, item, fields_from, trees_from, tree_size, fields_size, trees_size}
 use Rattle.doc_text.specs.Printing.{separator, printed, printed_name, printed_fields, later_fields, printed_items, later_items}
 
--- what is still to be printed of an array, behind its first place or at it
+-- what is still to be printed of an array, after its first place or at it
 abbrev pub items_left : ℕ → Trees → List ℕ
 items_left zero items = printed_items items
 items_left (suc place) items = later_items items

@@ -94,13 +94,13 @@ letters_spelled in_name [] clean = ([], (refl, refl))
 letters_spelled in_name (c ∷ bytes) clean =
     let one = letter_of in_name c (λ b. (clean b).0) in
     let others = letters_spelled in_name bytes (λ b. (clean b).1) in
-    let behind = flat_map printed_byte bytes ++ 34 ∷ [] in
-    (one.0 ∷ others.0, (c ∷ [], bytes, behind, one.1.1, others.1, refl, append_assoc (printed_byte c) (flat_map printed_byte bytes) (34 ∷ []) ∙ ap (λ (x : List ℕ). x ++ behind) one.1.0))
+    let tail = flat_map printed_byte bytes ++ 34 ∷ [] in
+    (one.0 ∷ others.0, (c ∷ [], bytes, tail, one.1.1, others.1, refl, append_assoc (printed_byte c) (flat_map printed_byte bytes) (34 ∷ []) ∙ ap (λ (x : List ℕ). x ++ tail) one.1.0))
 
 string_spelled : (in_name : Bool) (bytes : List ℕ) → (in_name ≡ true → AllSome bytes) → SpellsString in_name bytes (quoted bytes)
 string_spelled in_name bytes clean =
     let spelled = letters_spelled in_name bytes clean in
-    record { letters = spelled.0; behind = flat_map printed_byte bytes ++ 34 ∷ []; spelled = spelled.1; whole = refl }
+    record { letters = spelled.0; tail = flat_map printed_byte bytes ++ 34 ∷ []; spelled = spelled.1; whole = refl }
 
 all_some : (name : List ℕ) → ¬ Contains name 0 → AllSome name
 all_some [] clean = tt
@@ -198,17 +198,17 @@ mutual
 -- ---- and is read again
 
 appended_again : (old : List ℕ) (tree : Tree) → IsLawful tree → IsReadAgain old (old ++ printed tree) tree
-appended_again old tree lawful behind shallow whole =
-    let stands : Stands ((old ++ printed tree) ++ behind) (length old) tree (length (old ++ printed tree)) = record {
+appended_again old tree lawful tail shallow whole =
+    let stands : Stands ((old ++ printed tree) ++ tail) (length old) tree (length (old ++ printed tree)) = record {
       spelling = printed tree;
-      rest = behind;
+      rest = tail;
       spelled = printed_spells tree lawful;
       shallow = shallow;
-      parts = ap (drop (length old)) (append_assoc old (printed tree) behind) ∙ drop_at old (printed tree ++ behind) (length old) refl;
+      parts = ap (drop (length old)) (append_assoc old (printed tree) tail) ∙ drop_at old (printed tree ++ tail) (length old) refl;
       whole = whole;
       place = length-append old (printed tree);
     } in
-    stands_answer ((old ++ printed tree) ++ behind) (length old) tree (length (old ++ printed tree)) (omega (arith, length-append (old ++ printed tree) behind, length-append old (printed tree))) stands
+    stands_answer ((old ++ printed tree) ++ tail) (length old) tree (length (old ++ printed tree)) (omega (arith, length-append (old ++ printed tree) tail, length-append old (printed tree))) stands
 
 pub read_again : (old new : List ℕ) (tree : Tree) → IsLawful tree → new ≡ old ++ printed tree → IsReadAgain old new tree
 read_again old new tree lawful is = subst (λ (bytes : List ℕ). IsReadAgain old bytes tree) (sym is) (appended_again old tree lawful)

@@ -58,7 +58,7 @@ pub run_printed : (text : List ℕ) → flat_map printed_byte text ≡ take (pre
 run_printed [] = refl
 run_printed (c ∷ rest) = run_step (is_plain c) c (prefix_len is_plain rest) rest refl (run_printed rest)
 
--- what is still to be printed behind a run, and behind an escape
+-- what is still to be printed after a run, and after an escape
 pub first_printed : (stop : List ℕ) → 0 < length stop → flat_map printed_byte stop ≡ printed_byte (get_or stop 0 0) ++ flat_map printed_byte (drop 1 stop)
 first_printed [] some = absurd (omega arith)
 first_printed (c ∷ rest) some = refl
@@ -75,10 +75,10 @@ run_whole [] = refl
 run_whole (c ∷ rest) = bare_step (is_name_byte c) c (prefix_len is_name_byte rest) rest (list_all is_name_byte rest) refl (run_whole rest)
 
 pub bare_name : (name rest : List ℕ) (r : Bool) → 0 < length name → is_name_start (get_or name 0 0) ≡ true → rest ≡ drop (prefix_len is_name_byte name) name → r ≡ (length rest == 0) → r ≡ is_bare name
-bare_name [] rest r some start behind is = absurd (omega arith)
-bare_name (c ∷ later) rest r some start behind is =
+bare_name [] rest r some start after is = absurd (omega arith)
+bare_name (c ∷ later) rest r some start after is =
     let inside : is_name_byte c ≡ true = grind arith in
-    is ∙ rw (behind, run_whole (c ∷ later), inside, start) refl
+    is ∙ rw (after, run_whole (c ∷ later), inside, start) refl
 
 -- ---- one turn of a writer
 

@@ -15,7 +15,7 @@ use Rattle.bson_doc.specs.Tree.{Tree, int32, int64}
 use Rattle.doc_text.specs.declared.fault.Fault.{Fault}
 use Rattle.doc_text.specs.declared.fault.Rule.TheVariants.{Unexpected, Number}
 use Rattle.doc_text.specs.Bytes.{is_space}
-use Rattle.doc_text.specs.Class.{behind_spaces}
+use Rattle.doc_text.specs.Class.{after_spaces}
 use Rattle.doc_text.specs.Fault.{fails}
 use Rattle.doc_text.specs.Marks.{mark_at, spaced_at, closing_at, word_at, opened_at}
 use Rattle.doc_text.specs.Integers.{fits, ranged, digits_at, integer_at, natural_at, long_at, kind_at, number_at}
@@ -39,38 +39,38 @@ unfolding mark_at
 mark_gets mark [] = tt
 mark_gets mark (c ∷ rest) = cond_gets (c == mark) (Ok rest) (fails Unexpected (c ∷ rest)) (λ r. c ∷ rest ≡ mark ∷ r) (λ is. ap (λ (x : ℕ). x ∷ rest) (same c mark is)) (λ _. tt)
 
-one_space : (b : Bool) (c : ℕ) (rest : List ℕ) → is_space c ≡ b → (s : List ℕ) × IsSpaces s × (rest ≡ s ++ behind_spaces rest)
+one_space : (b : Bool) (c : ℕ) (rest : List ℕ) → is_space c ≡ b → (s : List ℕ) × IsSpaces s × (rest ≡ s ++ after_spaces rest)
     → (s : List ℕ) × IsSpaces s × (c ∷ rest ≡ s ++ drop (cond b (1 + prefix_len is_space rest) 0) (c ∷ rest))
 one_space true c rest space from =
     let one : 1 + prefix_len is_space rest ≡ suc (prefix_len is_space rest) = omega arith in
     rw one (c ∷ from.0, (same c 32 space, from.1), ap (λ (x : List ℕ). c ∷ x) from.2)
 one_space false c rest other from = ([], tt, refl)
 
--- spaces, and what stands behind them
-pub spaces_front : (text : List ℕ) → (s : List ℕ) × IsSpaces s × (text ≡ s ++ behind_spaces text)
+-- spaces, and what follows them
+pub spaces_front : (text : List ℕ) → (s : List ℕ) × IsSpaces s × (text ≡ s ++ after_spaces text)
 spaces_front [] = ([], tt, refl)
 spaces_front (c ∷ rest) = one_space (is_space c) c rest refl (spaces_front rest)
 
--- a fact of what stands behind
-abbrev pub Behind : (List ℕ → Type 0) → List ℕ → List ℕ → Type 0
-Behind P text rest = (s : List ℕ) × P s × (text ≡ s ++ rest)
+-- a fact of what follows
+abbrev pub After : (List ℕ → Type 0) → List ℕ → List ℕ → Type 0
+After P text rest = (s : List ℕ) × P s × (text ≡ s ++ rest)
 
-pub spaced_gets : (mark : ℕ) (text : List ℕ) → Gets (spaced_at mark text) (Behind (IsSpaced mark) text)
+pub spaced_gets : (mark : ℕ) (text : List ℕ) → Gets (spaced_at mark text) (After (IsSpaced mark) text)
 unfolding spaced_at
 spaced_gets mark text =
-    bind_gets (mark_at mark (behind_spaces text)) (λ rest. Ok (behind_spaces rest)) (λ rest. behind_spaces text ≡ mark ∷ rest) (Behind (IsSpaced mark) text) (mark_gets mark (behind_spaces text)) (λ rest is.
+    bind_gets (mark_at mark (after_spaces text)) (λ rest. Ok (after_spaces rest)) (λ rest. after_spaces text ≡ mark ∷ rest) (After (IsSpaced mark) text) (mark_gets mark (after_spaces text)) (λ rest is.
     let before = spaces_front text in
     let after = spaces_front rest in (
       before.0 ++ mark ∷ after.0,
       record { before = before.0; after = after.0; spaces_before = before.1; spaces_after = after.1; whole = refl },
-      before.2 ∙ ap (λ (x : List ℕ). before.0 ++ x) (is ∙ ap (λ (x : List ℕ). mark ∷ x) after.2) ∙ sym (append_assoc before.0 (mark ∷ after.0) (behind_spaces rest)),
+      before.2 ∙ ap (λ (x : List ℕ). before.0 ++ x) (is ∙ ap (λ (x : List ℕ). mark ∷ x) after.2) ∙ sym (append_assoc before.0 (mark ∷ after.0) (after_spaces rest)),
     ))
 
-pub closing_gets : (mark : ℕ) (text : List ℕ) → Gets (closing_at mark text) (Behind (IsClosing mark) text)
+pub closing_gets : (mark : ℕ) (text : List ℕ) → Gets (closing_at mark text) (After (IsClosing mark) text)
 unfolding closing_at
-closing_gets mark text = go (mark_at mark (behind_spaces text)) (mark_gets mark (behind_spaces text))
+closing_gets mark text = go (mark_at mark (after_spaces text)) (mark_gets mark (after_spaces text))
   where
-    go : (r : Result (List ℕ) Fault) → Gets r (λ rest. behind_spaces text ≡ mark ∷ rest) → Gets r (Behind (IsClosing mark) text)
+    go : (r : Result (List ℕ) Fault) → Gets r (λ rest. after_spaces text ≡ mark ∷ rest) → Gets r (After (IsClosing mark) text)
     go (Err e) got = tt
     go (Ok rest) got =
         let before = spaces_front text in (
@@ -90,7 +90,7 @@ word_gets (c ∷ word) text =
     go (Err e) rest is got = tt
     go (Ok after) rest is got = is ∙ ap (λ (x : List ℕ). c ∷ x) got
 
--- what stands behind a word and an opening parenthesis
+-- what follows a word and an opening parenthesis
 abbrev pub Opening : List ℕ → List ℕ → List ℕ → Type 0
 Opening word text rest = (s : List ℕ) × IsSpaced 40 s × (text ≡ word ++ (s ++ rest))
 
@@ -98,7 +98,7 @@ pub opened_gets : (word text : List ℕ) → Gets (opened_at word text) (Opening
 unfolding opened_at
 opened_gets word text =
     bind_gets (word_at word text) (λ name. spaced_at 40 name) (λ rest. text ≡ word ++ rest) (Opening word text) (word_gets word text) (λ name a.
-    gets_more (spaced_at 40 name) (Behind (IsSpaced 40) name) (Opening word text) (spaced_gets 40 name) (λ rest b. (b.0, b.1, a ∙ ap (λ (x : List ℕ). word ++ x) b.2)))
+    gets_more (spaced_at 40 name) (After (IsSpaced 40) name) (Opening word text) (spaced_gets 40 name) (λ rest b. (b.0, b.1, a ∙ ap (λ (x : List ℕ). word ++ x) b.2)))
 
 -- ---- numbers
 
@@ -140,11 +140,11 @@ integer_gets (c ∷ rest) =
 at_most : (n most : ℕ) → nat_le n most ≡ true → n ≤ most
 at_most n most small = grind arith
 
-pub natural_gets : (most : ℕ) (text : List ℕ) → Gets (natural_at most text) (λ x. Behind (SpellsNatural most x.0) text x.1)
+pub natural_gets : (most : ℕ) (text : List ℕ) → Gets (natural_at most text) (λ x. After (SpellsNatural most x.0) text x.1)
 unfolding natural_at
 natural_gets most text =
-    bind_gets (digits_at text) (λ digits. cond (nat_le (digits_value 10 digits.0) most) (Ok (digits_value 10 digits.0, digits.1)) (fails Number text)) (IsRead (IsNumeral 10) text) (λ x. Behind (SpellsNatural most x.0) text x.1) (digits_gets text) (λ digits got.
-    cond_gets (nat_le (digits_value 10 digits.0) most) (Ok (digits_value 10 digits.0, digits.1)) (fails Number text) (λ x. Behind (SpellsNatural most x.0) text x.1) (λ small. (digits.0, (got.0, refl, at_most (digits_value 10 digits.0) most small), got.1)) (λ _. tt))
+    bind_gets (digits_at text) (λ digits. cond (nat_le (digits_value 10 digits.0) most) (Ok (digits_value 10 digits.0, digits.1)) (fails Number text)) (IsRead (IsNumeral 10) text) (λ x. After (SpellsNatural most x.0) text x.1) (digits_gets text) (λ digits got.
+    cond_gets (nat_le (digits_value 10 digits.0) most) (Ok (digits_value 10 digits.0, digits.1)) (fails Number text) (λ x. After (SpellsNatural most x.0) text x.1) (λ small. (digits.0, (got.0, refl, at_most (digits_value 10 digits.0) most small), got.1)) (λ _. tt))
 
 -- a number in its range
 abbrev Ranged : ℕ → ℤ → List ℕ → ℤ × List ℕ → Type 0
@@ -154,11 +154,11 @@ ranged_gets : (limit : ℕ) (text numeral rest : List ℕ) → Gets (ranged limi
 ranged_gets limit text numeral rest =
     cond_gets (fits limit (signed_digits_value 10 numeral)) (Ok (signed_digits_value 10 numeral, rest)) (fails Number text) (Ranged limit (signed_digits_value 10 numeral) rest) (λ range. (refl, refl, range)) (λ _. tt)
 
-pub long_gets : (text : List ℕ) → Gets (long_at text) (λ x. Behind (λ s. SpellsInteger x.0 s × (fits (2 ^ 63) x.0 ≡ true)) text x.1)
+pub long_gets : (text : List ℕ) → Gets (long_at text) (λ x. After (λ s. SpellsInteger x.0 s × (fits (2 ^ 63) x.0 ≡ true)) text x.1)
 unfolding long_at
 long_gets text =
-    bind_gets (integer_at text) (λ numeral. ranged (2 ^ 63) text numeral.0 numeral.1) (IntegerRead text) (λ x. Behind (λ s. SpellsInteger x.0 s × (fits (2 ^ 63) x.0 ≡ true)) text x.1) (integer_gets text) (λ numeral got.
-    gets_more (ranged (2 ^ 63) text numeral.0 numeral.1) (Ranged (2 ^ 63) (signed_digits_value 10 numeral.0) numeral.1) (λ x. Behind (λ s. SpellsInteger x.0 s × (fits (2 ^ 63) x.0 ≡ true)) text x.1) (ranged_gets (2 ^ 63) text numeral.0 numeral.1) (λ x range.
+    bind_gets (integer_at text) (λ numeral. ranged (2 ^ 63) text numeral.0 numeral.1) (IntegerRead text) (λ x. After (λ s. SpellsInteger x.0 s × (fits (2 ^ 63) x.0 ≡ true)) text x.1) (integer_gets text) (λ numeral got.
+    gets_more (ranged (2 ^ 63) text numeral.0 numeral.1) (Ranged (2 ^ 63) (signed_digits_value 10 numeral.0) numeral.1) (λ x. After (λ s. SpellsInteger x.0 s × (fits (2 ^ 63) x.0 ≡ true)) text x.1) (ranged_gets (2 ^ 63) text numeral.0 numeral.1) (λ x range.
     (numeral.0, rw range.0 (got.0, range.2), rw range.1 got.1)))
 
 -- what is read of a text stands at its front as far as it goes

@@ -137,7 +137,7 @@ name_gets [] = tt
 name_gets (c ∷ rest) =
     cond_gets (c == 34) _ _ (NameRead (c ∷ rest))
     (λ mark. gets_more (letters_at true (length rest) rest) (LettersRead true rest) (NameRead (c ∷ rest)) (letters_gets true (length rest) rest) (λ x got.
-    let quoted : SpellsString true x.0 (34 ∷ got.1) = record { letters = got.0; behind = got.1; spelled = got.2; whole = refl } in
+    let quoted : SpellsString true x.0 (34 ∷ got.1) = record { letters = got.0; tail = got.1; spelled = got.2; whole = refl } in
     (34 ∷ got.1, inr quoted, ap (λ (k : ℕ). k ∷ rest) (same c 34 mark) ∙ ap (λ (t : List ℕ). 34 ∷ t) got.3, no_zero x.0 (letters_clean got.0 x.0 got.1 got.2))))
     (λ _. cond_gets (is_name_start c) _ _ (NameRead (c ∷ rest))
     (λ starts. (take (prefix_len is_name_byte (c ∷ rest)) (c ∷ rest), inl (bare_run c rest starts, refl), sym (take-append-drop (prefix_len is_name_byte (c ∷ rest)) (c ∷ rest)), no_zero (take (prefix_len is_name_byte (c ∷ rest)) (c ∷ rest)) (bare_clean (c ∷ rest))))

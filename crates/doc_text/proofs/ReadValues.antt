@@ -6,7 +6,7 @@ use Rattle.bson_doc.specs.Length.{value_levels, fields_levels, items_levels}
 use Rattle.bson_doc.specs.Tree.{Tree, document, array, Fields, no_fields, field, Trees, no_items, item, IsDocument, found, with_field, with_item}
 use Rattle.bson_doc.proofs.DocLemmas.{IsDocument-with_field, not_found}
 use Rattle.doc_text.specs.declared.fault.Rule.TheVariants.{TooDeep}
-use Rattle.doc_text.specs.Class.{behind_spaces}
+use Rattle.doc_text.specs.Class.{after_spaces}
 use Rattle.doc_text.specs.Fault.{Read, fails}
 use Rattle.doc_text.specs.Marks.{begins_with, mark_at, spaced_at}
 use Rattle.doc_text.specs.Names.{name_at}
@@ -14,7 +14,7 @@ use Rattle.doc_text.specs.Scalars.{scalar_at}
 use Rattle.doc_text.specs.Values.{key_at, field_at, item_at, members_at, inside_at, listed_at, document_at, array_at, value_at}
 use Rattle.doc_text.specs.Spelling.{IsSpaced, IsClosing, SpellsName, SpellsField, Spells, SpellsFields, SpellsItems, SpellsLaterFields, SpellsLaterItems, Stands}
 use Rattle.doc_text.proofs.SpelledIsRead.{joined, joined-is, joined_items, joined_items-is}
-use Rattle.doc_text.proofs.ReadIsSpelled.{same, Behind, StandsAs, mark_gets, spaced_gets, spaces_front}
+use Rattle.doc_text.proofs.ReadIsSpelled.{same, After, StandsAs, mark_gets, spaced_gets, spaces_front}
 use Rattle.doc_text.proofs.ReadStrings.{NameRead, name_gets}
 use Rattle.doc_text.proofs.ReadScalars.{scalar_gets}
 use Rattle.bson_doc.proofs.BindLemmas.{Gets, bind_gets, gets_more, cond_gets}
@@ -28,12 +28,12 @@ begun mark [] h = absurd cc
 begun mark (c ∷ rest) h = ap (λ (x : ℕ). x ∷ rest) (same c mark h)
 
 -- the closing mark with spaces before it
-closed_front : (close : ℕ) (text : List ℕ) → begins_with close (behind_spaces text) ≡ true → Behind (IsClosing close) text (drop 1 (behind_spaces text))
+closed_front : (close : ℕ) (text : List ℕ) → begins_with close (after_spaces text) ≡ true → After (IsClosing close) text (drop 1 (after_spaces text))
 closed_front close text closed =
     let before = spaces_front text in (
       before.0 ++ close ∷ [],
       record { before = before.0; spaces_before = before.1; whole = refl },
-      before.2 ∙ ap (λ (x : List ℕ). before.0 ++ x) (begun close (behind_spaces text) closed) ∙ sym (append_assoc before.0 (close ∷ []) (drop 1 (behind_spaces text))),
+      before.2 ∙ ap (λ (x : List ℕ). before.0 ++ x) (begun close (after_spaces text) closed) ∙ sym (append_assoc before.0 (close ∷ []) (drop 1 (after_spaces text))),
     )
 
 -- ---- fields
@@ -58,7 +58,7 @@ unfolding key_at
 key_gets so_far input =
     bind_gets (name_at input) _ (NameRead input) (KeyRead so_far input) (name_gets input) (λ name a.
     cond_gets (is_some (found name.0 so_far)) _ _ (KeyRead so_far input) (λ _. tt) (λ new.
-    bind_gets (spaced_at 58 name.1) _ (Behind (IsSpaced 58) name.1) (KeyRead so_far input) (spaced_gets 58 name.1) (λ inside b.
+    bind_gets (spaced_at 58 name.1) _ (After (IsSpaced 58) name.1) (KeyRead so_far input) (spaced_gets 58 name.1) (λ inside b.
     (a.0, b.0, a.1, b.1, a.2 ∙ ap (λ (x : List ℕ). a.0 ++ x) b.2, a.3, not_found (found name.0 so_far) new))))
 
 field_gets : (most : ℕ) (member : List ℕ → Read Tree) → Sound most member → (so_far : Fields) (input : List ℕ) → Gets (field_at member so_far input) (FieldRead most so_far input)
@@ -80,7 +80,7 @@ field_gets most member sound so_far input =
       shallow = c.4;
     }))
 
--- a first field, those behind it, and the closing brace
+-- a first field, those after it, and the closing brace
 pub record FieldsRead (most : ℕ) (so_far : Fields) (input : List ℕ) (x : Fields × List ℕ) : Type 0 where
   pub name : List ℕ
   pub value : Tree
@@ -90,7 +90,7 @@ pub record FieldsRead (most : ℕ) (so_far : Fields) (input : List ℕ) (x : Fie
   pub grown : x.0 ≡ joined (with_field so_far name value) others
   pub apart : IsDocument so_far → IsDocument x.0
   pub spelled : SpellsField name (Spells value) one
-  pub behind : SpellsLaterFields others later
+  pub after : SpellsLaterFields others later
   pub whole : input ≡ one ++ (later ++ x.1)
   pub shallow : value_levels value ≤ most
   pub others_shallow : fields_levels others ≤ most
@@ -101,7 +101,7 @@ fields_gets most member sound zero so_far input = tt
 fields_gets most member sound (suc fuel) so_far input =
     bind_gets (field_at member so_far input) _ (FieldRead most so_far input) (FieldsRead most so_far input) (field_gets most member sound so_far input) (λ got a.
     let apart = λ (before : IsDocument so_far). subst IsDocument (sym a.grown) (IsDocument-with_field so_far a.name a.value before a.clean a.new) in
-    cond_gets (begins_with 125 (behind_spaces got.1)) _ _ (FieldsRead most so_far input) (λ closed.
+    cond_gets (begins_with 125 (after_spaces got.1)) _ _ (FieldsRead most so_far input) (λ closed.
     let end = closed_front 125 got.1 closed in
     record {
       name = a.name;
@@ -112,12 +112,12 @@ fields_gets most member sound (suc fuel) so_far input =
       grown = a.grown;
       apart = apart;
       spelled = a.spelled;
-      behind = end.1;
+      after = end.1;
       whole = a.whole ∙ ap (λ (x : List ℕ). a.one ++ x) end.2;
       shallow = a.shallow;
       others_shallow = omega arith;
     }) (λ _.
-    bind_gets (spaced_at 44 got.1) _ (Behind (IsSpaced 44) got.1) (FieldsRead most so_far input) (spaced_gets 44 got.1) (λ rest comma.
+    bind_gets (spaced_at 44 got.1) _ (After (IsSpaced 44) got.1) (FieldsRead most so_far input) (spaced_gets 44 got.1) (λ rest comma.
     gets_more (members_at (field_at member) 125 fuel got.0 rest) (FieldsRead most got.0 rest) (FieldsRead most so_far input) (fields_gets most member sound fuel got.0 rest) (λ x b.
     let parts : got.1 ≡ (comma.0 ++ (b.one ++ b.later)) ++ x.1 = comma.2 ∙ ap (λ (y : List ℕ). comma.0 ++ y) b.whole ∙ sym (simp append_assoc) in
     record {
@@ -129,7 +129,7 @@ fields_gets most member sound (suc fuel) so_far input =
       grown = b.grown ∙ ap (λ (fs : Fields). joined (with_field fs b.name b.value) b.others) a.grown;
       apart = λ before. b.apart (apart before);
       spelled = a.spelled;
-      behind = (comma.0, b.one, b.later, comma.1, b.spelled, b.behind, refl);
+      after = (comma.0, b.one, b.later, comma.1, b.spelled, b.after, refl);
       whole = a.whole ∙ ap (λ (y : List ℕ). a.one ++ y) parts;
       shallow = a.shallow;
       others_shallow = omega (arith, b.shallow, b.others_shallow);
@@ -144,7 +144,7 @@ pub record ItemsRead (most : ℕ) (so_far : Trees) (input : List ℕ) (x : Trees
   pub later : List ℕ
   pub grown : x.0 ≡ joined_items (with_item so_far value) others
   pub spelled : Spells value one
-  pub behind : SpellsLaterItems others later
+  pub after : SpellsLaterItems others later
   pub whole : input ≡ one ++ (later ++ x.1)
   pub shallow : value_levels value ≤ most
   pub others_shallow : items_levels others ≤ most
@@ -164,7 +164,7 @@ items_gets most member sound zero so_far input = tt
 items_gets most member sound (suc fuel) so_far input =
     bind_gets (item_at member so_far input) _ (ItemRead most so_far input) (ItemsRead most so_far input) (item_gets most member sound so_far input) (λ got a.
     let stands = a.2 in
-    cond_gets (begins_with 93 (behind_spaces got.1)) _ _ (ItemsRead most so_far input) (λ closed.
+    cond_gets (begins_with 93 (after_spaces got.1)) _ _ (ItemsRead most so_far input) (λ closed.
     let end = closed_front 93 got.1 closed in
     record {
       value = a.0;
@@ -173,12 +173,12 @@ items_gets most member sound (suc fuel) so_far input =
       later = end.0;
       grown = a.1;
       spelled = stands.1;
-      behind = end.1;
+      after = end.1;
       whole = stands.2 ∙ ap (λ (x : List ℕ). stands.0 ++ x) end.2;
       shallow = stands.4;
       others_shallow = omega arith;
     }) (λ _.
-    bind_gets (spaced_at 44 got.1) _ (Behind (IsSpaced 44) got.1) (ItemsRead most so_far input) (spaced_gets 44 got.1) (λ rest comma.
+    bind_gets (spaced_at 44 got.1) _ (After (IsSpaced 44) got.1) (ItemsRead most so_far input) (spaced_gets 44 got.1) (λ rest comma.
     gets_more (members_at (item_at member) 93 fuel got.0 rest) (ItemsRead most got.0 rest) (ItemsRead most so_far input) (items_gets most member sound fuel got.0 rest) (λ x b.
     let parts : got.1 ≡ (comma.0 ++ (b.one ++ b.later)) ++ x.1 = comma.2 ∙ ap (λ (y : List ℕ). comma.0 ++ y) b.whole ∙ sym (simp append_assoc) in
     record {
@@ -188,7 +188,7 @@ items_gets most member sound (suc fuel) so_far input =
       later = comma.0 ++ (b.one ++ b.later);
       grown = b.grown ∙ ap (λ (ts : Trees). joined_items (with_item ts b.value) b.others) a.1;
       spelled = stands.1;
-      behind = (comma.0, b.one, b.later, comma.1, b.spelled, b.behind, refl);
+      after = (comma.0, b.one, b.later, comma.1, b.spelled, b.after, refl);
       whole = stands.2 ∙ ap (λ (y : List ℕ). stands.0 ++ y) parts;
       shallow = stands.4;
       others_shallow = omega (arith, b.shallow, b.others_shallow);
@@ -201,13 +201,13 @@ unfolding listed_at inside_at
 document_gets most member sound input =
     bind_gets (mark_at 123 input) _ (λ rest. input ≡ 123 ∷ rest) (λ x. StandsAs (suc most) input (document x.0, x.1)) (mark_gets 123 input) (λ rest opened.
     let spaces = spaces_front rest in
-    cond_gets (begins_with 125 (behind_spaces rest)) _ _ (λ x. StandsAs (suc most) input (document x.0, x.1)) (λ closed.
+    cond_gets (begins_with 125 (after_spaces rest)) _ _ (λ x. StandsAs (suc most) input (document x.0, x.1)) (λ closed.
     let end = closed_front 125 rest closed in
     (123 ∷ end.0, (tt, end.0, end.1, refl), opened ∙ ap (λ (x : List ℕ). 123 ∷ x) end.2, tt, omega arith)) (λ _.
-    gets_more (members_at (field_at member) 125 (suc (length (behind_spaces rest))) no_fields (behind_spaces rest)) (FieldsRead most no_fields (behind_spaces rest)) (λ x. StandsAs (suc most) input (document x.0, x.1)) (fields_gets most member sound (suc (length (behind_spaces rest))) no_fields (behind_spaces rest)) (λ x a.
+    gets_more (members_at (field_at member) 125 (suc (length (after_spaces rest))) no_fields (after_spaces rest)) (FieldsRead most no_fields (after_spaces rest)) (λ x. StandsAs (suc most) input (document x.0, x.1)) (fields_gets most member sound (suc (length (after_spaces rest))) no_fields (after_spaces rest)) (λ x a.
     let made : x.0 ≡ field a.name a.value a.others = a.grown ∙ joined-is (with_field no_fields a.name a.value) a.others in
     let apart : IsDocument (field a.name a.value a.others) = subst IsDocument made (a.apart tt) in
-    let inside : SpellsFields (field a.name a.value a.others) (spaces.0 ++ (a.one ++ a.later)) = (spaces.0, a.one, a.later, spaces.1, a.spelled, a.behind, refl) in
+    let inside : SpellsFields (field a.name a.value a.others) (spaces.0 ++ (a.one ++ a.later)) = (spaces.0, a.one, a.later, spaces.1, a.spelled, a.after, refl) in
     let whole : input ≡ (123 ∷ (spaces.0 ++ (a.one ++ a.later))) ++ x.1 =
     opened ∙ ap (λ (y : List ℕ). 123 ∷ y) (spaces.2 ∙ ap (λ (y : List ℕ). spaces.0 ++ y) a.whole ∙ sym (simp append_assoc)) in
     let stands : StandsAs (suc most) input (document (field a.name a.value a.others), x.1) = (123 ∷ (spaces.0 ++ (a.one ++ a.later)), (apart, spaces.0 ++ (a.one ++ a.later), inside, refl), whole, tt, omega (arith, a.shallow, a.others_shallow)) in
@@ -218,12 +218,12 @@ unfolding listed_at inside_at
 array_gets most member sound input =
     bind_gets (mark_at 91 input) _ (λ rest. input ≡ 91 ∷ rest) (λ x. StandsAs (suc most) input (array x.0, x.1)) (mark_gets 91 input) (λ rest opened.
     let spaces = spaces_front rest in
-    cond_gets (begins_with 93 (behind_spaces rest)) _ _ (λ x. StandsAs (suc most) input (array x.0, x.1)) (λ closed.
+    cond_gets (begins_with 93 (after_spaces rest)) _ _ (λ x. StandsAs (suc most) input (array x.0, x.1)) (λ closed.
     let end = closed_front 93 rest closed in
     (91 ∷ end.0, (end.0, end.1, refl), opened ∙ ap (λ (x : List ℕ). 91 ∷ x) end.2, tt, omega arith)) (λ _.
-    gets_more (members_at (item_at member) 93 (suc (length (behind_spaces rest))) no_items (behind_spaces rest)) (ItemsRead most no_items (behind_spaces rest)) (λ x. StandsAs (suc most) input (array x.0, x.1)) (items_gets most member sound (suc (length (behind_spaces rest))) no_items (behind_spaces rest)) (λ x a.
+    gets_more (members_at (item_at member) 93 (suc (length (after_spaces rest))) no_items (after_spaces rest)) (ItemsRead most no_items (after_spaces rest)) (λ x. StandsAs (suc most) input (array x.0, x.1)) (items_gets most member sound (suc (length (after_spaces rest))) no_items (after_spaces rest)) (λ x a.
     let made : x.0 ≡ item a.value a.others = a.grown ∙ joined_items-is (with_item no_items a.value) a.others in
-    let inside : SpellsItems (item a.value a.others) (spaces.0 ++ (a.one ++ a.later)) = (spaces.0, a.one, a.later, spaces.1, a.spelled, a.behind, refl) in
+    let inside : SpellsItems (item a.value a.others) (spaces.0 ++ (a.one ++ a.later)) = (spaces.0, a.one, a.later, spaces.1, a.spelled, a.after, refl) in
     let whole : input ≡ (91 ∷ (spaces.0 ++ (a.one ++ a.later))) ++ x.1 =
     opened ∙ ap (λ (y : List ℕ). 91 ∷ y) (spaces.2 ∙ ap (λ (y : List ℕ). spaces.0 ++ y) a.whole ∙ sym (simp append_assoc)) in
     let stands : StandsAs (suc most) input (array (item a.value a.others), x.1) = (91 ∷ (spaces.0 ++ (a.one ++ a.later)), (spaces.0 ++ (a.one ++ a.later), inside, refl), whole, tt, omega (arith, a.shallow, a.others_shallow)) in

@@ -1,4 +1,4 @@
--- No text that goes on otherwise behind the place of a refusal has a value either.
+-- No text that goes on otherwise after the place of a refusal has a value either.
 use Rattle.std.proofs.Common.{◌≡◌, ℕ, ◌+◌, ◌-◌, ◌<◌, ◌≤◌, List, ◌++◌, length, take, drop, Err, refl, sym, ap, ◌∙◌, arith}
 use Rattle.std.proofs.lemmas.List.{length-drop, length-take, take-append-drop, drop-take}
 use Rattle.bson_doc.specs.Tree.{Tree}
@@ -17,7 +17,7 @@ use Rattle.doc_text.proofs.SpelledIsRead.{stands_answer}
 same_front : (at n : ℕ) (xs ys : List ℕ) → take (at + n) xs ≡ take (at + n) ys → take n (drop at xs) ≡ take n (drop at ys)
 same_front at n xs ys same = sym (drop-take at n xs) ∙ ap (drop at) same ∙ drop-take at n ys
 
--- a reader that stops before the end of a front does so in every text with that front
+-- a reader that stops before the end of a prefix does so in every text with that prefix
 stops_too : (f : List ℕ → Read Tree) → Local read f → (n : ℕ) (xs ys : List ℕ) (fault : Fault) → f xs ≡ Err fault → IsLocal fault.rule → length xs - n < fault.left → take n ys ≡ take n xs → (e : Fault) × (f ys ≡ Err e)
 stops_too f looks n xs ys fault refused local far same =
     let alike : Alike read (drop n xs) (drop n ys) (f (take n xs ++ drop n xs)) (f (take n xs ++ drop n ys)) = front_alike read f looks (take n xs) (drop n xs) (drop n ys) in

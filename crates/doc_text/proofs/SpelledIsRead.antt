@@ -9,13 +9,13 @@ use Rattle.bson_doc.specs.Length.{value_levels, fields_levels, items_levels}
 use Rattle.bson_doc.specs.Tree.{Tree, null, int32, int64, text, document, array, binary, object_id, boolean, date, timestamp, Fields, no_fields, field, Trees, no_items, item, IsDocument, found, with_field, with_item}
 use Rattle.doc_text.specs.declared.fault.Fault.{Fault}
 use Rattle.bson_doc.proofs.DocLemmas.{not_first, found-with_field}
-use Rattle.doc_text.specs.Class.{behind_spaces}
+use Rattle.doc_text.specs.Class.{after_spaces}
 use Rattle.doc_text.specs.Fault.{placed}
 use Rattle.doc_text.specs.Marks.{begins_with, spaced_at}
 use Rattle.doc_text.specs.Values.{field_at, item_at, members_at, document_at, array_at, value_at, in_text, answer_at}
 use Rattle.doc_text.specs.Spelling.{IsSpaced, SpellsField, Spells, SpellsFields, SpellsItems, SpellsLaterFields, SpellsLaterItems, Stands}
 use Rattle.doc_text.proofs.Members.{opened, nothing, ended, further, item_read}
-use Rattle.doc_text.proofs.SpelledMarks.{NoSpace, behind_spaces-over, spaced_over, mark_over, before_mark, before_closing, spaced_stops, closing_stops, goes_on, goes_no_further}
+use Rattle.doc_text.proofs.SpelledMarks.{NoSpace, after_spaces-over, spaced_over, mark_over, before_mark, before_closing, spaced_stops, closing_stops, goes_on, goes_no_further}
 use Rattle.doc_text.proofs.SpelledScalars.{int32_read, int64_read, string_read, date_read, id_read, binary_read, time_read}
 use Rattle.doc_text.proofs.SpelledFields.{Reads, value_scalar, value_no_space, value_no_bracket, name_no_brace, field_no_space, field_name, field_over, constant_null, constant_true, constant_false}
 
@@ -37,7 +37,7 @@ absent_empty : (fields : Fields) → Absent no_fields fields
 absent_empty no_fields = tt
 absent_empty (field name value rest) = (refl, absent_empty rest)
 
--- fields one after the other, behind others
+-- fields one after the other, after others
 abbrev pub joined : Fields → Fields → Fields
 joined so_far no_fields = so_far
 joined so_far (field name value rest) = joined (with_field so_far name value) rest
@@ -91,50 +91,50 @@ EachItem most (item value rest) = Reads most value × EachItem most rest
 comma_some : (mark : ℕ) (s : List ℕ) → IsSpaced mark s → 0 < length s
 comma_some mark s spaced = omega (arith, ap length spaced.whole, length-append spaced.before (mark ∷ spaced.after))
 
--- what stands behind a member doesn't go on as a number
+-- what follows a member doesn't go on as a number
 later_stops : (others : Trees) (later rest : List ℕ) → SpellsLaterItems others later → prefix_len goes_on (later ++ rest) ≡ 0
-later_stops no_items later rest behind = closing_stops goes_on 93 later rest refl refl behind
-later_stops (item two more) later rest behind =
-    let regroup : later ++ rest ≡ behind.0 ++ (behind.1 ++ (behind.2 ++ rest)) = ap (λ (x : List ℕ). x ++ rest) behind.6 ∙ simp append_assoc in
-    ap (prefix_len goes_on) regroup ∙ spaced_stops goes_on 44 behind.0 (behind.1 ++ (behind.2 ++ rest)) refl refl behind.3
+later_stops no_items later rest tail = closing_stops goes_on 93 later rest refl refl tail
+later_stops (item two more) later rest tail =
+    let regroup : later ++ rest ≡ tail.0 ++ (tail.1 ++ (tail.2 ++ rest)) = ap (λ (x : List ℕ). x ++ rest) tail.6 ∙ simp append_assoc in
+    ap (prefix_len goes_on) regroup ∙ spaced_stops goes_on 44 tail.0 (tail.1 ++ (tail.2 ++ rest)) refl refl tail.3
 
--- what stands behind a comma, up to the next member
+-- what follows a comma, up to the next member
 comma_over : (close : ℕ) (comma after input : List ℕ) → (44 == close) ≡ false → IsSpaced 44 comma → NoSpace after → input ≡ comma ++ after
-    → (begins_with close (behind_spaces input) ≡ false) × (spaced_at 44 input ≡ Ok after) × (prefix_len goes_on input ≡ 0) × (length after < length input)
+    → (begins_with close (after_spaces input) ≡ false) × (spaced_at 44 input ≡ Ok after) × (prefix_len goes_on input ≡ 0) × (length after < length input)
 comma_over close comma after input other spaced none is =
-    let first : begins_with close (behind_spaces (comma ++ after)) ≡ false = ap (begins_with close) (before_mark 44 comma after refl spaced) ∙ other in
+    let first : begins_with close (after_spaces (comma ++ after)) ≡ false = ap (begins_with close) (before_mark 44 comma after refl spaced) ∙ other in
     rw is (first, spaced_over 44 comma after refl spaced none, spaced_stops goes_on 44 comma after refl refl spaced, omega (arith, comma_some 44 comma spaced, length-append comma after))
 
--- a field with those behind it, and the closing brace
+-- a field with those after it, and the closing brace
 fields_over : (most fuel : ℕ) (so_far : Fields) (name : List ℕ) (value : Tree) (others : Fields) (one later rest : List ℕ)
     → found name so_far ≡ None → Absent (with_field so_far name value) others → IsDocument others → Reads most value → EachField most others
     → SpellsField name (Spells value) one → SpellsLaterFields others later → length (one ++ (later ++ rest)) < fuel
     → members_at (field_at (value_at most)) 125 fuel so_far (one ++ (later ++ rest)) ≡ Ok (joined (with_field so_far name value) others, rest)
-fields_over most fuel so_far name value no_fields one later rest new absent apart reads each spelled behind within =
-    let read = field_over most so_far name value one (later ++ rest) new spelled reads (closing_stops goes_on 125 later rest refl refl behind) in
-    ended (field_at (value_at most)) 125 fuel so_far (with_field so_far name value) (one ++ (later ++ rest)) (later ++ rest) rest _ within refl read (before_closing 125 later rest refl behind)
-fields_over most fuel so_far name value (field second two more) one later rest new absent apart reads each spelled behind within =
-    let after = behind.1 ++ (behind.2 ++ rest) in
-    let regroup : later ++ rest ≡ behind.0 ++ (behind.1 ++ (behind.2 ++ rest)) = ap (λ (x : List ℕ). x ++ rest) behind.6 ∙ simp append_assoc in
-    let comma = comma_over 125 behind.0 after (later ++ rest) refl behind.3 (field_no_space second (Spells two) behind.1 (behind.2 ++ rest) behind.4) regroup in
+fields_over most fuel so_far name value no_fields one later rest new absent apart reads each spelled tail within =
+    let read = field_over most so_far name value one (later ++ rest) new spelled reads (closing_stops goes_on 125 later rest refl refl tail) in
+    ended (field_at (value_at most)) 125 fuel so_far (with_field so_far name value) (one ++ (later ++ rest)) (later ++ rest) rest _ within refl read (before_closing 125 later rest refl tail)
+fields_over most fuel so_far name value (field second two more) one later rest new absent apart reads each spelled tail within =
+    let after = tail.1 ++ (tail.2 ++ rest) in
+    let regroup : later ++ rest ≡ tail.0 ++ (tail.1 ++ (tail.2 ++ rest)) = ap (λ (x : List ℕ). x ++ rest) tail.6 ∙ simp append_assoc in
+    let comma = comma_over 125 tail.0 after (later ++ rest) refl tail.3 (field_no_space second (Spells two) tail.1 (tail.2 ++ rest) tail.4) regroup in
     let read = field_over most so_far name value one (later ++ rest) new spelled reads comma.2 in
     let step = further (field_at (value_at most)) 125 fuel so_far (with_field so_far name value) (one ++ (later ++ rest)) (later ++ rest) after _ within refl read comma.0 comma.1 in
-    sym step ∙ fields_over most (fuel - 1) (with_field so_far name value) second two more behind.1 behind.2 rest absent.0 (absent_with (with_field so_far name value) second two more absent.1 apart.1) apart.2 each.0 each.1 behind.4 behind.5 (omega (arith, comma.3, within, length-append one (later ++ rest)))
+    sym step ∙ fields_over most (fuel - 1) (with_field so_far name value) second two more tail.1 tail.2 rest absent.0 (absent_with (with_field so_far name value) second two more absent.1 apart.1) apart.2 each.0 each.1 tail.4 tail.5 (omega (arith, comma.3, within, length-append one (later ++ rest)))
 
 items_over : (most fuel : ℕ) (so_far : Trees) (value : Tree) (others : Trees) (one later rest : List ℕ)
     → Reads most value → EachItem most others → Spells value one → SpellsLaterItems others later → length (one ++ (later ++ rest)) < fuel
     → members_at (item_at (value_at most)) 93 fuel so_far (one ++ (later ++ rest)) ≡ Ok (joined_items (with_item so_far value) others, rest)
-items_over most fuel so_far value no_items one later rest reads each spelled behind within =
-    let read = item_read (value_at most) so_far (one ++ (later ++ rest)) value (later ++ rest) (reads one (later ++ rest) spelled (goes_no_further value (later ++ rest) (closing_stops goes_on 93 later rest refl refl behind))) in
-    ended (item_at (value_at most)) 93 fuel so_far (with_item so_far value) (one ++ (later ++ rest)) (later ++ rest) rest _ within refl read (before_closing 93 later rest refl behind)
-items_over most fuel so_far value (item two more) one later rest reads each spelled behind within =
-    let after = behind.1 ++ (behind.2 ++ rest) in
-    let regroup : later ++ rest ≡ behind.0 ++ (behind.1 ++ (behind.2 ++ rest)) = ap (λ (x : List ℕ). x ++ rest) behind.6 ∙ simp append_assoc in
-    let second_reads = each.0 behind.1 (behind.2 ++ rest) behind.4 (goes_no_further two (behind.2 ++ rest) (later_stops more behind.2 rest behind.5)) in
-    let comma = comma_over 93 behind.0 after (later ++ rest) refl behind.3 (value_no_space most after (two, behind.2 ++ rest) second_reads) regroup in
+items_over most fuel so_far value no_items one later rest reads each spelled tail within =
+    let read = item_read (value_at most) so_far (one ++ (later ++ rest)) value (later ++ rest) (reads one (later ++ rest) spelled (goes_no_further value (later ++ rest) (closing_stops goes_on 93 later rest refl refl tail))) in
+    ended (item_at (value_at most)) 93 fuel so_far (with_item so_far value) (one ++ (later ++ rest)) (later ++ rest) rest _ within refl read (before_closing 93 later rest refl tail)
+items_over most fuel so_far value (item two more) one later rest reads each spelled tail within =
+    let after = tail.1 ++ (tail.2 ++ rest) in
+    let regroup : later ++ rest ≡ tail.0 ++ (tail.1 ++ (tail.2 ++ rest)) = ap (λ (x : List ℕ). x ++ rest) tail.6 ∙ simp append_assoc in
+    let second_reads = each.0 tail.1 (tail.2 ++ rest) tail.4 (goes_no_further two (tail.2 ++ rest) (later_stops more tail.2 rest tail.5)) in
+    let comma = comma_over 93 tail.0 after (later ++ rest) refl tail.3 (value_no_space most after (two, tail.2 ++ rest) second_reads) regroup in
     let read = item_read (value_at most) so_far (one ++ (later ++ rest)) value (later ++ rest) (reads one (later ++ rest) spelled (goes_no_further value (later ++ rest) comma.2)) in
     let step = further (item_at (value_at most)) 93 fuel so_far (with_item so_far value) (one ++ (later ++ rest)) (later ++ rest) after _ within refl read comma.0 comma.1 in
-    sym step ∙ items_over most (fuel - 1) (with_item so_far value) two more behind.1 behind.2 rest each.0 each.1 behind.4 behind.5 (omega (arith, comma.3, within, length-append one (later ++ rest)))
+    sym step ∙ items_over most (fuel - 1) (with_item so_far value) two more tail.1 tail.2 rest each.0 each.1 tail.4 tail.5 (omega (arith, comma.3, within, length-append one (later ++ rest)))
 
 -- ---- documents and arrays
 
@@ -144,7 +144,7 @@ document_over most no_fields inside rest apart each spelled =
 document_over most (field name value others) inside rest apart each spelled =
     let after = spelled.1 ++ (spelled.2 ++ rest) in
     let regroup : inside ++ rest ≡ spelled.0 ++ (spelled.1 ++ (spelled.2 ++ rest)) = ap (λ (x : List ℕ). x ++ rest) spelled.6 ∙ simp append_assoc in
-    let spaces : behind_spaces (inside ++ rest) ≡ after = ap behind_spaces regroup ∙ behind_spaces-over spelled.0 after spelled.3 (field_no_space name (Spells value) spelled.1 (spelled.2 ++ rest) spelled.4) in
+    let spaces : after_spaces (inside ++ rest) ≡ after = ap after_spaces regroup ∙ after_spaces-over spelled.0 after spelled.3 (field_no_space name (Spells value) spelled.1 (spelled.2 ++ rest) spelled.4) in
     let named = field_name name (Spells value) spelled.1 (spelled.2 ++ rest) spelled.4 in
     let read = fields_over most (suc (length after)) no_fields name value others spelled.1 spelled.2 rest refl (absent_with no_fields name value others (absent_empty others) apart.1) apart.2 each.0 each.1 spelled.4 spelled.5 (omega arith) in
     let begun = opened (field_at (value_at most)) 123 125 no_fields (123 ∷ (inside ++ rest)) (inside ++ rest) after (mark_over 123 (inside ++ rest)) (ap (begins_with 125) spaces ∙ name_no_brace after (name, named.0) named.1) (sym spaces) in
@@ -157,7 +157,7 @@ array_over most (item value others) inside rest each spelled =
     let after = spelled.1 ++ (spelled.2 ++ rest) in
     let regroup : inside ++ rest ≡ spelled.0 ++ (spelled.1 ++ (spelled.2 ++ rest)) = ap (λ (x : List ℕ). x ++ rest) spelled.6 ∙ simp append_assoc in
     let first = each.0 spelled.1 (spelled.2 ++ rest) spelled.4 (goes_no_further value (spelled.2 ++ rest) (later_stops others spelled.2 rest spelled.5)) in
-    let spaces : behind_spaces (inside ++ rest) ≡ after = ap behind_spaces regroup ∙ behind_spaces-over spelled.0 after spelled.3 (value_no_space most after (value, spelled.2 ++ rest) first) in
+    let spaces : after_spaces (inside ++ rest) ≡ after = ap after_spaces regroup ∙ after_spaces-over spelled.0 after spelled.3 (value_no_space most after (value, spelled.2 ++ rest) first) in
     let read = items_over most (suc (length after)) no_items value others spelled.1 spelled.2 rest each.0 each.1 spelled.4 spelled.5 (omega arith) in
     let begun = opened (item_at (value_at most)) 91 93 no_items (91 ∷ (inside ++ rest)) (inside ++ rest) after (mark_over 91 (inside ++ rest)) (ap (begins_with 93) spaces ∙ value_no_bracket most after (value, spelled.2 ++ rest) first) (sym spaces) in
     sym begun ∙ read ∙ ap (λ (ts : Trees). Ok (ts, rest)) (joined_items-is (with_item no_items value) others)

@@ -6,7 +6,7 @@ use Rattle.std.proofs.lemmas.List.{drop_at}
 use Rattle.bson_doc.specs.Bind.{◌>>=◌}
 use Rattle.bson_doc.specs.Tree.{Tree, null, int32, int64, text, document, array, binary, object_id, boolean, date, timestamp}
 use Rattle.doc_text.specs.Bytes.{is_space}
-use Rattle.doc_text.specs.Class.{behind_spaces}
+use Rattle.doc_text.specs.Class.{after_spaces}
 use Rattle.doc_text.specs.Marks.{mark_at, spaced_at, closing_at, word_at, opened_at}
 use Rattle.doc_text.specs.Spelling.{IsSpaces, IsSpaced, IsClosing, continues_number, EndsThere}
 
@@ -28,8 +28,8 @@ NoSpace s = prefix_len is_space s ≡ 0
 pub no_space : (c : ℕ) (rest : List ℕ) → (c == 32) ≡ false → NoSpace (c ∷ rest)
 no_space c rest other = rw other refl
 
-pub behind_spaces-over : (s rest : List ℕ) → IsSpaces s → NoSpace rest → behind_spaces (s ++ rest) ≡ rest
-behind_spaces-over s rest all none =
+pub after_spaces-over : (s rest : List ℕ) → IsSpaces s → NoSpace rest → after_spaces (s ++ rest) ≡ rest
+after_spaces-over s rest all none =
     rw (run_over is_space s rest (spaces_pass s all) none) (drop_at s rest (length s) refl)
 
 same_byte : (c : ℕ) → (c == c) ≡ true
@@ -39,22 +39,22 @@ pub mark_over : (mark : ℕ) (rest : List ℕ) → mark_at mark (mark ∷ rest) 
 unfolding mark_at
 mark_over mark rest = rw (same_byte mark) refl
 
--- behind the spaces of a mark stands the mark
-pub before_mark : (mark : ℕ) (s rest : List ℕ) → (mark == 32) ≡ false → (spaced : IsSpaced mark s) → behind_spaces (s ++ rest) ≡ mark ∷ (spaced.after ++ rest)
+-- after the spaces of a mark stands the mark
+pub before_mark : (mark : ℕ) (s rest : List ℕ) → (mark == 32) ≡ false → (spaced : IsSpaced mark s) → after_spaces (s ++ rest) ≡ mark ∷ (spaced.after ++ rest)
 before_mark mark s rest other spaced =
     let regroup : s ++ rest ≡ spaced.before ++ (mark ∷ (spaced.after ++ rest)) = ap (λ (x : List ℕ). x ++ rest) spaced.whole ∙ append_assoc spaced.before (mark ∷ spaced.after) rest in
-    ap behind_spaces regroup ∙ behind_spaces-over spaced.before (mark ∷ (spaced.after ++ rest)) spaced.spaces_before (no_space mark (spaced.after ++ rest) other)
+    ap after_spaces regroup ∙ after_spaces-over spaced.before (mark ∷ (spaced.after ++ rest)) spaced.spaces_before (no_space mark (spaced.after ++ rest) other)
 
-pub before_closing : (mark : ℕ) (s rest : List ℕ) → (mark == 32) ≡ false → (closing : IsClosing mark s) → behind_spaces (s ++ rest) ≡ mark ∷ rest
+pub before_closing : (mark : ℕ) (s rest : List ℕ) → (mark == 32) ≡ false → (closing : IsClosing mark s) → after_spaces (s ++ rest) ≡ mark ∷ rest
 before_closing mark s rest other closing =
     let regroup : s ++ rest ≡ closing.before ++ (mark ∷ rest) = ap (λ (x : List ℕ). x ++ rest) closing.whole ∙ append_assoc closing.before (mark ∷ []) rest in
-    ap behind_spaces regroup ∙ behind_spaces-over closing.before (mark ∷ rest) closing.spaces_before (no_space mark rest other)
+    ap after_spaces regroup ∙ after_spaces-over closing.before (mark ∷ rest) closing.spaces_before (no_space mark rest other)
 
 pub spaced_over : (mark : ℕ) (s rest : List ℕ) → (mark == 32) ≡ false → IsSpaced mark s → NoSpace rest → spaced_at mark (s ++ rest) ≡ Ok rest
 unfolding spaced_at
 spaced_over mark s rest other spaced none =
-    ap (λ (x : List ℕ). mark_at mark x >>= λ r. Ok (behind_spaces r)) (before_mark mark s rest other spaced)
-    ∙ rw (mark_over mark (spaced.after ++ rest)) (ap (λ (x : List ℕ). Ok x) (behind_spaces-over spaced.after rest spaced.spaces_after none))
+    ap (λ (x : List ℕ). mark_at mark x >>= λ r. Ok (after_spaces r)) (before_mark mark s rest other spaced)
+    ∙ rw (mark_over mark (spaced.after ++ rest)) (ap (λ (x : List ℕ). Ok x) (after_spaces-over spaced.after rest spaced.spaces_after none))
 
 pub closing_over : (mark : ℕ) (s rest : List ℕ) → (mark == 32) ≡ false → IsClosing mark s → closing_at mark (s ++ rest) ≡ Ok rest
 unfolding closing_at
@@ -70,7 +70,7 @@ pub opened_over : (word s rest : List ℕ) → IsSpaced 40 s → NoSpace rest �
 unfolding opened_at
 opened_over word s rest spaced none = rw (word_over word (s ++ rest)) (spaced_over 40 s rest refl spaced none)
 
--- ---- what stands behind a value is a space or a mark
+-- ---- what follows a value is a space or a mark
 
 -- the first byte of a text fails a test that spaces and the mark fail
 pub spaced_stops : (p : ℕ → Bool) (mark : ℕ) (s rest : List ℕ) → p 32 ≡ false → p mark ≡ false → IsSpaced mark s → prefix_len p (s ++ rest) ≡ 0

@@ -66,7 +66,7 @@ int64_read z numeral s rest spelled range whole =
 pub string_read : (bytes s rest : List ℕ) → SpellsString false bytes s → scalar_at (s ++ rest) ≡ Ok (text bytes, rest)
 unfolding scalar_at string_at
 string_read bytes s rest spelled =
-    rw (spelled.whole, mark_over 34 (spelled.behind ++ rest), letters_over false spelled.letters bytes spelled.behind rest (length (spelled.behind ++ rest)) spelled.spelled (omega arith)) refl
+    rw (spelled.whole, mark_over 34 (spelled.tail ++ rest), letters_over false spelled.letters bytes spelled.tail rest (length (spelled.tail ++ rest)) spelled.spelled (omega arith)) refl
 
 pub constant_read : (word : List ℕ) (value : Tree) (rest : List ℕ) → constant_at word value (word ++ rest) ≡ Ok (value, rest)
 unfolding constant_at
@@ -81,7 +81,7 @@ date_read z opening numeral closing s rest spaced spelled range closed whole =
     let number = long_over z numeral (closing ++ rest) spelled range (closing_stops is_ascii_digit 41 closing rest refl refl closed) in
     rw (regroup, inside, number, closing_over 41 closing rest refl closed) refl
 
--- digits between quotation marks, and what stands behind them
+-- digits between quotation marks, and what follows them
 hex_parts : (digits bytes s rest : List ℕ) → s ≡ 34 ∷ digits ++ 34 ∷ [] → s ++ rest ≡ 34 ∷ (digits ++ (34 ∷ rest))
 hex_parts digits bytes s rest whole = ap (λ (x : List ℕ). x ++ rest) whole ∙ ap (λ (x : List ℕ). 34 ∷ x) (append_assoc digits (34 ∷ []) rest)
 

@@ -35,14 +35,14 @@ coded_over in_name a b c d code rest is =
     rw (digit_over a is.first (b ∷ c ∷ d ∷ rest) is.first_digit, digit_over b is.second (c ∷ d ∷ rest) is.second_digit, is.no_surrogate, digit_over c is.third (d ∷ rest) is.third_digit, digit_over d is.fourth rest is.fourth_digit, zero_is) (ap (λ (n : ℕ). Ok (n, rest)) (sym is.value))
 
 -- a letter is read, and then the others
-letter_over : (in_name : Bool) (letter : Letter) (one others behind rest : List ℕ) (most : ℕ) → Means in_name letter one → letters_at in_name most (behind ++ rest) ≡ Ok (others, rest)
-    → letters_at in_name (suc most) (written letter ++ (behind ++ rest)) ≡ Ok (one ++ others, rest)
-letter_over in_name (itself byte) one others behind rest most means later =
-    letters_at-plain in_name most byte (behind ++ rest) means.0 ∙ rw (later, means.1) refl
-letter_over in_name (named letter) one others behind rest most means later =
-    letters_at-escape in_name most (letter ∷ (behind ++ rest)) ∙ rw (named_over in_name letter means.0 (behind ++ rest) means.1, later, means.2) refl
-letter_over in_name (coded a b c d) one others behind rest most means later =
-    letters_at-escape in_name most (117 ∷ a ∷ b ∷ c ∷ d ∷ (behind ++ rest)) ∙ rw (coded_over in_name a b c d means.0 (behind ++ rest) means.1, later, means.2) refl
+letter_over : (in_name : Bool) (letter : Letter) (one others tail rest : List ℕ) (most : ℕ) → Means in_name letter one → letters_at in_name most (tail ++ rest) ≡ Ok (others, rest)
+    → letters_at in_name (suc most) (written letter ++ (tail ++ rest)) ≡ Ok (one ++ others, rest)
+letter_over in_name (itself byte) one others tail rest most means later =
+    letters_at-plain in_name most byte (tail ++ rest) means.0 ∙ rw (later, means.1) refl
+letter_over in_name (named letter) one others tail rest most means later =
+    letters_at-escape in_name most (letter ∷ (tail ++ rest)) ∙ rw (named_over in_name letter means.0 (tail ++ rest) means.1, later, means.2) refl
+letter_over in_name (coded a b c d) one others tail rest most means later =
+    letters_at-escape in_name most (117 ∷ a ∷ b ∷ c ∷ d ∷ (tail ++ rest)) ∙ rw (coded_over in_name a b c d means.0 (tail ++ rest) means.1, later, means.2) refl
 
 written_some : (letter : Letter) → 0 < length (written letter)
 written_some (itself byte) = lit< tt
@@ -56,11 +56,11 @@ letters_over in_name [] bytes s rest (suc most) spelled within = rw (spelled.1, 
 letters_over in_name (letter ∷ letters) bytes s rest zero spelled within =
     absurd (omega (arith, length-append s rest, ap length spelled.6, length-append (written letter) spelled.2, written_some letter))
 letters_over in_name (letter ∷ letters) bytes s rest (suc most) spelled within =
-    let behind = spelled.2 in
-    let regroup : s ++ rest ≡ written letter ++ (behind ++ rest) = ap (λ (x : List ℕ). x ++ rest) spelled.6 ∙ append_assoc (written letter) behind rest in
-    let left : length (behind ++ rest) ≤ most = omega (arith, ap length regroup, length-append (written letter) (behind ++ rest), written_some letter) in
-    let later = letters_over in_name letters spelled.1 behind rest most spelled.4 left in
-    rw (regroup, spelled.5) (letter_over in_name letter spelled.0 spelled.1 behind rest most spelled.3 later)
+    let tail = spelled.2 in
+    let regroup : s ++ rest ≡ written letter ++ (tail ++ rest) = ap (λ (x : List ℕ). x ++ rest) spelled.6 ∙ append_assoc (written letter) tail rest in
+    let left : length (tail ++ rest) ≤ most = omega (arith, ap length regroup, length-append (written letter) (tail ++ rest), written_some letter) in
+    let later = letters_over in_name letters spelled.1 tail rest most spelled.4 left in
+    rw (regroup, spelled.5) (letter_over in_name letter spelled.0 spelled.1 tail rest most spelled.3 later)
 
 -- ---- names
 
@@ -90,7 +90,7 @@ bare_over (c ∷ name) rest bare stop =
 quoted_over : (name s rest : List ℕ) → SpellsString true name s → name_at (s ++ rest) ≡ Ok (name, rest)
 unfolding name_at
 quoted_over name s rest spelled =
-    rw spelled.whole (letters_over true spelled.letters name spelled.behind rest (length (spelled.behind ++ rest)) spelled.spelled (omega arith))
+    rw spelled.whole (letters_over true spelled.letters name spelled.tail rest (length (spelled.tail ++ rest)) spelled.spelled (omega arith))
 
 pub name_over : (name s rest : List ℕ) → SpellsName name s → prefix_len is_name_byte rest ≡ 0 → name_at (s ++ rest) ≡ Ok (name, rest)
 name_over name s rest spelled stop =

@@ -5,9 +5,9 @@ use Rattle.bson_doc.specs.Tree.{Tree}
 use Rattle.doc_text.specs.Values.{answer_at}
 use Rattle.doc_text.specs.Spelling.{EndsThere}
 
--- Behind the old text, the new one has the value, of at most 100 levels, whatever follows that doesn't go on
+-- After the old text, the new one has the value, of at most 100 levels, whatever follows that doesn't go on
 -- with a number.
 abbrev pub IsReadAgain : List ℕ → List ℕ → Tree → Type 0
 IsReadAgain old new tree =
-    (behind : List ℕ) → value_levels tree ≤ 100 → EndsThere tree behind
-    → answer_at (new ++ behind) (length old) ≡ Ok (tree, length new)
+    (after : List ℕ) → value_levels tree ≤ 100 → EndsThere tree after
+    → answer_at (new ++ after) (length old) ≡ Ok (tree, length new)

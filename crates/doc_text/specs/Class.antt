@@ -14,9 +14,9 @@ is_in HexDigit = is_hex_digit
 is_in Name = is_name_byte
 is_in Plain = is_plain
 
--- what stands behind the longest front in the class
-abbrev pub behind : Class → List ℕ → List ℕ
-behind kind text = drop (prefix_len (is_in kind) text) text
+-- what follows the longest prefix in the class
+abbrev pub after_front : Class → List ℕ → List ℕ
+after_front kind text = drop (prefix_len (is_in kind) text) text
 
-abbrev pub behind_spaces : List ℕ → List ℕ
-behind_spaces text = drop (prefix_len is_space text) text
+abbrev pub after_spaces : List ℕ → List ℕ
+after_spaces text = drop (prefix_len is_space text) text

@@ -8,7 +8,7 @@ use Rattle.doc_text.specs.declared.fault.Fault.{Fault}
 use Rattle.doc_text.specs.declared.fault.ReadError.{ReadError}
 use Rattle.doc_text.specs.declared.fault.ReadError.TheVariants as stops
 
--- what is read from the front of a text with what stands behind it, or the first fault
+-- what is read from the front of a text with what follows it, or the first fault
 abbrev pub Read : Type 0 → Type 0
 Read A = Result (A × List ℕ) Fault
 

@@ -1,4 +1,4 @@
--- Bytes as hexadecimal digits, behind an opening quotation mark.
+-- Bytes as hexadecimal digits, after an opening quotation mark.
 use Rattle.std.specs.Prelude.{ℕ, ◌%◌, min, Bool, List, [], ◌∷◌, take, drop, Ok, Err, ◌==◌, ◌&&◌, if◌then◌else◌}
 use Rattle.std.specs.Result.{result_unwrap_or}
 use Rattle.std.specs.List.{prefix_len}
@@ -16,7 +16,7 @@ abbrev pub hex_fault : List ℕ → Fault
 hex_fault [] = fault_at Unexpected []
 hex_fault (c ∷ rest) = fault_at Hex (c ∷ rest)
 
--- Behind the digits, of which there is a right number or not, stands the closing quotation mark.
+-- After the digits, of which there is a right number or not, stands the closing quotation mark.
 abbrev pub closed_at : Bool → List ℕ → List ℕ → Read (List ℕ)
 closed_at right digits [] = Err (hex_fault [])
 closed_at right digits (c ∷ rest) =

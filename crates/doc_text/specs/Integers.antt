@@ -45,7 +45,7 @@ long_at text = do
   numeral ← integer_at text
   ranged (2 ^ 63) text numeral.0 numeral.1
 
--- behind a numeral, an `L` makes it an int64
+-- after a numeral, an `L` makes it an int64
 abbrev pub kind_at : List ℕ → List ℕ → List ℕ → Read Tree
 kind_at text numeral [] = ranged (2 ^ 31) text numeral [] >>= λ n. Ok (int32 n.0, n.1)
 kind_at text numeral (c ∷ rest) =

@@ -3,36 +3,36 @@ use Rattle.std.specs.Prelude.{ℕ, Bool, false, List, [], ◌∷◌, Result, Ok,
 use Rattle.bson_doc.specs.Bind.{◌>>=◌}
 use Rattle.doc_text.specs.declared.fault.Rule.TheVariants.{Unexpected}
 use Rattle.doc_text.specs.declared.fault.Fault.{Fault}
-use Rattle.doc_text.specs.Class.{behind_spaces}
+use Rattle.doc_text.specs.Class.{after_spaces}
 use Rattle.doc_text.specs.Fault.{fails}
 
 abbrev pub begins_with : ℕ → List ℕ → Bool
 begins_with mark [] = false
 begins_with mark (c ∷ rest) = c == mark
 
--- what stands behind a mark
+-- what follows a mark
 unfoldable pub mark_at : ℕ → List ℕ → Result (List ℕ) Fault
 mark_at mark [] = fails Unexpected []
 mark_at mark (c ∷ rest) = if c == mark then Ok rest else fails Unexpected (c ∷ rest)
 
--- what stands behind a mark with spaces round it
+-- what follows a mark with spaces round it
 unfoldable pub spaced_at : ℕ → List ℕ → Result (List ℕ) Fault
 spaced_at mark text = do
-  rest ← mark_at mark (behind_spaces text)
-  Ok (behind_spaces rest)
+  rest ← mark_at mark (after_spaces text)
+  Ok (after_spaces rest)
 
--- what stands behind a mark with spaces before it
+-- what follows a mark with spaces before it
 unfoldable pub closing_at : ℕ → List ℕ → Result (List ℕ) Fault
-closing_at mark text = mark_at mark (behind_spaces text)
+closing_at mark text = mark_at mark (after_spaces text)
 
--- what stands behind a word
+-- what follows a word
 unfoldable pub word_at : List ℕ → List ℕ → Result (List ℕ) Fault
 word_at [] text = Ok text
 word_at (letter ∷ letters) text = do
   rest ← mark_at letter text
   word_at letters rest
 
--- what stands behind a word and an opening parenthesis with spaces round it
+-- what follows a word and an opening parenthesis with spaces round it
 unfoldable pub opened_at : List ℕ → List ℕ → Result (List ℕ) Fault
 opened_at word text = do
   name ← word_at word text

@@ -33,7 +33,7 @@ abbrev pub separator : ℕ → List ℕ
 separator zero = []
 separator (suc place) = codes ", "
 
--- a value; the members of a document or an array; and those behind a first one, each with `, ` before it
+-- a value; the members of a document or an array; and those after a first one, each with `, ` before it
 unfoldable mutual
   pub printed : Tree → List ℕ
   printed null = codes "null"

@@ -32,7 +32,7 @@ pub record IsClosing (mark : ℕ) (s : List ℕ) : Type 0 where
 
 -- ---- strings and names
 
--- a character of a string as it is written: for itself, by a letter behind a backslash, or by its code
+-- a character of a string as it is written: for itself, by a letter after a backslash, or by its code
 pub data Letter : Type 0 where
   itself : (byte : ℕ) → Letter
   named : (letter : ℕ) → Letter
@@ -68,15 +68,15 @@ Means in_name (coded a b c d) bytes = (code : ℕ) × IsCode in_name a b c d cod
 abbrev pub SpellsLetters : Bool → List Letter → List ℕ → List ℕ → Type 0
 SpellsLetters in_name [] bytes s = (bytes ≡ []) × (s ≡ 34 ∷ [])
 SpellsLetters in_name (letter ∷ letters) bytes s =
-    (one others behind : List ℕ) × Means in_name letter one × SpellsLetters in_name letters others behind
-    × (bytes ≡ one ++ others) × (s ≡ written letter ++ behind)
+    (one others tail : List ℕ) × Means in_name letter one × SpellsLetters in_name letters others tail
+    × (bytes ≡ one ++ others) × (s ≡ written letter ++ tail)
 
 -- a string between quotation marks
 pub record SpellsString (in_name : Bool) (bytes s : List ℕ) : Type 0 where
   pub letters : List Letter
-  pub behind : List ℕ
-  pub spelled : SpellsLetters in_name letters bytes behind
-  pub whole : s ≡ 34 ∷ behind
+  pub tail : List ℕ
+  pub spelled : SpellsLetters in_name letters bytes tail
+  pub whole : s ≡ 34 ∷ tail
 
 -- a name: bare, or as a string
 abbrev pub SpellsName : List ℕ → List ℕ → Type 0
@@ -151,14 +151,14 @@ abbrev mutual
       (spaces one later : List ℕ) × IsSpaces spaces × Spells value one × SpellsLaterItems others later
       × (s ≡ spaces ++ (one ++ later))
 
-  -- the fields behind a first one, each behind a comma, and the closing brace
+  -- the fields after a first one, each after a comma, and the closing brace
   pub SpellsLaterFields : Fields → List ℕ → Type 0
   SpellsLaterFields no_fields s = IsClosing 125 s
   SpellsLaterFields (field name value others) s =
       (comma one later : List ℕ) × IsSpaced 44 comma × SpellsField name (Spells value) one
       × SpellsLaterFields others later × (s ≡ comma ++ (one ++ later))
 
-  -- the items behind a first one, each behind a comma, and the closing bracket
+  -- the items after a first one, each after a comma, and the closing bracket
   pub SpellsLaterItems : Trees → List ℕ → Type 0
   SpellsLaterItems no_items s = IsClosing 93 s
   SpellsLaterItems (item value others) s =

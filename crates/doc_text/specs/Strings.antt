@@ -28,7 +28,7 @@ unicode_at in_name text = do
         then fails NameZero third.1
         else Ok (((first.0 * 16 + second.0) * 16 + third.0) * 16 + fourth.0, fourth.1))
 
--- the character that a letter behind a backslash names
+-- the character that a letter after a backslash names
 abbrev pub named_character : ℕ → Option ℕ
 named_character letter =
     if letter == 34 then Some 34
@@ -38,7 +38,7 @@ named_character letter =
     else if letter == 116 then Some 9
     else None
 
--- the character of an escape, behind its backslash
+-- the character of an escape, after its backslash
 unfoldable pub escape_at : Bool → List ℕ → Read ℕ
 escape_at in_name [] = fails Unexpected []
 escape_at in_name (c ∷ rest) =

@@ -7,13 +7,13 @@ use Rattle.bson_doc.specs.View.{tree_of}
 use Rattle.doc_text.specs.declared.errors.TextError.{TextError}
 use Rattle.doc_text.specs.declared.errors.TextError.TheVariants as errors
 use Rattle.doc_text.specs.declared.fault.Rule.TheVariants.{Unexpected, DuplicateName, TooDeep}
-use Rattle.doc_text.specs.Class.{behind_spaces}
+use Rattle.doc_text.specs.Class.{after_spaces}
 use Rattle.doc_text.specs.Fault.{Read, fails, placed}
 use Rattle.doc_text.specs.Marks.{begins_with, mark_at, spaced_at}
 use Rattle.doc_text.specs.Names.{name_at}
 use Rattle.doc_text.specs.Scalars.{scalar_at}
 
--- The name of a field behind those that were read, up to what its colon stands before. A name that
+-- The name of a field after those that were read, up to what its colon stands before. A name that
 -- they have is refused where it begins, once it is whole.
 unfoldable pub key_at : Fields → List ℕ → Read (List ℕ)
 key_at so_far text = do
@@ -35,16 +35,16 @@ item_at member so_far text = do
   value ← member text
   Ok (with_item so_far value.0, value.1)
 
--- one or more members up to the closing mark, behind those that were read, and at most so many
+-- one or more members up to the closing mark, after those that were read, and at most so many
 unfoldable pub members_at : {A : Type 0} → (A → List ℕ → Read A) → ℕ → ℕ → A → List ℕ → Read A
 members_at more close zero so_far text = fails Unexpected text
 members_at more close (suc most) so_far text = do
   grown ← more so_far text
-  if begins_with close (behind_spaces grown.1) then Ok (grown.0, drop 1 (behind_spaces grown.1)) else (do
+  if begins_with close (after_spaces grown.1) then Ok (grown.0, drop 1 (after_spaces grown.1)) else (do
     rest ← spaced_at 44 grown.1
     members_at more close most grown.0 rest)
 
--- members behind their opening mark, of which there are fewer than bytes
+-- members after their opening mark, of which there are fewer than bytes
 unfoldable pub inside_at : {A : Type 0} → (A → List ℕ → Read A) → ℕ → A → List ℕ → Read A
 inside_at more close none text =
     if begins_with close text then Ok (none, drop 1 text)
@@ -54,7 +54,7 @@ inside_at more close none text =
 unfoldable pub listed_at : {A : Type 0} → (A → List ℕ → Read A) → ℕ → ℕ → A → List ℕ → Read A
 listed_at more opening close none text = do
   inside ← mark_at opening text
-  inside_at more close none (behind_spaces inside)
+  inside_at more close none (after_spaces inside)
 
 -- `{name: value, ..}`, where `member` reads the values
 abbrev pub document_at : (List ℕ → Read Tree) → List ℕ → Read Fields
@@ -75,7 +75,7 @@ value_at (suc levels) text =
     Ok (array items.0, items.1))
     else scalar_at text
 
--- the value with the place behind it, or the error with its place, in a text of so many bytes
+-- the value with the place after it, or the error with its place, in a text of so many bytes
 abbrev pub in_text : ℕ → Read Tree → Result (Tree × ℕ) TextError
 in_text len (Ok value) = Ok (value.0, len - length value.1)
 in_text len (Err fault) = Err (placed len fault)

@@ -19,7 +19,7 @@ pub enum Class {
 }
 
 impl Class {
-    ghost use Rattle.doc_text.specs.Class.{is_in, behind};
+    ghost use Rattle.doc_text.specs.Class.{is_in, after_front};
 
     fn has(self, byte: u8) -> bool
         ensures { result ≡ is_in self byte }
@@ -33,12 +33,12 @@ impl Class {
         }
     }
 
-    /// The longest front of the text in the class, and the text behind it. It is inlined, so that each
+    /// The longest prefix of the text in the class, and the text after it. It is inlined, so that each
     /// loop tests for the one class that its caller names.
     #[inline(always)]
     pub fn run(self, text: &str) -> (&str, &str)
         ensures front { result.0.now ≡ take_while (is_in self) text.now }
-        ensures back { result.1.now ≡ behind self text.now }
+        ensures back { result.1.now ≡ after_front self text.now }
         ensures len { length result.0.now + length result.1.now ≡ length text.now }
     {
         let mut len = 0;

@@ -11,7 +11,7 @@ pub enum TextError {
     Number(usize),
     #[error("no escape at byte {0}")]
     Escape(usize),
-    /// What is no hexadecimal digit, or a closing quotation mark behind a wrong number of digits.
+    /// What is no hexadecimal digit, or a closing quotation mark after a wrong number of digits.
     #[error("no hexadecimal digits at byte {0}")]
     Hex(usize),
     /// A name that stands in its document already, at the second one's first byte.

@@ -31,7 +31,7 @@ pub enum ReadError {
     Fault(Fault),
 }
 
-/// What a reader took from the front, and the text behind it.
+/// What a reader took from the front, and the text after it.
 pub type Read<'a, T> = Result<(T, &'a str), ReadError>;
 
 impl From<AllocError> for ReadError {

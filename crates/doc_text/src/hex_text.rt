@@ -5,7 +5,7 @@ ghost use Rattle.doc_text.specs.HexText.{hex_fault, binary_hex_at, id_hex_at};
 
 use crate::class::Class;
 use crate::fault::{Fault, Read, ReadError, Rule};
-use crate::marks::behind;
+use crate::marks::strip;
 use bson_doc::Bytes;
 use hex::FromHex;
 use std::alloc::Global;
@@ -22,14 +22,14 @@ fn wrong(stop: &str) -> ReadError
     ReadError::Fault(Fault::at(rule, stop))
 }
 
-/// The bytes of an even number of digits, behind the opening quotation mark.
+/// The bytes of an even number of digits, after the opening quotation mark.
 #[tactic(auto, unfolding(crate::specs::HexText::binary_hex_at))]
 pub fn binary_hex<'a>(alloc: Global, text: &'a str) -> Read<'a, Bytes>
     ensures gives { Gives (λ x. (x.0, x.1.now)) result (binary_hex_at text.now) }
     ensures shorter { IfOk result (λ x. length x.1.now < length text.now) }
 {
     let (digits, stop) = Class::HexDigit.run(text);
-    let Some(rest) = behind(stop, b'"') else {
+    let Some(rest) = strip(stop, b'"') else {
         return Err(wrong(stop));
     };
     if digits.len() % 2 == 1 {
@@ -42,7 +42,7 @@ pub fn binary_hex<'a>(alloc: Global, text: &'a str) -> Read<'a, Bytes>
     }
 }
 
-/// The bytes of 24 digits, behind the opening quotation mark.
+/// The bytes of 24 digits, after the opening quotation mark.
 #[tactic(auto, unfolding(crate::specs::HexText::id_hex_at))]
 pub fn id_hex(text: &str) -> Read<'_, [u8; 12]>
     ensures gives { Gives (λ x. (x.0, x.1.now)) result (id_hex_at text.now) }
@@ -50,7 +50,7 @@ pub fn id_hex(text: &str) -> Read<'_, [u8; 12]>
 {
     let (digits, _) = Class::HexDigit.run(text);
     let (digits, stop) = text.split_at(digits.len().min(24));
-    let Some(rest) = behind(stop, b'"') else {
+    let Some(rest) = strip(stop, b'"') else {
         return Err(wrong(stop));
     };
     match <[u8; 12]>::from_hex(digits) {

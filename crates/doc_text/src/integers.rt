@@ -7,7 +7,7 @@ ghost use Rattle.doc_text.specs.Integers.{digits_at, integer_at, natural_at, lon
 
 use crate::class::Class;
 use crate::fault::{Fault, Read, ReadError, Rule};
-use crate::marks::behind;
+use crate::marks::strip;
 use bson_doc::Value;
 
 /// One or more digits.
@@ -31,7 +31,7 @@ fn integer(text: &str) -> Read<'_, &str>
     ensures shorter { IfOk result (λ x. length x.1.now < length text.now) }
     ensures numeral { IfOk result (λ x. IsNumeral 10 (without_leading_sign x.0.now)) }
 {
-    let Some(unsigned) = behind(text, b'-') else {
+    let Some(unsigned) = strip(text, b'-') else {
         return digits(text);
     };
     let (_, rest) = digits(unsigned)?;
@@ -52,7 +52,7 @@ pub fn natural(text: &str, most: u32) -> Read<'_, u32>
     }
 }
 
-/// A number of 64 bits, with no letter behind it.
+/// A number of 64 bits, with no letter after it.
 #[tactic(auto, unfolding(crate::specs::Integers::long_at))]
 pub fn long(text: &str) -> Read<'_, i64>
     ensures gives { Gives (λ x. (x.0, x.1.now)) result (long_at text.now) }
@@ -65,14 +65,14 @@ pub fn long(text: &str) -> Read<'_, i64>
     }
 }
 
-/// An int64, which has an `L` behind it, or an int32. It is read whole before its range is tested.
+/// An int64, which has an `L` after it, or an int32. It is read whole before its range is tested.
 #[tactic(auto, unfolding(crate::specs::Integers::number_at))]
 pub fn number(text: &str) -> Read<'_, Value>
     ensures gives { Gives (λ x. (tree_of x.0, x.1.now)) result (number_at text.now) }
     ensures shorter { IfOk result (λ x. length x.1.now < length text.now) }
 {
     let (numeral, rest) = integer(text)?;
-    if let Some(rest) = behind(rest, b'L') {
+    if let Some(rest) = strip(rest, b'L') {
         return match numeral.parse::<i64>() {
             Ok(number) => Ok((Value::Int64(number), rest)),
             Err(_) => Err(ReadError::Fault(Fault::at(Rule::Number, text))),

@@ -1,13 +1,13 @@
 // Single marks and words, and the spaces round them.
 ghost use Rattle.std.specs.Prelude.{◌≡◌, ◌≢◌, false, ◌<◌, ◌≤◌, ◌+◌, ◌∷◌, List, ℕ, MatchOption, IfOk, IfSome, length, slice_index, drop, IsAscii};
 ghost use Rattle.doc_text.specs.Fault.{Gives};
-ghost use Rattle.doc_text.specs.Class.{behind_spaces};
+ghost use Rattle.doc_text.specs.Class.{after_spaces};
 ghost use Rattle.doc_text.specs.Marks.{begins_with, mark_at, spaced_at, closing_at, word_at, opened_at};
 
 use crate::class::Class;
 use crate::fault::{Fault, ReadError, Rule};
 
-/// The text behind its first byte, which is ASCII.
+/// The text after its first byte, which is ASCII.
 pub fn skip(text: &str) -> &str
     requires some { 0 < length text.now }
     requires ascii { slice_index text.now 0 < 128 }
@@ -16,8 +16,8 @@ pub fn skip(text: &str) -> &str
     &text[1..]
 }
 
-/// The text behind an ASCII byte, where it begins with that byte.
-pub fn behind(text: &str, byte: u8) -> Option<&str>
+/// The text after an ASCII byte, where it begins with that byte.
+pub fn strip(text: &str, byte: u8) -> Option<&str>
     requires { byte < 128 }
     ensures { MatchOption result ((rest : List ℕ) → text.now ≢ byte ∷ rest)
         (λ rest. text.now ≡ byte ∷ rest.now) }
@@ -28,37 +28,37 @@ pub fn behind(text: &str, byte: u8) -> Option<&str>
     }
 }
 
-/// The text behind an ASCII byte that has to stand there.
+/// The text after an ASCII byte that has to stand there.
 #[tactic(auto, unfolding(crate::specs::Marks::mark_at))]
 pub fn mark(text: &str, byte: u8) -> Result<&str, ReadError>
     requires { byte < 128 }
     ensures gives { Gives (λ rest. rest.now) result (mark_at byte text.now) }
     ensures shorter { IfOk result (λ rest. length rest.now < length text.now) }
 {
-    behind(text, byte).ok_or(ReadError::Fault(Fault::at(Rule::Unexpected, text)))
+    strip(text, byte).ok_or(ReadError::Fault(Fault::at(Rule::Unexpected, text)))
 }
 
-/// The text behind its leading spaces.
+/// The text after its leading spaces.
 pub fn spaces(text: &str) -> &str
-    ensures gives { result.now ≡ behind_spaces text.now }
+    ensures gives { result.now ≡ after_spaces text.now }
     ensures shorter { length result.now ≤ length text.now }
 {
     let (_, rest) = Class::Space.run(text);
     rest
 }
 
-/// The text behind a closing mark with spaces before it, where one stands there.
+/// The text after a closing mark with spaces before it, where one stands there.
 #[tactic(auto, using(crate::proofs::Members::not_begun))]
 pub fn end(text: &str, byte: u8) -> Option<&str>
     requires { byte < 128 }
-    ensures gives { MatchOption result (begins_with byte (behind_spaces text.now) ≡ false)
-        (λ rest. behind_spaces text.now ≡ byte ∷ rest.now) }
+    ensures gives { MatchOption result (begins_with byte (after_spaces text.now) ≡ false)
+        (λ rest. after_spaces text.now ≡ byte ∷ rest.now) }
     ensures shorter { IfSome result (λ rest. length rest.now < length text.now) }
 {
-    behind(spaces(text), byte)
+    strip(spaces(text), byte)
 }
 
-/// The text behind a mark that has to stand there, with spaces round it.
+/// The text after a mark that has to stand there, with spaces round it.
 #[tactic(auto, unfolding(crate::specs::Marks::spaced_at))]
 pub fn spaced(text: &str, byte: u8) -> Result<&str, ReadError>
     requires { byte < 128 }
@@ -68,7 +68,7 @@ pub fn spaced(text: &str, byte: u8) -> Result<&str, ReadError>
     Ok(spaces(mark(spaces(text), byte)?))
 }
 
-/// The text behind a mark that has to stand there, with spaces before it.
+/// The text after a mark that has to stand there, with spaces before it.
 #[tactic(auto, unfolding(crate::specs::Marks::closing_at))]
 pub fn closing(text: &str, byte: u8) -> Result<&str, ReadError>
     requires { byte < 128 }
@@ -78,7 +78,7 @@ pub fn closing(text: &str, byte: u8) -> Result<&str, ReadError>
     mark(spaces(text), byte)
 }
 
-/// The text behind a word that has to stand there.
+/// The text after a word that has to stand there.
 #[tactic(auto, unfolding(crate::specs::Marks::word_at))]
 pub fn word<'a>(text: &'a str, letters: &[u8]) -> Result<&'a str, ReadError>
     requires { IsAscii letters.now }
@@ -92,7 +92,7 @@ pub fn word<'a>(text: &'a str, letters: &[u8]) -> Result<&'a str, ReadError>
     Ok(rest)
 }
 
-/// The text behind a word and an opening parenthesis with spaces round it.
+/// The text after a word and an opening parenthesis with spaces round it.
 #[tactic(auto, unfolding(crate::specs::Marks::opened_at))]
 pub fn opened<'a>(text: &'a str, letters: &[u8]) -> Result<&'a str, ReadError>
     requires { IsAscii letters.now }

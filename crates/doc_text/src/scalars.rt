@@ -32,7 +32,7 @@ fn date(text: &str) -> Read<'_, Value>
     Ok((Value::Date(milliseconds), rest))
 }
 
-/// The first of two arguments behind a word, and the text of the second.
+/// The first of two arguments after a word, and the text of the second.
 #[tactic(auto, unfolding(crate::specs::Scalars::first_at))]
 fn first<'a>(text: &'a str, letters: &[u8], most: u32) -> Read<'a, u32>
     requires { IsAscii letters.now }

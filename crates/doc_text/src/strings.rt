@@ -6,7 +6,7 @@ ghost use Rattle.doc_text.specs.Strings.{hex_digit_at, unicode_at, escape_at, le
 
 use crate::class::Class;
 use crate::fault::{Fault, Read, ReadError, Rule};
-use crate::marks::{behind, skip};
+use crate::marks::{skip, strip};
 use bson_doc::Text;
 use hex::FromHex;
 use std::alloc::Global;
@@ -26,7 +26,7 @@ fn hex_digit(text: &str) -> Read<'_, u8>
     }
 }
 
-/// The character of four hex digits. No digits from 8 on stand behind a `d`: they would make a
+/// The character of four hex digits. No digits from 8 on come after a `d`: they would make a
 /// surrogate. In a name the digits don't make a zero.
 #[tactic(auto, unfolding(crate::specs::Strings::unicode_at))]
 fn unicode(text: &str, in_name: bool) -> Read<'_, char>
@@ -52,7 +52,7 @@ fn unicode(text: &str, in_name: bool) -> Read<'_, char>
     }
 }
 
-/// The character of an escape, behind its backslash.
+/// The character of an escape, after its backslash.
 #[tactic(auto, unfolding(crate::specs::Strings::escape_at))]
 fn escape(text: &str, in_name: bool) -> Read<'_, char>
     ensures gives { Gives (λ x. (x.0, x.1.now)) result (escape_at in_name text.now) }
@@ -74,7 +74,7 @@ fn escape(text: &str, in_name: bool) -> Read<'_, char>
     Ok((character, skip(text)))
 }
 
-/// A string's characters behind its opening quotation mark, and the text behind the closing one.
+/// A string's characters after its opening quotation mark, and the text after the closing one.
 #[tactic(auto, unfolding(crate::specs::Strings::letters_at))]
 pub fn letters<'a>(alloc: Global, text: &'a str, in_name: bool) -> Read<'a, Text>
     ensures gives { Gives (λ x. (x.0, x.1.now)) result (letters_at in_name (length text.now) text.now) }
@@ -85,10 +85,10 @@ pub fn letters<'a>(alloc: Global, text: &'a str, in_name: bool) -> Read<'a, Text
     loop {
         let (plain, stop) = Class::Plain.run(rest);
         string.push_str(plain)?;
-        if let Some(end) = behind(stop, b'"') {
+        if let Some(end) = strip(stop, b'"') {
             return Ok((Text::new(alloc, string)?, end));
         }
-        let Some(inside) = behind(stop, b'\\') else {
+        let Some(inside) = strip(stop, b'\\') else {
             return Err(ReadError::Fault(Fault::at(Rule::Unexpected, stop)));
         };
         let (character, after) = escape(inside, in_name)?;

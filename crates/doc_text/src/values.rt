@@ -18,7 +18,7 @@ use std::alloc::Global;
 /// How many levels of documents and arrays a value may have.
 pub const LEVELS: u32 = 100;
 
-/// The name of a field behind those that were read, and the text of its value.
+/// The name of a field after those that were read, and the text of its value.
 #[tactic(auto, using(bson_doc::proofs::DocLemmas::not_found), unfolding(crate::specs::Values::key_at))]
 fn key<'a>(alloc: Global, fields: &DocBuilder, text: &'a str) -> Read<'a, Text>
     ensures gives { Gives (λ x. (x.0, x.1.now)) result (key_at fields.now text.now) }
@@ -104,7 +104,7 @@ fn value<'a>(alloc: Global, text: &'a str, levels: u32) -> Read<'a, Value>
     }
 }
 
-/// Reads the value at a place, and gives the place behind it.
+/// Reads the value at a place, and gives the place after it.
 pub fn read_value(alloc: Global, text: &str, at: usize) -> Result<(Value, usize), TextError>
     requires { IsCharBoundary text.now at }
     // A value is read where a spelling of one stands, as far as it goes.
@@ -112,7 +112,7 @@ pub fn read_value(alloc: Global, text: &str, at: usize) -> Result<(Value, usize)
     ensures only { (tree : Tree) (end : ℕ) → Stands text.now at tree end → Answers result (Ok (tree, end)) }
     // Which error it is else.
     ensures exact { Answers result (answer_at text.now at) }
-    // Whatever stands behind the byte that an error names, there is no value.
+    // Whatever comes after the byte that an error names, there is no value.
     ensures no_further { IfErr result (λ error. RulesOut text.now at error) }
 {
     match value(alloc, &text[at..], LEVELS) {

@@ -211,7 +211,7 @@ pub fn write_value(value: &Value, out: &mut String) -> Mem<()>
     ensures ok { OnOk result (string_bytes out.new ≡ string_bytes out.old ++ printed (tree_of value.now)) }
     ensures err { OnErr result (string_bytes out.new ≡ string_bytes out.old) }
     ensures lawful { OnOk result (IsLawful (tree_of value.now)) }
-    // What was written is a spelling of the value, and is read again, whatever stands behind it that
+    // What was written is a spelling of the value, and is read again, whatever follows it that
     // doesn't go on with a number.
     ensures spelled { OnOk result (Spells (tree_of value.now) (printed (tree_of value.now))) }
     ensures again { OnOk result

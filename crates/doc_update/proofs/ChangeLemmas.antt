@@ -19,9 +19,9 @@ use Rattle.doc_update.proofs.OrderLemmas.{found-in_byte_order, strings_of-as_str
 
 -- ---- the first field stays
 
-sets-behind : (sets : Fields) (name : List ℕ) (value : Tree) (rest : Fields) → found name sets ≡ None → with_sets (field name value rest) sets ≡ field name value (with_sets rest sets)
-sets-behind no_fields name value rest none = refl
-sets-behind (field first one more) name value rest none = by_test (bytes_eq first name) refl none (λ next later. sets-behind more name value next later)
+sets-after : (sets : Fields) (name : List ℕ) (value : Tree) (rest : Fields) → found name sets ≡ None → with_sets (field name value rest) sets ≡ field name value (with_sets rest sets)
+sets-after no_fields name value rest none = refl
+sets-after (field first one more) name value rest none = by_test (bytes_eq first name) refl none (λ next later. sets-after more name value next later)
   where
     by_test : (b : Bool) → bytes_eq first name ≡ b → cond b (Some one) (found name more) ≡ None
         → ((next : Fields) → found name more ≡ None → with_sets (field name value next) more ≡ field name value (with_sets next more))
@@ -30,9 +30,9 @@ sets-behind (field first one more) name value rest none = by_test (bytes_eq firs
     by_test false apart none again =
         ap (λ b. with_sets (cond b (field name one rest) (field name value (with_set rest first one))) more) (alike_swapped name first ∙ apart) ∙ again (with_set rest first one) none
 
-gone-behind : (gone : List (List ℕ)) (name : List ℕ) (value : Tree) (rest : Fields) → is_among name gone ≡ false → fold without (field name value rest) gone ≡ field name value (fold without rest gone)
-gone-behind [] name value rest none = refl
-gone-behind (first ∷ gone) name value rest none = by_test (bytes_eq name first) refl none (λ next later. gone-behind gone name value next later)
+gone-after : (gone : List (List ℕ)) (name : List ℕ) (value : Tree) (rest : Fields) → is_among name gone ≡ false → fold without (field name value rest) gone ≡ field name value (fold without rest gone)
+gone-after [] name value rest none = refl
+gone-after (first ∷ gone) name value rest none = by_test (bytes_eq name first) refl none (λ next later. gone-after gone name value next later)
   where
     by_test : (b : Bool) → bytes_eq name first ≡ b → (b || is_among name gone) ≡ false
         → ((next : Fields) → is_among name gone ≡ false → fold without (field name value next) gone ≡ field name value (fold without next gone))
@@ -57,10 +57,10 @@ id_stays (item (Tree.date d) rest) lawful = absurd lawful
 id_stays (item (Tree.timestamp t) rest) lawful = absurd lawful
 
 -- a field that is neither set nor taken out stays in front
-pub changed-behind : (name : List ℕ) (value : Tree) (rest sets : Fields) (unsets : Trees) → found name sets ≡ None → is_among name (strings_of unsets) ≡ false
+pub changed-after : (name : List ℕ) (value : Tree) (rest sets : Fields) (unsets : Trees) → found name sets ≡ None → is_among name (strings_of unsets) ≡ false
     → changed (field name value rest) sets unsets ≡ field name value (changed rest sets unsets)
-changed-behind name value rest sets unsets unset stays =
-    ap (λ d. fold without d (strings_of unsets)) (sets-behind sets name value rest unset) ∙ gone-behind (strings_of unsets) name value (with_sets rest sets) stays
+changed-after name value rest sets unsets unset stays =
+    ap (λ d. fold without d (strings_of unsets)) (sets-after sets name value rest unset) ∙ gone-after (strings_of unsets) name value (with_sets rest sets) stays
 
 -- ---- what is set is there
 
@@ -188,10 +188,10 @@ apart-unsets (field name value rest) lawful =
     none None is = refl
     none (Some one) is = cc is
 
--- names that are taken out are those of fields behind the first one, where that is `_id`
+-- names that are taken out are those of fields after the first one, where that is `_id`
 pub gone-within : (operators : Fields) (id : Tree) (rest : Fields) → AreUnsets (unsets_of operators (field (codes "_id") id rest)) → strings_length (unsets_of operators (field (codes "_id") id rest)) ≤ fields_length rest
 gone-within operators id rest lawful =
-    let within : names_length gone ≤ fields_length rest = names-in gone rest (apart-unsets gone lawful) (named-from gone rest (λ q there. behind q (bytes_eq (codes "_id") q) refl (among q there) (in_present doc (under (codes "$unset") operators) q (order q there)).1)) in
+    let within : names_length gone ≤ fields_length rest = names-in gone rest (apart-unsets gone lawful) (named-from gone rest (λ q there. after q (bytes_eq (codes "_id") q) refl (among q there) (in_present doc (under (codes "$unset") operators) q (order q there)).1)) in
     let same : strings_length (as_strings (names_of gone)) ≡ names_length gone = strings-length gone in
     omega (arith, within, same)
   where
@@ -207,8 +207,8 @@ gone-within operators id rest lawful =
     among : (q : List ℕ) → is_some (found q gone) ≡ true → is_among q (strings_of (unsets_of operators (field (codes "_id") id rest))) ≡ true
     among q there = among_gone operators (field (codes "_id") id rest) q ∙ order q there
 
-    behind : (q : List ℕ) (b : Bool) → bytes_eq (codes "_id") q ≡ b → is_among q (strings_of (unsets_of operators (field (codes "_id") id rest))) ≡ true
+    after : (q : List ℕ) (b : Bool) → bytes_eq (codes "_id") q ≡ b → is_among q (strings_of (unsets_of operators (field (codes "_id") id rest))) ≡ true
         → is_some (found q (field (codes "_id") id rest)) ≡ true → is_some (found q rest) ≡ true
-    behind q true same taken there =
+    after q true same taken there =
         absurd (cc (ap (λ n. is_among n (strings_of (unsets_of operators (field (codes "_id") id rest)))) (same_name (codes "_id") q same) ∙ taken, id_stays (unsets_of operators (field (codes "_id") id rest)) lawful))
-    behind q false apart taken there = ap (λ b. is_some (cond b (Some id) (found q rest))) (sym apart) ∙ there
+    after q false apart taken there = ap (λ b. is_some (cond b (Some id) (found q rest))) (sym apart) ∙ there

@@ -109,7 +109,7 @@ among-under q operator (field name value rest) none =
     by_test true here later = here
     by_test false here later = later
 
--- where no name stands twice, a name of the front isn't among those behind
+-- where no name stands twice, a name of the prefix isn't among those that follow
 apart-append : (q : List ℕ) (a b : List (List ℕ)) → has_twice (a ++ b) ≡ false → is_among q a ≡ true → is_among q b ≡ false
 apart-append q [] b once here = cc
 apart-append q (name ∷ a) b once here =
@@ -144,7 +144,7 @@ apart-operators (field name value rest) q once there =
     by_tests (bytes_eq name (codes "$set")) (bytes_eq name (codes "$inc")) refl refl (λ more. apart-operators rest q (no_more (names_of (given value)) (all_names rest) once) more) there
   where
     here_none : is_among q (all_names rest) ≡ true → found q (given value) ≡ None
-    here_none behind = unfound q (given value) (by_test (is_among q (names_of (given value))) refl)
+    here_none tail = unfound q (given value) (by_test (is_among q (names_of (given value))) refl)
       where
         by_test : (t : Bool) → is_among q (names_of (given value)) ≡ t → t ≡ false
         by_test true is = let apart = apart-append q (names_of (given value)) (all_names rest) once is in cc
@@ -161,8 +161,8 @@ apart-operators (field name value rest) q once there =
 
 -- ---- fields, one list after another
 found-join : (a b : Fields) (q : List ℕ) → found q a ≡ None → found q b ≡ None → found q (join a b) ≡ None
-found-join no_fields b q here behind = behind
-found-join (field name value rest) b q here behind = grind (arith, found-join rest b q)
+found-join no_fields b q here tail = tail
+found-join (field name value rest) b q here tail = grind (arith, found-join rest b q)
 
 IsDocument-join : (a b : Fields) → IsDocument a → IsDocument b → ((q : List ℕ) → is_some (found q a) ≡ true → found q b ≡ None) → IsDocument (join a b)
 IsDocument-join no_fields b names others apart = others

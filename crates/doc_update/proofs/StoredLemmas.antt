@@ -26,7 +26,7 @@ use Rattle.doc_update.specs.declared.write.Prepared.{Prepared}
 use Rattle.doc_update.specs.declared.write.Prepared.TheVariants.{Entry, Unchanged}
 use Rattle.doc_update.specs.Refusal.{Reason}
 use Rattle.doc_update.proofs.ApartLemmas.{IsDocument-under}
-use Rattle.doc_update.proofs.ChangeLemmas.{strings_length, gone-within, id_stays, changed-behind, sets-in}
+use Rattle.doc_update.proofs.ChangeLemmas.{strings_length, gone-within, id_stays, changed-after, sets-in}
 use Rattle.doc_update.proofs.LengthLemmas.{length-in, levels-in}
 use Rattle.doc_update.proofs.SoundLemmas.{IsDocument-sets, replace-sound, update-sound}
 
@@ -120,7 +120,7 @@ not_large doc small = (length_within, levels_within)
     levels_within : fields_levels doc ≤ 99
     levels_within = let within : 1 + fields_levels doc ≤ 100 = not_less 100 (document_levels doc) parts.1 in omega (arith, within)
 
--- a stored document is its `_id` and what stands behind it
+-- a stored document is its `_id` and what follows it
 pub record HasId (place : Place) (doc : Fields) : Type 0 where
   pub id : Tree
   pub rest : Fields
@@ -192,7 +192,7 @@ insert-logged ns doc (Some id) place logged after is does = by_key (key_of id) r
 
 -- ---- a replacement
 
--- of what comes of a write that names a place
+-- of the result of a write that names a place
 lawful_of : (place : Place) (before logged_doc : Option Fields) (logged : Op) (found : Result Prepared Reason) → found ≡ Ok (Entry logged logged_doc) → IfOk found (λ p. IsSound (Ok place) before p)
     → IsLawfulOp logged × (place_of logged ≡ Some place)
 lawful_of place before after logged found is sound = let all : IsSound (Ok place) before (Entry logged after) = subst (λ r. IfOk r (λ p. IsSound (Ok place) before p)) is sound in (all.0, all.1)
@@ -292,7 +292,7 @@ update-logged ns id operators before place logged after sound stands is does =
 
     begins : updated operators before ≡ field (codes "_id") has.id (changed has.rest (sets_of operators before) (unsets_of operators before))
     begins = ap (λ d. changed d (sets_of operators before) (unsets_of operators before)) has.is
-        ∙ changed-behind (codes "_id") has.id has.rest (sets_of operators before) (unsets_of operators before) lawful.1 (id_stays (unsets_of operators before) lawful.2)
+        ∙ changed-after (codes "_id") has.id has.rest (sets_of operators before) (unsets_of operators before) lawful.1 (id_stays (unsets_of operators before) lawful.2)
 
     once : has_twice (all_names operators) ≡ false
     once = once_of ns (key_of (tree_of id)) operators place is

@@ -7,9 +7,9 @@ use Rattle.std.specs.declared.cmp.Ordering.TheVariants.{Less, Equal, Greater}
 use Rattle.bson_doc.specs.Tree.{Tree, text, Fields, no_fields, field, Trees, no_items, item}
 
 abbrev pub by_order : Ordering → Fields → Fields → Fields → Fields
-by_order Less before here behind = before
-by_order Equal before here behind = here
-by_order Greater before here behind = behind
+by_order Less before here after = before
+by_order Equal before here after = here
+by_order Greater before here after = after
 
 -- a field in its place among fields in byte order of their names
 abbrev pub placed : Fields → List ℕ → Tree → Fields

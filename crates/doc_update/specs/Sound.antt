@@ -34,7 +34,7 @@ IsSound place before (Entry op after) =
 IsSound place before NoMatch = ⊤
 IsSound place before Unchanged = ⊤
 
--- once it is logged behind entries that leave this document at the place, the document that is given with
+-- once it is logged after entries that leave this document at the place, the document that is given with
 -- it is there
 abbrev pub IsStored : Result Place Reason → Option Fields → Prepared → Type 0
 IsStored (Ok place) before (Entry op after) =

@@ -17,8 +17,8 @@ use Rattle.oplog_entry.specs.declared.entry.Session.{Session}
 use Rattle.entry_bytes.specs.Layout.{body_of, collection_of, document_of, last_members, letter_of, members, session_members, target_of, targeted}
 use Rattle.entry_bytes.specs.Parts.{members_in_front}
 
-more_behind_five : (a b c d e rest : List ℕ) → (a ++ (b ++ (c ++ (d ++ (e ++ []))))) ++ rest ≡ a ++ (b ++ (c ++ (d ++ (e ++ rest))))
-more_behind_five a b c d e rest = simp append_assoc
+more_after_five : (a b c d e rest : List ℕ) → (a ++ (b ++ (c ++ (d ++ (e ++ []))))) ++ rest ≡ a ++ (b ++ (c ++ (d ++ (e ++ rest))))
+more_after_five a b c d e rest = simp append_assoc
 
 abbrev pub room : List ℕ
 room = 0 ∷ 0 ∷ 0 ∷ 0 ∷ []
@@ -27,7 +27,7 @@ targeted_bytes : (target : Option Fields) (rest : Fields) → fields_bytes (targ
 targeted_bytes None rest = refl
 targeted_bytes (Some target) rest = simp append_assoc
 
--- behind the room for its length the members of an entry
+-- after the room for its length the members of an entry
 pub entry_laid : (entry : Entry) (old out0 out1 out2 out3 out4 : List ℕ) → out0 ≡ old ++ room → out1 ≡ out0 ++ fields_bytes (members_in_front entry.optime entry.op)
     → out2 ≡ out1 ++ element 3 (codes "o") (document_bytes (body_of entry.op)) → out3 ≡ out2 ++ fields_bytes (targeted (target_of entry.op) no_fields)
     → out4 ≡ out3 ++ fields_bytes (session_members entry.session)
@@ -38,16 +38,16 @@ entry_laid entry old out0 out1 out2 out3 out4 made head body target session =
     let o2 = fields_bytes (targeted (target_of entry.op) no_fields) in
     let lsid = fields_bytes (session_members entry.session) in
     let last = fields_bytes (last_members (target_of entry.op) entry.session) in
-    let behind : out4 ≡ out2 ++ last =
+    let after : out4 ≡ out2 ++ last =
     session ∙ ap (λ (l : List ℕ). l ++ lsid) target ∙ append_assoc out2 o2 lsid ∙ ap (λ (l : List ℕ). out2 ++ l) (targeted_bytes (target_of entry.op) (session_members entry.session)) in
-    behind ∙ ap (λ (l : List ℕ). l ++ last) (body ∙ ap (λ (l : List ℕ). l ++ o) (head ∙ ap (λ (l : List ℕ). l ++ front) made))
+    after ∙ ap (λ (l : List ℕ). l ++ last) (body ∙ ap (λ (l : List ℕ). l ++ o) (head ∙ ap (λ (l : List ℕ). l ++ front) made))
     ∙ ap (λ (l : List ℕ). l ++ last) (append_assoc (old ++ room) front o) ∙ append_assoc (old ++ room) (front ++ o) last
     ∙ ap (λ (l : List ℕ). (old ++ room) ++ l) (append_assoc front o last ∙ whole)
   where
     whole : fields_bytes (members_in_front entry.optime entry.op) ++ (element 3 (codes "o") (document_bytes (body_of entry.op)) ++ fields_bytes (last_members (target_of entry.op) entry.session))
         ≡ fields_bytes (document_of entry)
     whole =
-        more_behind_five (element 17 (codes "ts") (value_bytes (timestamp entry.optime.ts))) (element 18 (codes "t") (value_bytes (int64 (pos entry.optime.term))))
+        more_after_five (element 17 (codes "ts") (value_bytes (timestamp entry.optime.ts))) (element 18 (codes "t") (value_bytes (int64 (pos entry.optime.term))))
         (element 16 (codes "v") (value_bytes (int32 (pos 2)))) (element 2 (codes "op") (value_bytes (text (letter_of entry.op)))) (element 2 (codes "ns") (value_bytes (text (collection_of entry.op))))
         (element 3 (codes "o") (document_bytes (body_of entry.op)) ++ fields_bytes (last_members (target_of entry.op) entry.session))
 
@@ -116,19 +116,19 @@ sound_session session within =
     txnNumber_ascii (suc (suc (suc (suc (suc (suc (suc (suc zero)))))))) = omega arith
     txnNumber_ascii (suc (suc (suc (suc (suc (suc (suc (suc (suc i))))))))) = omega arith
 
-two_behind : (old a b : List ℕ) → (old ++ a) ++ b ≡ old ++ (a ++ (b ++ []))
-two_behind old a b = append_assoc old a b ∙ ap (λ (l : List ℕ). old ++ (a ++ l)) (sym (append-nil b))
+two_after : (old a b : List ℕ) → (old ++ a) ++ b ≡ old ++ (a ++ (b ++ []))
+two_after old a b = append_assoc old a b ∙ ap (λ (l : List ℕ). old ++ (a ++ l)) (sym (append-nil b))
 
 pub session_laid : (session : Session) (old out0 out1 : List ℕ) → out0 ≡ old ++ element 18 (codes "lsid") (value_bytes (int64 (pos session.id)))
     → out1 ≡ out0 ++ element 18 (codes "txnNumber") (value_bytes (int64 (pos session.number))) → out1 ≡ old ++ fields_bytes (session_members (Some session))
 session_laid session old out0 out1 id number =
     let a = element 18 (codes "lsid") (value_bytes (int64 (pos session.id))) in
     let b = element 18 (codes "txnNumber") (value_bytes (int64 (pos session.number))) in
-    number ∙ ap (λ (l : List ℕ). l ++ b) id ∙ two_behind old a b
+    number ∙ ap (λ (l : List ℕ). l ++ b) id ∙ two_after old a b
 
 sound_last : (target : Option Fields) (rest : Fields) → AreSoundFields (targeted target no_fields) → AreSoundFields rest → AreSoundFields (targeted target rest)
-sound_last None rest before behind = behind
-sound_last (Some target) rest before behind = (before.0, before.1, behind)
+sound_last None rest before after = after
+sound_last (Some target) rest before after = (before.0, before.1, after)
 
 lsid_clean : ¬ Contains (codes "lsid") 0
 lsid_clean = search rules

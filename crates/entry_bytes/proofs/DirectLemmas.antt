@@ -25,7 +25,7 @@ members_levels : (optime : OpTime) (letter ns : List ℕ) (o : Fields) (session 
 members_levels optime letter ns o None fits = omega arith
 members_levels optime letter ns o (Some s) fits = omega arith
 
--- ---- the bytes in front of a part and behind it
+-- ---- the bytes in front of a part and after it
 
 pub stamp_laid : (version : ℕ) (optime : OpTime) (bytes a b c d e f : List ℕ) → bytes ≡ 17 ∷ 116 ∷ 115 ∷ 0 ∷ a → a ≡ number_bytes 8 optime.ts ++ b → b ≡ 18 ∷ 116 ∷ 0 ∷ c
     → c ≡ number_bytes 8 optime.term ++ d → d ≡ 16 ∷ 118 ∷ 0 ∷ e → e ≡ number_bytes 4 version ++ f → version ≡ 2 → bytes ≡ fields_bytes (stamped optime no_fields) ++ f
@@ -48,7 +48,7 @@ numbers_laid id number bytes a b c one two three four =
     in_turn : (x y l : List ℕ) → x ++ (y ++ l) ≡ (x ++ (y ++ [])) ++ l
     in_turn x y l = simp append_assoc
 
--- the members of an entry without a target, and the zero behind them
+-- the members of an entry without a target, and the zero after them
 abbrev pub in_front : (optime : OpTime) (letter ns o : List ℕ) (session : Option Session) → List ℕ
 in_front optime letter ns o session =
     fields_bytes (stamped optime no_fields) ++ (element 2 (codes "op") (value_bytes (text letter))
@@ -63,7 +63,7 @@ all_members optime letter ns o session =
     in_turn : (a b c d e f s z : List ℕ) → (a ++ (b ++ (c ++ (d ++ (e ++ (f ++ s)))))) ++ z ≡ (a ++ (b ++ (c ++ []))) ++ (d ++ (e ++ (f ++ (s ++ z))))
     in_turn a b c d e f s z = simp append_assoc
 
--- behind their whole length the members are the document
+-- after their whole length the members are the document
 whole_spelled : (d : Fields) (bytes : List ℕ) → bytes ≡ number_bytes 4 (length bytes) ++ (fields_bytes d ++ 0 ∷ []) → bytes ≡ document_bytes d
 whole_spelled d bytes laid =
     let counted : length bytes ≡ 5 + fields_length d =
@@ -74,9 +74,9 @@ made_of : (optime : OpTime) (op : Op) (session : Option Session) (letter ns : Li
     → members optime letter ns (body_of op) None session ≡ members optime (letter_of op) (collection_of op) (body_of op) (target_of op) session
 made_of optime op session letter ns own = rw (own.letter_is, own.collection_is, own.target_is) refl
 
-sound_behind : (session : Option Session) → IfSome session IsSession → AreSoundFields (session_members session)
-sound_behind None within = tt
-sound_behind (Some session) within = sound_session session within
+sound_after : (session : Option Session) → IfSome session IsSession → AreSoundFields (session_members session)
+sound_after None within = tt
+sound_after (Some session) within = sound_session session within
 
 -- the entry of the parts that stand there is spelled so
 pub made_spelled : (e : Entry) (optime : OpTime) (letter ns o bytes : List ℕ) (session : Option Session) → e.optime ≡ optime → e.session ≡ session → IsLawful e
@@ -86,7 +86,7 @@ pub made_spelled : (e : Entry) (optime : OpTime) (letter ns o bytes : List ℕ) 
     → IsSound (document_of e) × IsSpelling 1048576 103 (document_of e) bytes
 made_spelled e optime letter ns o bytes session same write law term ts own utf8 text8 sound spelling short laid = (
   sound_document e (sound_front e.optime e.op (subst (λ (t : OpTime). t.ts < 2 ^ 64) (sym same) ts) (subst (λ (t : OpTime). t.term < 2 ^ 63) (sym same) term) (ap is_utf8 own.letter_is ∙ utf8) (ap is_utf8 own.collection_is ∙ text8)) sound
-      (rw own.target_is tt) (sound_behind e.session law.session),
+      (rw own.target_is tt) (sound_after e.session law.session),
   record {
     spelled = whole_spelled (document_of e) bytes
         (laid ∙ ap (λ (l : List ℕ). number_bytes 4 (length bytes) ++ l)

@@ -6,9 +6,9 @@ use Rattle.bson_codec.specs.Numbers.{number_bytes}
 use Rattle.bson_codec.proofs.NumberLemmas.{number_once}
 use Rattle.entry_bytes.specs.Optimes.{optime_bytes}
 
-pub optime_parts : (o : OpTime) (behind bytes : List ℕ) → bytes ≡ optime_bytes o ++ behind
-    → bytes ≡ number_bytes 8 o.term ++ (number_bytes 8 o.ts ++ behind)
-optime_parts o behind bytes is = is ∙ append_assoc (number_bytes 8 o.term) (number_bytes 8 o.ts) behind
+pub optime_parts : (o : OpTime) (after bytes : List ℕ) → bytes ≡ optime_bytes o ++ after
+    → bytes ≡ number_bytes 8 o.term ++ (number_bytes 8 o.ts ++ after)
+optime_parts o after bytes is = is ∙ append_assoc (number_bytes 8 o.term) (number_bytes 8 o.ts) after
 
 pub optime_once : (a b : OpTime) → IsOptime a → IsOptime b → optime_bytes a ≡ optime_bytes b → a ≡ b
 optime_once a b one two is =

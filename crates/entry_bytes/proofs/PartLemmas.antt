@@ -59,12 +59,12 @@ pub no_number : (d : Fields) (place : ℕ) → place < count d → HasNoNumber d
 no_number d place more none None within here = absurd (omega (arith, count-none d place here))
 no_number d place more none (Some s) within here = none s.number no_fields within.number (fields_from-next d place _ _ _ here)
 
--- nothing is behind a target but a session, and where there is no target a session alone
-pub behind_target : (d target : Fields) → fields_from 6 d ≡ field (codes "o2") (document target) (fields_from 7 d)
+-- nothing is after a target but a session, and where there is no target a session alone
+pub after_target : (d target : Fields) → fields_from 6 d ≡ field (codes "o2") (document target) (fields_from 7 d)
     → ((session : Option Session) → IfSome session IsSession → fields_from 7 d ≢ session_members session)
     → (other : Option Fields) (session : Option Session) → IfSome session IsSession → fields_from 6 d ≢ last_members other session
-behind_target d target here none None session within is = no_session target session (fields_from 7 d) (sym here ∙ is)
-behind_target d target here none (Some other) session within is = none session within (fields_from-next d 6 _ _ _ is)
+after_target d target here none None session within is = no_session target session (fields_from 7 d) (sym here ∙ is)
+after_target d target here none (Some other) session within is = none session within (fields_from-next d 6 _ _ _ is)
 
 pub without_target : (d : Fields) → ((fields rest : Fields) → fields_from 6 d ≢ field (codes "o2") (document fields) rest)
     → ((session : Option Session) → IfSome session IsSession → fields_from 6 d ≢ session_members session)

@@ -19,7 +19,7 @@ count-none no_fields place none = omega arith
 count-none (field first one others) zero none = cc
 count-none (field first one others) (suc place) none = omega (arith, count-none others place none)
 
--- what stands behind a field
+-- what follows a field
 pub fields_from-next : (d : Fields) (place : ℕ) (name : List ℕ) (value : Tree) (rest : Fields) → fields_from place d ≡ field name value rest → fields_from (place + 1) d ≡ rest
 fields_from-next no_fields place name value rest here = cc
 fields_from-next (field first one others) zero name value rest here = fields_from-zero others ∙ same here

@@ -74,7 +74,7 @@ target_of (Delete ns id) = None
 target_of Noop = None
 target_of Note = None
 
--- an update's target, in front of the members behind it
+-- an update's target, in front of the members that follow it
 abbrev pub targeted : Option Fields → Fields → Fields
 targeted None rest = rest
 targeted (Some target) rest = field (codes "o2") (document target) rest
@@ -86,7 +86,7 @@ session_members (Some session) =
     field (codes "lsid") (int64 (pos session.id))
     (field (codes "txnNumber") (int64 (pos session.number)) no_fields)
 
--- the members behind `o`
+-- the members after `o`
 abbrev pub last_members : Option Fields → Option Session → Fields
 last_members target session = targeted target (session_members session)
 

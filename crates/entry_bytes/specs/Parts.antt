@@ -86,7 +86,7 @@ abbrev pub given : Option Fields → Fields
 given None = no_fields
 given (Some fields) = fields
 
--- the two parts behind a document's first field, or there are none
+-- the two parts after a document's first field, or there are none
 abbrev pub ReadsParts : Fields → Option (Option Fields × Option Fields) → Type 0
 ReadsParts o result =
     MatchOption result

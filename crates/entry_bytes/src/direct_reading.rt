@@ -35,8 +35,8 @@ struct Parts<'a> {
     session: Option<Session>,
 }
 
-/// What stands behind the name of the timestamp.
-fn behind_ts(bytes: &[u8]) -> Option<&[u8]>
+/// What follows the name of the timestamp.
+fn after_ts(bytes: &[u8]) -> Option<&[u8]>
     ensures { IfSome result (λ rest. bytes.now ≡ 17 ∷ 116 ∷ 115 ∷ 0 ∷ rest.now) }
 {
     let [0x11, b't', b's', 0, rest @ ..] = bytes else {
@@ -45,8 +45,8 @@ fn behind_ts(bytes: &[u8]) -> Option<&[u8]>
     Some(rest)
 }
 
-/// What stands behind the name of the term.
-fn behind_t(bytes: &[u8]) -> Option<&[u8]>
+/// What follows the name of the term.
+fn after_t(bytes: &[u8]) -> Option<&[u8]>
     ensures { IfSome result (λ rest. bytes.now ≡ 18 ∷ 116 ∷ 0 ∷ rest.now) }
 {
     let [0x12, b't', 0, rest @ ..] = bytes else {
@@ -55,8 +55,8 @@ fn behind_t(bytes: &[u8]) -> Option<&[u8]>
     Some(rest)
 }
 
-/// What stands behind the name of the version.
-fn behind_v(bytes: &[u8]) -> Option<&[u8]>
+/// What follows the name of the version.
+fn after_v(bytes: &[u8]) -> Option<&[u8]>
     ensures { IfSome result (λ rest. bytes.now ≡ 16 ∷ 118 ∷ 0 ∷ rest.now) }
 {
     let [0x10, b'v', 0, rest @ ..] = bytes else {
@@ -65,8 +65,8 @@ fn behind_v(bytes: &[u8]) -> Option<&[u8]>
     Some(rest)
 }
 
-/// What stands behind the name of the letter.
-fn behind_op(bytes: &[u8]) -> Option<&[u8]>
+/// What follows the name of the letter.
+fn after_op(bytes: &[u8]) -> Option<&[u8]>
     ensures { IfSome result (λ rest. bytes.now ≡ 2 ∷ 111 ∷ 112 ∷ 0 ∷ rest.now) }
 {
     let [0x02, b'o', b'p', 0, rest @ ..] = bytes else {
@@ -75,8 +75,8 @@ fn behind_op(bytes: &[u8]) -> Option<&[u8]>
     Some(rest)
 }
 
-/// What stands behind the name of the collection.
-fn behind_ns(bytes: &[u8]) -> Option<&[u8]>
+/// What follows the name of the collection.
+fn after_ns(bytes: &[u8]) -> Option<&[u8]>
     ensures { IfSome result (λ rest. bytes.now ≡ 2 ∷ 110 ∷ 115 ∷ 0 ∷ rest.now) }
 {
     let [0x02, b'n', b's', 0, rest @ ..] = bytes else {
@@ -85,8 +85,8 @@ fn behind_ns(bytes: &[u8]) -> Option<&[u8]>
     Some(rest)
 }
 
-/// What stands behind the name of a session.
-fn behind_lsid(bytes: &[u8]) -> Option<&[u8]>
+/// What follows the name of a session.
+fn after_lsid(bytes: &[u8]) -> Option<&[u8]>
     ensures { IfSome result (λ rest. bytes.now ≡ 18 ∷ 108 ∷ 115 ∷ 105 ∷ 100 ∷ 0 ∷ rest.now) }
 {
     let [0x12, b'l', b's', b'i', b'd', 0, rest @ ..] = bytes else {
@@ -95,8 +95,8 @@ fn behind_lsid(bytes: &[u8]) -> Option<&[u8]>
     Some(rest)
 }
 
-/// What stands behind the name of a write's number.
-fn behind_number(bytes: &[u8]) -> Option<&[u8]>
+/// What follows the name of a write's number.
+fn after_number(bytes: &[u8]) -> Option<&[u8]>
     ensures { IfSome result (λ rest. bytes.now
         ≡ 18 ∷ 116 ∷ 120 ∷ 110 ∷ 78 ∷ 117 ∷ 109 ∷ 98 ∷ 101 ∷ 114 ∷ 0 ∷ rest.now) }
 {
@@ -120,8 +120,8 @@ fn behind_number(bytes: &[u8]) -> Option<&[u8]>
     Some(rest)
 }
 
-/// What stands behind a zero.
-fn behind_zero(bytes: &[u8]) -> Option<&[u8]>
+/// What follows a zero.
+fn after_zero(bytes: &[u8]) -> Option<&[u8]>
     ensures { IfSome result (λ rest. bytes.now ≡ 0 ∷ rest.now) }
 {
     let [0, rest @ ..] = bytes else {
@@ -130,7 +130,7 @@ fn behind_zero(bytes: &[u8]) -> Option<&[u8]>
     Some(rest)
 }
 
-/// The number in the first eight bytes, and what stands behind them.
+/// The number in the first eight bytes, and what follows them.
 fn long_of(bytes: &[u8]) -> Option<(u64, &[u8])>
     ensures { IfSome result (λ x. bytes.now ≡ number_bytes 8 x.0 ++ x.1.now) }
 {
@@ -140,7 +140,7 @@ fn long_of(bytes: &[u8]) -> Option<(u64, &[u8])>
     }
 }
 
-/// The number in the first four bytes, and what stands behind them.
+/// The number in the first four bytes, and what follows them.
 fn short_of(bytes: &[u8]) -> Option<(u32, &[u8])>
     ensures { IfSome result (λ x. bytes.now ≡ number_bytes 4 x.0 ++ x.1.now) }
 {
@@ -150,22 +150,22 @@ fn short_of(bytes: &[u8]) -> Option<(u32, &[u8])>
     }
 }
 
-/// The optime and the version, and what stands behind them.
+/// The optime and the version, and what follows them.
 fn stamp_of(bytes: &[u8]) -> Option<(OpTime, &[u8])>
     ensures ts { IfSome result (λ x. x.0.ts < 2 ^ 64) }
     ensures term { IfSome result (λ x. x.0.term < 2 ^ 63) }
     ensures spelled { IfSome result (λ x. bytes.now ≡ fields_bytes (stamped x.0 no_fields) ++ x.1.now) }
 {
-    let (ts, rest) = long_of(behind_ts(bytes)?)?;
-    let (term, rest) = long_of(behind_t(rest)?)?;
-    let (version, rest) = short_of(behind_v(rest)?)?;
+    let (ts, rest) = long_of(after_ts(bytes)?)?;
+    let (term, rest) = long_of(after_t(rest)?)?;
+    let (version, rest) = short_of(after_v(rest)?)?;
     if version != 2 || term >= 1 << 63 {
         return None;
     }
     Some((OpTime { term, ts }, rest))
 }
 
-/// The first so many bytes as letters, and what stands behind the zero that closes them.
+/// The first so many bytes as letters, and what follows the zero that closes them.
 fn letters_of(count: usize, bytes: &[u8]) -> Option<(&str, &[u8])>
     ensures count { IfSome result (λ x. length x.0.now ≡ count) }
     ensures spelled { IfSome result (λ x. bytes.now ≡ x.0.now ++ 0 ∷ x.1.now) }
@@ -173,15 +173,15 @@ fn letters_of(count: usize, bytes: &[u8]) -> Option<(&str, &[u8])>
     if bytes.len() <= count {
         return None;
     }
-    let (letters, behind) = bytes.split_at(count);
-    let rest = behind_zero(behind)?;
+    let (letters, after) = bytes.split_at(count);
+    let rest = after_zero(after)?;
     match from_utf8(letters) {
         Ok(text) => Some((text, rest)),
         Err(_) => None,
     }
 }
 
-/// A string as a value, and what stands behind it.
+/// A string as a value, and what follows it.
 fn string_of(bytes: &[u8]) -> Option<(&str, &[u8])>
     ensures { IfSome result (λ x. bytes.now ≡ value_bytes (text x.0.now) ++ x.1.now) }
 {
@@ -192,18 +192,18 @@ fn string_of(bytes: &[u8]) -> Option<(&str, &[u8])>
     letters_of(size as usize - 1, rest)
 }
 
-/// The letter and the collection, and what stands behind them.
+/// The letter and the collection, and what follows them.
 fn strings_of(bytes: &[u8]) -> Option<((&str, &str), &[u8])>
     ensures { IfSome result (λ x. bytes.now
         ≡ element 2 (codes "op") (value_bytes (text x.0.0.now))
         ++ (element 2 (codes "ns") (value_bytes (text x.0.1.now)) ++ x.1.now)) }
 {
-    let (letter, rest) = string_of(behind_op(bytes)?)?;
-    let (ns, rest) = string_of(behind_ns(rest)?)?;
+    let (letter, rest) = string_of(after_op(bytes)?)?;
+    let (ns, rest) = string_of(after_ns(rest)?)?;
     Some(((letter, ns), rest))
 }
 
-/// The document `o`, which begins with its length, and what stands behind it.
+/// The document `o`, which begins with its length, and what follows it.
 fn body_in(bytes: &[u8]) -> Option<(&[u8], &[u8])>
     ensures { IfSome result (λ x. bytes.now ≡ element 3 (codes "o") x.0.now ++ x.1.now) }
 {
@@ -217,7 +217,7 @@ fn body_in(bytes: &[u8]) -> Option<(&[u8], &[u8])>
     Some(rest.split_at(size as usize))
 }
 
-/// The number in the first eight bytes, where four are enough for it, and what stands behind them.
+/// The number in the first eight bytes, where four are enough for it, and what follows them.
 fn narrow_of(bytes: &[u8]) -> Option<(u32, &[u8])>
     ensures { IfSome result (λ x. bytes.now ≡ number_bytes 8 x.0 ++ x.1.now) }
 {
@@ -235,13 +235,13 @@ fn is_end(bytes: &[u8]) -> bool
     bytes.len() == 1 && bytes[0] == 0
 }
 
-/// The members of a session's write, behind which the entry's document ends.
+/// The members of a session's write, after which the entry's document ends.
 fn numbers_in(bytes: &[u8]) -> Option<Session>
     ensures session { IfSome result IsSession }
     ensures spelled { IfSome result (λ s. bytes.now ≡ fields_bytes (session_members (Some s)) ++ 0 ∷ []) }
 {
-    let (id, rest) = narrow_of(behind_lsid(bytes)?)?;
-    let (number, rest) = narrow_of(behind_number(rest)?)?;
+    let (id, rest) = narrow_of(after_lsid(bytes)?)?;
+    let (number, rest) = narrow_of(after_number(rest)?)?;
     if !is_end(rest) {
         return None;
     }
@@ -266,7 +266,7 @@ fn recall_utf8(letters: &str)
     let _ = letters;
 }
 
-/// The parts, each where it stands behind the bytes before it.
+/// The parts, each where the bytes before it end.
 fn parts_in(bytes: &[u8]) -> Option<Parts<'_>>
     ensures ts { IfSome result (λ p. p.optime.ts < 2 ^ 64) }
     ensures term { IfSome result (λ p. p.optime.term < 2 ^ 63) }

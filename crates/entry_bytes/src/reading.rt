@@ -32,7 +32,7 @@ struct Members<'a> {
     last: Last<'a>,
 }
 
-/// The members behind `o`: which document an update changes, and which write of a session the entry is.
+/// The members after `o`: which document an update changes, and which write of a session the entry is.
 #[derive(Drop)]
 struct Last<'a> {
     target: Option<&'a Doc>,
@@ -77,7 +77,7 @@ fn last_in(document: &Doc) -> Option<Last<'_>>
     }
 }
 
-/// The optime, behind which the version stands.
+/// The optime, after which the version stands.
 fn optime_in(document: &Doc) -> Option<OpTime>
     ensures { MatchOption result
         ((optime : OpTime) (rest : Fields) → optime.term < 2 ^ 63 → document.now ≢ stamped optime rest)

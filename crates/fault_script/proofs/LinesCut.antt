@@ -50,7 +50,7 @@ first_feed text (Some place) (first, feed) =
     position_or_len_is line_feed text place 0 (omega (arith, first.high)) (λ k before. fails (line_feed (get_or text k 0)) (first.before k (omega arith) before)) (λ _. feed) in
     grind (arith, at, first.high)
 
--- a text up to its first line feed, and behind it
+-- a text up to its first line feed, and after it
 pub line_at : (text line : List ℕ) (end : ℕ) → Some end ≡ position line_feed text → line ≡ strip_carriage_return (take end text)
     → (lines text ≡ line ∷ lines (take (length text - (end + 1)) (drop (end + 1) text))) × (length (take (length text - (end + 1)) (drop (end + 1) text)) < length text)
 line_at text line end found is =

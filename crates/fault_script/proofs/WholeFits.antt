@@ -39,13 +39,13 @@ threads_in (Some threads) = threads
 abbrev line_sizes : SetLine → Sizes
 line_sizes set = record { nodes = set.nodes; voters = set.voters; members = set.members }
 
--- behind the `set` line all commands are the set's, and before it there is none
-abbrev FitBehind : Option SetLine → List Part → Option (List Thread) → Type 0
-FitBehind None parts block = (parts ≡ []) × (block ≡ None)
-FitBehind (Some set) parts block = AreSizes (line_sizes set) × (list_all (is_part_for set.nodes) parts ≡ true) × (list_all (is_thread_for set.nodes) (threads_in block) ≡ true)
+-- after the `set` line all commands are the set's, and before it there is none
+abbrev FitAfter : Option SetLine → List Part → Option (List Thread) → Type 0
+FitAfter None parts block = (parts ≡ []) × (block ≡ None)
+FitAfter (Some set) parts block = AreSizes (line_sizes set) × (list_all (is_part_for set.nodes) parts ≡ true) × (list_all (is_thread_for set.nodes) (threads_in block) ≡ true)
 
 abbrev AreFit : Reading → Type 0
-AreFit reading = FitBehind reading.set reading.parts reading.block
+AreFit reading = FitAfter reading.set reading.parts reading.block
 
 pushed : {A : Type 0} (p : A → Bool) (xs : List A) (x : A) → list_all p xs ≡ true → p x ≡ true → list_all p (xs ++ x ∷ []) ≡ true
 pushed p xs x all one = list_all-append p xs (x ∷ []) ∙ both (list_all p xs) (p x && true) all (both (p x) true one refl)
@@ -69,38 +69,38 @@ last_fit nodes (own ∷ next ∷ threads) line all one =
     back true b is = is
     back false b is = absurd cc
 
--- ---- one line, behind the `set` line
+-- ---- one line, after the `set` line
 
 -- the facts of a reading with this `set` line
-record Behind (set : SetLine) (reading : Reading) : Type 0 where
+record After (set : SetLine) (reading : Reading) : Type 0 where
   known : reading.set ≡ Some set
   sizes : AreSizes (line_sizes set)
   parts : list_all (is_part_for set.nodes) reading.parts ≡ true
   block : list_all (is_thread_for set.nodes) (threads_in reading.block) ≡ true
 
-fit_as : (set : SetLine) (reading : Reading) (ps : List Part) (block : Option (List Thread)) → Behind set reading → list_all (is_part_for set.nodes) ps ≡ true → list_all (is_thread_for set.nodes) (threads_in block) ≡ true → FitBehind reading.set ps block
-fit_as set reading ps block fit one two = subst (λ (o : Option SetLine). FitBehind o ps block) (sym fit.known) (fit.sizes, one, two)
+fit_as : (set : SetLine) (reading : Reading) (ps : List Part) (block : Option (List Thread)) → After set reading → list_all (is_part_for set.nodes) ps ≡ true → list_all (is_thread_for set.nodes) (threads_in block) ≡ true → FitAfter reading.set ps block
+fit_as set reading ps block fit one two = subst (λ (o : Option SetLine). FitAfter o ps block) (sym fit.known) (fit.sizes, one, two)
 
-part_fit : (set : SetLine) (reading : Reading) (part : Part) → Behind set reading → is_part_for set.nodes part ≡ true → AreFit (with_part reading part)
+part_fit : (set : SetLine) (reading : Reading) (part : Part) → After set reading → is_part_for set.nodes part ≡ true → AreFit (with_part reading part)
 part_fit set reading part fit one = fit_as set reading (reading.parts ++ part ∷ []) None fit (pushed (is_part_for set.nodes) reading.parts part fit.parts one) refl
 
-block_fit : (set : SetLine) (reading : Reading) (threads : List Thread) → Behind set reading → list_all (is_thread_for set.nodes) threads ≡ true → AreFit (with_block reading threads)
+block_fit : (set : SetLine) (reading : Reading) (threads : List Thread) → After set reading → list_all (is_thread_for set.nodes) threads ≡ true → AreFit (with_block reading threads)
 block_fit set reading threads fit all = fit_as set reading reading.parts (Some threads) fit fit.parts all
 
-begin_block_fit : (set : SetLine) (reading : Reading) (block : Option (List Thread)) → Behind set reading → Gets (begin_block reading block) AreFit
+begin_block_fit : (set : SetLine) (reading : Reading) (block : Option (List Thread)) → After set reading → Gets (begin_block reading block) AreFit
 begin_block_fit set reading None fit = block_fit set reading [] fit refl
 begin_block_fit set reading (Some threads) fit = tt
 
-begin_thread_fit : (set : SetLine) (reading : Reading) (block : Option (List Thread)) → Behind set reading → list_all (is_thread_for set.nodes) (threads_in block) ≡ true → Gets (begin_thread reading block) AreFit
+begin_thread_fit : (set : SetLine) (reading : Reading) (block : Option (List Thread)) → After set reading → list_all (is_thread_for set.nodes) (threads_in block) ≡ true → Gets (begin_thread reading block) AreFit
 begin_thread_fit set reading None fit all = tt
 begin_thread_fit set reading (Some threads) fit all =
     tested (nat_lt (length threads) 16) _ TooManyThreads AreFit (λ few. block_fit set reading (threads ++ [] ∷ []) fit (pushed (is_thread_for set.nodes) threads [] all refl))
 
-end_block_fit : (set : SetLine) (reading : Reading) (block : Option (List Thread)) → Behind set reading → list_all (is_thread_for set.nodes) (threads_in block) ≡ true → Gets (end_block reading block) AreFit
+end_block_fit : (set : SetLine) (reading : Reading) (block : Option (List Thread)) → After set reading → list_all (is_thread_for set.nodes) (threads_in block) ≡ true → Gets (end_block reading block) AreFit
 end_block_fit set reading None fit all = tt
 end_block_fit set reading (Some threads) fit all = part_fit set reading (parts.Par threads) fit all
 
-command_fit : (set : SetLine) (number : ℕ) (reading : Reading) (block : Option (List Thread)) (read : Result Command ScriptRule) → Behind set reading → list_all (is_thread_for set.nodes) (threads_in block) ≡ true
+command_fit : (set : SetLine) (number : ℕ) (reading : Reading) (block : Option (List Thread)) (read : Result Command ScriptRule) → After set reading → list_all (is_thread_for set.nodes) (threads_in block) ≡ true
     → Gets read (λ command. is_for set.nodes command ≡ true) → Gets (add_command number reading block read) AreFit
 command_fit set number reading None read fit all one = bind_gets read _ (λ command. is_for set.nodes command ≡ true) AreFit one (λ command ours. part_fit set reading (parts.Line number command) fit ours)
 command_fit set number reading (Some []) read fit all one = tt
@@ -108,7 +108,7 @@ command_fit set number reading (Some (thread ∷ threads)) read fit all one =
     bind_gets read _ (λ command. is_for set.nodes command ≡ true) AreFit one (λ command ours.
     block_fit set reading (in_last (thread ∷ threads) (number, command)) fit (last_fit set.nodes (thread ∷ threads) (number, command) all ours))
 
-keyword_fit : (set : SetLine) (number : ℕ) (reading : Reading) (keyword : Keyword) (left : Left) → Behind set reading → Gets (with_keyword set.nodes number reading (keyword, left)) AreFit
+keyword_fit : (set : SetLine) (number : ℕ) (reading : Reading) (keyword : Keyword) (left : Left) → After set reading → Gets (with_keyword set.nodes number reading (keyword, left)) AreFit
 keyword_fit set number reading keywords.Par left fit = begin_block_fit set reading reading.block fit
 keyword_fit set number reading keywords.Thread left fit = begin_thread_fit set reading reading.block fit fit.block
 keyword_fit set number reading keywords.End left fit = end_block_fit set reading reading.block fit fit.block
@@ -175,7 +175,7 @@ set_fit : (reading : Reading) (text : List ℕ) → reading.parts ≡ [] → rea
 set_fit reading text none closed =
     bind_gets (set_line text) _ (λ set. AreSizes (line_sizes set)) AreFit (set_sized text) (λ set sizes. (sizes, rw none refl, rw closed refl))
 
-text_fit : (number : ℕ) (reading : Reading) (text : List ℕ) (set : Option SetLine) → reading.set ≡ set → FitBehind set reading.parts reading.block → Gets (with_text number reading text set) AreFit
+text_fit : (number : ℕ) (reading : Reading) (text : List ℕ) (set : Option SetLine) → reading.set ≡ set → FitAfter set reading.parts reading.block → Gets (with_text number reading text set) AreFit
 unfolding with_command
 text_fit number reading text None is fit = set_fit reading text fit.0 fit.1
 text_fit number reading text (Some set) is fit =
@@ -198,7 +198,7 @@ abbrev Becomes : Result Script ScriptFault → Type 0
 Becomes (Ok read) = IsOfItsSet read
 Becomes (Err fault) = Unit {0}
 
-whole_fit : (number : ℕ) (reading : Reading) (set : Option SetLine) (block : Option (List Thread)) → FitBehind set reading.parts block → Becomes (whole number reading set block)
+whole_fit : (number : ℕ) (reading : Reading) (set : Option SetLine) (block : Option (List Thread)) → FitAfter set reading.parts block → Becomes (whole number reading set block)
 whole_fit number reading None block fit = tt
 whole_fit number reading (Some set) (Some threads) fit = tt
 whole_fit number reading (Some set) None fit = (fit.0, fit.1)

@@ -20,10 +20,10 @@ pub read_start : (bytes : List ℕ) (reading : Reading) → reading ≡ start �
 unfolding script
 read_start bytes reading new = record { whole = ap (λ (r : Reading). script_from 1 r (lines bytes)) new; few = omega arith }
 
-pub read_more : (bytes rest line behind : List ℕ) (reading next : Reading) (number : ℕ) → ReadSoFar bytes reading number rest
-    → lines rest ≡ line ∷ lines behind → with_line number reading line ≡ Ok next → number ≤ 200000 → ReadSoFar bytes next (number + 1) behind
-read_more bytes rest line behind reading next number so_far cut read few = record {
-  whole = sym (ap (script_from number reading) cut ∙ ap (λ (r : Result Reading ScriptRule). and_then number r (λ n. script_from (number + 1) n (lines behind))) read) ∙ so_far.whole;
+pub read_more : (bytes rest line after : List ℕ) (reading next : Reading) (number : ℕ) → ReadSoFar bytes reading number rest
+    → lines rest ≡ line ∷ lines after → with_line number reading line ≡ Ok next → number ≤ 200000 → ReadSoFar bytes next (number + 1) after
+read_more bytes rest line after reading next number so_far cut read few = record {
+  whole = sym (ap (script_from number reading) cut ∙ ap (λ (r : Result Reading ScriptRule). and_then number r (λ n. script_from (number + 1) n (lines after))) read) ∙ so_far.whole;
   few = omega (arith, few);
 }
 
@@ -37,11 +37,11 @@ stopped number (Ok next) later fault is = absurd cc
 stopped number (Err rule) later fault is = ap (λ (f : ScriptFault). Err f) (ap (fault_in fault) is)
 
 -- a line stops the reading
-pub read_stops : (bytes rest line behind : List ℕ) (reading : Reading) (number : ℕ) (error : ScriptError) → ReadSoFar bytes reading number rest
-    → lines rest ≡ line ∷ lines behind → StopsLine number (with_line number reading line) error → Stops (script bytes) error
-read_stops bytes rest line behind reading number Memory so_far cut stops = tt
-read_stops bytes rest line behind reading number (Fault fault) so_far cut stops =
-    sym so_far.whole ∙ ap (script_from number reading) cut ∙ stopped number (with_line number reading line) (λ n. script_from (number + 1) n (lines behind)) fault stops
+pub read_stops : (bytes rest line after : List ℕ) (reading : Reading) (number : ℕ) (error : ScriptError) → ReadSoFar bytes reading number rest
+    → lines rest ≡ line ∷ lines after → StopsLine number (with_line number reading line) error → Stops (script bytes) error
+read_stops bytes rest line after reading number Memory so_far cut stops = tt
+read_stops bytes rest line after reading number (Fault fault) so_far cut stops =
+    sym so_far.whole ∙ ap (script_from number reading) cut ∙ stopped number (with_line number reading line) (λ n. script_from (number + 1) n (lines after)) fault stops
 
 -- nothing is left
 pub read_whole : (bytes rest : List ℕ) (reading : Reading) (number : ℕ) → ReadSoFar bytes reading number rest → length rest ≡ 0 → script bytes ≡ whole number reading reading.set reading.block

@@ -30,16 +30,16 @@
 -- CONCERN is `majority` or 1 to 50; LEVEL is `local` or `majority`; DISK is `journal` or `checkpoint`;
 -- WORKERS is 1 to 16, by default 4; PICK is of 64 bits, at `crash` by default 0; CALL is 1 to 1000; SECONDS
 -- is below 2^31. ID is a value and DOC a document in the notation of documents; an ID that a DOC follows
--- has one space behind it. JSON is a configuration. SID is a session, below 2^32, and NUMBER that of a
+-- has one space after it. JSON is a configuration. SID is a session, below 2^32, and NUMBER that of a
 -- write in it, from 1 on and below 2^31.
 --
 -- `par` begins a block and `end` ends it. In between each `thread` begins one of at most 16 threads, and the
--- commands behind it are that thread's.
+-- commands after it are that thread's.
 --
 -- The first faulty line is told, with its first fault in this order: too many lines, too long, not UTF-8, an
 -- unknown first word (of the first command: not `set`), the number of words, a first word that may not stand
--- there, and then the words from left to right. Behind the last line, and as its successor, are told that
--- there was no `set`, and that a block is open.
+-- there, and then the words from left to right. After the last line, as faults of the line after it, are told
+-- that there was no `set`, and that a block is open.
 use Rattle.std.specs.Prelude.{ℕ, ◌≡◌, ◌+◌, Bool, nat_lt, List, [], ◌∷◌, ◌++◌, length, Option, None, Some, Result, Ok, Err, if◌then◌else◌}
 use Rattle.std.specs.List.{list_all, flat_map}
 use Rattle.std.specs.Str.Lines.{lines}
@@ -74,7 +74,7 @@ in_last [] line = []
 in_last (own ∷ []) line = (own ++ line ∷ []) ∷ []
 in_last (own ∷ next ∷ threads) line = own ∷ in_last (next ∷ threads) line
 
--- ---- what is known behind some lines: the sizes of the set, the parts, and the threads of an open block
+-- ---- what is known after some lines: the sizes of the set, the parts, and the threads of an open block
 
 abbrev pub start : Reading
 start = record { set = None; parts = []; block = None }
@@ -142,7 +142,7 @@ with_line number reading line = do
 abbrev pub faulty : {A : Type 0} → ℕ → ScriptRule → Result A ScriptFault
 faulty number rule = Err (record { line = number; rule = rule })
 
--- behind the last line there has been a `set` line, and no block is open; this is the number of the
+-- after the last line there has been a `set` line, and no block is open; this is the number of the
 -- line after it
 abbrev pub whole : ℕ → Reading → Option SetLine → Option (List Thread) → Result Script ScriptFault
 whole number reading None block = faulty number NoSetLine
@@ -156,7 +156,7 @@ abbrev pub and_then : {A : Type 0} → ℕ → Result Reading ScriptRule → (Re
 and_then number (Err rule) later = faulty number rule
 and_then number (Ok reading) later = later reading
 
--- the script behind these lines, the first of which has this number, or the first faulty one with its rule
+-- the script after these lines, the first of which has this number, or the first faulty one with its rule
 abbrev pub script_from : ℕ → Reading → List (List ℕ) → Result Script ScriptFault
 script_from number reading [] = whole number reading reading.set reading.block
 script_from number reading (line ∷ later) =

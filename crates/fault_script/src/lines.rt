@@ -16,7 +16,7 @@ const MAX_LINES: u32 = 200_000;
 /// How many bytes a line may have, without its end.
 const MAX_LINE: usize = 1_048_576;
 
-/// The first line, and what stands behind it.
+/// The first line, and what follows it.
 pub fn next_line(bytes: &[u8]) -> (&[u8], &[u8])
     requires { 0 < length bytes.now }
     ensures cut { lines bytes.now ≡ result.0.now ∷ lines result.1.now }

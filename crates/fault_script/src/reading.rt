@@ -20,7 +20,7 @@ const MAX_THREADS: usize = 16;
 /// What was read of a script so far, after some of its lines.
 #[derive(Drop)]
 pub struct Reading {
-    /// The sizes of the set, behind the `set` line.
+    /// The sizes of the set, after the `set` line.
     set: Option<SetLine>,
     parts: Parts,
     /// The threads of the block that is open, where one is.

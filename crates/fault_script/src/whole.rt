@@ -26,10 +26,10 @@ pub fn parse(alloc: Global, bytes: &[u8]) -> Result<Script, ScriptError>
     let mut number = 1;
     let mut rest = bytes;
     while !rest.is_empty() {
-        let (line, behind) = next_line(rest);
+        let (line, after) = next_line(rest);
         add_line(alloc, &mut reading, number, line)?;
         number += 1;
-        rest = behind;
+        rest = after;
     }
     Ok(reading.finish(number)?)
 }

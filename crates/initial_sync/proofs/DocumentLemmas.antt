@@ -68,13 +68,13 @@ pub no_versions : (at : OpTime) (store : Store) (place : Place) → past_at stor
 no_versions at store place none =
     subst (λ (p : Past). All (λ version. is_before version.at at ≡ true) p.versions) (sym none) (λ k d within. absurd (omega arith))
 
-find_behind : (q : Place) (front : List Saved) (one : Saved) → eq_by_cmp place_cmp q one.0 ≡ false → find place_cmp q (front ++ one ∷ []) ≡ find place_cmp q front
-find_behind q [] one other = ap (λ b. cond b (Some one.1) None) other
-find_behind q (e ∷ front) one other = ap (λ o. cond (eq_by_cmp place_cmp q e.0) (Some e.1) o) (find_behind q front one other)
+find_after : (q : Place) (front : List Saved) (one : Saved) → eq_by_cmp place_cmp q one.0 ≡ false → find place_cmp q (front ++ one ∷ []) ≡ find place_cmp q front
+find_after q [] one other = ap (λ b. cond b (Some one.1) None) other
+find_after q (e ∷ front) one other = ap (λ o. cond (eq_by_cmp place_cmp q e.0) (Some e.1) o) (find_after q front one other)
 
-found_behind : (q : Place) (front : List Saved) (one : Saved) → eq_by_cmp place_cmp q one.0 ≡ true → find place_cmp q front ≡ None → find place_cmp q (front ++ one ∷ []) ≡ Some one.1
-found_behind q [] one same none = ap (λ b. cond b (Some one.1) None) same
-found_behind q (e ∷ front) one same none = by_test (eq_by_cmp place_cmp q e.0) (λ there. found_behind q front one same there) none
+found_after : (q : Place) (front : List Saved) (one : Saved) → eq_by_cmp place_cmp q one.0 ≡ true → find place_cmp q front ≡ None → find place_cmp q (front ++ one ∷ []) ≡ Some one.1
+found_after q [] one same none = ap (λ b. cond b (Some one.1) None) same
+found_after q (e ∷ front) one same none = by_test (eq_by_cmp place_cmp q e.0) (λ there. found_after q front one same there) none
   where
     by_test : (b : Bool) → (find place_cmp q front ≡ None → find place_cmp q (front ++ one ∷ []) ≡ Some one.1) → cond b (Some e.1) (find place_cmp q front) ≡ None
         → cond b (Some e.1) (find place_cmp q (front ++ one ∷ [])) ≡ Some one.1
@@ -90,9 +90,9 @@ stores_more at front rest one old new sorted stores changes q = by_test (eq_by_c
         let is : q ≡ one.0 = place_cmp-antisymmetric q one.0 ((Equal-is _).0 same) in
         let none : find place_cmp one.0 front ≡ None = none_before front rest one sorted in
         ap (past_at new) is ∙ changes.here ∙ ap (λ (p : Past). with_version p (record { at = at; doc = Some one.1 })) (can_put at front rest one old sorted stores)
-        ∙ sym (ap (past_of at) (found_behind q front one same (ap (λ (p : Place). find place_cmp p front) is ∙ none)))
+        ∙ sym (ap (past_of at) (found_after q front one same (ap (λ (p : Place). find place_cmp p front) is ∙ none)))
     by_test false other =
-        changes.others q (λ is. absurd (apart is)) ∙ stores q ∙ sym (ap (past_of at) (find_behind q front one other))
+        changes.others q (λ is. absurd (apart is)) ∙ stores q ∙ sym (ap (past_of at) (find_after q front one other))
       where
         apart : q ≡ one.0 → ⊥
         apart is =

@@ -35,24 +35,24 @@ front_order front log (rest, is) order i j d less within =
     subst (λ (e : Entry). StandsBefore e (slice_index_or front j d)) one
     (subst (λ (e : Entry). StandsBefore (slice_index_or (front ++ rest) i d) e) two (joined i j d less (omega (arith, length-append front rest, within))))
 
-pub with_behind : (log list : List Entry) → AllPairs StandsBefore (log ++ list) → with_entries log list ≡ log ++ list
-with_behind log [] order = sym (append-nil log)
-with_behind log (e ∷ list) order =
+pub with_after : (log list : List Entry) → AllPairs StandsBefore (log ++ list) → with_entries log list ≡ log ++ list
+with_after log [] order = sym (append-nil log)
+with_after log (e ∷ list) order =
     let same : (log ++ e ∷ []) ++ list ≡ log ++ e ∷ list = append_assoc log (e ∷ []) list in
     ap (λ (l : List Entry). with_entries l list) (with_last log e (all_before log e list order))
-    ∙ with_behind (log ++ e ∷ []) list (subst (AllPairs StandsBefore) (sym same) order)
+    ∙ with_after (log ++ e ∷ []) list (subst (AllPairs StandsBefore) (sym same) order)
     ∙ same
 
 -- ---- the last of some entries
 
 last_joined : (log list : List Entry) → 0 < length list → last_of list ≡ last_of (log ++ list)
 last_joined log [] some = absurd (omega arith)
-last_joined log (y ∷ ys) some = sym (behind log)
+last_joined log (y ∷ ys) some = sym (further log)
   where
-    behind : (xs : List Entry) → last_of (xs ++ y ∷ ys) ≡ last_of (y ∷ ys)
-    behind [] = refl
-    behind (x ∷ []) = refl
-    behind (x ∷ z ∷ xs) = behind (z ∷ xs)
+    further : (xs : List Entry) → last_of (xs ++ y ∷ ys) ≡ last_of (y ∷ ys)
+    further [] = refl
+    further (x ∷ []) = refl
+    further (x ∷ z ∷ xs) = further (z ∷ xs)
 
 last_has : (P : Entry → Type 0) (y : Entry) (ys : List Entry) → All P (y ∷ ys) → (last : Entry) × P last × (last.optime ≡ last_of (y ∷ ys))
 last_has P y [] all = (y, all zero y (omega arith), refl)
@@ -65,7 +65,7 @@ later_last x [] y ys order =
     omega (arith, earlier, ap (λ (o : OpTime). o.ts) last.2)
 later_last x (z ∷ xs) y ys order = later_last z xs y ys (pairs_tail StandsBefore x ((z ∷ xs) ++ y ∷ ys) order)
 
--- a front with the same last entry is the whole log
+-- a prefix with the same last entry is the whole log
 pub same_last : (front log : List Entry) → AllPairs StandsBefore log → Begins front log → last_of front ≢ ZERO → last_of front ≡ last_of log → front ≡ log
 same_last [] log order begins above same = absurd (above refl)
 same_last (x ∷ xs) log order (rest, is) above same = by_rest rest is
@@ -95,11 +95,11 @@ first_batch entries some =
     ap (λ (k : ℕ). map batch_of (first_chunks BATCH k entries))
     (some_count (length entries) some ∙ ap (λ (n : ℕ). suc ((n + 1999) / 2000)) (sym (length-drop BATCH entries)))
 
--- some of the entries were added, behind those that were there
+-- some of the entries were added, after those that were there
 pub record Grows (before after : Kept) (list : List Entry) : Type 0 where
   pub some : List Entry
-  pub behind : List Entry
-  pub is : list ≡ some ++ behind
+  pub left : List Entry
+  pub is : list ≡ some ++ left
   pub entries : after.entries ≡ before.entries ++ some
   pub point : after.point ≡ last_of after.entries
   pub vote : after.vote ≡ before.vote
@@ -114,22 +114,22 @@ same_tail x y xs ys same = cc
 no_records : (x : Record) (xs : List Record) → [] ≡ x ∷ xs → ⊥
 no_records x xs same = cc
 
-none_behind : (entries : List Entry) → batches entries ≡ [] → entries ≡ []
-none_behind [] none = refl
-none_behind (e ∷ entries) none =
+none_after : (entries : List Entry) → batches entries ≡ [] → entries ≡ []
+none_after [] none = refl
+none_after (e ∷ entries) none =
     absurd (no_records _ _ (sym none ∙ first_batch (e ∷ entries) (omega arith)))
 
 -- after one record more
 pub after_batch : (before : Kept) (list : List Entry) → AllPairs StandsBefore (before.entries ++ list) → (with_record before (batch_of list)).entries ≡ before.entries ++ list
-after_batch before list order = with_behind before.entries list order
+after_batch before list order = with_after before.entries list order
 
 -- the first of the records of some entries add the first of these
 pub fronts : (n : ℕ) (before : Kept) (list : List Entry) (f g : List Record) → length list ≤ n → batches list ≡ f ++ g
     → AllPairs StandsBefore (before.entries ++ list) → before.point ≡ last_of before.entries
-    → (grows : Grows before (fold with_record before f) list) × (g ≡ [] → grows.behind ≡ [])
+    → (grows : Grows before (fold with_record before f) list) × (g ≡ [] → grows.left ≡ [])
 fronts n before list [] g few is order point = (
-  record { some = []; behind = list; is = refl; entries = sym (append-nil before.entries); point = point; vote = refl; config = refl },
-  λ none. none_behind list (is ∙ none),
+  record { some = []; left = list; is = refl; entries = sym (append-nil before.entries); point = point; vote = refl; config = refl },
+  λ none. none_after list (is ∙ none),
 )
 fronts n before [] (r ∷ f) g few is order point = absurd (no_records r (f ++ g) is)
 fronts zero before (e ∷ list) (r ∷ f) g few is order point = absurd (omega arith)
@@ -153,12 +153,12 @@ fronts (suc n) before (e ∷ list) (r ∷ f) g few is order point =
     let grows : Grows next (fold with_record next f) rest = more.0 in
     let mine : Grows before (fold with_record next f) all = record {
       some = some ++ grows.some;
-      behind = grows.behind;
-      is = sym whole ∙ ap (λ (l : List Entry). some ++ l) grows.is ∙ sym (append_assoc some grows.some grows.behind);
+      left = grows.left;
+      is = sym whole ∙ ap (λ (l : List Entry). some ++ l) grows.is ∙ sym (append_assoc some grows.some grows.left);
       entries = grows.entries ∙ ap (λ (l : List Entry). l ++ grows.some) added ∙ append_assoc before.entries some grows.some;
       point = grows.point;
       vote = grows.vote;
       config = grows.config;
     } in
-    subst (λ (x : Record). (grown : Grows before (fold with_record (with_record before x) f) all) × (g ≡ [] → grown.behind ≡ [])) this
+    subst (λ (x : Record). (grown : Grows before (fold with_record (with_record before x) f) all) × (g ≡ [] → grown.left ≡ [])) this
     (mine, more.1)

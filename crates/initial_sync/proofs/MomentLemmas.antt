@@ -20,7 +20,7 @@ use Rattle.checkpoint_store.specs.declared.stable.Stable.{Stable}
 use Rattle.checkpoint_store.proofs.OnceLemmas.{rest_has}
 use Rattle.initial_sync.specs.Copies.{AreCopyDisks, Copy, IsOf, IsOfSomeCopy, IsPartOrWhole, IsWhole, LeaveBoth, documents_of}
 use Rattle.initial_sync.specs.Missing.{HasFront, IsOfThis, missing}
-use Rattle.initial_sync.specs.Moments.{BesideCheckpoints, BesideJournal, EachMomentOfBoth, IsBefore, IsBeforeOrBehind, IsBehind}
+use Rattle.initial_sync.specs.Moments.{BesideCheckpoints, BesideJournal, EachMomentOfBoth, IsBefore, IsBeforeOrContinued, IsContinued}
 use Rattle.initial_sync.specs.Runs.{Fills, IsFound, OpensBoth}
 use Rattle.initial_sync.proofs.PartLemmas.{IsBase, come_to, come_whole, gives, missing_renewed, moved, part_or_whole, this_as_it_was, whole_moved}
 
@@ -69,10 +69,10 @@ pub whole_before : (j c : State) (copy : Copy) → LeaveBoth (IsWhole copy) j.fi
 whole_before j c copy leave x y one two =
     whole_moved copy one.1.0 x two.2.0 y one.0 two.0 one.1.2 one.2 two.2.2 two.1 (leave one.1.0 one.1.1 two.2.0 two.2.1)
 
-pub law : (j j' c c' : State) (copy : Copy) → EachMomentOfBoth (IsBeforeOrBehind j c copy) j j' c c' → LeaveBoth (IsPartOrWhole copy) j.file c.file → EachMomentOfBoth (IsPartOrWhole copy) j j' c c'
+pub law : (j j' c c' : State) (copy : Copy) → EachMomentOfBoth (IsBeforeOrContinued j c copy) j j' c c' → LeaveBoth (IsPartOrWhole copy) j.file c.file → EachMomentOfBoth (IsPartOrWhole copy) j j' c c'
 law j j' c c' copy moments leave =
-    weaker (IsBeforeOrBehind j c copy) (IsPartOrWhole copy)
-    (λ x y. ⊎_elim (λ before. of_before j c copy copy leave x y before.0 before.1) (λ behind. behind.0)) j j' c c' moments
+    weaker (IsBeforeOrContinued j c copy) (IsPartOrWhole copy)
+    (λ x y. ⊎_elim (λ before. of_before j c copy copy leave x y before.0 before.1) (λ later. later.0)) j j' c c' moments
 
 -- and of disks that a copy can use
 pub of_some_copy : (j c : State) → AreCopyDisks j c → (x y : List ℕ) → IsBefore j c x y → IsOfSomeCopy x y
@@ -80,12 +80,12 @@ of_some_copy j c are x y (one, two) =
     let of = are.leave one.1.0 one.1.1 two.2.0 two.2.1 in
     (of.0, of.1, moved of.0 one.1.0 x two.2.0 y one.0 two.0 one.1.2 one.2 two.2.2 two.1 of.2)
 
-pub copy_disks : (j j' c c' : State) (copy : Copy) → last_of copy.entries ≢ ZERO → AreCopyDisks j c → EachMomentOfBoth (IsBeforeOrBehind j c copy) j j' c c' → AreCopyDisks j' c'
+pub copy_disks : (j j' c c' : State) (copy : Copy) → last_of copy.entries ≢ ZERO → AreCopyDisks j c → EachMomentOfBoth (IsBeforeOrContinued j c copy) j j' c c' → AreCopyDisks j' c'
 copy_disks j j' c c' copy above are moments = record {
   leave = λ x left y here. ⊎_elim
       (λ before. of_some_copy j c are x y before)
-      (λ behind. (copy, above, behind.0))
-      (at_the_end (IsBeforeOrBehind j c copy) j j' c c' moments x left y here);
+      (λ later. (copy, above, later.0))
+      (at_the_end (IsBeforeOrContinued j c copy) j j' c c' moments x left y here);
 }
 
 -- ---- the moments of a copy
@@ -104,8 +104,8 @@ opened_so P j j1 c c1 disk so opens = record {
 
 module _ (j j1 c c1 : State) (copy : Copy) (disk : IsCheckpointDisk c) (opens : OpensBoth j j1 c c1) where
   -- nothing more was done
-  pub opened_only : EachMomentOfBoth (IsBeforeOrBehind j c copy) j j1 c c1
-  opened_only = opened_so (IsBeforeOrBehind j c copy) j j1 c c1 disk (λ x y one two. inl (one, two)) opens
+  pub opened_only : EachMomentOfBoth (IsBeforeOrContinued j c copy) j j1 c c1
+  opened_only = opened_so (IsBeforeOrContinued j c copy) j j1 c c1 disk (λ x y one two. inl (one, two)) opens
 
   module _ (found : Kept) (stable : Stable) (is : IsFound found stable j j1 c c1) (base : IsBase copy found stable) (order : AllPairs StandsBefore copy.entries) where
     abbrev items : List Record
@@ -120,8 +120,8 @@ module _ (j j1 c c1 : State) (copy : Copy) (disk : IsCheckpointDisk c) (opens : 
     shows : LeavesOnly (λ y. HasCheckpoint y stable) c1.file
     shows = rest_has c1 stable is.checkpoints
 
-    behind : (x : List ℕ) → HasFront items (missing copy (kept is.items)) x → IsBehind copy j c x
-    behind x front = record {
+    later : (x : List ℕ) → HasFront items (missing copy (kept is.items)) x → IsContinued copy j c x
+    later x front = record {
       items = is.items;
       stable = stable;
       records = is.records;
@@ -131,12 +131,12 @@ module _ (j j1 c c1 : State) (copy : Copy) (disk : IsCheckpointDisk c) (opens : 
     }
 
     -- the first of the missing records beside the checkpoint that was found
-    beside_found : (x y : List ℕ) → HasFront items (missing copy (kept is.items)) x → HasCheckpoint y stable → IsBeforeOrBehind j c copy x y
+    beside_found : (x y : List ℕ) → HasFront items (missing copy (kept is.items)) x → HasCheckpoint y stable → IsBeforeOrContinued j c copy x y
     beside_found x y (f, g, split, has) here = ⊎_elim
         (λ none.
         let same : HasJournal x items = subst (HasJournal x) (ap (λ (l : List Record). items ++ l) none ∙ append-nil items) has in
         inl ((is.items, (contents j.file, read_is_image j.file, is.records), inr same), (stable, here, (contents c.file, read_is_image c.file, is.documents))))
-        (λ come. inr (part_or_whole copy found stable items f x y base is.kept_is come has here, behind x (f, g, split, has)))
+        (λ come. inr (part_or_whole copy found stable items f x y base is.kept_is come has here, later x (f, g, split, has)))
         (come_to copy found base.is base.this.entries order f g (split_as f g split))
 
     all_of : (x : List ℕ) → HasJournal x (items ++ missing copy (kept is.items)) → HasFront items (missing copy (kept is.items)) x
@@ -154,22 +154,22 @@ module _ (j j1 c c1 : State) (copy : Copy) (disk : IsCheckpointDisk c) (opens : 
       adds : EachMoment (HasFront items (missing copy (kept is.items))) j1 j'
       adds = subst (λ (l : List Record). EachMoment (HasFront items l) j1 j') (missing_renewed copy is.items) fills.adds
 
-      writes_first : EachMoment (BesideCheckpoints (IsBeforeOrBehind j c copy) c1.file) j1 j'
+      writes_first : EachMoment (BesideCheckpoints (IsBeforeOrContinued j c copy) c1.file) j1 j'
       writes_first =
-          weakens (HasFront items (missing copy (kept is.items))) (BesideCheckpoints (IsBeforeOrBehind j c copy) c1.file)
+          weakens (HasFront items (missing copy (kept is.items))) (BesideCheckpoints (IsBeforeOrContinued j c copy) c1.file)
           (λ x front y left. beside_found x y front (shows y left)) j1 j' adds
 
-      writes_then : EachMoment (BesideJournal (IsBeforeOrBehind j c copy) j'.file) c1 c'
+      writes_then : EachMoment (BesideJournal (IsBeforeOrContinued j c copy) j'.file) c1 c'
       writes_then = ⊎_elim
-          (λ same. subst (λ (s : State). EachMoment (BesideJournal (IsBeforeOrBehind j c copy) j'.file) c1 s) (sym same)
-          (starts (BesideJournal (IsBeforeOrBehind j c copy) j'.file) c1 (λ y here x left. writes_first.now x left y here)))
-          (λ rests. weakens (IsBeforeOrAfter stable (documents_of copy.entries)) (BesideJournal (IsBeforeOrBehind j c copy) j'.file)
+          (λ same. subst (λ (s : State). EachMoment (BesideJournal (IsBeforeOrContinued j c copy) j'.file) c1 s) (sym same)
+          (starts (BesideJournal (IsBeforeOrContinued j c copy) j'.file) c1 (λ y here x left. writes_first.now x left y here)))
+          (λ rests. weakens (IsBeforeOrAfter stable (documents_of copy.entries)) (BesideJournal (IsBeforeOrContinued j c copy) j'.file)
           (λ y either x left.
           let has = subst (λ (l : List Record). HasJournal x (items ++ l)) (missing_renewed copy is.items) (rest_only j' (items ++ missing copy (kept items)) rests x left) in
-          ⊎_elim (λ before. beside_found x y (all_of x has) before) (λ after. inr (inr (whole_now x y has after), behind x (all_of x has))) either) c1 c' fills.saves)
+          ⊎_elim (λ before. beside_found x y (all_of x has) before) (λ after. inr (inr (whole_now x y has after), later x (all_of x has))) either) c1 c' fills.saves)
           fills.in_turn
 
-      pub filled : EachMomentOfBoth (IsBeforeOrBehind j c copy) j j' c c'
+      pub filled : EachMomentOfBoth (IsBeforeOrContinued j c copy) j j' c c'
       unfolding opened_only opened_so
       filled = record {
         journal = j1;

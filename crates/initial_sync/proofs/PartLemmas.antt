@@ -107,17 +107,17 @@ module _ (copy : Copy) (found : Kept) (is : IsOf found.vote.term found.entries f
       → (come : HasCome copy found (fold with_record before f)) × (g ≡ [] → come.log ≡ copy.entries)
   grown before f g same point config vote split =
       let rest = begins.0 in
-      let behind : drop (length found.entries) copy.entries ≡ rest = ap (drop (length found.entries)) begins.1 ∙ drop_at found.entries rest _ refl in
+      let later : drop (length found.entries) copy.entries ≡ rest = ap (drop (length found.entries)) begins.1 ∙ drop_at found.entries rest _ refl in
       let ordered : AllPairs StandsBefore (before.entries ++ rest) = subst (λ (l : List Entry). AllPairs StandsBefore (l ++ rest)) (sym same) (subst (AllPairs StandsBefore) begins.1 order) in
-      let both = fronts (length rest) before rest f g (omega arith) (ap batches (sym behind) ∙ split) ordered (point ∙ is.point ∙ ap last_of (sym same)) in
+      let both = fronts (length rest) before rest f g (omega arith) (ap batches (sym later) ∙ split) ordered (point ∙ is.point ∙ ap last_of (sym same)) in
       let grows : Grows before (fold with_record before f) rest = both.0 in
       let entries : (fold with_record before f).entries ≡ found.entries ++ grows.some = grows.entries ∙ ap (λ (l : List Entry). l ++ grows.some) same in
-      let whole : copy.entries ≡ (found.entries ++ grows.some) ++ grows.behind =
-      begins.1 ∙ ap (λ (l : List Entry). found.entries ++ l) grows.is ∙ sym (append_assoc found.entries grows.some grows.behind) in (
+      let whole : copy.entries ≡ (found.entries ++ grows.some) ++ grows.left =
+      begins.1 ∙ ap (λ (l : List Entry). found.entries ++ l) grows.is ∙ sym (append_assoc found.entries grows.some grows.left) in (
         record {
           log = found.entries ++ grows.some;
           longer = (grows.some, refl);
-          begins = (grows.behind, whole);
+          begins = (grows.left, whole);
           is = record { vote = grows.vote ∙ vote; config = grows.config ∙ config; entries = entries; point = grows.point ∙ ap last_of entries };
         },
         λ none. sym (whole ∙ ap (λ (l : List Entry). (found.entries ++ grows.some) ++ l) (both.1 none) ∙ append-nil (found.entries ++ grows.some)),
@@ -167,14 +167,14 @@ module _ (copy : Copy) (found : Kept) (is : IsOf found.vote.term found.entries f
 
 -- ---- a part or the whole
 
-kept_behind : (items f : List Record) → fold with_record (kept items) f ≡ kept (items ++ f)
-kept_behind items f = sym (fold-append with_record nothing_kept items f)
+kept_after : (items f : List Record) → fold with_record (kept items) f ≡ kept (items ++ f)
+kept_after items f = sym (fold-append with_record nothing_kept items f)
 
 pub gives : (term : ℕ) (log : List Entry) (items f : List Record) (found : Kept) (x : List ℕ) → found ≡ kept items → IsOf term log (fold with_record found f) → HasJournal x (items ++ f) → GivesBack term log x
 gives term log items f found x same is has = record {
   records = items ++ f;
   has = has;
-  is = subst (IsOf term log) (ap (λ (k : Kept). fold with_record k f) same ∙ kept_behind items f) is;
+  is = subst (IsOf term log) (ap (λ (k : Kept). fold with_record k f) same ∙ kept_after items f) is;
 }
 
 pub part_or_whole : (copy : Copy) (found : Kept) (stable : Stable) (items f : List Record) (x y : List ℕ) → IsBase copy found stable → found ≡ kept items

@@ -23,7 +23,7 @@ use Rattle.checkpoint_store.proofs.OnceLemmas.{checkpoint_once, rest_has}
 use Rattle.initial_sync.specs.Answers.{LeavesAsRead, checkpoints_after, copy_error, error_after, journal_after}
 use Rattle.initial_sync.specs.Copies.{AreCopyDisks, Copy, IsWhole, LeaveBoth, documents_of}
 use Rattle.initial_sync.specs.Missing.{HasFront, IsOfThis, missing}
-use Rattle.initial_sync.specs.Moments.{EachMomentOfBoth, IsBeforeOrBehind}
+use Rattle.initial_sync.specs.Moments.{EachMomentOfBoth, IsBeforeOrContinued}
 use Rattle.initial_sync.specs.Runs.{Fills, Goes, IsFound, IsStop, OpensBoth, Ran, WentOn}
 use Rattle.initial_sync.specs.declared.error.CopyError.{CopyError}
 use Rattle.initial_sync.specs.declared.error.CopyError.TheVariants.{Disk, OtherCopy, Memory}
@@ -91,13 +91,13 @@ failed_on copy found stable failed error j j' c c' is this fills = inr (record {
     never FileMemory error is other = cc
 
 module _ (copy : Copy) (order : AllPairs StandsBefore copy.entries) (error : Option CopyError) (j j' c c' : State) (are : AreCopyDisks j c) (ran : Ran copy error j j' c c') where
-  still : (j' ≡ ran.journal) → (c' ≡ ran.checkpoints) → EachMomentOfBoth (IsBeforeOrBehind j c copy) j j' c c'
+  still : (j' ≡ ran.journal) → (c' ≡ ran.checkpoints) → EachMomentOfBoth (IsBeforeOrContinued j c copy) j j' c c'
   still one two =
-      subst (λ (s : State). EachMomentOfBoth (IsBeforeOrBehind j c copy) j s c c') (sym one)
-      (subst (λ (s : State). EachMomentOfBoth (IsBeforeOrBehind j c copy) j ran.journal c s) (sym two)
+      subst (λ (s : State). EachMomentOfBoth (IsBeforeOrContinued j c copy) j s c c') (sym one)
+      (subst (λ (s : State). EachMomentOfBoth (IsBeforeOrContinued j c copy) j ran.journal c s) (sym two)
       (opened_only j ran.journal c ran.checkpoints copy (checkpoint_disk j c are) ran.opens))
 
-  pub moments : EachMomentOfBoth (IsBeforeOrBehind j c copy) j j' c c'
+  pub moments : EachMomentOfBoth (IsBeforeOrContinued j c copy) j j' c c'
   moments = ⊎_elim (λ stop. still stop.1 stop.2)
       (λ went.
       let found : Kept = went.0 in

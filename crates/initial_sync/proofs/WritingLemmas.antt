@@ -1,4 +1,4 @@
--- Records that are added one behind the other, and what a crash leaves meanwhile.
+-- Records that are added one after the other, and what a crash leaves meanwhile.
 use Rattle.std.proofs.Common.{◌≡◌, ◌∙◌, ⊎_elim, inl, ℕ, ◌<◌, Bool, true, false, cond, nat_eq, None, length, take, drop, arith, List, [], ◌∷◌, ◌++◌, ap, sym, subst, refl, append_assoc, append-nil}
 use Rattle.std.specs.Prelude.{OnOk, Result}
 use Rattle.std.proofs.lemmas.Bool.Decides.{nat_tests}
@@ -111,11 +111,11 @@ added_all whole old new so_far items before =
     subst (λ (l : List Record). IsAtRest new (items ++ l)) (sym (so_far.is ∙ append-nil so_far.done)) (so_far.stands items before)
 
 -- the next record
-pub next_added : (entries piece behind : List Entry) (item : Record) (whole : List Record) (old mid : State) → piece ≡ take BATCH entries → behind ≡ drop BATCH entries → item ≡ batch_of piece
-    → 0 < length entries → Added whole (batches entries) old mid → Added whole (item ∷ batches behind) old mid
-next_added entries piece behind item whole old mid piece_is behind_is is some so_far =
+pub next_added : (entries piece tail : List Entry) (item : Record) (whole : List Record) (old mid : State) → piece ≡ take BATCH entries → tail ≡ drop BATCH entries → item ≡ batch_of piece
+    → 0 < length entries → Added whole (batches entries) old mid → Added whole (item ∷ batches tail) old mid
+next_added entries piece tail item whole old mid piece_is after_is is some so_far =
     let first : batch_of (take BATCH entries) ≡ item = sym (is ∙ ap batch_of piece_is) in
-    let rest : batches (drop BATCH entries) ≡ batches behind = ap batches (sym behind_is) in
+    let rest : batches (drop BATCH entries) ≡ batches tail = ap batches (sym after_is) in
     subst (λ (l : List Record). Added whole l old mid) (first_batch entries some ∙ (λ i. first i ∷ rest i)) so_far
 
 no_batches : (entries : List Entry) → length entries ≡ 0 → batches entries ≡ []

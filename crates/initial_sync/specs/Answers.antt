@@ -30,7 +30,7 @@ abbrev pub error_of : {A : Type 0} → Result A CopyError → Option CopyError
 error_of (Ok value) = None
 error_of (Err error) = Some error
 
--- What is kept of two disks that were used. A fault comes only where the count of one rose, and on steady
+-- What stays true of two disks that were used. A fault comes only where the count of one rose, and on steady
 -- disks only where one was armed.
 pub record RanBoth (Fault : Type 0) (j j' c c' : State) : Type 0 where
   pub journal : Keeps ⊥ j j'

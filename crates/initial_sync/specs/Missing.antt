@@ -28,11 +28,11 @@ abbrev pub term_missing : ℕ → ℕ → List Record
 term_missing term kept_term =
     if kept_term == term then [] else records.Vote (record { term = term; candidate = None }) ∷ []
 
--- the records that a journal still needs, behind those that come to this
+-- the records that a journal still needs, after those that come to this
 abbrev pub missing : Copy → Kept → List Record
 missing copy kept = term_missing copy.term kept.vote.term ++ batches (drop (length kept.entries) copy.entries)
 
--- the records, and behind them the first of those that are added
+-- the records, and after them the first of those that are added
 abbrev pub HasFront : List Record → List Record → List ℕ → Type 0
 HasFront items added image =
     (front : List Record) × (rest : List Record) × (added ≡ front ++ rest) × HasJournal image (items ++ front)

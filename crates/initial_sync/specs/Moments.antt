@@ -20,7 +20,7 @@ abbrev pub BesideJournal : (List ℕ → List ℕ → Type 0) → File → List 
 BesideJournal P journal checkpoints = LeavesOnly (λ image. P image checkpoints) journal
 
 -- At each moment a crash left two lists of bytes that have P. First the journal was opened, and then the
--- checkpoints; behind that the journal was written, and then the checkpoints.
+-- checkpoints; after that the journal was written, and then the checkpoints.
 pub record EachMomentOfBoth (P : List ℕ → List ℕ → Type 0) (j j' c c' : State) : Type 0 where
   pub journal : State
   pub checkpoints : State
@@ -29,9 +29,9 @@ pub record EachMomentOfBoth (P : List ℕ → List ℕ → Type 0) (j j' c c' : 
   pub writes_journal : EachMoment (BesideCheckpoints P checkpoints.file) journal j'
   pub writes_checkpoints : EachMoment (BesideJournal P j'.file) checkpoints c'
 
--- What is read now of both disks can be a part or the whole of the copy. Behind its records, in the newest
+-- What is read now of both disks can be a part or the whole of the copy. After its records, in the newest
 -- form, stand the first of those that the copy adds.
-pub record IsBehind (copy : Copy) (j c : State) (image : List ℕ) : Type 0 where
+pub record IsContinued (copy : Copy) (j c : State) (image : List ℕ) : Type 0 where
   pub items : List Record
   pub stable : Stable
   pub records : HasJournal (contents j.file) items
@@ -43,8 +43,8 @@ pub record IsBehind (copy : Copy) (j c : State) (image : List ℕ) : Type 0 wher
 abbrev pub IsBefore : State → State → List ℕ → List ℕ → Type 0
 IsBefore j c journal checkpoints = IsOneOfRenewed j journal × IsOneCheckpoint c checkpoints
 
--- that, or a part or the whole of the copy, behind what is there now
-abbrev pub IsBeforeOrBehind : State → State → Copy → List ℕ → List ℕ → Type 0
-IsBeforeOrBehind j c copy journal checkpoints =
+-- that, or a part or the whole of the copy, after what is there now
+abbrev pub IsBeforeOrContinued : State → State → Copy → List ℕ → List ℕ → Type 0
+IsBeforeOrContinued j c copy journal checkpoints =
     IsBefore j c journal checkpoints
-    ⊎ (IsPartOrWhole copy journal checkpoints × IsBehind copy j c journal)
+    ⊎ (IsPartOrWhole copy journal checkpoints × IsContinued copy j c journal)

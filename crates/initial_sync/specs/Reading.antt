@@ -14,7 +14,7 @@ use Rattle.initial_sync.specs.Moments.{EachMomentOfBoth, IsBefore}
 
 -- A crash at any moment leaves what one before might have left, but for the newest form of the journal. So
 -- two disks with a part or the whole of a copy have it at each moment, and where they have the whole they
--- still have it then; and a copy can use them behind the reading.
+-- still have it then; and a copy can use them after the reading.
 pub record ReadsOver (j j' c c' : State) : Type 0 where
   pub moments : EachMomentOfBoth (IsBefore j c) j j' c c'
   pub part : (copy : Copy) → LeaveBoth (IsPartOrWhole copy) j.file c.file

@@ -1,4 +1,4 @@
--- How a copy goes: what the opening finds, and what is done behind it.
+-- How a copy goes: what the opening finds, and what is done after it.
 use Rattle.std.specs.Prelude.{◌≡◌, ◌≢◌, ◌⊎◌, List, ◌++◌, Option, None, Some}
 use Rattle.rs_disk.specs.File.{contents}
 use Rattle.rs_disk.specs.Moments.{EachMoment}
@@ -29,7 +29,7 @@ pub record IsFound (found : Kept) (stable : Stable) (j j' c c' : State) : Type 0
   pub documents : HasCheckpoint (contents c.file) stable
   pub checkpoints : CheckpointsAtRest c' stable
 
--- What is missing was added to the journal, or the first of it, and behind all of it the
+-- What is missing was added to the journal, or the first of it, and after all of it the
 -- checkpoint was saved.
 pub record Fills (copy : Copy) (items : List Record) (stable : Stable) (Done : Type 0)
     (j j' c c' : State) : Type 0 where
@@ -39,7 +39,7 @@ pub record Fills (copy : Copy) (items : List Record) (stable : Stable) (Done : T
   pub done : Done → JournalAtRest j' (items ++ missing copy (kept items))
       × CheckpointsAtRest c' (documents_of copy.entries)
 
--- what was done behind what was found: nothing, where that is of another copy
+-- what was done after what was found: nothing, where that is of another copy
 pub record WentOn (copy : Copy) (found : Kept) (stable : Stable) (error : Option CopyError)
     (j j' c c' : State) : Type 0 where
   pub other : error ≡ Some OtherCopy → (¬ IsOfThis copy found stable.at) × (j' ≡ j) × (c' ≡ c)
@@ -51,7 +51,7 @@ pub record WentOn (copy : Copy) (found : Kept) (stable : Stable) (error : Option
 abbrev pub IsStop : Option CopyError → Type 0
 IsStop error = (error ≡ Some Disk) ⊎ (error ≡ Some Memory)
 
--- nothing was done behind the opening, and memory ran out, or a disk failed; or what was found was looked at
+-- nothing was done after the opening, and memory ran out, or a disk failed; or what was found was looked at
 abbrev pub Goes : Copy → Kept → Stable → Option CopyError → State → State → State → State → Type 0
 Goes copy found stable error j j' c c' =
     (IsStop error × (j' ≡ j) × (c' ≡ c)) ⊎ WentOn copy found stable error j j' c c'

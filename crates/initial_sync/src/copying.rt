@@ -10,7 +10,7 @@ ghost use Rattle.checkpoint_store.specs.declared.stable.Stable.{Stable as AStabl
 ghost use Rattle.initial_sync.specs.Answers.{LeavesAsRead, RanBoth, checkpoints_after, error_after, error_of, journal_after};
 ghost use Rattle.initial_sync.specs.Copies.{AreCopyDisks, IsPartOrWhole, IsWhole, LeaveBoth, documents_of};
 ghost use Rattle.initial_sync.specs.Missing.{IsOfThis, missing};
-ghost use Rattle.initial_sync.specs.Moments.{EachMomentOfBoth, IsBeforeOrBehind};
+ghost use Rattle.initial_sync.specs.Moments.{EachMomentOfBoth, IsBeforeOrContinued};
 ghost use Rattle.initial_sync.specs.Pinned.{IsPinned, copy_of};
 ghost use Rattle.initial_sync.specs.Runs.{Fills, Goes, IsFound, OpensBoth, Ran};
 
@@ -56,7 +56,7 @@ impl Found {
 }
 
 impl<D: Disk> Disks<D> {
-    // Adds what is missing: the journal's records, and behind them the checkpoint.
+    // Adds what is missing: the journal's records, and after them the checkpoint.
     fn fill(&mut self, alloc: Global, pinned: &Pinned, found: &Found) -> Result<(), FileError>
         requires pinned { IsPinned pinned.now }
         requires this { IsOfThis (copy_of pinned.now) found.now.kept found.now.stable.at }
@@ -159,7 +159,7 @@ pub(crate) fn open_both<D: Disk>(
     }
 }
 
-// Goes on behind what was found on the disks that were opened.
+// Goes on after what was found on the disks that were opened.
 fn go_on<D: Disk>(
     alloc: Global,
     pinned: &Pinned,
@@ -212,7 +212,7 @@ fn run<D: Disk>(
 }
 
 /// Makes the disks of a new member a copy of what is pinned: first the term, then the entries, and last of
-/// all the documents. On disks on which a copy was cut off it goes on behind the last record.
+/// all the documents. On disks on which a copy was cut off it goes on after the last record.
 ///
 /// # Errors
 /// `Disk` where a disk failed. `OtherCopy` where the disks have another term than 0 and that of the copy,
@@ -231,7 +231,7 @@ pub fn copy<D: Disk>(
     // Every crash leaves the whole copy.
     ensures whole { IfOk result (λ disks. LeaveBoth (IsWhole (copy_of pinned.now))
         (D.state disks.0).file (D.state disks.1).file) }
-    // The records that were there stay, in the newest form, and behind them stand those that were missing.
+    // The records that were there stay, in the newest form, and after them stand those that were missing.
     ensures goes_on { IfOk result (λ disks.
         (items : List ARecord) → HasJournal (contents (D.state journal).file) items
         → JournalAtRest (D.state disks.0) (renewed items ++ missing (copy_of pinned.now) (kept items))) }
@@ -251,9 +251,9 @@ pub fn copy<D: Disk>(
     ensures left { AreCopyDisks (D.state (journal_after result)) (D.state (checkpoints_after result)) }
 
     // A crash at any moment leaves what one before the call might have left, with or without the newest form
-    // of the journal, or a part or the whole of the copy behind it.
+    // of the journal, or a part or the whole of the copy after it.
     ensures any_moment { EachMomentOfBoth
-        (IsBeforeOrBehind (D.state journal) (D.state checkpoints) (copy_of pinned.now))
+        (IsBeforeOrContinued (D.state journal) (D.state checkpoints) (copy_of pinned.now))
         (D.state journal) (D.state (journal_after result))
         (D.state checkpoints) (D.state (checkpoints_after result)) }
     // On disks with a part or the whole of this copy that is a part or the whole again.

@@ -48,7 +48,7 @@ fn batch(alloc: Global, entries: &[Entry]) -> Mem<Record>
     })
 }
 
-// The entries of the next record, and those behind them.
+// The entries of the next record, and those after them.
 fn next_piece(entries: &[Entry]) -> (&[Entry], &[Entry])
     ensures piece { result.0.now ≡ take BATCH entries.now }
     ensures few { length result.0.now ≤ BATCH }
@@ -74,9 +74,9 @@ fn add_entries<D: Disk>(
 {
     let mut rest = entries;
     while !rest.is_empty() {
-        let (piece, behind) = next_piece(rest);
+        let (piece, after) = next_piece(rest);
         journal.add(&batch(alloc, piece)?)?;
-        rest = behind;
+        rest = after;
     }
     Ok(())
 }
@@ -102,7 +102,7 @@ fn add_term<D: Disk>(journal: &mut Journal<D>, term: u64, kept: u64) -> Result<(
     journal.add(&Record::Vote(vote))
 }
 
-/// Adds what the journal still needs behind what it keeps.
+/// Adds what the journal still needs after what it keeps.
 pub(crate) fn add_missing<D: Disk>(
     alloc: Global,
     journal: &mut Journal<D>,
@@ -120,11 +120,11 @@ pub(crate) fn add_missing<D: Disk>(
     ensures keeps { Keeps (IsErrOf result FileError.Disk) (D.state journal.old.0) (D.state journal.new.0) }
 {
     add_term(journal, pinned.term, kept.vote.term)?;
-    add_entries(alloc, journal, behind(pinned, kept))
+    add_entries(alloc, journal, entries_left(pinned, kept))
 }
 
-// The entries behind those that are kept.
-fn behind<'a>(pinned: &'a Pinned, kept: &Kept) -> &'a [Entry]
+// The entries after those that are kept.
+fn entries_left<'a>(pinned: &'a Pinned, kept: &Kept) -> &'a [Entry]
     requires { length kept.now.entries ≤ length pinned.now.entries.items }
     ensures { result.now ≡ drop (length kept.now.entries) pinned.now.entries.items }
 {

@@ -1,4 +1,4 @@
--- What the event behind a place of a run tells of the node that answered it.
+-- What the event after a place of a run tells of the node that answered it.
 use Rattle.std.proofs.Common.{◌≡◌, ◌∙◌, ap, sym, refl, ℕ, suc, None, Some, List, slice_get}
 use Rattle.rs_optime.specs.declared.optime.OpTime.{OpTime}
 use Rattle.oplog_entry.specs.declared.entry.Entry.{Entry}
@@ -26,7 +26,7 @@ module _ (sizes : Sizes) (events : List Event) where
   pub record DidAt (place number : ℕ) (does : Node → Outcome) (answer : Reply) : Type 0 where
     pub node : Node
     pub before : IsAt sizes events place number node
-    pub behind : slice_get (world_at sizes events (suc place)).nodes number ≡ Some (does node).node
+    pub next : slice_get (world_at sizes events (suc place)).nodes number ≡ Some (does node).node
     pub told : (does node).reply ≡ answer
 
   pub did_at : (place number : ℕ) (event : Event) (does : Node → Outcome) (answer : Reply) → Answers sizes events place number event answer
@@ -34,8 +34,8 @@ module _ (sizes : Sizes) (events : List Event) where
   did_at place number event does answer answers done = record {
     node = done.node;
     before = record { there = ap (λ v. slice_get (world_at sizes events place).nodes v) (sym answers.touches) ∙ done.before; up = done.up };
-    behind = ap (λ (w : World). slice_get w.nodes number) (world_next (opening sizes) events place event answers.event_is)
-        ∙ ap (λ v. slice_get (step (world_at sizes events place) event).world.nodes v) (sym answers.touches) ∙ done.behind;
+    next = ap (λ (w : World). slice_get w.nodes number) (world_next (opening sizes) events place event answers.event_is)
+        ∙ ap (λ v. slice_get (step (world_at sizes events place) event).world.nodes v) (sym answers.touches) ∙ done.next;
     told = done.told;
   }
 
@@ -46,7 +46,7 @@ module _ (sizes : Sizes) (events : List Event) where
     pub new : Node
     pub entry : Entry
     pub before : Leads sizes events place number at.term old
-    pub behind : IsAt sizes events (suc place) number new
+    pub next : IsAt sizes events (suc place) number new
     pub more : new.log ≡ with_entry old.log entry
     pub at_is : entry.optime ≡ at
     pub next_is : next_optime old ≡ at
@@ -62,7 +62,7 @@ module _ (sizes : Sizes) (events : List Event) where
         new = logged there.node Note None;
         entry = record { optime = next_optime there.node; op = Note; session = None };
         before = record { at = there.before; term_is = ap (λ (o : OpTime). o.term) tells.at_is; role = ap is_leading tells.primary };
-        behind = record { there = there.behind ∙ ap (λ n. Some n) tells.new_is; up = there.before.up };
+        next = record { there = there.next ∙ ap (λ n. Some n) tells.new_is; up = there.before.up };
         more = refl;
         at_is = tells.at_is;
         next_is = tells.at_is;

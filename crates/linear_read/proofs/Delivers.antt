@@ -22,7 +22,7 @@ use Rattle.set_model.specs.Deliver.{body_refusal, brings_term, vote_reply_told, 
 use Rattle.set_model.specs.Fetching.{holds, reply_to, entries_told}
 use Rattle.set_model.specs.Node.{Node, DryTally}
 use Rattle.set_model.specs.Outcome.{Outcome, replied, sending}
-use Rattle.set_model.specs.Points.{last_point, log_behind, visible_log, same_optime}
+use Rattle.set_model.specs.Points.{last_point, log_after, visible_log, same_optime}
 use Rattle.set_model.specs.Reports.{report_told}
 use Rattle.set_model.specs.Roles.{is_secondary, is_candidate, is_primary}
 use Rattle.set_model.specs.Rollback.{common_told, common_point, roll_back, rollback_reason, cut_record}
@@ -49,8 +49,8 @@ module _ (P : Entry → Type 0) (old : Node) (from : ℕ) where
   fetch_told_comes : (next : ℕ) (node : Node) (base : OpTime) → Holds P node → Comes P old (sending (reply.Replied next) node from (bodies.FetchReply (reply_to node base)))
   fetch_told_comes next node base ok = says P old _ node from (bodies.FetchReply (reply_to node base)) ok (go (holds node base))
     where
-      go : (b : Bool) → AreSuch P (cond b (take 5000 (log_behind base (visible_log node))) [])
-      go true = take_such P 5000 (log_behind base (visible_log node)) (filter_such P _ (visible_log node) (visible_such P node ok.0.such))
+      go : (b : Bool) → AreSuch P (cond b (take 5000 (log_after base (visible_log node))) [])
+      go true = take_such P 5000 (log_after base (visible_log node)) (filter_such P _ (visible_log node) (visible_such P node ok.0.such))
       go false = λ entry there. absurd there
 
   entries_comes : (node : Node) (fetched : FetchReply) → Holds P node → AreSuch P fetched.entries → Comes P old (entries_told node from fetched)

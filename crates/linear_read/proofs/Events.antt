@@ -38,7 +38,7 @@ pub record Did (world new : World) (number : ℕ) (does : Node → Outcome) (ans
   pub node : Node
   pub before : slice_get world.nodes number ≡ Some node
   pub up : node.up ≡ true
-  pub behind : slice_get new.nodes number ≡ Some (does node).node
+  pub next : slice_get new.nodes number ≡ Some (does node).node
   pub told : (does node).reply ≡ answer
 
 module _ (world : World) (event : Event) (command : Command) (own : ℕ) (does : Node → Outcome) (answer : Reply) (asks : event.command ≡ command) (acts_is : task world command ≡ acts own)
@@ -58,7 +58,7 @@ module _ (world : World) (event : Event) (command : Command) (own : ℕ) (does :
       → (by_plan world event (Some (if up then Plan.finished (does node) else Plan.finished (refused NodeDown node)))).reply ≡ answer
       → Did world (by_plan world event (Some (if up then Plan.finished (does node) else Plan.finished (refused NodeDown node)))).world number does answer
   by_up node there false up told = absurd (cc (ap is_refusal told, taken))
-  by_up node there true up told = record { node = node; before = there; up = up; behind = get_set_same world.nodes number _ node there; told = told }
+  by_up node there true up told = record { node = node; before = there; up = up; next = get_set_same world.nodes number _ node there; told = told }
 
   at_node : (found : Option Node) → slice_get world.nodes number ≡ found → (by_plan world event (option_and_then by found)).reply ≡ answer
       → Did world (by_plan world event (option_and_then by found)).world number does answer

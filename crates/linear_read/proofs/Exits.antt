@@ -1,4 +1,4 @@
--- The points of a linear read one behind the other: what is left at each of its exits.
+-- The points of a linear read one after the other: what is left at each of its exits.
 use Rattle.std.proofs.Common.{◌≡◌, ◌∙◌, ap, sym, subst, ℕ, Bool, Option, Some, List, Result, Ok, Err, length}
 use Rattle.std.specs.Prelude.{◌≢◌, IfOk, IsErrAnd, IsErrOf, OnErr}
 use Rattle.bson_doc.specs.declared.doc.Value.{Value}

@@ -77,7 +77,7 @@ IsPassed result error = IsErr result × IsErrAnd result (λ e. e ≡ error)
 
 -- ---- a talk of which some is left
 
--- What comes of the rest comes of the whole.
+-- The result of the rest is the result of the whole.
 pub record Going {S A : Type 0} (alone : Bool) (sizes : S → Sizes) (known own : S → List Event) (stays : S → S → Type 0) (is_whole : S → Type 0) (old new : S) (whole rest : Talk A) : Type 0 where
   pub leads : Leads sizes known stays old new
   pub held : (end done : List Event) (told : A) → Holds alone (sizes old) (known new) end (own new) done rest told → Holds alone (sizes old) (known old) end (own old) done whole told

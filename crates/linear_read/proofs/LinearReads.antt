@@ -75,7 +75,7 @@ module _ (sizes : Sizes) (events : List Event) (safe : Safe sizes events) (logs 
       did_at sizes events place number event (λ n. ack n target concerns.Majority) (reply.Acked at) answers
       (did (world_at sizes events place) event (commands.Ack own target concerns.Majority) own (λ n. ack n target concerns.Majority) (reply.Acked at) is refl (λ n. refl) refl answers.reply_is) in
       let tells : Acked there.node (ack there.node target concerns.Majority).node at = acked_majority there.node target at there.told in
-      let same : there.node ≡ node = sym tells.new_is ∙ same_Some (ack there.node target concerns.Majority).node node (sym there.behind ∙ node_at.there) in
+      let same : there.node ≡ node = sym tells.new_is ∙ same_Some (ack there.node target concerns.Majority).node node (sym there.next ∙ node_at.there) in
       record {
         leads = record {
           at = node_at;
@@ -95,7 +95,7 @@ module _ (sizes : Sizes) (events : List Event) (safe : Safe sizes events) (logs 
       go (commands.Ack own target (concerns.Count count)) is asks = absurd (cc asks)
       go command is asks = absurd (cc asks)
 
-  -- the node behind such an acknowledgement
+  -- the node after such an acknowledgement
   pub acked_here : (place number : ℕ) (at : OpTime) → Asks sizes events place number (commands.Ack number (targets.At at) concerns.Majority) (reply.Acked at)
       → (node : Node) × IsAt sizes events (suc place) number node × AckedAt place number at node
   acked_here place number at asks =
@@ -104,7 +104,7 @@ module _ (sizes : Sizes) (events : List Event) (safe : Safe sizes events) (logs 
       (did (world_at sizes events place) asks.event (commands.Ack number (targets.At at) concerns.Majority) number (λ n. ack n (targets.At at) concerns.Majority) (reply.Acked at)
       asks.command_is refl (λ n. refl) refl asks.answers.reply_is) in
       let tells : Acked there.node (ack there.node (targets.At at) concerns.Majority).node at = acked_majority there.node (targets.At at) at there.told in
-      let node_at : IsAt sizes events (suc place) number there.node = record { there = there.behind ∙ ap (λ n. Some n) tells.new_is; up = there.before.up } in
+      let node_at : IsAt sizes events (suc place) number there.node = record { there = there.next ∙ ap (λ n. Some n) tells.new_is; up = there.before.up } in
       (there.node, node_at, acked_node place number asks.event number (targets.At at) at asks.answers asks.command_is there.node node_at)
 
   -- ---- the law
@@ -117,7 +117,7 @@ module _ (sizes : Sizes) (events : List Event) (safe : Safe sizes events) (logs 
     pub note_is_new : (h m term : ℕ) (other : Node) → h ≤ place → Leads sizes events h m term other → Has confirmed.at other.log → ⊥
     note_is_new h m term other order other_leads has = twice noted_here.old.log noted_here.entry
         (subst (λ o. Has o noted_here.old.log) (found.2 ∙ sym noted_here.at_is) (in_has found.0 noted_here.old.log kept))
-        (subst (λ (l : List Entry). Rises l) noted_here.more (rises (suc confirmed.noted) number noted_here.new noted_here.behind))
+        (subst (λ (l : List Entry). Rises l) noted_here.more (rises (suc confirmed.noted) number noted_here.new noted_here.next))
       where
         noted_here : NotedAt sizes events confirmed.noted number confirmed.at
         noted_here = noted_at sizes events confirmed.noted number confirmed.at confirmed.notes
@@ -136,13 +136,13 @@ module _ (sizes : Sizes) (events : List Event) (safe : Safe sizes events) (logs 
 
         own : wrote.number ≡ number
         own = safe.one_primary (suc was.0) confirmed.noted wrote.number number confirmed.at.term wrote.new noted_here.old
-            (subst (λ t. Leads sizes events (suc was.0) wrote.number t wrote.new) same_term wrote.behind) noted_here.before
+            (subst (λ t. Leads sizes events (suc was.0) wrote.number t wrote.new) same_term wrote.next) noted_here.before
 
         kept : In found.0 noted_here.old.log
         kept = keeps (suc was.0) confirmed.noted number confirmed.at.term wrote.new noted_here.old
             (let first : was.0 < h = was.1 in let late : place ≤ confirmed.noted = confirmed.later in omega (arith, first, order, late))
             (subst (λ n. Leads sizes events (suc was.0) n confirmed.at.term wrote.new) own
-            (subst (λ t. Leads sizes events (suc was.0) wrote.number t wrote.new) same_term wrote.behind))
+            (subst (λ t. Leads sizes events (suc was.0) wrote.number t wrote.new) same_term wrote.next))
             noted_here.before found.0 (subst (λ l. In found.0 l) (sym wrote.more) (entries_in found.0 wrote.old.log (found.0 ∷ []) (inr (inl refl))))
 
     holds_acked : HoldsAcked sizes events place node
@@ -162,7 +162,7 @@ module _ (sizes : Sizes) (events : List Event) (safe : Safe sizes events) (logs 
         safe_point : IsSafePoint sizes events (suc h) other at
         safe_point = safe.committed_stay.acknowledged h m event at answers asks other other_at
 
-        -- in one term it is one node, whose commit point stays behind
+        -- in one term it is one node, whose commit point stays or rises
         in_one_term : IsAt sizes events (suc h) number other → Begins (log_up_to at other.log) node.log
         in_one_term own_at = elim (cases_order (suc h) place) [
           | inl level ↦ subst (λ (n : Node). Begins (log_up_to at other.log) n.log)

@@ -12,7 +12,7 @@ use Rattle.linear_read.specs.Points.{carries, delivers, flushes, is_flushed, mes
 use Rattle.linear_read.specs.Talk.{Talk, tells, asks, and_then}
 use Rattle.linear_read.proofs.Going.{Going, IsPassed, begun, breaks, ended, goes}
 
--- a talk that is held so many times at most, while what comes of it says so
+-- a talk that is held so many times at most, while its result says so
 pub record Repeats {A : Type 0} (talk : Talk A) (test : A → Bool) (rest : ℕ → Talk (Unit {0})) : Type 0 where
   pub none : rest 0 ≡ tells tt
   pub more : (k : ℕ) → rest (suc k) ≡ and_then talk (λ x. if test x then rest k else tells tt)

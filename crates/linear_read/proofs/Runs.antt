@@ -39,7 +39,7 @@ pub record WroteIn (world new : World) (entry : Entry) : Type 0 where
   pub old : Node
   pub cur : Node
   pub before : slice_get world.nodes number ≡ Some old
-  pub behind : slice_get new.nodes number ≡ Some cur
+  pub next : slice_get new.nodes number ≡ Some cur
   pub writes : Writes old cur entry
 
 abbrev OrWroteIn : (Entry → Type 0) → World → World → Entry → Type 0
@@ -72,7 +72,7 @@ module _ (P : Entry → Type 0) (world : World) (event : Event) (has : WorldHas 
 
     or_wrote : (entry : Entry) → OrWritten P node outcome.node entry → Q entry
     or_wrote entry (inl such) = inl such
-    or_wrote entry (inr writes) = inr (record { number = number; old = node; cur = outcome.node; before = there; behind = moved; writes = writes })
+    or_wrote entry (inr writes) = inr (record { number = number; old = node; cur = outcome.node; before = there; next = moved; writes = writes })
 
     outcome_has : Comes P node outcome → WorldHas Q moved_world
     outcome_has comes = record {
@@ -134,7 +134,7 @@ module _ (sizes : Sizes) (events : List Event) where
   later : (place : ℕ) (entry : Entry) → WasWritten sizes events place entry → WasWritten sizes events (suc place) entry
   later place entry was = (was.0, (let less : was.0 < place = was.1 in omega (arith, less)), was.2)
 
-  -- what the event behind a place wrote
+  -- what the event after a place wrote
   by_event : (place : ℕ) (event : Event) → slice_get events place ≡ Some event → (entry : Entry)
       → OrWroteIn (WasWritten sizes events place) (world_at sizes events place) (world_at sizes events (suc place)) entry → WasWritten sizes events (suc place) entry
   by_event place event is entry (inl was) = later place entry was
@@ -148,7 +148,7 @@ module _ (sizes : Sizes) (events : List Event) where
       old = wrote.old;
       new = wrote.cur;
       before = record { at = record { there = wrote.before; up = wrote.writes.up }; term_is = wrote.writes.term; role = wrote.writes.leads };
-      behind = record { at = record { there = wrote.behind; up = wrote.writes.up_still }; term_is = wrote.writes.term_still; role = wrote.writes.leads_still };
+      next = record { at = record { there = wrote.next; up = wrote.writes.up_still }; term_is = wrote.writes.term_still; role = wrote.writes.leads_still };
       more = wrote.writes.more;
     },
   )

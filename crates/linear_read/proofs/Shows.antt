@@ -1,4 +1,4 @@
--- What a linear read shows comes of the three events of one.
+-- What a linear read shows follows from its three events.
 use Rattle.std.proofs.Common.{◌≡◌, ◌∙◌, ◌<◌, ◌≤◌, ◌+◌, ◌==◌, ap, arith, sym, subst, refl, ℕ, suc, Bool, true, false, if◌then◌else◌, eqb-true, append_assoc, append-nil, length-append, Option, None, Some, Result, Ok, Err, List, [], ◌∷◌, ◌++◌, length}
 use Rattle.std.specs.Prelude.{IfOk}
 use Rattle.std.proofs.lemmas.Option.{slice_get-get_or}
@@ -97,7 +97,7 @@ acked_of node at told is none = go (ack_refusal node at concerns.Majority) is
     go None is = sym is
     go (Some why) is = let bad : Some why ≡ None = ap refusal_of is ∙ none in absurd (cc bad)
 
--- ---- steps in the events that are known behind them
+-- ---- steps in the events that are known after them
 
 module _ (alone : Bool) (sizes : Sizes) where
   abbrev Steps : List Event → List Event → Command → Reply → Type 0
@@ -120,7 +120,7 @@ module _ (alone : Bool) (sizes : Sizes) where
   talk_grows old new (asks command next) told held =
       grows_on old held.0 new (step_grows old held.0 command held.1 held.2) (talk_grows held.0 new (next held.1) told held.3)
 
-  -- a talk and what came of it, and then the rest
+  -- a talk and its result, and then the rest
   held_parts : {A B : Type 0} (old new : List Event) (talk : Talk A) (more : A → Talk B) (last : B) → IsHeld alone sizes old new (and_then talk more) last
       → (mid : List Event) × (told : A) × IsHeld alone sizes old mid talk told × IsHeld alone sizes mid new (more told) last
   held_parts old new (tells answer) more last held = (old, answer, (refl, refl), held)
@@ -155,7 +155,7 @@ module _ (alone : Bool) (sizes : Sizes) where
       here : world_at sizes (steps.met ++ steps.event ∷ more.0) (length steps.met) ≡ (run sizes steps.met).world
       here = ap (λ l. (run sizes l).world) (take-append_seam steps.met (steps.event ∷ more.0))
 
-  -- one behind the other
+  -- one after the other
   later : (old mid new : List Event) (one two : Command) (first second : Reply) (steps : Steps old mid one first) (next : Steps mid new two second) → length steps.met < length next.met
   later old mid new one two first second steps next =
       let long : length mid ≡ length steps.met + 1 = ap length steps.new_is ∙ length-append steps.met (steps.event ∷ []) in
@@ -183,16 +183,16 @@ module _ (alone : Bool) (sizes : Sizes) (old new : List Event) (stays : Primarie
 
   -- the answer of a linear read is what its read was told
   shows_as : (place : ℕ) (node : Node) (found : Reply) → length old ≤ place → IsLinear sizes new place number node collection id found → (shown : LinearAnswer) → document_shown found ≡ Ok shown → Shows shown
-  shows_as place node found behind is_linear (Found document) ok =
-      (place, node, behind, subst (λ r. IsLinear sizes new place number node collection id r) (found_of found document ok) is_linear)
-  shows_as place node found behind is_linear Missing ok =
+  shows_as place node found after is_linear (Found document) ok =
+      (place, node, after, subst (λ r. IsLinear sizes new place number node collection id r) (found_of found document ok) is_linear)
+  shows_as place node found after is_linear Missing ok =
       let asked : Asks sizes new place number (commands.Read number levels.Local collection id) found = is_linear.reads in
       let there : DidAt sizes new place number (λ n. read n levels.Local collection (tree_of id)) found =
       did_at sizes new place number asked.event (λ n. read n levels.Local collection (tree_of id)) found asked.answers
       (did (world_at sizes new place) asked.event (commands.Read number levels.Local collection id) number (λ n. read n levels.Local collection (tree_of id)) found asked.command_is refl (λ n. refl)
       (taken_document found Missing ok) asked.answers.reply_is) in
-      (place, node, behind, subst (λ r. IsLinear sizes new place number node collection id r) (missing_of there.node collection found ok (key_of (tree_of id)) there.told) is_linear)
-  shows_as place node found behind is_linear (Refused why) ok = tt
+      (place, node, after, subst (λ r. IsLinear sizes new place number node collection id r) (missing_of there.node collection found ok (key_of (tree_of id)) there.told) is_linear)
+  shows_as place node found after is_linear (Refused why) ok = tt
 
   -- a command that wasn't refused was acknowledged
   acked_at : (place : ℕ) (at : OpTime) (told : Reply) → Asks sizes new place number (commands.Ack number (targets.At at) concerns.Majority) told → refusal_of told ≡ None → told ≡ reply.Acked at
@@ -255,8 +255,8 @@ module _ (alone : Bool) (sizes : Sizes) (old new : List Event) (stays : Primarie
     state_before : length asks_state.met < length asks_read.met
     state_before = later alone sizes old one two (commands.State number) (commands.Read number levels.Local collection id) state found asks_state asks_read
 
-    read_behind : length old ≤ length asks_read.met
-    read_behind =
+    read_after : length old ≤ length asks_read.met
+    read_after =
         let long : length asks_state.met ≡ length old + length asks_state.learns.others = ap length asks_state.learns.new_is ∙ length-append old asks_state.learns.others in
         omega (arith, long, state_before)
 
@@ -292,7 +292,7 @@ module _ (alone : Bool) (sizes : Sizes) (old new : List Event) (stays : Primarie
         go : (w : Option Refusal) → why ≡ w → Shows answer
         go (Some w) is = subst (λ a. IsShown sizes new (length old) number collection id a) (ap (answer_of shown) (sym is) ∙ answer_is) tt
         go None is = subst (λ a. IsShown sizes new (length old) number collection id a) (ap (answer_of shown) (sym is) ∙ answer_is)
-            (shows_as (length asks_read.met) reader.0 found read_behind (is_linear is) shown found_is)
+            (shows_as (length asks_read.met) reader.0 found read_after (is_linear is) shown found_is)
 
   pub shows : (answer : LinearAnswer) → IsHeld alone sizes old new (linear number nodes collection id) answer → Shows answer
   shows answer held = by_state (term_shown held.1) refl held.3

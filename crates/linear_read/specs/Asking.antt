@@ -8,14 +8,14 @@ use Rattle.set_world.specs.Stepper.{Learns, StepsOnce}
 use Rattle.linear_read.specs.Talk.{Talk, tells, asks}
 
 module _ (alone : Bool) (sizes : Sizes) where
-  -- each command of the talk was done, one behind the other, and this came of it
+  -- each command of the talk was done, one after the other, and this was the result
   abbrev pub IsHeld : {A : Type 0} → List Event → List Event → Talk A → A → Type 0
   IsHeld old new (tells answer) told = (new ≡ old) × (answer ≡ told)
   IsHeld old new (asks command next) told =
       (between : List Event) × (reply : Reply) × StepsOnce alone sizes old between 0 command reply
       × IsHeld between new (next reply) told
 
-  -- the commands of a front of the talk were done, and no other
+  -- the commands of a prefix of the talk were done, and no other
   abbrev pub IsBrokenOff : {A : Type 0} → List Event → List Event → Talk A → Type 0
   IsBrokenOff old new (tells answer) = ⊥
   IsBrokenOff old new (asks command next) =
@@ -45,7 +45,7 @@ module _ (alone : Bool) (sizes : Sizes) where
   Holds old new own own' talk told =
       (held : IsHeld old new talk told) × (own' ≡ own ++ did old new talk told held)
 
-  -- A front of the talk was held, by its own events in the same way.
+  -- A prefix of the talk was held, by its own events in the same way.
   abbrev pub BreaksOff : {A : Type 0} → List Event → List Event → List Event → List Event → Talk A → Type 0
   BreaksOff old new own own' talk =
       (broken : IsBrokenOff old new talk) × (own' ≡ own ++ did_before old new talk broken)

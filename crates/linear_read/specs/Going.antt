@@ -15,14 +15,14 @@ pub record Leads {S : Type 0} (sizes : S → Sizes) (known : S → List Event) (
   pub stays_so : (first : S) → stays first old → stays first new
   pub defined : IsDefined (sizes old) (known old) → IsDefined (sizes new) (known new)
 
--- the whole talk was held, and this came of it
+-- the whole talk was held, and this was its result
 pub record Held {S A : Type 0} (alone : Bool) (sizes : S → Sizes) (known own : S → List Event)
     (stays : S → S → Type 0) (is_whole : S → Type 0) (old new : S) (talk : Talk A) (told : A) : Type 0 where
   pub leads : Leads sizes known stays old new
   pub held : Holds alone (sizes old) (known old) (known new) (own old) (own new) talk told
   pub whole : is_whole old → is_whole new
 
--- a front of it was held
+-- a prefix of it was held
 pub record Broken {S A : Type 0} (alone : Bool) (sizes : S → Sizes) (known own : S → List Event)
     (stays : S → S → Type 0) (is_whole : S → Type 0) (old new : S) (talk : Talk A)
     (error : StepError) : Type 0 where

@@ -35,7 +35,7 @@ pub record ShowsOf (log : List Entry) (collection : List ℕ) (id : Tree) (shown
   pub shows : shown ≡ document_reply (maps.get (docs log) (collection, key))
 
 module _ (sizes : Sizes) (events : List Event) where
-  -- at a node, the event behind a place has this command and this reply
+  -- at a node, the event after a place has this command and this reply
   pub record Asks (place number : ℕ) (command : Command) (answer : Reply) : Type 0 where
     pub event : Event
     pub command_is : event.command ≡ command
@@ -75,7 +75,8 @@ module _ (sizes : Sizes) (events : List Event) where
       → IsLinear place number node collection id shown
       → HoldsAcked place node × (is_refusal shown ≡ false → ShowsOf node.log collection (tree_of id) shown)
 
-  -- What is shown comes of a linear read behind so many events at least: the document, or that there is none.
+  -- What is shown is the answer of a linear read after at least so many events: the document, or that
+  -- there is none.
   abbrev pub Comes : ℕ → ℕ → List ℕ → Value → Reply → Type 0
   Comes first number collection id shown =
       (place : ℕ) × (node : Node) × (first ≤ place) × IsLinear place number node collection id shown

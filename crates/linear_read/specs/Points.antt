@@ -119,7 +119,7 @@ acknowledges node nodes at =
 
 -- ---- the five points
 
--- behind the read: why no note of this term is written and acknowledged
+-- after the read: why no note of this term is written and acknowledged
 abbrev pub unless_noted : Result OpTime Refusal → (OpTime → Talk (Option Refusal)) → Talk (Option Refusal)
 unless_noted (Err why) next = tells (Some why)
 unless_noted (Ok at) next = next at

@@ -11,7 +11,7 @@ use Rattle.set_model.specs.Run.{Sizes, world_at}
 use Rattle.set_model.specs.Safety.{Leads}
 
 module _ (sizes : Sizes) (events : List Event) where
-  -- The event behind a place wrote the entry: a node that led in the entry's term before it, and leads in it
+  -- The event after a place wrote the entry: a node that led in the entry's term before it, and leads in it
   -- still, has this entry more in its log.
   pub record Wrote (place : ℕ) (entry : Entry) : Type 0 where
     pub event : Event
@@ -20,7 +20,7 @@ module _ (sizes : Sizes) (events : List Event) where
     pub old : Node
     pub new : Node
     pub before : Leads sizes events place number entry.optime.term old
-    pub behind : Leads sizes events (suc place) number entry.optime.term new
+    pub next : Leads sizes events (suc place) number entry.optime.term new
     pub more : new.log ≡ with_entry old.log entry
 
   -- an event before this place wrote the entry

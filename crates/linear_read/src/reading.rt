@@ -27,7 +27,7 @@ use std::thread::Threads;
 const MOST_FLUSHES: u32 = 200;
 
 /// Reads a document at a primary, so that what it shows holds each write that a majority had acknowledged
-/// before: the node writes a note behind the read, and a majority acknowledges that.
+/// before: the node writes a note after the read, and a majority acknowledges that.
 ///
 /// # Errors
 /// Those of a step. Its commands were done as far as the one that failed.
@@ -97,7 +97,7 @@ fn local_read(alloc: Global, node: u32, coll: &str, id: &Value) -> Mem<Command>
     })
 }
 
-/// Reads. What is read is the answer where a note behind it is confirmed in this term.
+/// Reads. What is read is the answer where a note after it is confirmed in this term.
 fn read_in_term<R: Threads + Wait + Sync, S: Stepper>(
     rt: &R,
     set: &mut S,

@@ -20,7 +20,7 @@ told_of (answers.Found o) = Found o
 told_of answers.Missing = Missing
 told_of (answers.Refused why) = IsRefused why
 
--- all of a text is put, or a front of it where the sink fails; out of memory, nothing
+-- all of a text is put, or a prefix of it where the sink fails; out of memory, nothing
 abbrev pub PutsText : Option (List ℕ) → Option (List ℕ) → List ℕ → Result (Unit {0}) LinearStop → Type 0
 PutsText held now text (Ok done) = Appends held now text
 PutsText held now text (Err Refused) = ⊥
@@ -28,28 +28,28 @@ PutsText held now text (Err WriteFault) = (count : ℕ) × Appends held now (tak
 PutsText held now text (Err Memory) = Keeps held now
 
 module _ (alone : Bool) (sizes : Sizes) (linear : Linear) (old new : List Event) where
-  -- the set has got the node, which answers the five points so, and what it shows comes of a linear read of
-  -- this call
+  -- the set has got the node, which answers the five points so, and what it shows is the answer of a linear
+  -- read of this call
   abbrev pub Answers : LinearAnswer → Type 0
   Answers answer =
       (linear.node < sizes.nodes)
       × IsHeld alone sizes old new (points linear.node sizes.nodes linear.collection linear.id) answer
       × IsShown sizes new (length old) linear.node linear.collection linear.id answer
 
-  -- What came of the read. A set that hasn't got the node is asked nothing.
+  -- The result of the read. A set that hasn't got the node is asked nothing.
   abbrev pub Comes : LinearTold → Type 0
   Comes (Found o) = Answers (answers.Found o)
   Comes Missing = Answers answers.Missing
   Comes (IsRefused why) = Answers (answers.Refused why)
   Comes NoSuchNode = (sizes.nodes ≤ linear.node) × (new ≡ old)
 
-  -- the commands of a front of the five points were done, and no other
+  -- the commands of a prefix of the five points were done, and no other
   abbrev pub Breaks : Type 0
   Breaks =
       (linear.node < sizes.nodes)
       × IsBrokenOff alone sizes old new (points linear.node sizes.nodes linear.collection linear.id)
 
-  -- The line that tells what came of the read is put. Where the sink fails, a front of it; out of memory,
+  -- The line that tells the result of the read is put. Where the sink fails, a prefix of it; out of memory,
   -- nothing, and the read may be broken off.
   abbrev pub Tells : Option (List ℕ) → Option (List ℕ) → Result (Unit {0}) LinearStop → Type 0
   Tells held now (Ok done) =

@@ -1,4 +1,4 @@
-//! A linear read that words ask for is done, and the line that tells what came of it is put.
+//! A linear read that words ask for is done, and the line that tells its result is put.
 #![tactic(auto)]
 
 mod stop;

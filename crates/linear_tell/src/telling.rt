@@ -13,7 +13,7 @@ use std::alloc::Global;
 use std::sync::Wait;
 use std::thread::Threads;
 
-/// Does a linear read, and puts the line that tells what came of it by one call. `size` is how many nodes the
+/// Does a linear read, and puts the line that tells its result by one call. `size` is how many nodes the
 /// set has.
 ///
 /// # Errors

@@ -1,4 +1,4 @@
--- The line that tells what came of a linear read.
+-- The line that tells the result of a linear read.
 use Rattle.std.specs.Prelude.{ℕ, Bool, true, false, List, ◌++◌, codes}
 use Rattle.bson_doc.specs.Tree.{document}
 use Rattle.doc_text.specs.Printing.{printed}

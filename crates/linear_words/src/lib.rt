@@ -1,4 +1,4 @@
-//! The words that ask for a linear read, and the line that tells what came of it.
+//! The words that ask for a linear read, and the line that tells its result.
 #![tactic(auto)]
 
 mod asked;

@@ -1,4 +1,4 @@
-// The line that tells what came of a linear read.
+// The line that tells the result of a linear read.
 ghost use Rattle.std.specs.Prelude.{◌≡◌, OnOk, string_bytes};
 ghost use Rattle.linear_words.specs.Texts.{told_text};
 

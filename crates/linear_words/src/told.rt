@@ -4,7 +4,7 @@ ghost use Rattle.linear_words.specs.Texts.{is_refusal};
 use bson_doc::Doc;
 use set_model::Refusal;
 
-/// What came of a linear read.
+/// The result of a linear read.
 #[derive(Drop)]
 pub enum LinearTold {
     /// The document.

@@ -85,7 +85,7 @@ fn write_in(state: &mut State, borrowed: BorrowedWrite<'_>, session: Option<Sess
     }
 }
 
-/// Does a write of a session, unless it was done before or is behind what was.
+/// Does a write of a session, unless it was done before, or is older than what was.
 pub(crate) fn retry(state: &mut State, session: Session, borrowed: BorrowedWrite<'_>) -> Mem<Reply>
     requires seen { state.old.node.seen < 2 ^ 64 - 1 }
     requires name { is_collection (collection_of (shown borrowed)) ≡ true }

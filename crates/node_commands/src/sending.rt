@@ -42,7 +42,7 @@ pub(crate) fn report(state: &mut State, next: u64, to: u32) -> Mem<Turn>
     sends(state, Reply::Sent(next), to, body)
 }
 
-/// Asks a member for its optimes behind the node's commit point, to find the common point of
+/// Asks a member for its optimes after the node's commit point, to find the common point of
 /// the two logs.
 pub(crate) fn common(state: &mut State, next: u64, to: u32) -> Mem<Turn>
     requires next { IsNumbered next }
@@ -57,7 +57,7 @@ pub(crate) fn common(state: &mut State, next: u64, to: u32) -> Mem<Turn>
     sends(state, Reply::Sent(next), to, body)
 }
 
-/// Asks the sync source for the entries behind the node's last one.
+/// Asks the sync source for the entries after the node's last one.
 pub(crate) fn fetch(state: &mut State, next: u64) -> Mem<Turn>
     requires next { IsNumbered next }
     ensures turn { IfOk result (λ turn. Means turn state.new.node (finished (fetch next state.old.node))) }

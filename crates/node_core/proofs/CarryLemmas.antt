@@ -98,7 +98,7 @@ module _ (item : Store) (then : Continuation) (old new : Node) (next : Turn) (me
     where
       go : (turn : Turn) → StoresFewShort 0 (plan_of turn new) → IsEnd turn
       go (Finished answer sent) none = tt
-      go (Storing more behind) none = none
+      go (Storing more after) none = none
 
 -- ---- memory for what is left
 
@@ -164,7 +164,7 @@ module _ (standing : StateView) (next : Turn) (node new : Node) (room left : ℕ
   room_on (stores.Record (records.Form form)) then ready spare means = short_room (spare tt)
   room_on (stores.Checkpoint at) then ready spare means = checkpoint_room at then ready means
 
--- ---- turns that never want memory
+-- ---- turns that never need memory
 
 -- a turn whose stores are short doesn't begin with a long one
 pub not_long : (m : ℕ) (turn : Turn) (new : Node) (plan : Plan) (r : List Record) (s : OpTime) → Means turn new plan → Does IsShortStore (suc m) r s plan → ¬ BeginsUnreserved turn

@@ -1,4 +1,4 @@
--- How a node comes up with what was found: its records with a cut at the point, where entries stand behind it, and the row.
+-- How a node comes up with what was found: its records with a cut at the point, where entries come after it, and the row.
 use Rattle.std.proofs.Common.{◌≡◌, ◌∙◌, ap, sym, subst, refl, ℕ, Bool, true, false, not, cond, List, Option, Some, None}
 use Rattle.rs_optime.specs.declared.optime.OpTime.{OpTime}
 use Rattle.rs_optime.proofs.Optimes.{at_most_antisym}

@@ -106,14 +106,14 @@ does_unless P m node None plan does = does
 pub turn_kept : (P : Store → Type 0) (m : ℕ) (turn : Turn) (new : Node) (plan : Plan) (r : List Record) (s : OpTime) → Means turn new plan → Does P m r s plan
     → (new.records ≡ r) × (new.stable ≡ s)
 turn_kept P m (Finished answer sent) new plan r s means does = subst (λ (p : Plan). Does P m r s p) means does
-turn_kept P zero (Storing item behind) new plan r s means does = absurd (subst (λ (p : Plan). Does P zero r s p) means does)
-turn_kept P (suc m) (Storing item behind) new plan r s means does =
+turn_kept P zero (Storing item later) new plan r s means does = absurd (subst (λ (p : Plan). Does P zero r s p) means does)
+turn_kept P (suc m) (Storing item later) new plan r s means does =
     let d = subst (λ (p : Plan). Does P (suc m) r s p) means does in (d.0, d.1)
 
 -- what it stores
-pub turn_stores : (P : Store → Type 0) (m : ℕ) (item : Store) (behind : Continuation) (new : Node) (plan : Plan) (r : List Record) (s : OpTime)
-    → Means (Storing item behind) new plan → Does P (suc m) r s plan → P item
-turn_stores P m item behind new plan r s means does = (subst (λ (p : Plan). Does P (suc m) r s p) means does).2
+pub turn_stores : (P : Store → Type 0) (m : ℕ) (item : Store) (later : Continuation) (new : Node) (plan : Plan) (r : List Record) (s : OpTime)
+    → Means (Storing item later) new plan → Does P (suc m) r s plan → P item
+turn_stores P m item later new plan r s means does = (subst (λ (p : Plan). Does P (suc m) r s p) means does).2
 
 -- ---- how a row goes on
 
@@ -138,7 +138,7 @@ told_does (message_continuations.Heard (Some newer) hearing) node = (refl, refl,
 told_does (message_continuations.RolledBack point removed lost) node = (refl, refl, tt, (refl, refl))
 told_does (message_continuations.Ignored why) node = (refl, refl)
 
-pub rest_does : (behind : Continuation) (node : Node) → Does IsShortStore 1 node.records node.stable (rest_of behind node)
+pub rest_does : (later : Continuation) (node : Node) → Does IsShortStore 1 node.records node.stable (rest_of later node)
 rest_does (continuations.Campaign next tally sent) node = kept_if node.records node.stable (is_elected (candidate node)) _ _ (refl, refl) (refl, refl)
 rest_does (continuations.Drain config) node = (refl, refl)
 rest_does (continuations.Flush count point) node = (refl, refl)

@@ -254,7 +254,7 @@ module _ (node : Node) (at : OpTime) (count : ℕ) (j c c' : State) (rests : UpO
         ((moments found shows (documents_at node node.stable) rests.documents).now image left);
   }
 
--- ---- all that comes of it
+-- ---- all that follows from it
 
 abbrev pub is_done : Result (Unit {0}) FileError
 is_done = Ok tt

@@ -81,7 +81,7 @@ pub then_reserved : (P : List ℕ → Type 0) (old mid new : State) → EachMome
 then_reserved P old mid new moments same =
     subst (λ (s : State). EachMoment P old s) (sym same) (record { since = moments.since; passed = moments.passed; left = moments.left; now = moments.now })
 
--- the calls of an opening behind which room was taken
+-- the calls of an opening after which room was taken
 pub calls_reserved : (old mid new : State) → OpensBy {T = Unit {0}} (Ok tt) old mid → SameButRoom mid new → OpensBy {T = Unit {0}} (Ok tt) old new
 calls_reserved old mid new calls same =
     subst (λ (s : State). OpensBy {T = Unit {0}} (Ok tt) old s) (sym same) (calls.0, calls.1, record { file = calls.2.file; past = calls.2.past })
@@ -99,7 +99,7 @@ pub read_both : (found : Found) (j j1 j2 c c' : State) → SameButRoom j1 j2 →
 read_both found j j1 j2 c c' same kept rests stable checkpoints =
     record { kept_is = kept; journal = λ items has. rest_reserved j1 j2 items same (rests items has); stable_is = stable; checkpoints = checkpoints }
 
--- no fault came of it
+-- it caused no fault
 pub runs_opened : {F G : Type 0} (H : Type 0) (j j1 j2 c c' : State) → (H → ⊥) → Keeps F j j1 → Keeps G c c' → SameButRoom j1 j2 → RunsWithoutOrders H j j2 c c'
 runs_opened {F} {G} H j j1 j2 c c' none journal checkpoints same =
     runs_then {F = ⊥} {G = ⊥} {H = H} j j1 j2 c c' c' (λ fault. absurd (none fault))

@@ -1,5 +1,5 @@
 -- How a node comes up with what its disks have (MongoDB's replication architecture guide: recovery from the
--- last stable checkpoint, and truncating the oplog behind the point up to which it is whole).
+-- last stable checkpoint, and truncating the oplog after the point up to which it is whole).
 use Rattle.std.specs.Prelude.{◌≡◌, ℕ, ◌++◌, Bool, false, nat_lt, List, [], ◌∷◌, length, Option, None, Some, if◌then◌else◌}
 use Rattle.rs_disk.specs.File.{contents}
 use Rattle.rs_disk.specs.State.{State}
@@ -49,7 +49,7 @@ pub record IsFound (node : Node) (found : Found) : Type 0 where
 
 -- ---- what it comes up with
 
--- the point, where entries stand behind it
+-- the point, where entries come after it
 abbrev pub cut_point : Kept → Option OpTime
 cut_point found = if has_more found then Some found.point else None
 

@@ -1,4 +1,4 @@
--- What is put on a node's disks, and what comes of it.
+-- What is put on a node's disks, and what follows from it.
 use Rattle.std.specs.Prelude.{◌≡◌, ◌≤◌, ◌+◌, ℕ, zero, suc, true, ⊤, Result, Ok, Err, Option, None, Some, OnOk, OnErr, length}
 use Rattle.std.specs.FinMap.{get}
 use Rattle.bson_doc.specs.Place.{Place}
@@ -31,7 +31,7 @@ use Rattle.node_core.specs.declared.storing.Ended.TheVariants.{WithReply, StoreF
 
 -- ---- what can be put there
 
--- a record that a journal takes, behind which the stable documents are the same
+-- a record that a journal takes, after which the stable documents are the same
 pub record IsKeepable (node : Node) (item : Record) : Type 0 where
   pub bounds : CanBeKept item
   pub same : documents_at (stored node (stores.Record item)) node.stable ≡ documents_at node node.stable
@@ -56,7 +56,7 @@ IsShortStore (stores.Checkpoint at) = ⊥
 abbrev pub SHORT : ℕ
 SHORT = 473
 
--- ---- what comes of it
+-- ---- what follows from it
 
 -- it stands there, or nothing has changed, or it is in doubt
 pub record Puts (result : Result (Unit {0}) FileError) (node : Node) (item : Store) (count : ℕ)

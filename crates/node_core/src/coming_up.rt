@@ -50,7 +50,7 @@ pub(crate) struct Prepared {
     pub(crate) kept: bool,
     /// How many records its journal has.
     pub(crate) count: u64,
-    /// The journal's point, where entries stand behind it.
+    /// The journal's point, where entries come after it.
     pub(crate) cut: Option<OpTime>,
     /// The last entry up to the point.
     pub(crate) last: OpTime,
@@ -230,7 +230,7 @@ fn restore<R: Threads + Sync>(
     })
 }
 
-// The point, where entries stand behind it.
+// The point, where entries come after it.
 fn point_to_cut(kept: &Kept) -> Option<OpTime>
     ensures { result ≡ cut_point kept.now }
 {
@@ -261,7 +261,7 @@ fn records_cut(records: &Records, cut: Option<OpTime>) -> Records
     }
 }
 
-// Comes up. Entries behind the point are cut first, where there are any.
+// Comes up. Entries after the point are cut first, where there are any.
 fn go_up<D: Disk>(
     alloc: Global,
     state: &mut State,

@@ -19,7 +19,7 @@ use Rattle.oplog_entry.specs.Visible.{is_before, last_of, log_up_to}
 use Rattle.oplog_entry.specs.declared.entry.Entry.{Entry}
 use Rattle.oplog_store.proofs.Keeps.{pairs_head, pairs_tail}
 use Rattle.oplog_store.proofs.LogLemmas.{last_is}
-use Rattle.repl_msg.specs.Logs.{log_behind}
+use Rattle.repl_msg.specs.Logs.{log_after}
 use Rattle.version_store.specs.declared.history.Version.{Version}
 use Rattle.version_store.specs.Past.{Past, latest_of, with_version}
 use Rattle.version_store.specs.Store.{Store, past_at, versions_at}
@@ -37,7 +37,7 @@ use Rattle.node_data.proofs.LogLemmas.{at_most_last, filter-all, filter-none, fi
 use Rattle.node_data.proofs.RoleLemmas.{apart_idle}
 use Rattle.node_data.proofs.VersionLemmas.{all_versions, none_up_to}
 
--- ---- a front of a log
+-- ---- a prefix of a log
 
 pairs_take : {X : Type 0} (R : X → X → Type 0) (n : ℕ) (xs : List X) → AllPairs R xs → AllPairs R (take n xs)
 pairs_take R n xs pairs i j d less within =
@@ -45,7 +45,7 @@ pairs_take R n xs pairs i j d less within =
     let short : length (take n xs) ≤ length xs = omega (arith, length-take n xs) in
     rw (get_or-take n xs i d (omega arith), get_or-take n xs j d (omega arith)) (pairs i j d less (omega arith))
 
--- what comes behind a front is behind its last entry
+-- what comes after a prefix is after its last entry
 late_rest : (n : ℕ) (log : List Entry) → AllPairs StandsBefore log → 0 < length (take n log) → All (λ (e : Entry). is_before (last_of (take n log)) e.optime ≡ true) (drop n log)
 late_rest zero log order some = absurd (omega (arith, some))
 late_rest (suc n) [] order some = absurd (omega (arith, some))
@@ -71,20 +71,20 @@ front_up_to n log order some =
     ∙ append-nil (log_up_to (last_of (take n log)) (take n log))
     ∙ filter-all (λ (e : Entry). not (is_before (last_of (take n log)) e.optime)) (take n log) (λ k d within. ap not (at_most_last (take n log) (pairs_take StandsBefore n log order) k d within))
 
-front_behind : (n : ℕ) (log : List Entry) → AllPairs StandsBefore log → 0 < length (take n log) → log_behind (last_of (take n log)) log ≡ drop n log
-front_behind n log order some =
-    ap (λ l. log_behind (last_of (take n log)) l) (sym (take-append-drop n log))
+front_after : (n : ℕ) (log : List Entry) → AllPairs StandsBefore log → 0 < length (take n log) → log_after (last_of (take n log)) log ≡ drop n log
+front_after n log order some =
+    ap (λ l. log_after (last_of (take n log)) l) (sym (take-append-drop n log))
     ∙ filter-append (λ (e : Entry). is_before (last_of (take n log)) e.optime) (take n log) (drop n log)
-    ∙ ap (λ l. l ++ log_behind (last_of (take n log)) (drop n log)) (filter-none (λ (e : Entry). is_before (last_of (take n log)) e.optime) (take n log) (at_most_last (take n log) (pairs_take StandsBefore n log order)))
+    ∙ ap (λ l. l ++ log_after (last_of (take n log)) (drop n log)) (filter-none (λ (e : Entry). is_before (last_of (take n log)) e.optime) (take n log) (at_most_last (take n log) (pairs_take StandsBefore n log order)))
     ∙ filter-all (λ (e : Entry). is_before (last_of (take n log)) e.optime) (drop n log) (late_rest n log order some)
 
--- ---- a batch of the entries behind an optime
+-- ---- a batch of the entries after an optime
 
 abbrev pub batch_of : ℕ → OpTime → List Entry → List Entry
-batch_of n at log = take n (log_behind at log)
+batch_of n at log = take n (log_after at log)
 
 batch_late : (n : ℕ) (at : OpTime) (log : List Entry) → All (λ (e : Entry). is_before at e.optime ≡ true) (batch_of n at log)
-batch_late n at log = All-take (λ (e : Entry). is_before at e.optime ≡ true) n (log_behind at log) (filter-passes (λ (e : Entry). is_before at e.optime) log)
+batch_late n at log = All-take (λ (e : Entry). is_before at e.optime ≡ true) n (log_after at log) (filter-passes (λ (e : Entry). is_before at e.optime) log)
 
 -- the last of some entries has what each of them has
 pub last_has : (P : OpTime → Type 0) (log : List Entry) → 0 < length log → All (λ (e : Entry). P e.optime) log → P (last_of log)
@@ -102,18 +102,18 @@ front_early n at log some k d within =
 pub batch_up_to : (n : ℕ) (at : OpTime) (log : List Entry) → AllPairs StandsBefore log → 0 < length (batch_of n at log) → log_up_to (last_of (batch_of n at log)) log ≡ log_up_to at log ++ batch_of n at log
 batch_up_to n at log order some =
     ap (λ l. log_up_to (last_of (batch_of n at log)) l) (parts at log order)
-    ∙ filter-append (λ (e : Entry). not (is_before (last_of (batch_of n at log)) e.optime)) (log_up_to at log) (log_behind at log)
-    ∙ ap (λ l. l ++ log_up_to (last_of (batch_of n at log)) (log_behind at log))
+    ∙ filter-append (λ (e : Entry). not (is_before (last_of (batch_of n at log)) e.optime)) (log_up_to at log) (log_after at log)
+    ∙ ap (λ l. l ++ log_up_to (last_of (batch_of n at log)) (log_after at log))
     (filter-all (λ (e : Entry). not (is_before (last_of (batch_of n at log)) e.optime)) (log_up_to at log) (λ k d within. ap not (front_early n at log some k d within)))
-    ∙ ap (λ l. log_up_to at log ++ l) (front_up_to n (log_behind at log) (AllPairs-filter StandsBefore (λ (e : Entry). is_before at e.optime) log order) some)
+    ∙ ap (λ l. log_up_to at log ++ l) (front_up_to n (log_after at log) (AllPairs-filter StandsBefore (λ (e : Entry). is_before at e.optime) log order) some)
 
-pub batch_behind : (n : ℕ) (at : OpTime) (log : List Entry) → AllPairs StandsBefore log → 0 < length (batch_of n at log) → log_behind (last_of (batch_of n at log)) log ≡ drop n (log_behind at log)
-batch_behind n at log order some =
-    ap (λ l. log_behind (last_of (batch_of n at log)) l) (parts at log order)
-    ∙ filter-append (λ (e : Entry). is_before (last_of (batch_of n at log)) e.optime) (log_up_to at log) (log_behind at log)
-    ∙ ap (λ l. l ++ log_behind (last_of (batch_of n at log)) (log_behind at log))
+pub batch_after : (n : ℕ) (at : OpTime) (log : List Entry) → AllPairs StandsBefore log → 0 < length (batch_of n at log) → log_after (last_of (batch_of n at log)) log ≡ drop n (log_after at log)
+batch_after n at log order some =
+    ap (λ l. log_after (last_of (batch_of n at log)) l) (parts at log order)
+    ∙ filter-append (λ (e : Entry). is_before (last_of (batch_of n at log)) e.optime) (log_up_to at log) (log_after at log)
+    ∙ ap (λ l. l ++ log_after (last_of (batch_of n at log)) (log_after at log))
     (filter-none (λ (e : Entry). is_before (last_of (batch_of n at log)) e.optime) (log_up_to at log) (front_early n at log some))
-    ∙ front_behind n (log_behind at log) (AllPairs-filter StandsBefore (λ (e : Entry). is_before at e.optime) log order) some
+    ∙ front_after n (log_after at log) (AllPairs-filter StandsBefore (λ (e : Entry). is_before at e.optime) log order) some
 
 -- ---- the versions that it makes
 
@@ -161,18 +161,18 @@ early_versions node store kept other place =
     let has : HasVersions place node.stable (log_up_to node.applied node.log) (versions_at store place) = versions_applied node store kept other place in
     let before : Option Fields = get (docs (log_up_to node.stable (log_up_to node.applied node.log))) place in
     subst (λ vs. All (λ (v : Version). is_before node.applied v.at ≡ false) vs) (sym has.is)
-    (All-append (λ (v : Version). is_before node.applied v.at ≡ false) has.base (versions_from place before (log_behind node.stable (log_up_to node.applied node.log)))
+    (All-append (λ (v : Version). is_before node.applied v.at ≡ false) has.base (versions_from place before (log_after node.stable (log_up_to node.applied node.log)))
     (λ k d within. at_most_trans (slice_index_or has.base k d).at node.stable node.applied (has.early k d within) (stable_applied node kept.sound other))
-    (all_versions (λ o. is_before node.applied o ≡ false) place before (log_behind node.stable (log_up_to node.applied node.log))
+    (all_versions (λ o. is_before node.applied o ≡ false) place before (log_after node.stable (log_up_to node.applied node.log))
     (All-filter (λ (e : Entry). is_before node.stable e.optime) (λ (e : Entry). is_at (place_of e.op) place ≡ true → is_before node.applied e.optime ≡ false) (log_up_to node.applied node.log)
     (λ k d within here. not_late _ (filter-passes (λ (e : Entry). not (is_before node.applied e.optime)) node.log k d within)))))
 
 pub batch_fits : (node : Node) (store : Store) (n : ℕ) → IsKept node store → is_primary node.role ≡ false → IsBatch store (batch_of n node.applied node.log)
 batch_fits node store n kept other = record {
-  lawful = All-take IsLawful n (log_behind node.applied node.log) (All-filter (λ (e : Entry). is_before node.applied e.optime) IsLawful node.log kept.sound.oplog.lawful);
+  lawful = All-take IsLawful n (log_after node.applied node.log) (All-filter (λ (e : Entry). is_before node.applied e.optime) IsLawful node.log kept.sound.oplog.lawful);
   rising = λ i j d less within.
       let stands : StandsBefore (slice_index_or (batch_of n node.applied node.log) i d) (slice_index_or (batch_of n node.applied node.log) j d) =
-      pairs_take StandsBefore n (log_behind node.applied node.log) (AllPairs-filter StandsBefore (λ (e : Entry). is_before node.applied e.optime) node.log kept.sound.oplog.order) i j d less within in
+      pairs_take StandsBefore n (log_after node.applied node.log) (AllPairs-filter StandsBefore (λ (e : Entry). is_before node.applied e.optime) node.log kept.sound.oplog.order) i j d less within in
       before_both (slice_index_or (batch_of n node.applied node.log) i d).optime (slice_index_or (batch_of n node.applied node.log) j d).optime stands.term stands.earlier;
   later = λ place k v within i d inside.
       at_most_before_trans (slice_index_or (versions_at store place) k v).at node.applied (slice_index_or (batch_of n node.applied node.log) i d).optime
@@ -191,7 +191,7 @@ kept_batch node store later n kept other some applied =
         marked = kept.sound.marked;
         idle = λ not. record { slots = idle.slots; writers = idle.writers };
         applied = last_has (λ o. is_before (last_of node.log) o ≡ false) (batch_of n node.applied node.log) some
-            (All-take (λ (e : Entry). is_before (last_of node.log) e.optime ≡ false) n (log_behind node.applied node.log)
+            (All-take (λ (e : Entry). is_before (last_of node.log) e.optime ≡ false) n (log_after node.applied node.log)
             (All-filter (λ (e : Entry). is_before node.applied e.optime) (λ (e : Entry). is_before (last_of node.log) e.optime ≡ false) node.log (at_most_last node.log kept.sound.oplog.order)));
         stable = ap (λ o. is_before o node.stable) (other_point node.role (visible_point (record node { applied = last_of (batch_of n node.applied node.log) })) (last_of (batch_of n node.applied node.log)) other)
             ∙ at_most_trans node.stable node.applied (last_of (batch_of n node.applied node.log)) (stable_applied node kept.sound other)

@@ -11,7 +11,7 @@ use Rattle.oplog_entry.specs.Log.{StandsBefore}
 use Rattle.oplog_entry.specs.Visible.{ZERO, is_before, last_of, log_up_to}
 use Rattle.oplog_entry.specs.declared.entry.Entry.{Entry}
 use Rattle.oplog_entry.proofs.Optimes.{zero_least}
-use Rattle.repl_msg.specs.Logs.{log_behind, later_of}
+use Rattle.repl_msg.specs.Logs.{log_after, later_of}
 use Rattle.version_store.specs.Past.{Past, back_to, up_to}
 use Rattle.version_store.specs.Store.{Store, versions_at, ChangesEach}
 use Rattle.set_model.specs.declared.command.ReadLevel.TheVariants.{Local}
@@ -23,7 +23,7 @@ use Rattle.node_data.specs.Kept.{IsKept, IsHolder}
 use Rattle.node_data.specs.NodeData.{NodeData, applied_after, applied_at, applied_with}
 use Rattle.node_data.specs.Sound.{IsIdle}
 use Rattle.node_data.specs.Versions.{HasVersions}
-use Rattle.node_data.proofs.BatchLemmas.{batch_behind, batch_of, last_applied, last_has, last_late}
+use Rattle.node_data.proofs.BatchLemmas.{batch_after, batch_of, last_applied, last_has, last_late}
 use Rattle.node_data.proofs.FollowLemmas.{other_point}
 use Rattle.node_data.proofs.HasLemmas.{has_up_to, not_late}
 use Rattle.node_data.proofs.LogLemmas.{filter-passes, filter-swap, parts, up_to-up_to}
@@ -46,20 +46,20 @@ take_both m n xs =
     ∙ ap (λ l. l ++ drop m (take (m + n) xs)) (take-take m (m + n) xs (omega arith))
     ∙ ap (λ l. take m xs ++ l) (drop-take m n xs)
 
--- what is behind the entries that are applied
-behind_after : (m : ℕ) (at : OpTime) (log : List Entry) → AllPairs StandsBefore log → m ≤ length (log_behind at log) → log_behind (applied_after at (batch_of m at log)) log ≡ drop m (log_behind at log)
-behind_after zero at log order there = refl
-behind_after (suc m) at log order there =
-    let some : 0 < length (batch_of (suc m) at log) = omega (arith, length-take-le (suc m) (log_behind at log) there) in
-    ap (λ o. log_behind o log) (last_applied at (batch_of (suc m) at log) some) ∙ batch_behind (suc m) at log order some
+-- what is after the entries that are applied
+after_after : (m : ℕ) (at : OpTime) (log : List Entry) → AllPairs StandsBefore log → m ≤ length (log_after at log) → log_after (applied_after at (batch_of m at log)) log ≡ drop m (log_after at log)
+after_after zero at log order there = refl
+after_after (suc m) at log order there =
+    let some : 0 < length (batch_of (suc m) at log) = omega (arith, length-take-le (suc m) (log_after at log) there) in
+    ap (λ o. log_after o log) (last_applied at (batch_of (suc m) at log) some) ∙ batch_after (suc m) at log order some
 
 -- data of which so many entries are left to be applied
 pub record AppliedSoFar (first now : NodeData) (count left : ℕ) : Type 0 where
   pub fits : left ≤ count
-  pub there : count ≤ length (log_behind first.node.applied first.node.log)
+  pub there : count ≤ length (log_after first.node.applied first.node.log)
   pub is : now ≡ applied_with first (batch_of (count - left) first.node.applied first.node.log)
 
-pub so_far_none : (first : NodeData) (count : ℕ) → count ≤ length (log_behind first.node.applied first.node.log) → AppliedSoFar first first count count
+pub so_far_none : (first : NodeData) (count : ℕ) → count ≤ length (log_after first.node.applied first.node.log) → AppliedSoFar first first count count
 so_far_none first count there = record {
   fits = omega arith;
   there = there;
@@ -74,22 +74,22 @@ so_far_none first count there = record {
 so_far_long : (first now : NodeData) (count left n : ℕ) → AllPairs StandsBefore first.node.log → AppliedSoFar first now count left → n ≤ left → length (batch_of n now.node.applied now.node.log) ≡ n
 so_far_long first now count left n order so within =
     let m : ℕ = count - left in
-    let there : m ≤ length (log_behind first.node.applied first.node.log) = omega (arith, so.there) in
+    let there : m ≤ length (log_after first.node.applied first.node.log) = omega (arith, so.there) in
     subst (λ (l : NodeData). length (batch_of n l.node.applied l.node.log) ≡ n) (sym so.is)
-    (ap (λ es. length (take n es)) (behind_after m first.node.applied first.node.log order there)
-    ∙ length-take-le n (drop m (log_behind first.node.applied first.node.log)) (omega (arith, length-drop m (log_behind first.node.applied first.node.log), so.there, so.fits, within)))
+    (ap (λ es. length (take n es)) (after_after m first.node.applied first.node.log order there)
+    ∙ length-take-le n (drop m (log_after first.node.applied first.node.log)) (omega (arith, length-drop m (log_after first.node.applied first.node.log), so.there, so.fits, within)))
 
-applied_both : (m n : ℕ) (at : OpTime) (log : List Entry) → AllPairs StandsBefore log → 0 < n → m + n ≤ length (log_behind at log)
+applied_both : (m n : ℕ) (at : OpTime) (log : List Entry) → AllPairs StandsBefore log → 0 < n → m + n ≤ length (log_after at log)
     → applied_after (applied_after at (batch_of m at log)) (batch_of n (applied_after at (batch_of m at log)) log) ≡ applied_after at (batch_of (m + n) at log)
 applied_both m n at log order some there =
-    let before : m ≤ length (log_behind at log) = omega (arith, there) in
-    let rest : n ≤ length (drop m (log_behind at log)) = omega (arith, length-drop m (log_behind at log), there) in
-    let next : 0 < length (take n (drop m (log_behind at log))) = omega (arith, length-take-le n (drop m (log_behind at log)) rest, some) in
-    let whole : 0 < length (batch_of (m + n) at log) = omega (arith, length-take-le (m + n) (log_behind at log) there, some) in
-    ap (λ es. applied_after (applied_after at (batch_of m at log)) (take n es)) (behind_after m at log order before)
-    ∙ last_applied (applied_after at (batch_of m at log)) (take n (drop m (log_behind at log))) next
-    ∙ sym (last_append (batch_of m at log) (take n (drop m (log_behind at log))) next)
-    ∙ ap last_of (sym (take_both m n (log_behind at log)))
+    let before : m ≤ length (log_after at log) = omega (arith, there) in
+    let rest : n ≤ length (drop m (log_after at log)) = omega (arith, length-drop m (log_after at log), there) in
+    let next : 0 < length (take n (drop m (log_after at log))) = omega (arith, length-take-le n (drop m (log_after at log)) rest, some) in
+    let whole : 0 < length (batch_of (m + n) at log) = omega (arith, length-take-le (m + n) (log_after at log) there, some) in
+    ap (λ es. applied_after (applied_after at (batch_of m at log)) (take n es)) (after_after m at log order before)
+    ∙ last_applied (applied_after at (batch_of m at log)) (take n (drop m (log_after at log))) next
+    ∙ sym (last_append (batch_of m at log) (take n (drop m (log_after at log))) next)
+    ∙ ap last_of (sym (take_both m n (log_after at log)))
     ∙ sym (last_applied at (batch_of (m + n) at log) whole)
 
 pub so_far_more : (first now next : NodeData) (count left n k : ℕ) → AllPairs StandsBefore first.node.log → AppliedSoFar first now count left → 0 < n → n ≤ left
@@ -130,10 +130,10 @@ so_far_begun first now count left so = (applied_after first.node.applied (batch_
 
 -- ---- up to an optime
 
-length_parts : (at : OpTime) (log : List Entry) → AllPairs StandsBefore log → length log ≡ length (log_up_to at log) + length (log_behind at log)
-length_parts at log order = ap length (parts at log order) ∙ length-append (log_up_to at log) (log_behind at log)
+length_parts : (at : OpTime) (log : List Entry) → AllPairs StandsBefore log → length log ≡ length (log_up_to at log) + length (log_after at log)
+length_parts at log order = ap length (parts at log order) ∙ length-append (log_up_to at log) (log_after at log)
 
-pub count_there : (at to : OpTime) (log : List Entry) → AllPairs StandsBefore log → length (log_up_to to log) - length (log_up_to at log) ≤ length (log_behind at log)
+pub count_there : (at to : OpTime) (log : List Entry) → AllPairs StandsBefore log → length (log_up_to to log) - length (log_up_to at log) ≤ length (log_after at log)
 count_there at to log order = omega (arith, length_parts at log order, length_parts to log order)
 
 -- the last entry is no later than an optime that all are no later than
@@ -151,9 +151,9 @@ early_up_to : (at to : OpTime) (log : List Entry) → is_before to at ≡ true �
 early_up_to at to log earlier k d within =
     at_most_trans (slice_index_or (log_up_to to log) k d).optime to at (not_late _ (filter-passes (λ (e : Entry). not (is_before to e.optime)) log k d within)) (before_at_most to at earlier)
 
--- a front of what is behind an optime is behind it
-front_of : (to : OpTime) (log : List Entry) → AllPairs StandsBefore log → take (length (log_up_to to log)) log ≡ log_up_to to log
-front_of to log order = ap (λ l. take (length (log_up_to to log)) l) (parts to log order) ∙ take_at (log_up_to to log) (log_behind to log) (length (log_up_to to log)) refl
+-- a prefix of what is after an optime is after it
+prefix_of : (to : OpTime) (log : List Entry) → AllPairs StandsBefore log → take (length (log_up_to to log)) log ≡ log_up_to to log
+prefix_of to log order = ap (λ l. take (length (log_up_to to log)) l) (parts to log order) ∙ take_at (log_up_to to log) (log_after to log) (length (log_up_to to log)) refl
 
 pub applied_up_to : (at to : OpTime) (log : List Entry) (count : ℕ) → AllPairs StandsBefore log → count ≡ length (log_up_to to log) - length (log_up_to at log)
     → applied_after at (batch_of count at log) ≡ later_of at (last_of (log_up_to to log))
@@ -170,47 +170,47 @@ applied_up_to at to log count order is = by_test (is_before to at) refl
         omega (arith, length_parts to (log_up_to at log) (AllPairs-filter StandsBefore (λ (e : Entry). not (is_before at e.optime)) log order), ap length within) in
         by_count count (omega (arith, is, short))
         ∙ sym (later_first at (last_of (log_up_to to log)) (last_early at (log_up_to to log) (early_up_to at to log earlier)))
-    by_test false later = by_more (log_up_to to (log_behind at log)) refl
+    by_test false later = by_more (log_up_to to (log_after at log)) refl
       where
         front : log_up_to at (log_up_to to log) ≡ log_up_to at log
         front = up_to-up_to at to log later
 
-        back : log_behind at (log_up_to to log) ≡ log_up_to to (log_behind at log)
+        back : log_after at (log_up_to to log) ≡ log_up_to to (log_after at log)
         back = filter-swap (λ (e : Entry). is_before at e.optime) (λ (e : Entry). not (is_before to e.optime)) log
 
-        whole : log_up_to to log ≡ log_up_to at log ++ log_up_to to (log_behind at log)
+        whole : log_up_to to log ≡ log_up_to at log ++ log_up_to to (log_after at log)
         whole =
             parts at (log_up_to to log) (AllPairs-filter StandsBefore (λ (e : Entry). not (is_before to e.optime)) log order)
-            ∙ ap (λ l. l ++ log_behind at (log_up_to to log)) front
+            ∙ ap (λ l. l ++ log_after at (log_up_to to log)) front
             ∙ ap (λ l. log_up_to at log ++ l) back
 
-        long : count ≡ length (log_up_to to (log_behind at log))
-        long = omega (arith, is, ap length whole, length-append (log_up_to at log) (log_up_to to (log_behind at log)))
+        long : count ≡ length (log_up_to to (log_after at log))
+        long = omega (arith, is, ap length whole, length-append (log_up_to at log) (log_up_to to (log_after at log)))
 
-        batch : batch_of count at log ≡ log_up_to to (log_behind at log)
-        batch = ap (λ n. batch_of n at log) long ∙ front_of to (log_behind at log) (AllPairs-filter StandsBefore (λ (e : Entry). is_before at e.optime) log order)
+        batch : batch_of count at log ≡ log_up_to to (log_after at log)
+        batch = ap (λ n. batch_of n at log) long ∙ prefix_of to (log_after at log) (AllPairs-filter StandsBefore (λ (e : Entry). is_before at e.optime) log order)
 
-        by_more : (more : List Entry) → log_up_to to (log_behind at log) ≡ more → applied_after at (batch_of count at log) ≡ later_of at (last_of (log_up_to to log))
+        by_more : (more : List Entry) → log_up_to to (log_after at log) ≡ more → applied_after at (batch_of count at log) ≡ later_of at (last_of (log_up_to to log))
         by_more [] none =
             ap (λ es. applied_after at es) (batch ∙ none)
             ∙ sym (later_first at (last_of (log_up_to to log)) (last_early at (log_up_to to log)
             (subst (λ l. All (λ (e : Entry). is_before at e.optime ≡ false) l) (sym (whole ∙ ap (λ l. log_up_to at log ++ l) none ∙ append-nil (log_up_to at log)))
             (λ k d within. not_late _ (filter-passes (λ (e : Entry). not (is_before at e.optime)) log k d within)))))
         by_more (entry ∷ more) some =
-            let there : 0 < length (log_up_to to (log_behind at log)) = subst (λ (l : List Entry). 0 < length l) (sym some) (omega arith) in
-            let end : last_of (log_up_to to log) ≡ last_of (log_up_to to (log_behind at log)) = ap last_of whole ∙ last_append (log_up_to at log) (log_up_to to (log_behind at log)) there in
+            let there : 0 < length (log_up_to to (log_after at log)) = subst (λ (l : List Entry). 0 < length l) (sym some) (omega arith) in
+            let end : last_of (log_up_to to log) ≡ last_of (log_up_to to (log_after at log)) = ap last_of whole ∙ last_append (log_up_to at log) (log_up_to to (log_after at log)) there in
             ap (λ es. applied_after at es) batch
-            ∙ last_applied at (log_up_to to (log_behind at log)) there
+            ∙ last_applied at (log_up_to to (log_after at log)) there
             ∙ sym end
             ∙ sym (later_second at (last_of (log_up_to to log)) (ap (λ o. is_before at o) end
-            ∙ last_has (λ o. is_before at o ≡ true) (log_up_to to (log_behind at log)) there
-            (All-filter (λ (e : Entry). not (is_before to e.optime)) (λ (e : Entry). is_before at e.optime ≡ true) (log_behind at log) (filter-passes (λ (e : Entry). is_before at e.optime) log))))
+            ∙ last_has (λ o. is_before at o ≡ true) (log_up_to to (log_after at log)) there
+            (All-filter (λ (e : Entry). not (is_before to e.optime)) (λ (e : Entry). is_before at e.optime ≡ true) (log_after at log) (filter-passes (λ (e : Entry). is_before at e.optime) log))))
 
 -- ---- back to where it was applied
 
 pub kept_back : (node : Node) (store later : Store) (point : OpTime) → IsKept node store → is_primary node.role ≡ false → is_before point node.stable ≡ false → is_before node.applied point ≡ false
     → ChangesEach store later (back_to point) → IsKept (record node { applied = point }) later
-kept_back node store later point kept other behind within changes =
+kept_back node store later point kept other after within changes =
     let idle : IsIdle node = kept.sound.idle other in
     record {
       sound = record {
@@ -220,13 +220,13 @@ kept_back node store later point kept other behind within changes =
         marked = kept.sound.marked;
         idle = λ not. record { slots = idle.slots; writers = idle.writers };
         applied = at_most_trans point node.applied (last_of node.log) within kept.sound.applied;
-        stable = ap (λ p. is_before p node.stable) (other_point node.role (visible_point (record node { applied = point })) point other) ∙ behind;
+        stable = ap (λ p. is_before p node.stable) (other_point node.role (visible_point (record node { applied = point })) point other) ∙ after;
       };
       writers = apart_idle (record node { applied = point }) idle.writers;
       versions = λ p. subst (λ (past : Past). HasVersions p node.stable (if_primary node.role node.log (log_up_to point node.log)) past.versions) (sym (changes.each p))
           (subst (λ log. HasVersions p node.stable log (up_to point (versions_at store p)))
           (shown_up_to node.role node.applied point node.log (λ _. within) ∙ sym (other_point node.role node.log (log_up_to point node.log) other))
-          (has_up_to p node.stable point (shown_log node Local) (versions_at store p) (shown_order node.role node.applied node.log kept.sound.oplog.order) behind (kept.versions p)));
+          (has_up_to p node.stable point (shown_log node Local) (versions_at store p) (shown_order node.role node.applied node.log kept.sound.oplog.order) after (kept.versions p)));
       holders = λ p. subst (λ h. IsHolder node.writers p h) (sym (ap (λ (past : Past). past.holder) (changes.each p))) (kept.holders p);
       shards = changes.count ∙ kept.shards;
     }

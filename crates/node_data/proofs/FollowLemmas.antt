@@ -43,7 +43,7 @@ use Rattle.node_data.proofs.VisibleLemmas.{SomeEntry, IsBeforeSlots, filter_some
 
 pub kept_pruned : (node : Node) (store later : Store) (at : OpTime) → IsKept node store → is_before at node.stable ≡ false → is_before (applied_point node) at ≡ false → ChangesEach store later (pruned at)
     → IsKept (record node { stable = at }) later
-kept_pruned node store later at kept behind within changes = record {
+kept_pruned node store later at kept after within changes = record {
   sound = record {
     oplog = kept.sound.oplog;
     entries = kept.sound.entries;
@@ -62,7 +62,7 @@ kept_pruned node store later at kept behind within changes = record {
     alone = kept.writers.alone;
   };
   versions = λ p. subst (λ (past : Past). HasVersions p at (shown_log node Local) past.versions) (sym (changes.each p))
-      (has_pruned p node.stable at (shown_log node Local) (versions_at store p) (shown_order node.role node.applied node.log kept.sound.oplog.order) behind (kept.versions p));
+      (has_pruned p node.stable at (shown_log node Local) (versions_at store p) (shown_order node.role node.applied node.log kept.sound.oplog.order) after (kept.versions p));
   holders = λ p. subst (λ h. IsHolder node.writers p h) (sym (ap (λ (past : Past). past.holder) (changes.each p))) (kept.holders p);
   shards = changes.count ∙ kept.shards;
 }
@@ -127,7 +127,7 @@ kept_cut node store kept other is_point =
       shards = kept.shards;
     }
 
--- ---- behind every entry
+-- ---- after every entry
 
 -- no entry's term goes as far
 terms_below : (node : Node) (at : OpTime) → IsSound node → 2 ^ 63 ≤ at.term → All (λ (e : Entry). e.optime.term < at.term) node.log
@@ -135,7 +135,7 @@ terms_below node at sound late k d within =
     let fits : (slice_index_or node.log k d).optime.term < 2 ^ 63 = (sound.oplog.lawful k d within).term in
     omega (arith, fits, late)
 
--- so an optime of such a term is behind every entry, and can be read on a primary
+-- so an optime of such a term is after every entry, and can be read on a primary
 pub late_readable : (node : Node) (at : OpTime) → IsSound node → node.role ≡ Primary → 2 ^ 63 ≤ at.term → IsReadable node at
 late_readable node at sound primary late = record {
   kept = before_at_most node.stable at

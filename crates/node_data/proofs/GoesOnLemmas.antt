@@ -1,4 +1,4 @@
--- The documents stay those of the log as entries come behind it, and as it is closed to writers.
+-- The documents stay those of the log as entries come after it, and as it is closed to writers.
 use Rattle.std.proofs.Common.{◌≡◌, inl, inr, ◌≤◌, ◌∙◌, ℕ, Bool, true, false, List, [], ◌∷◌, ◌++◌, None, refl, sym, ap, subst, arith}
 use Rattle.std.specs.Prelude.{max}
 use Rattle.std.specs.List.{All, AllPairs}
@@ -36,7 +36,7 @@ use Rattle.node_data.proofs.LogLemmas.{up_to-last, up_to-late}
 use Rattle.node_data.proofs.RoleLemmas.{apart_idle}
 use Rattle.node_data.proofs.VisibleLemmas.{IsBeforeSlots, SomeEntry, last_to_some, some_more, some_to_last, visible_shown}
 
--- ---- entries behind the log
+-- ---- entries after the log
 
 some_front : (P : OpTime → Type 0) (log more : List Entry) → SomeEntry P log → SomeEntry P (log ++ more)
 some_front P [] more some = absurd some

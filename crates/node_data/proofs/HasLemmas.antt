@@ -17,12 +17,12 @@ use Rattle.oplog_entry.specs.Visible.{is_before, log_up_to}
 use Rattle.oplog_entry.specs.declared.entry.Entry.{Entry}
 use Rattle.oplog_entry.proofs.PlaceLemmas.{is_at-here, is_at-only, is_at-other}
 use Rattle.oplog_store.proofs.Keeps.{pairs_tail}
-use Rattle.repl_msg.specs.Logs.{log_behind}
+use Rattle.repl_msg.specs.Logs.{log_after}
 use Rattle.version_store.specs.declared.history.Version.{Version}
-use Rattle.version_store.specs.Past.{latest_of, last_version, up_to, behind, shown, standing}
+use Rattle.version_store.specs.Past.{latest_of, last_version, up_to, later_than, shown, standing}
 use Rattle.node_data.specs.Kept.{IsNewest, FitsBeside}
 use Rattle.node_data.specs.Versions.{versions_from, HasVersions}
-use Rattle.node_data.proofs.LogLemmas.{every_late, parts, up_to-up_to, up_to-late, behind-late, filter-swap, filter-within, filter-all, filter-none, filter-passes}
+use Rattle.node_data.proofs.LogLemmas.{every_late, parts, up_to-up_to, up_to-late, after-late, filter-swap, filter-within, filter-all, filter-none, filter-passes}
 use Rattle.node_data.proofs.VersionLemmas.{none_up_to, newest_of, newest_of-latest, newest-from, up_to-from, with_here-from, with_other-from, all_versions, quiet_of_newest}
 
 -- ---- the newest of versions
@@ -50,20 +50,20 @@ versions_from-append place before (entry ∷ one) two =
 -- ---- what they show
 
 -- the newest is what the whole log leaves
-newest_behind : (stable : OpTime) (log : List Entry) (place : Place) → AllPairs StandsBefore log
-    → newest_of (get (docs (log_up_to stable log)) place) (versions_from place (get (docs (log_up_to stable log)) place) (log_behind stable log)) ≡ get (docs log) place
-newest_behind stable log place order =
-    newest-from (log_behind stable log) (docs (log_up_to stable log)) place (get (docs (log_up_to stable log)) place) refl
-    ∙ ap (λ d. get d place) (sym (fold-append applied empty (log_up_to stable log) (log_behind stable log)))
+newest_after : (stable : OpTime) (log : List Entry) (place : Place) → AllPairs StandsBefore log
+    → newest_of (get (docs (log_up_to stable log)) place) (versions_from place (get (docs (log_up_to stable log)) place) (log_after stable log)) ≡ get (docs log) place
+newest_after stable log place order =
+    newest-from (log_after stable log) (docs (log_up_to stable log)) place (get (docs (log_up_to stable log)) place) refl
+    ∙ ap (λ d. get d place) (sym (fold-append applied empty (log_up_to stable log) (log_after stable log)))
     ∙ ap (λ l. get (docs l) place) (sym (parts stable log order))
 
 pub latest_has : (place : Place) (stable : OpTime) (log : List Entry) (versions : List Version) → AllPairs StandsBefore log → HasVersions place stable log versions
     → latest_of versions ≡ get (docs log) place
 latest_has place stable log versions order has =
     ap latest_of has.is
-    ∙ latest-append has.base (versions_from place (get (docs (log_up_to stable log)) place) (log_behind stable log))
-    ∙ ap (λ before. newest_of before (versions_from place (get (docs (log_up_to stable log)) place) (log_behind stable log))) has.shows
-    ∙ newest_behind stable log place order
+    ∙ latest-append has.base (versions_from place (get (docs (log_up_to stable log)) place) (log_after stable log))
+    ∙ ap (λ before. newest_of before (versions_from place (get (docs (log_up_to stable log)) place) (log_after stable log))) has.shows
+    ∙ newest_after stable log place order
 
 -- ---- up to an optime
 
@@ -75,15 +75,15 @@ pub has_up_to : (place : Place) (stable at : OpTime) (log : List Entry) (version
     → HasVersions place stable log versions → HasVersions place stable (log_up_to at log) (up_to at versions)
 has_up_to place stable at log versions order later has =
     let front : log_up_to stable (log_up_to at log) ≡ log_up_to stable log = up_to-up_to stable at log later in
-    let back : log_behind stable (log_up_to at log) ≡ log_up_to at (log_behind stable log) = filter-swap (λ (e : Entry). is_before stable e.optime) (λ (e : Entry). not (is_before at e.optime)) log in
+    let back : log_after stable (log_up_to at log) ≡ log_up_to at (log_after stable log) = filter-swap (λ (e : Entry). is_before stable e.optime) (λ (e : Entry). not (is_before at e.optime)) log in
     record {
       base = has.base;
       is = ap (up_to at) has.is
-          ∙ filter-append (λ (v : Version). not (is_before at v.at)) has.base (versions_from place (get (docs (log_up_to stable log)) place) (log_behind stable log))
-          ∙ ap (λ vs. vs ++ up_to at (versions_from place (get (docs (log_up_to stable log)) place) (log_behind stable log))) (early_up_to stable at has.base later has.early)
-          ∙ ap (λ vs. has.base ++ vs) (up_to-from at place (get (docs (log_up_to stable log)) place) (log_behind stable log) (AllPairs-filter StandsBefore (λ (e : Entry). is_before stable e.optime) log order)
+          ∙ filter-append (λ (v : Version). not (is_before at v.at)) has.base (versions_from place (get (docs (log_up_to stable log)) place) (log_after stable log))
+          ∙ ap (λ vs. vs ++ up_to at (versions_from place (get (docs (log_up_to stable log)) place) (log_after stable log))) (early_up_to stable at has.base later has.early)
+          ∙ ap (λ vs. has.base ++ vs) (up_to-from at place (get (docs (log_up_to stable log)) place) (log_after stable log) (AllPairs-filter StandsBefore (λ (e : Entry). is_before stable e.optime) log order)
           ∙ ap (λ l. versions_from place (get (docs (log_up_to stable log)) place) l) (sym back)
-          ∙ ap (λ l. versions_from place (get (docs l) place) (log_behind stable (log_up_to at log))) (sym front));
+          ∙ ap (λ l. versions_from place (get (docs l) place) (log_after stable (log_up_to at log))) (sym front));
       early = has.early;
       shows = has.shows ∙ ap (λ l. get (docs l) place) (sym front);
     }
@@ -94,22 +94,22 @@ shown_has place stable at log versions order later has =
     latest_has place stable (log_up_to at log) (up_to at versions) (AllPairs-filter StandsBefore (λ (e : Entry). not (is_before at e.optime)) log order)
     (has_up_to place stable at log versions order later has)
 
--- ---- entries behind
+-- ---- later entries
 
 pub has_more : (place : Place) (stable : OpTime) (log more : List Entry) (versions : List Version) → AllPairs StandsBefore log → All (λ (e : Entry). is_before stable e.optime ≡ true) more
     → HasVersions place stable log versions → HasVersions place stable (log ++ more) (versions ++ versions_from place (get (docs log) place) more)
 has_more place stable log more versions order late has =
     let front : log_up_to stable (log ++ more) ≡ log_up_to stable log = up_to-late stable log more late in
-    let back : log_behind stable (log ++ more) ≡ log_behind stable log ++ more = behind-late stable log more late in
+    let back : log_after stable (log ++ more) ≡ log_after stable log ++ more = after-late stable log more late in
     let before : Option Fields = get (docs (log_up_to stable log)) place in
     record {
       base = has.base;
       is = ap (λ vs. vs ++ versions_from place (get (docs log) place) more) has.is
-          ∙ append_assoc has.base (versions_from place (get (docs (log_up_to stable log)) place) (log_behind stable log)) (versions_from place (get (docs log) place) more)
-          ∙ ap (λ vs. has.base ++ vs) (ap (λ d. versions_from place (get (docs (log_up_to stable log)) place) (log_behind stable log) ++ versions_from place d more) (sym (newest_behind stable log place order))
-          ∙ sym (versions_from-append place (get (docs (log_up_to stable log)) place) (log_behind stable log) more)
+          ∙ append_assoc has.base (versions_from place (get (docs (log_up_to stable log)) place) (log_after stable log)) (versions_from place (get (docs log) place) more)
+          ∙ ap (λ vs. has.base ++ vs) (ap (λ d. versions_from place (get (docs (log_up_to stable log)) place) (log_after stable log) ++ versions_from place d more) (sym (newest_after stable log place order))
+          ∙ sym (versions_from-append place (get (docs (log_up_to stable log)) place) (log_after stable log) more)
           ∙ ap (λ l. versions_from place (get (docs (log_up_to stable log)) place) l) (sym back)
-          ∙ ap (λ l. versions_from place (get (docs l) place) (log_behind stable (log ++ more))) (sym front));
+          ∙ ap (λ l. versions_from place (get (docs l) place) (log_after stable (log ++ more))) (sym front));
       early = has.early;
       shows = has.shows ∙ ap (λ l. get (docs l) place) (sym front);
     }
@@ -125,16 +125,16 @@ up_to-with stable (first ∷ log) entry late =
       | false ↦ rw late refl
     ]
 
--- and stands among what comes behind
-behind-with : (stable : OpTime) (log : List Entry) (entry : Entry) → is_before stable entry.optime ≡ true → All (FitsBeside entry) log → log_behind stable (with_entry log entry) ≡ with_entry (log_behind stable log) entry
-behind-with stable [] entry late fits = rw late refl
-behind-with stable (first ∷ log) entry late fits = by_test (is_before stable first.optime) refl (nat_lt first.optime.ts entry.optime.ts) refl (behind-with stable log entry late (All-tail (FitsBeside entry) first log fits))
+-- and stands among what comes after
+after-with : (stable : OpTime) (log : List Entry) (entry : Entry) → is_before stable entry.optime ≡ true → All (FitsBeside entry) log → log_after stable (with_entry log entry) ≡ with_entry (log_after stable log) entry
+after-with stable [] entry late fits = rw late refl
+after-with stable (first ∷ log) entry late fits = by_test (is_before stable first.optime) refl (nat_lt first.optime.ts entry.optime.ts) refl (after-with stable log entry late (All-tail (FitsBeside entry) first log fits))
   where
     not_earlier : (a b : ℕ) → nat_lt a b ≡ false → b ≤ a
     not_earlier a b test = grind arith
 
-    by_test : (b : Bool) → is_before stable first.optime ≡ b → (c : Bool) → nat_lt first.optime.ts entry.optime.ts ≡ c → log_behind stable (with_entry log entry) ≡ with_entry (log_behind stable log) entry
-        → log_behind stable (with_entry (first ∷ log) entry) ≡ with_entry (log_behind stable (first ∷ log)) entry
+    by_test : (b : Bool) → is_before stable first.optime ≡ b → (c : Bool) → nat_lt first.optime.ts entry.optime.ts ≡ c → log_after stable (with_entry log entry) ≡ with_entry (log_after stable log) entry
+        → log_after stable (with_entry (first ∷ log) entry) ≡ with_entry (log_after stable (first ∷ log)) entry
     by_test true is true less again = rw (less, is, less) (ap (λ rest. first ∷ rest) again)
     by_test true is false less again = rw (less, late, is, less) refl
     by_test false is true less again = rw (less, is) again
@@ -150,17 +150,17 @@ pub has_with : (place : Place) (stable : OpTime) (log : List Entry) (entry : Ent
     → place_of entry.op ≡ Some place → HasVersions place stable log versions
     → HasVersions place stable (with_entry log entry) (versions ++ record { at = entry.optime; doc = document_after entry.op (get (docs log) place) } ∷ [])
 has_with place stable log entry versions order newest late own has =
-    let made = with_here-from place entry (log_behind stable log) (get (docs (log_up_to stable log)) place) (is_at-here _ place own)
+    let made = with_here-from place entry (log_after stable log) (get (docs (log_up_to stable log)) place) (is_at-here _ place own)
     (AllPairs-filter StandsBefore (λ (e : Entry). is_before stable e.optime) log order)
     (All-filter (λ (e : Entry). is_before stable e.optime) (λ (e : Entry). entry.optime.ts ≤ e.optime.ts → is_at (place_of e.op) place ≡ false) log (quiet_of_newest log entry place newest own)) in
     record {
       base = has.base;
       is = ap (λ vs. vs ++ record { at = entry.optime; doc = document_after entry.op (get (docs log) place) } ∷ []) has.is
-          ∙ append_assoc has.base (versions_from place (get (docs (log_up_to stable log)) place) (log_behind stable log)) (record { at = entry.optime; doc = document_after entry.op (get (docs log) place) } ∷ [])
-          ∙ ap (λ vs. has.base ++ vs) (ap (λ d. versions_from place (get (docs (log_up_to stable log)) place) (log_behind stable log) ++ record { at = entry.optime; doc = document_after entry.op d } ∷ []) (sym (newest_behind stable log place order))
+          ∙ append_assoc has.base (versions_from place (get (docs (log_up_to stable log)) place) (log_after stable log)) (record { at = entry.optime; doc = document_after entry.op (get (docs log) place) } ∷ [])
+          ∙ ap (λ vs. has.base ++ vs) (ap (λ d. versions_from place (get (docs (log_up_to stable log)) place) (log_after stable log) ++ record { at = entry.optime; doc = document_after entry.op d } ∷ []) (sym (newest_after stable log place order))
           ∙ sym made
-          ∙ ap (λ l. versions_from place (get (docs (log_up_to stable log)) place) l) (sym (behind-with stable log entry late newest.fits))
-          ∙ ap (λ l. versions_from place (get (docs l) place) (log_behind stable (with_entry log entry))) (sym (up_to-with stable log entry late)));
+          ∙ ap (λ l. versions_from place (get (docs (log_up_to stable log)) place) l) (sym (after-with stable log entry late newest.fits))
+          ∙ ap (λ l. versions_from place (get (docs l) place) (log_after stable (with_entry log entry))) (sym (up_to-with stable log entry late)));
       early = has.early;
       shows = has.shows ∙ ap (λ l. get (docs l) place) (sym (up_to-with stable log entry late));
     }
@@ -171,9 +171,9 @@ pub has_with_other : (place : Place) (stable : OpTime) (log : List Entry) (entry
 has_with_other place stable log entry versions fits late apart has = record {
   base = has.base;
   is = has.is
-      ∙ ap (λ vs. has.base ++ vs) (sym (with_other-from place entry (log_behind stable log) (get (docs (log_up_to stable log)) place) (is_at-other _ place apart))
-      ∙ ap (λ l. versions_from place (get (docs (log_up_to stable log)) place) l) (sym (behind-with stable log entry late fits))
-      ∙ ap (λ l. versions_from place (get (docs l) place) (log_behind stable (with_entry log entry))) (sym (up_to-with stable log entry late)));
+      ∙ ap (λ vs. has.base ++ vs) (sym (with_other-from place entry (log_after stable log) (get (docs (log_up_to stable log)) place) (is_at-other _ place apart))
+      ∙ ap (λ l. versions_from place (get (docs (log_up_to stable log)) place) l) (sym (after-with stable log entry late fits))
+      ∙ ap (λ l. versions_from place (get (docs l) place) (log_after stable (with_entry log entry))) (sym (up_to-with stable log entry late)));
   early = has.early;
   shows = has.shows ∙ ap (λ l. get (docs l) place) (sym (up_to-with stable log entry late));
 }
@@ -197,38 +197,38 @@ all_standing P (version ∷ []) all =
     ]
 all_standing P (version ∷ next ∷ versions) all = all_standing P (next ∷ versions) (All-tail P version (next ∷ versions) all)
 
--- what the entries behind an optime make
-behind-from : (at : OpTime) (place : Place) (before : Option Fields) (log : List Entry) → AllPairs StandsBefore log
-    → behind at (versions_from place before log) ≡ versions_from place (newest_of before (versions_from place before (log_up_to at log))) (log_behind at log)
-behind-from at place before [] order = refl
-behind-from at place before (entry ∷ log) order =
-    by_test (is_before at entry.optime) refl (λ next. behind-from at place next log (pairs_tail StandsBefore entry log order))
+-- what the entries after an optime make
+after-from : (at : OpTime) (place : Place) (before : Option Fields) (log : List Entry) → AllPairs StandsBefore log
+    → later_than at (versions_from place before log) ≡ versions_from place (newest_of before (versions_from place before (log_up_to at log))) (log_after at log)
+after-from at place before [] order = refl
+after-from at place before (entry ∷ log) order =
+    by_test (is_before at entry.optime) refl (λ next. after-from at place next log (pairs_tail StandsBefore entry log order))
   where
     by_test : (late : Bool) → is_before at entry.optime ≡ late
-        → ((next : Option Fields) → behind at (versions_from place next log) ≡ versions_from place (newest_of next (versions_from place next (log_up_to at log))) (log_behind at log))
-        → behind at (versions_from place before (entry ∷ log)) ≡ versions_from place (newest_of before (versions_from place before (log_up_to at (entry ∷ log)))) (log_behind at (entry ∷ log))
+        → ((next : Option Fields) → later_than at (versions_from place next log) ≡ versions_from place (newest_of next (versions_from place next (log_up_to at log))) (log_after at log))
+        → later_than at (versions_from place before (entry ∷ log)) ≡ versions_from place (newest_of before (versions_from place before (log_up_to at (entry ∷ log)))) (log_after at (entry ∷ log))
     by_test true late again =
         let all : All (λ other. is_before at other.optime ≡ true) (entry ∷ log) = every_late at entry log order late in
         filter-all (λ (v : Version). is_before at v.at) (versions_from place before (entry ∷ log)) (all_versions (λ o. is_before at o ≡ true) place before (entry ∷ log) (λ k d within here. all k d within))
         ∙ ap (λ l. versions_from place before l) (sym (filter-all (λ (e : Entry). is_before at e.optime) (entry ∷ log) all))
-        ∙ ap (λ l. versions_from place (newest_of before (versions_from place before l)) (log_behind at (entry ∷ log))) (sym (none_up_to at (entry ∷ log) all))
+        ∙ ap (λ l. versions_from place (newest_of before (versions_from place before l)) (log_after at (entry ∷ log))) (sym (none_up_to at (entry ∷ log) all))
     by_test false early again =
         (elim (is_at (place_of entry.op) place) as (λ b.
-        behind at (cond b (record { at = entry.optime; doc = document_after entry.op before } ∷ versions_from place (document_after entry.op before) log) (versions_from place before log))
-        ≡ versions_from place (newest_of before (cond b (record { at = entry.optime; doc = document_after entry.op before } ∷ versions_from place (document_after entry.op before) (log_up_to at log)) (versions_from place before (log_up_to at log)))) (log_behind at log)) [
+        later_than at (cond b (record { at = entry.optime; doc = document_after entry.op before } ∷ versions_from place (document_after entry.op before) log) (versions_from place before log))
+        ≡ versions_from place (newest_of before (cond b (record { at = entry.optime; doc = document_after entry.op before } ∷ versions_from place (document_after entry.op before) (log_up_to at log)) (versions_from place before (log_up_to at log)))) (log_after at log)) [
           | true ↦
-              ap (λ b. cond b (record { at = entry.optime; doc = document_after entry.op before } ∷ behind at (versions_from place (document_after entry.op before) log)) (behind at (versions_from place (document_after entry.op before) log))) early
+              ap (λ b. cond b (record { at = entry.optime; doc = document_after entry.op before } ∷ later_than at (versions_from place (document_after entry.op before) log)) (later_than at (versions_from place (document_after entry.op before) log))) early
               ∙ again (document_after entry.op before)
           | false ↦ again before
         ])
-        ∙ ap (λ b. versions_from place (newest_of before (versions_from place before (cond (not b) (entry ∷ log_up_to at log) (log_up_to at log)))) (cond b (entry ∷ log_behind at log) (log_behind at log))) (sym early)
+        ∙ ap (λ b. versions_from place (newest_of before (versions_from place before (cond (not b) (entry ∷ log_up_to at log) (log_up_to at log)))) (cond b (entry ∷ log_after at log) (log_after at log))) (sym early)
 
 pub not_late : (b : Bool) → not b ≡ true → b ≡ false
 not_late true is = cc is
 not_late false is = refl
 
 pub has_pruned : (place : Place) (stable at : OpTime) (log : List Entry) (versions : List Version) → AllPairs StandsBefore log → is_before at stable ≡ false
-    → HasVersions place stable log versions → HasVersions place at log (standing (last_version (up_to at versions)) ++ behind at versions)
+    → HasVersions place stable log versions → HasVersions place at log (standing (last_version (up_to at versions)) ++ later_than at versions)
 has_pruned place stable at log versions order later has = record {
   base = standing (last_version (up_to at versions));
   is = ap (λ vs. standing (last_version (up_to at versions)) ++ vs) back;
@@ -242,23 +242,23 @@ has_pruned place stable at log versions order later has = record {
     front : log_up_to stable (log_up_to at log) ≡ log_up_to stable log
     front = up_to-up_to stable at log later
 
-    between : log_behind stable (log_up_to at log) ≡ log_up_to at (log_behind stable log)
+    between : log_after stable (log_up_to at log) ≡ log_up_to at (log_after stable log)
     between = filter-swap (λ (e : Entry). is_before stable e.optime) (λ (e : Entry). not (is_before at e.optime)) log
 
-    stands : newest_of (get (docs (log_up_to stable log)) place) (versions_from place (get (docs (log_up_to stable log)) place) (log_up_to at (log_behind stable log))) ≡ get (docs (log_up_to at log)) place
+    stands : newest_of (get (docs (log_up_to stable log)) place) (versions_from place (get (docs (log_up_to stable log)) place) (log_up_to at (log_after stable log))) ≡ get (docs (log_up_to at log)) place
     stands =
         ap (λ l. newest_of (get (docs (log_up_to stable log)) place) (versions_from place (get (docs (log_up_to stable log)) place) l)) (sym between)
-        ∙ ap (λ l. newest_of (get (docs l) place) (versions_from place (get (docs l) place) (log_behind stable (log_up_to at log)))) (sym front)
-        ∙ newest_behind stable (log_up_to at log) place (AllPairs-filter StandsBefore (λ (e : Entry). not (is_before at e.optime)) log order)
+        ∙ ap (λ l. newest_of (get (docs l) place) (versions_from place (get (docs l) place) (log_after stable (log_up_to at log)))) (sym front)
+        ∙ newest_after stable (log_up_to at log) place (AllPairs-filter StandsBefore (λ (e : Entry). not (is_before at e.optime)) log order)
 
-    back : behind at versions ≡ versions_from place (get (docs (log_up_to at log)) place) (log_behind at log)
+    back : later_than at versions ≡ versions_from place (get (docs (log_up_to at log)) place) (log_after at log)
     back =
-        ap (behind at) has.is
-        ∙ filter-append (λ (v : Version). is_before at v.at) has.base (versions_from place (get (docs (log_up_to stable log)) place) (log_behind stable log))
-        ∙ ap (λ vs. vs ++ behind at (versions_from place (get (docs (log_up_to stable log)) place) (log_behind stable log)))
+        ap (later_than at) has.is
+        ∙ filter-append (λ (v : Version). is_before at v.at) has.base (versions_from place (get (docs (log_up_to stable log)) place) (log_after stable log))
+        ∙ ap (λ vs. vs ++ later_than at (versions_from place (get (docs (log_up_to stable log)) place) (log_after stable log)))
         (filter-none (λ (v : Version). is_before at v.at) has.base (λ k d within. at_most_trans (slice_index_or has.base k d).at stable at (has.early k d within) later))
-        ∙ behind-from at place (get (docs (log_up_to stable log)) place) (log_behind stable log) (AllPairs-filter StandsBefore (λ (e : Entry). is_before stable e.optime) log order)
-        ∙ ap (λ d. versions_from place d (log_behind at (log_behind stable log))) stands
+        ∙ after-from at place (get (docs (log_up_to stable log)) place) (log_after stable log) (AllPairs-filter StandsBefore (λ (e : Entry). is_before stable e.optime) log order)
+        ∙ ap (λ d. versions_from place d (log_after at (log_after stable log))) stands
         ∙ ap (λ l. versions_from place (get (docs (log_up_to at log)) place) l)
         (filter-within (λ (e : Entry). is_before at e.optime) (λ (e : Entry). is_before stable e.optime) log (λ e here. at_most_before_trans stable at e.optime later here))
 
@@ -269,9 +269,9 @@ pub has_before : (place : Place) (stable : OpTime) (log : List Entry) (entry : E
     → HasVersions place stable log versions → All (λ (v : Version). is_before v.at entry.optime ≡ true) versions
 has_before place stable log entry versions newest late own has =
     subst (λ vs. All (λ (v : Version). is_before v.at entry.optime ≡ true) vs) (sym has.is)
-    (All-append (λ (v : Version). is_before v.at entry.optime ≡ true) has.base (versions_from place (get (docs (log_up_to stable log)) place) (log_behind stable log))
+    (All-append (λ (v : Version). is_before v.at entry.optime ≡ true) has.base (versions_from place (get (docs (log_up_to stable log)) place) (log_after stable log))
     (λ k d within. at_most_before_trans (slice_index_or has.base k d).at stable entry.optime (has.early k d within) late)
-    (all_versions (λ o. is_before o entry.optime ≡ true) place (get (docs (log_up_to stable log)) place) (log_behind stable log)
+    (all_versions (λ o. is_before o entry.optime ≡ true) place (get (docs (log_up_to stable log)) place) (log_after stable log)
     (All-filter (λ (e : Entry). is_before stable e.optime) (λ (e : Entry). is_at (place_of e.op) place ≡ true → is_before e.optime entry.optime ≡ true) log each)))
   where
     each : All (λ other. is_at (place_of other.op) place ≡ true → is_before other.optime entry.optime ≡ true) log

@@ -70,8 +70,8 @@ found_among (e ∷ es) place sorted = by_test (found_among es place (second _ _ 
     here : find nat_cmp e.0 (e ∷ es) ≡ Some e.1
     here = ap (λ r. cond (is_eq r) (Some e.1) (find nat_cmp e.0 es)) (tied_itself nat_cmp_total e.0)
 
-    behind : (writer : ℕ) → writer ≢ e.0 → find nat_cmp writer (e ∷ es) ≡ find nat_cmp writer es
-    behind writer apart = elim (same_or_apart writer e.0) [
+    rest : (writer : ℕ) → writer ≢ e.0 → find nat_cmp writer (e ∷ es) ≡ find nat_cmp writer es
+    rest writer apart = elim (same_or_apart writer e.0) [
       | inl same ↦ absurd (apart same.0)
       | inr differ ↦ ap (λ b. cond b (Some e.1) (find nat_cmp writer es)) differ.1
     ]
@@ -79,7 +79,7 @@ found_among (e ∷ es) place sorted = by_test (found_among es place (second _ _ 
     nobody : holds e.1 place ≡ false → ((writer : ℕ) → is_held_by (find nat_cmp writer es) place ≡ false) → (writer : ℕ) → is_held_by (find nat_cmp writer (e ∷ es)) place ≡ false
     nobody free others writer = elim (same_or_apart writer e.0) [
       | inl same ↦ ap (λ (w : ℕ). is_held_by (find nat_cmp w (e ∷ es)) place) same.0 ∙ ap (λ w. is_held_by w place) here ∙ free
-      | inr differ ↦ ap (λ w. is_held_by w place) (behind writer differ.0) ∙ others writer
+      | inr differ ↦ ap (λ w. is_held_by w place) (rest writer differ.0) ∙ others writer
     ]
 
     somebody : (writer : ℕ) → is_held_by (find nat_cmp writer es) place ≡ true → is_held_by (find nat_cmp writer (e ∷ es)) place ≡ true
@@ -88,7 +88,7 @@ found_among (e ∷ es) place sorted = by_test (found_among es place (second _ _ 
           let none : is_held_by (find nat_cmp writer es) place ≡ false =
           ap (λ (w : ℕ). is_held_by (find nat_cmp w es) place) same.0 ∙ ap (λ w. is_held_by w place) (absent_below e.0 es (first _ _ sorted)) in
           cc
-      | inr differ ↦ ap (λ w. is_held_by w place) (behind writer differ.0) ∙ held
+      | inr differ ↦ ap (λ w. is_held_by w place) (rest writer differ.0) ∙ held
     ]
 
     by_found : holds e.1 place ≡ false → (found : Option ℕ)

@@ -9,7 +9,7 @@ use Rattle.oplog_entry.specs.Log.{StandsBefore}
 use Rattle.oplog_entry.specs.Visible.{is_before, last_of, log_up_to}
 use Rattle.oplog_entry.specs.declared.entry.Entry.{Entry}
 use Rattle.oplog_store.proofs.Keeps.{pairs_head, pairs_tail}
-use Rattle.repl_msg.specs.Logs.{log_behind}
+use Rattle.repl_msg.specs.Logs.{log_after}
 use Rattle.node_data.proofs.VersionLemmas.{all_late, none_up_to}
 
 -- ---- lists
@@ -48,19 +48,19 @@ filter-none p (x ∷ xs) none =
     let here : p x ≡ false = none zero x (omega arith) in
     rw here (filter-none p xs (All-tail (λ y. p y ≡ false) x xs none))
 
--- ---- up to an optime, and behind it
+-- ---- up to an optime, and after it
 
 -- an entry that is late, and all after it
 pub every_late : (at : OpTime) (entry : Entry) (log : List Entry) → AllPairs StandsBefore (entry ∷ log) → is_before at entry.optime ≡ true → All (λ other. is_before at other.optime ≡ true) (entry ∷ log)
 every_late at entry log order late zero d within = late
 every_late at entry log order late (suc k) d within = all_late at entry log late (pairs_head StandsBefore entry log order) k d (omega arith)
 
--- a log is its part up to an optime, and that behind it
-pub parts : (at : OpTime) (log : List Entry) → AllPairs StandsBefore log → log ≡ log_up_to at log ++ log_behind at log
+-- a log is its part up to an optime, and that after it
+pub parts : (at : OpTime) (log : List Entry) → AllPairs StandsBefore log → log ≡ log_up_to at log ++ log_after at log
 parts at [] order = refl
 parts at (entry ∷ log) order = by_test (is_before at entry.optime) refl (parts at log (pairs_tail StandsBefore entry log order))
   where
-    by_test : (late : Bool) → is_before at entry.optime ≡ late → log ≡ log_up_to at log ++ log_behind at log → entry ∷ log ≡ log_up_to at (entry ∷ log) ++ log_behind at (entry ∷ log)
+    by_test : (late : Bool) → is_before at entry.optime ≡ late → log ≡ log_up_to at log ++ log_after at log → entry ∷ log ≡ log_up_to at (entry ∷ log) ++ log_after at (entry ∷ log)
     by_test true late again =
         let all : All (λ other. is_before at other.optime ≡ true) (entry ∷ log) = every_late at entry log order late in
         rw (none_up_to at (entry ∷ log) all) (sym (filter-all (λ (e : Entry). is_before at e.optime) (entry ∷ log) all))
@@ -102,12 +102,12 @@ up_to-late at log more late =
     ∙ ap (λ rest. log_up_to at log ++ rest) (none_up_to at more late)
     ∙ append-nil (log_up_to at log)
 
-pub behind-late : (at : OpTime) (log more : List Entry) → All (λ entry. is_before at entry.optime ≡ true) more → log_behind at (log ++ more) ≡ log_behind at log ++ more
-behind-late at log more late =
+pub after-late : (at : OpTime) (log more : List Entry) → All (λ entry. is_before at entry.optime ≡ true) more → log_after at (log ++ more) ≡ log_after at log ++ more
+after-late at log more late =
     filter-append (λ (e : Entry). is_before at e.optime) log more
-    ∙ ap (λ rest. log_behind at log ++ rest) (filter-all (λ (e : Entry). is_before at e.optime) more late)
+    ∙ ap (λ rest. log_after at log ++ rest) (filter-all (λ (e : Entry). is_before at e.optime) more late)
 
--- each entry behind an optime is late
+-- each entry after an optime is late
 pub filter-passes : {X : Type 0} (p : X → Bool) (xs : List X) → All (λ x. p x ≡ true) (filter p xs)
 filter-passes p [] = λ k d within. absurd (omega arith)
 filter-passes p (x ∷ xs) = by_test (p x) refl (filter-passes p xs)

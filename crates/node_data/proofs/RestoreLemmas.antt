@@ -28,7 +28,7 @@ use Rattle.oplog_entry.specs.declared.entry.Entry.{Entry}
 use Rattle.oplog_entry.proofs.PlaceLemmas.{is_at-other, same_place}
 use Rattle.oplog_store.specs.Log.{IsOplog}
 use Rattle.oplog_store.proofs.Keeps.{pairs_head, pairs_tail}
-use Rattle.repl_msg.specs.Logs.{log_behind}
+use Rattle.repl_msg.specs.Logs.{log_after}
 use Rattle.version_store.specs.declared.history.Version.{Version}
 use Rattle.version_store.specs.Past.{Past, no_past, latest_of, with_version}
 use Rattle.version_store.specs.Store.{Store, past_at, versions_at, holder_at, Changes}
@@ -140,9 +140,9 @@ early-as_of at None k d within = absurd (omega (arith, within))
 early-as_of at (Some document) zero d within = at_most_refl at
 early-as_of at (Some document) (suc k) d within = absurd (omega (arith, within))
 
--- a log has nothing behind an optime that it goes up to
-none_behind : (at : OpTime) (log : List Entry) → log_behind at (log_up_to at log) ≡ []
-none_behind at log = filter-none (λ (e : Entry). is_before at e.optime) (log_up_to at log) (λ k d within. not_late _ (filter-passes (λ (e : Entry). not (is_before at e.optime)) log k d within))
+-- a log has nothing after an optime that it goes up to
+none_after : (at : OpTime) (log : List Entry) → log_after at (log_up_to at log) ≡ []
+none_after at log = filter-none (λ (e : Entry). is_before at e.optime) (log_up_to at log) (λ k d within. not_late _ (filter-passes (λ (e : Entry). not (is_before at e.optime)) log k d within))
 
 has_as_of : (place : Place) (at : OpTime) (log : List Entry) → HasVersions place at (log_up_to at log) (version_as_of at (maps.get (docs (log_up_to at log)) place))
 has_as_of place at log =
@@ -150,7 +150,7 @@ has_as_of place at log =
     let front : log_up_to at (log_up_to at log) ≡ log_up_to at log = up_to-up_to at at log (at_most_refl at) in
     record {
       base = version_as_of at found;
-      is = sym (append-nil (version_as_of at found)) ∙ ap (λ l. version_as_of at found ++ versions_from place (maps.get (docs (log_up_to at (log_up_to at log))) place) l) (sym (none_behind at log));
+      is = sym (append-nil (version_as_of at found)) ∙ ap (λ l. version_as_of at found ++ versions_from place (maps.get (docs (log_up_to at (log_up_to at log))) place) l) (sym (none_after at log));
       early = early-as_of at found;
       shows = latest-as_of at found ∙ ap (λ l. maps.get (docs l) place) (sym front);
     }

@@ -25,9 +25,9 @@ write_at number at = record { number = number; at = at }
 abbrev with_later : ℕ → Option LastWrite → Entry → Option LastWrite
 with_later id last entry = later_write id last entry.optime entry.session
 
--- with one entry more behind the others
-pub last_behind : (id : ℕ) (log : List Entry) (entry : Entry) → last_write id (log ++ entry ∷ []) ≡ later_write id (last_write id log) entry.optime entry.session
-last_behind id log entry = fold-append (with_later id) None log (entry ∷ [])
+-- with one entry more after the others
+pub last_after : (id : ℕ) (log : List Entry) (entry : Entry) → last_write id (log ++ entry ∷ []) ≡ later_write id (last_write id log) entry.optime entry.session
+last_after id log entry = fold-append (with_later id) None log (entry ∷ [])
 
 -- an entry of no session changes nothing, wherever it is put
 last_without : (id : ℕ) (last : Option LastWrite) (log : List Entry) (entry : Entry) → entry.session ≡ None
@@ -40,14 +40,14 @@ last_without id last (other ∷ log) entry none = by_test (nat_lt other.optime.t
     by_test true rest = rest
     by_test false rest = ap (λ before. fold (with_later id) (with_later id before other) log) (ap (later_write id last entry.optime) none)
 
--- and one of a session is put behind all others
+-- and one of a session is put after all others
 pub last_with : (id : ℕ) (log : List Entry) (entry : Entry) → (IsSome entry.session → All (λ (other : Entry). other.optime.ts < entry.optime.ts) log)
     → last_write id (with_entry log entry) ≡ later_write id (last_write id log) entry.optime entry.session
 last_with id log entry newest = by_session entry.session refl
   where
     by_session : (session : Option Session) → entry.session ≡ session → last_write id (with_entry log entry) ≡ later_write id (last_write id log) entry.optime entry.session
     by_session None none = last_without id None log entry none ∙ sym (ap (later_write id (last_write id log) entry.optime) none)
-    by_session (Some session) has = ap (last_write id) (with_last log entry (newest (subst IsSome (sym has) (search rules)))) ∙ last_behind id log entry
+    by_session (Some session) has = ap (last_write id) (with_last log entry (newest (subst IsSome (sym has) (search rules)))) ∙ last_after id log entry
 
 -- where no session has written, none has in a part of the log
 goes_on : (id : ℕ) (last : LastWrite) (log : List Entry) → fold (with_later id) (Some last) log ≡ None → ⊥

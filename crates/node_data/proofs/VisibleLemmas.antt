@@ -107,12 +107,12 @@ visible_shown log slots o within = by_least (least (sets.items slots)) refl
         none_open slot there = let first = least_is_first (sets.items slots) slot (listed slot there) in let e : ◌≡◌ {A = Option OpTime} None (Some first.0) = sym is ∙ first.1 in cc
     by_least (Some s) is = elim (last_to_some o (filter (λ (e : Entry). is_before e.optime s) log) (ap (λ r. is_before (last_of (entries_before r log)) o) (sym is) ∙ within)) [
       | inl none ↦ inl none
-      | inr some ↦ inr (some_more (λ e. (is_before e o ≡ false) × (is_before e s ≡ true)) (λ e. (is_before e o ≡ false) × IsBeforeSlots slots e) log (λ e both. (both.0, behind e both.1))
+      | inr some ↦ inr (some_more (λ e. (is_before e o ≡ false) × (is_before e s ≡ true)) (λ e. (is_before e o ≡ false) × IsBeforeSlots slots e) log (λ e both. (both.0, after e both.1))
           (some_filter (λ e. is_before e o ≡ false) (λ e. is_before e s) log some))
     ]
       where
-        behind : (e : OpTime) → is_before e s ≡ true → IsBeforeSlots slots e
-        behind e less slot there =
+        after : (e : OpTime) → is_before e s ≡ true → IsBeforeSlots slots e
+        after e less slot there =
             let first = least_is_first (sets.items slots) slot (listed slot there) in
             let same : Some first.0 ≡ Some s = sym first.1 ∙ is in
             let own : first.0 ≡ s = cc in

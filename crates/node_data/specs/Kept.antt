@@ -31,7 +31,7 @@ pub record IsNewest (log : List Entry) (entry : Entry) : Type 0 where
   pub fits : All (FitsBeside entry) log
   pub last : All (λ other. entry.optime.ts < other.optime.ts → place_of other.op ≢ place_of entry.op) log
 
--- an op that waits for its entry: behind the checkpoint, and the newest of its document once it is written
+-- an op that waits for its entry: after the checkpoint, and the newest of its document once it is written
 pub record IsPending (node : Node) (at : OpTime) (op : Op) : Type 0 where
   pub open_slot : IsTrue (sets.contains node.slots at)
   pub positive : 0 < at.ts

@@ -77,8 +77,8 @@ abbrev pub applied_with : NodeData → List Entry → NodeData
 applied_with node_data batch =
     applied_at node_data (applied_after node_data.node.applied batch)
 
--- The documents are there as of an optime: none of theirs is pruned, and, but on a primary, the log is
--- applied so far.
+-- The documents are there as of an optime: none of theirs is pruned, and, except on a primary, the log
+-- is applied that far.
 pub record IsReadable (node : Node) (at : OpTime) : Type 0 where
   pub kept : is_before at node.stable ≡ false
   pub reached : is_primary node.role ≡ false → is_before node.applied at ≡ false

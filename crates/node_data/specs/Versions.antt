@@ -10,7 +10,7 @@ use Rattle.oplog_entry.specs.declared.entry.Entry.{Entry}
 use Rattle.oplog_entry.specs.Step.{place_of, document_after, is_at}
 use Rattle.oplog_entry.specs.Visible.{log_up_to}
 use Rattle.doc_update.specs.Effect.{is_too_large}
-use Rattle.repl_msg.specs.Logs.{log_behind}
+use Rattle.repl_msg.specs.Logs.{log_after}
 use Rattle.version_store.specs.declared.history.Version.{Version}
 use Rattle.version_store.specs.Past.{latest_of}
 
@@ -40,11 +40,11 @@ abbrev pub version_as_of : OpTime → Option Fields → List Version
 version_as_of at None = []
 version_as_of at (Some document) = record { at = at; doc = Some document } ∷ []
 
--- what the log makes behind an optime, after versions up to there that show what the log leaves at it
+-- what the log makes after an optime, on top of versions up to there that show what the log leaves at it
 pub record HasVersions (place : Place) (stable : OpTime) (log : List Entry)
     (versions : List Version) : Type 0 where
   pub base : List Version
   pub is : versions
-      ≡ base ++ versions_from place (get (docs (log_up_to stable log)) place) (log_behind stable log)
+      ≡ base ++ versions_from place (get (docs (log_up_to stable log)) place) (log_after stable log)
   pub early : All (λ version. is_before stable version.at ≡ false) base
   pub shows : latest_of base ≡ get (docs (log_up_to stable log)) place

@@ -7,7 +7,7 @@ ghost use Rattle.rs_optime.specs.Order.{is_before};
 ghost use Rattle.rs_optime.specs.declared.optime.OpTime.{OpTime};
 ghost use Rattle.set_model.specs.Disk.{next_batch};
 ghost use Rattle.set_model.specs.Fetching.{seen_after, with_fetched};
-ghost use Rattle.set_model.specs.Points.{applied_point, has_entry, last_point, later_of, log_behind};
+ghost use Rattle.set_model.specs.Points.{applied_point, has_entry, last_point, later_of, log_after};
 ghost use Rattle.set_model.specs.Roles.{is_primary};
 ghost use Rattle.node_data.specs.NodeData.{applied_at, applied_with};
 ghost use Rattle.node_data.specs.Versions.{AreSmall};
@@ -27,7 +27,7 @@ const BATCH: usize = 5_000;
 /// How many workers apply a batch that nobody waits for.
 const WORKERS: u32 = 4;
 
-/// Writes entries behind a log, in the room that there is.
+/// Writes entries after a log, in the room that there is.
 pub(crate) fn insert_all(log: &mut SessionLog, slots: &mut Slots, entries: Vec<Entry>)
     requires room { length entries.items ≤ log.old.spare }
     requires stays { IsOplog (log.old.entries ++ entries.items) }
@@ -105,9 +105,9 @@ impl NodeData {
     /// Applies so many entries, batch by batch. After out of memory, the first of them are applied.
     fn apply_batches<R: Threads + Sync>(&mut self, rt: &R, count: usize) -> Mem<()>
         requires role { is_primary self.old.node.role ≡ false }
-        requires there { count ≤ length (log_behind self.old.node.applied self.old.node.log) }
+        requires there { count ≤ length (log_after self.old.node.applied self.old.node.log) }
         ensures ok { OnOk result (self.new
-            ≡ applied_with self.old (take count (log_behind self.old.node.applied self.old.node.log))) }
+            ≡ applied_with self.old (take count (log_after self.old.node.applied self.old.node.log))) }
         ensures begun { (at : OpTime) × (self.new ≡ applied_at self.old at)
             × (is_before at self.old.node.applied ≡ false) }
     {
@@ -125,9 +125,9 @@ impl NodeData {
         requires workers { (0 < workers) × (workers ≤ 16) }
         requires most { most ≤ 5000 }
         ensures count { IfOk result (λ count.
-            count ≡ length (take most (log_behind self.old.node.applied self.old.node.log))) }
+            count ≡ length (take most (log_after self.old.node.applied self.old.node.log))) }
         ensures ok { OnOk result (self.new
-            ≡ applied_with self.old (take most (log_behind self.old.node.applied self.old.node.log))) }
+            ≡ applied_with self.old (take most (log_after self.old.node.applied self.old.node.log))) }
         ensures err { OnErr result (self.new ≡ self.old) }
     {
         self.log.gather();
@@ -143,7 +143,7 @@ impl NodeData {
         Ok(count)
     }
 
-    /// Drops the entries behind a point, which is an applied entry's optime or ZERO, and takes the documents
+    /// Drops the entries after a point, which is an applied entry's optime or ZERO, and takes the documents
     /// back to it.
     pub fn cut(&mut self, point: OpTime)
         requires role { is_primary self.old.node.role ≡ false }
@@ -158,7 +158,7 @@ impl NodeData {
         self.drop_unapplied();
     }
 
-    /// Takes the documents back to how they were at an optime; the entries behind it count as not applied.
+    /// Takes the documents back to how they were at an optime; the entries after it count as not applied.
     fn unapply(&mut self, at: OpTime)
         requires role { is_primary self.old.node.role ≡ false }
         requires kept { is_before at self.old.node.stable ≡ false }

@@ -205,7 +205,7 @@ impl SessionLog {
         self.log.reserve(more)
     }
 
-    /// Puts a primary's entry at its place, in the room that `reserve` made. A session's write comes behind
+    /// Puts a primary's entry at its place, in the room that `reserve` made. A session's write comes after
     /// all others.
     pub(crate) fn insert(&mut self, entry: Entry)
         requires room { 0 < self.old.spare }
@@ -238,7 +238,7 @@ impl SessionLog {
         }
     }
 
-    /// Keeps a place for the entry of a slot that opens behind all others, where there is memory for it.
+    /// Keeps a place for the entry of a slot that opens after all others, where there is memory for it.
     pub(crate) fn open(&mut self, at: OpTime)
         ensures { self.new ≡ self.old }
     {
@@ -270,7 +270,7 @@ impl SessionLog {
         self.log.gather_up_to(at);
     }
 
-    /// Drops the entries behind an optime.
+    /// Drops the entries after an optime.
     pub(crate) fn cut(&mut self, to: OpTime)
         ensures entries { self.new.entries ≡ log_up_to to self.old.entries }
         ensures spare { self.new.spare ≡ self.old.spare }

@@ -1,11 +1,11 @@
-// What is shown and told of the log. A node that is about to step down may have entries behind open slots,
+// What is shown and told of the log. A node that is about to step down may have entries after open slots,
 // which it tells as its slots were closed.
 ghost use Rattle.std.specs.Prelude.{◌≡◌, ◌≢◌, All, IfNone, IfOk, IfSome, length, map};
 ghost use Rattle.std.specs.Option.{option_copied};
 ghost use Rattle.oplog_entry.specs.Visible.{log_up_to};
 ghost use Rattle.oplog_fetcher.specs.Fetch.{reply_to as answered};
 ghost use Rattle.oplog_store.specs.Places.{IsEntryAt};
-ghost use Rattle.repl_msg.specs.Logs.{log_behind};
+ghost use Rattle.repl_msg.specs.Logs.{log_after};
 ghost use Rattle.repl_msg.specs.Rollback.{touched_documents};
 ghost use Rattle.rollback_core.specs.Lost.{lost_of};
 ghost use Rattle.rollback_core.specs.Plan.{plan as planned};
@@ -17,7 +17,7 @@ ghost use Rattle.std.specs.FinMap as maps;
 use crate::NodeData;
 use bson_doc::Mem;
 use oplog_entry::Entry;
-use oplog_fetcher::{behind, reply_to};
+use oplog_fetcher::{log_after, reply_to};
 use repl_msg::{EntryList, FetchReply, OptimeList};
 use rollback_core::{LostDocument, RollbackRefusal, lost_documents, plan};
 use rs_optime::OpTime;
@@ -43,7 +43,7 @@ impl NodeData {
         self.log.written().get(at)
     }
 
-    /// `entry_at`, which looks at a likely place of the log first, and leaves there the place behind the
+    /// `entry_at`, which looks at a likely place of the log first, and leaves there the place after the
     /// entry. So entries that follow one another are found at once.
     pub fn entry_near(&self, likely: &mut usize, at: OpTime) -> Option<&Entry>
         ensures found { IfSome (option_copied result) (λ entry. IsEntryAt self.now.node.log at entry) }
@@ -83,13 +83,13 @@ impl NodeData {
         )
     }
 
-    /// How many entries stand behind an optime, up to another one.
+    /// How many entries come after an optime, up to another one.
     pub fn count_between(&mut self, after: OpTime, to: OpTime) -> usize
-        ensures count { result ≡ length (log_behind after (log_up_to to self.old.node.log)) }
+        ensures count { result ≡ length (log_after after (log_up_to to self.old.node.log)) }
         ensures same { self.new ≡ self.old }
     {
         self.log.gather_up_to(to);
-        behind(self.log.written().settled().up_to(to), after).len()
+        log_after(self.log.written().settled().up_to(to), after).len()
     }
 
     /// How many entries stand up to an optime.
@@ -101,21 +101,21 @@ impl NodeData {
         self.log.written().settled().up_to(to).len() as u64
     }
 
-    /// The optimes of the entries that stand behind an optime, up to another one.
+    /// The optimes of the entries that come after an optime, up to another one.
     pub fn optimes_between(&mut self, after: OpTime, to: OpTime) -> Mem<OptimeList>
         ensures list { IfOk result (λ list.
-            list ≡ optimes_of (log_behind after (log_up_to to self.old.node.log))) }
+            list ≡ optimes_of (log_after after (log_up_to to self.old.node.log))) }
         ensures same { self.new ≡ self.old }
     {
         self.log.gather_up_to(to);
         optimes_of(
             self.alloc,
-            behind(self.log.written().settled().up_to(to), after),
+            log_after(self.log.written().settled().up_to(to), after),
         )
     }
 
-    /// Up to where the log is rolled back for a source that has these optimes behind `after`, as
-    /// `rollback_core` plans it.
+    /// Up to where the log is rolled back for a source that has these optimes later than `after`,
+    /// as `rollback_core` plans it.
     pub fn rollback_plan(
         &mut self,
         term: u64,
@@ -138,21 +138,21 @@ impl NodeData {
         )
     }
 
-    /// How many entries stand behind an optime.
-    pub fn count_behind(&mut self, at: OpTime) -> u64
-        ensures count { result ≡ length (log_behind at self.old.node.log) }
+    /// How many entries come after an optime.
+    pub fn count_after(&mut self, at: OpTime) -> u64
+        ensures count { result ≡ length (log_after at self.old.node.log) }
         ensures same { self.new ≡ self.old }
     {
         self.log.gather();
         self.log.written().settled().after(at).len() as u64
     }
 
-    /// The documents that the entries behind an optime touched, each once, as a read at `local` shows them:
+    /// The documents that the entries after an optime touched, each once, as a read at `local` shows them:
     /// what a rollback to that optime takes. Out of memory is the one error.
-    pub fn lost_behind(&mut self, at: OpTime) -> Mem<Vec<LostDocument>>
+    pub fn lost_after(&mut self, at: OpTime) -> Mem<Vec<LostDocument>>
         ensures lost { IfOk result (λ lost. map lost_of lost.items
             ≡ touched_documents (λ place. maps.get (local_documents self.old.node) place)
-            (log_behind at self.old.node.log)) }
+            (log_after at self.old.node.log)) }
         ensures same { self.new ≡ self.old }
     {
         self.log.gather();

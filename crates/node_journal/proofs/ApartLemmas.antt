@@ -17,7 +17,7 @@ use Rattle.vote_store.specs.declared.vote.Vote.{Vote}
 use Rattle.repl_msg.specs.declared.record.Record.{Record}
 use Rattle.repl_msg.specs.declared.record.Record.TheVariants as records
 use Rattle.record_file.proofs.ParseLemmas.{one_list}
-use Rattle.record_file.proofs.ListLemmas.{piece_is, behind_is}
+use Rattle.record_file.proofs.ListLemmas.{piece_is, later_is}
 use Rattle.node_journal.specs.Files.{HasJournal}
 use Rattle.node_journal.specs.Layout.{NOBODY, vote_bytes, truth_byte, member_bytes, config_bytes, entry_bytes, sized_entry, batch_bytes, record_bytes}
 use Rattle.node_journal.specs.Spelled.{IsOptime, IsVote, IsMember, IsConfig, IsEntry, AreEntries, IsRecord, IsOfFirstForm, IsSpelled, AreSpelled}
@@ -27,17 +27,17 @@ use Rattle.node_journal.proofs.PartLemmas.{member_parts, entry_parts, entry_shor
 -- bytes begin with one such item at most
 abbrev Tells : {A : Type 0} → (A → Type 0) → (A → List ℕ) → Type 0
 Tells {A = A} IsItem item_bytes =
-    (one other : A) (behind after : List ℕ) → IsItem one → IsItem other → item_bytes one ++ behind ≡ item_bytes other ++ after → (one ≡ other) × (behind ≡ after)
+    (one other : A) (later after : List ℕ) → IsItem one → IsItem other → item_bytes one ++ later ≡ item_bytes other ++ after → (one ≡ other) × (later ≡ after)
 
-truth_tells : (x y : Bool) (behind after : List ℕ) → truth_byte x ∷ behind ≡ truth_byte y ∷ after → (x ≡ y) × (behind ≡ after)
-truth_tells x y behind after same =
-    (truth_read y x after (truth_byte x ∷ behind) same (sym (truth_back x)), truth_rest y after (truth_byte x ∷ behind) behind same refl)
+truth_tells : (x y : Bool) (later after : List ℕ) → truth_byte x ∷ later ≡ truth_byte y ∷ after → (x ≡ y) × (later ≡ after)
+truth_tells x y later after same =
+    (truth_read y x after (truth_byte x ∷ later) same (sym (truth_back x)), truth_rest y after (truth_byte x ∷ later) later same refl)
 
 optime_tells : Tells IsOptime optime_bytes
-optime_tells one other behind after fits fits' same =
-    let parts = sym (optime_parts one behind _ refl) ∙ same ∙ optime_parts other after _ refl in
+optime_tells one other later after fits fits' same =
+    let parts = sym (optime_parts one later _ refl) ∙ same ∙ optime_parts other after _ refl in
     let term = number_once 8 one.term other.term _ _ fits.0 fits'.0 parts in
-    let ts = number_once 8 one.ts other.ts behind after fits.1 fits'.1 term.1 in
+    let ts = number_once 8 one.ts other.ts later after fits.1 fits'.1 term.1 in
     (λ i. record { term = term.0 i; ts = ts.0 i }, ts.1)
 
 one_candidate : (one other : Option ℕ) → one ≢ Some NOBODY → other ≢ Some NOBODY → unwrap_or one NOBODY ≡ unwrap_or other NOBODY → one ≡ other
@@ -54,21 +54,21 @@ vote_tells one other fits fits' same =
     λ i. record { term = term.0 i; candidate = candidate i }
 
 member_tells : Tells IsMember member_bytes
-member_tells one other behind after fits fits' same =
-    let parts = sym (member_parts one behind _ refl) ∙ same ∙ member_parts other after _ refl in
+member_tells one other later after fits fits' same =
+    let parts = sym (member_parts one later _ refl) ∙ same ∙ member_parts other after _ refl in
     let number = number_once 4 one.number other.number _ _ fits.0 fits'.0 parts in
     let votes = truth_tells one.votes other.votes _ _ number.1 in
-    let priority = number_once 4 one.priority other.priority behind after fits.1 fits'.1 votes.1 in
+    let priority = number_once 4 one.priority other.priority later after fits.1 fits'.1 votes.1 in
     (λ i. record { number = number.0 i; votes = votes.0 i; priority = priority.0 i }, priority.1)
 
 entry_tells : Tells IsEntry sized_entry
-entry_tells one other behind after is is' same =
-    let parts = sym (entry_parts one behind _ refl) ∙ same ∙ entry_parts other after _ refl in
+entry_tells one other later after is is' same =
+    let parts = sym (entry_parts one later _ refl) ∙ same ∙ entry_parts other after _ refl in
     let size = number_once 4 (length (entry_bytes one)) (length (entry_bytes other)) _ _ (entry_short one is) (entry_short other is') parts in
-    let piece = piece_is (entry_bytes other) after _ (entry_bytes one) (length (entry_bytes one)) size.1 size.0 (sym (take_at (entry_bytes one) behind _ refl)) in
+    let piece = piece_is (entry_bytes other) after _ (entry_bytes one) (length (entry_bytes one)) size.1 size.0 (sym (take_at (entry_bytes one) later _ refl)) in
     let document = one_document 1048576 103 (entry_bytes one) (document_of one) (document_of other) (omega arith) is.sound is'.sound is.spelling (spelled_here other (entry_bytes one) is' piece) in (
       entries_apart one other is.lawful is'.lawful document,
-      behind_is (entry_bytes other) after _ behind (length (entry_bytes one)) size.1 size.0 (sym (drop_at (entry_bytes one) behind _ refl)),
+      later_is (entry_bytes other) after _ later (length (entry_bytes one)) size.1 size.0 (sym (drop_at (entry_bytes one) later _ refl)),
     )
 
 items_tell : {A : Type 0} (IsItem : A → Type 0) (item_bytes : A → List ℕ) → Tells IsItem item_bytes → (one other : List A) → All IsItem one → All IsItem other
@@ -108,16 +108,16 @@ form_once one other fits fits' same = (number_once 4 one other [] [] (omega (ari
 abbrev kind : List ℕ → ℕ
 kind bytes = slice_index bytes 0
 
-behind_kind : {k : ℕ} (one other : List ℕ) → k ∷ one ≡ k ∷ other → one ≡ other
-behind_kind one other same = ap (λ (l : List ℕ). drop 1 l) same
+after_kind : {k : ℕ} (one other : List ℕ) → k ∷ one ≡ k ∷ other → one ≡ other
+after_kind one other same = ap (λ (l : List ℕ). drop 1 l) same
 
 -- records that are written with the same bytes are one record
 written_once : (one other : Record) → IsRecord one → IsRecord other → record_bytes one ≡ record_bytes other → one ≡ other
-written_once (records.Vote x) (records.Vote y) is is' same = ap (λ (v : Vote). records.Vote v) (vote_tells x y is is' (behind_kind (vote_bytes x) (vote_bytes y) same))
-written_once (records.Config x) (records.Config y) is is' same = ap (λ (c : Config). records.Config c) (config_tells x y is is' (behind_kind (config_bytes x) (config_bytes y) same))
-written_once (records.Entries x p) (records.Entries y q) is is' same = entries_once x y p q is is' (behind_kind (batch_bytes x p) (batch_bytes y q) same)
-written_once (records.Cut x) (records.Cut y) is is' same = ap (λ (o : OpTime). records.Cut o) (optime_once x y is is' (behind_kind (optime_bytes x) (optime_bytes y) same))
-written_once (records.Form x) (records.Form y) is is' same = ap (λ (n : ℕ). records.Form n) (form_once x y is is' (behind_kind (number_bytes 4 x) (number_bytes 4 y) same))
+written_once (records.Vote x) (records.Vote y) is is' same = ap (λ (v : Vote). records.Vote v) (vote_tells x y is is' (after_kind (vote_bytes x) (vote_bytes y) same))
+written_once (records.Config x) (records.Config y) is is' same = ap (λ (c : Config). records.Config c) (config_tells x y is is' (after_kind (config_bytes x) (config_bytes y) same))
+written_once (records.Entries x p) (records.Entries y q) is is' same = entries_once x y p q is is' (after_kind (batch_bytes x p) (batch_bytes y q) same)
+written_once (records.Cut x) (records.Cut y) is is' same = ap (λ (o : OpTime). records.Cut o) (optime_once x y is is' (after_kind (optime_bytes x) (optime_bytes y) same))
+written_once (records.Form x) (records.Form y) is is' same = ap (λ (n : ℕ). records.Form n) (form_once x y is is' (after_kind (number_bytes 4 x) (number_bytes 4 y) same))
 written_once (records.Vote x) (records.Config y) is is' same = absurd (omega (arith, ap kind same))
 written_once (records.Vote x) (records.Entries y q) is is' same = absurd (omega (arith, ap kind same))
 written_once (records.Vote x) (records.Cut y) is is' same = absurd (omega (arith, ap kind same))
@@ -155,7 +155,7 @@ other_kind (records.Cut x) bytes is third = absurd (omega (arith, ap kind is, th
 other_kind (records.Form x) bytes is third = absurd (omega (arith, ap kind is, third))
 
 first_once : (one other : Record) (bytes : List ℕ) → IsRecord one → IsRecord other → IsOfFirstForm one bytes → IsOfFirstForm other bytes → one ≡ other
-first_once (records.Entries x p) (records.Entries y q) bytes is is' old old' = entries_once x y p q is is' (behind_kind (batch_bytes x p) (batch_bytes y q) (sym old.0 ∙ old'.0))
+first_once (records.Entries x p) (records.Entries y q) bytes is is' old old' = entries_once x y p q is is' (after_kind (batch_bytes x p) (batch_bytes y q) (sym old.0 ∙ old'.0))
 first_once (records.Entries x p) (records.Vote _) bytes is is' old old' = absurd old'
 first_once (records.Entries x p) (records.Config _) bytes is is' old old' = absurd old'
 first_once (records.Entries x p) (records.Cut _) bytes is is' old old' = absurd old'

@@ -13,13 +13,13 @@ use Rattle.member_config.specs.declared.config.Member.{Member}
 use Rattle.node_journal.specs.Layout.{NOBODY, member_bytes, truth_byte, entry_bytes, sized_entry}
 use Rattle.node_journal.specs.Spelled.{IsEntry}
 
-pub member_parts : (m : Member) (behind bytes : List ℕ) → bytes ≡ member_bytes m ++ behind
-    → bytes ≡ number_bytes 4 m.number ++ (truth_byte m.votes ∷ (number_bytes 4 m.priority ++ behind))
-member_parts m behind bytes is = is ∙ append_assoc (number_bytes 4 m.number) (truth_byte m.votes ∷ number_bytes 4 m.priority) behind
+pub member_parts : (m : Member) (after bytes : List ℕ) → bytes ≡ member_bytes m ++ after
+    → bytes ≡ number_bytes 4 m.number ++ (truth_byte m.votes ∷ (number_bytes 4 m.priority ++ after))
+member_parts m after bytes is = is ∙ append_assoc (number_bytes 4 m.number) (truth_byte m.votes ∷ number_bytes 4 m.priority) after
 
-pub entry_parts : (e : Entry) (behind bytes : List ℕ) → bytes ≡ sized_entry e ++ behind
-    → bytes ≡ number_bytes 4 (length (entry_bytes e)) ++ (entry_bytes e ++ behind)
-entry_parts e behind bytes is = is ∙ append_assoc (number_bytes 4 (length (entry_bytes e))) (entry_bytes e) behind
+pub entry_parts : (e : Entry) (after bytes : List ℕ) → bytes ≡ sized_entry e ++ after
+    → bytes ≡ number_bytes 4 (length (entry_bytes e)) ++ (entry_bytes e ++ after)
+entry_parts e after bytes is = is ∙ append_assoc (number_bytes 4 (length (entry_bytes e))) (entry_bytes e) after
 
 pub entry_short : (e : Entry) → IsEntry e → length (entry_bytes e) < 256 ^ 4
 entry_short e is = omega (arith, is.spelling.in_bytes)

@@ -84,7 +84,7 @@ abbrev pub AddsForm : {T : Type 0} → (due : Bool) → Result T FileError → S
 AddsForm true result old new = EndsBy result (form_steps old) old new
 AddsForm false result old new = IsOk result × (new ≡ old)
 
--- a journal's opening: that of its file, and behind it, where it went well, the newest form if that is due
+-- a journal's opening: that of its file, and after it, where it went well, the newest form if that is due
 abbrev pub OpensInForm : {T : Type 0} → (due : Bool) → Result T FileError → State → State → Type 0
 OpensInForm due result old new = (IsErr result × OpensBy result old new)
     ⊎ ((opened : State) × OpensBy {T = Unit {0}} (Ok tt) old opened × AddsForm due result opened new)

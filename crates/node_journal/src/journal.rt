@@ -38,7 +38,7 @@ impl<D: Disk> Model for Journal<D> {
 
 impl<D: Disk> Journal<D> {
     /// Reads what the journal on a disk keeps. The disk is empty, or a journal left it. A journal of the
-    /// first form has a record of the newest one behind the others before it is open.
+    /// first form has a record of the newest one after the others before it is open.
     ///
     /// # Errors
     /// `Disk` where the disk failed. Either error hands the disk back, and an opening may be tried
@@ -96,7 +96,7 @@ impl<D: Disk> Journal<D> {
         self.renew(read)
     }
 
-    // Adds the newest form behind records of the first one.
+    // Adds the newest form after records of the first one.
     fn renew(&mut self, read: Kept) -> Result<Kept, FileError>
         requires open { IsOpen (D.state self.old.0) }
         requires read { IsKeptOf read (D.state self.old.0) }

@@ -68,9 +68,9 @@ fn members_of(alloc: Global, count: u32, bytes: &[u8]) -> Mem<MemberList>
     let mut members = MemberList::new(alloc);
     let mut rest = bytes;
     for _ in 0..count {
-        let (member, behind) = member_of(rest);
+        let (member, after) = member_of(rest);
         members.push(member)?;
-        rest = behind;
+        rest = after;
     }
     Ok(members)
 }
@@ -116,9 +116,9 @@ fn entries_of(alloc: Global, count: u32, bytes: &[u8]) -> Mem<Vec<Entry>>
     let mut entries = Vec::with_capacity(alloc, count as usize)?;
     let mut rest = bytes;
     for _ in 0..count {
-        let (entry, behind) = entry_of(alloc, rest)?;
+        let (entry, after) = entry_of(alloc, rest)?;
         entries.push(entry)?;
-        rest = behind;
+        rest = after;
     }
     Ok(entries)
 }
@@ -168,7 +168,7 @@ pub(crate) fn entries_in(pieces: &[Vec<u8>]) -> usize {
     count
 }
 
-// The number behind the point, where these bytes are of a record of entries.
+// The number after the point, where these bytes are of a record of entries.
 fn entry_count(bytes: &[u8]) -> usize {
     match bytes.get(17..21) {
         Some(number) if matches!(bytes[0], 3 | 6) => u32_of(number).0 as usize,

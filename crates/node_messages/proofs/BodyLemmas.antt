@@ -25,7 +25,7 @@ is_higher own term less = grind (arith, nat_tests)
 
 -- ---- the node in the message's term
 
--- what the answer to one who asked for the optimes behind a commit point needs
+-- what the answer to one who asked for the optimes after a commit point needs
 pub common_of : (node : Node) (message : Message) (after : OpTime) (optimes : List OpTime) (visible : OpTime)
     → CanTake node message → message.body ≡ CommonReply after optimes visible
     → rollback_reason (in_term message.term node) message.term after optimes visible ≡ None → AtMost node.commit (common_point node.log after optimes)

@@ -1,4 +1,4 @@
--- A log that is cut behind a point keeps a node coherent.
+-- A log that is cut after a point keeps a node coherent.
 use Rattle.std.proofs.Common.{◌≡◌, ◌∙◌, ◌⊎◌, ◌+◌, ◌++◌, ◌&&◌, inl, inr, ap, sym, subst, refl, Bool, true, false, not, cond, filter, map, Option, List, [], ◌∷◌}
 use Rattle.std.specs.Prelude.{unwrap_or}
 use Rattle.std.specs.List.{All}

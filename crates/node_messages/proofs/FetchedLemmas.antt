@@ -1,4 +1,4 @@
--- Fetched entries behind a node's log keep it coherent.
+-- Fetched entries after a node's log keep it coherent.
 use Rattle.std.proofs.Common.{◌≡◌, ◌∙◌, ◌<◌, ◌≤◌, inl, inr, ap, sym, subst, refl, arith, zero, max, Bool, true, false, List, [], ◌∷◌, ◌++◌, Option, map, fold}
 use Rattle.std.specs.List.{All, AllPairs}
 use Rattle.std.proofs.lemmas.List.Elements.{All-append, All-tail}
@@ -60,8 +60,8 @@ append_none (first ∷ log) = ap (λ l. first ∷ l) (append_none log)
 pub coherent-fetched : (entries : List Entry) (node : Node) (tally : Option Tallied) (optimes : List OpTime)
     → IsOplog (node.log ++ entries) → All (λ entry. is_before node.durable entry.optime ≡ true) entries
     → IsCoherent node tally optimes → IsCoherent (with_fetched node entries) tally (fold with_optime optimes (map (λ (e : Entry). e.optime) entries))
-coherent-fetched [] node tally optimes oplog behind old = subst (λ (l : List Entry). IsCoherent (record node { log = l }) tally optimes) (sym (append_none node.log)) old
-coherent-fetched (entry ∷ rest) node tally optimes oplog behind old =
+coherent-fetched [] node tally optimes oplog after old = subst (λ (l : List Entry). IsCoherent (record node { log = l }) tally optimes) (sym (append_none node.log)) old
+coherent-fetched (entry ∷ rest) node tally optimes oplog after old =
     let first : (other : Entry) → In other node.log → StandsBefore other entry = stands_before node.log entry rest oplog.order in
     let with_is : with_entry node.log entry ≡ node.log ++ entry ∷ [] =
     with_last node.log entry (in_all (λ (other : Entry). other.optime.ts < entry.optime.ts) node.log (λ other there. (first other there).earlier)) in
@@ -70,10 +70,10 @@ coherent-fetched (entry ∷ rest) node tally optimes oplog behind old =
     subst IsOplog (sym with_is) (oplog_front (node.log ++ entry ∷ []) rest (subst IsOplog (sym (joined node.log entry rest)) oplog)) in
     subst (λ (l : List Entry). IsCoherent (record node { log = l; seen = seen_after node.seen (entry ∷ rest) }) tally (fold with_optime optimes (map (λ (e : Entry). e.optime) (entry ∷ rest)))) log_is
     (coherent-fetched rest (touched node (with_entry node.log entry) node.slots node.writers (max node.seen entry.optime.ts)) tally (with_optime optimes entry.optime)
-    (subst IsOplog (sym log_is) oplog) (All-tail (λ (e : Entry). is_before node.durable e.optime ≡ true) entry rest behind)
+    (subst IsOplog (sym log_is) oplog) (All-tail (λ (e : Entry). is_before node.durable e.optime ≡ true) entry rest after)
     (coherent-written node entry node.slots node.writers (max node.seen entry.optime.ts) tally optimes (oplog_front node.log (entry ∷ rest) oplog)
     (record {
-      behind = behind zero entry (omega arith);
+      after = after zero entry (omega arith);
       fits = in_all (FitsBeside entry) node.log (λ other there. inl (first other there));
       grows = visible_grows (sets.items node.slots) (sets.items node.slots) node.log (with_entry node.log entry) more (in_with node.log entry) (λ slot listed. inl listed);
     })
@@ -116,7 +116,7 @@ most_then_before a b c most before = go (is_before a c) refl
     go true is = is
     go false is = let late : is_before b c ≡ false = at_most_trans c a b is most in absurd (cc (late, before))
 
--- they are behind all that is at or before the last optime
-pub follow_behind : (at last : OpTime) (entries : List Entry) → AtMost at last → All (Follows last) entries → All (λ entry. is_before at entry.optime ≡ true) entries
-follow_behind at last entries most follow k e within =
+-- they are after all that is at or before the last optime
+pub follow_after : (at last : OpTime) (entries : List Entry) → AtMost at last → All (Follows last) entries → All (λ entry. is_before at entry.optime ≡ true) entries
+follow_after at last entries most follow k e within =
     most_then_before at last _ most (before_both last _ (follow k e within).term (follow k e within).later)

@@ -12,7 +12,7 @@ use Rattle.oplog_entry.proofs.Optimes.{zero_least, is_zero}
 use Rattle.oplog_store.specs.Log.{StandsBefore}
 use Rattle.repl_msg.proofs.HasLemmas.{has_filter, same_itself}
 use Rattle.repl_msg.specs.Fetching.{holds, reply_of}
-use Rattle.repl_msg.specs.Logs.{has_entry, log_behind, same_optime}
+use Rattle.repl_msg.specs.Logs.{has_entry, log_after, same_optime}
 use Rattle.node_state.proofs.EntryLemmas.{below_last, filter_in}
 
 filter-all : {X : Type 0} (xs : List X) → filter (λ _. true) xs ≡ xs
@@ -55,8 +55,8 @@ front_or_none slot log order = elim (last_in shown) [
         let most : is_before (last_of shown) entry.optime ≡ false = below_last shown (AllPairs-filter StandsBefore early log order) entry (filter_in early log entry there passes) in
         passes ∙ sym (ap not most)
     by_test last within is entry there false fails =
-        let behind : is_before last.optime entry.optime ≡ true = before_at_most_trans last.optime slot entry.optime (in_filter early log last within).1 fails in
-        fails ∙ sym (ap not (ap (λ o. is_before o entry.optime) (sym is) ∙ behind))
+        let after : is_before last.optime entry.optime ≡ true = before_at_most_trans last.optime slot entry.optime (in_filter early log last within).1 fails in
+        fails ∙ sym (ap not (ap (λ o. is_before o entry.optime) (sym is) ∙ after))
 
 pub front : (slot : Option OpTime) (log : List Entry) → AllPairs StandsBefore log
     → (entries_before slot log ≡ []) ⊎ (entries_before slot log ≡ log_up_to (last_of (entries_before slot log)) log)
@@ -66,9 +66,9 @@ front (Some slot) log order = front_or_none slot log order
 
 -- ---- where nothing is shown
 
--- nothing stands behind an optime in the log up to ZERO
-pub none_behind : (log : List Entry) (base : OpTime) → log_behind base (log_up_to ZERO log) ≡ []
-none_behind log base =
+-- nothing comes after an optime in the log up to ZERO
+pub none_after : (log : List Entry) (base : OpTime) → log_after base (log_up_to ZERO log) ≡ []
+none_after log base =
     none_pass (λ (e : Entry). is_before base e.optime) (log_up_to ZERO log)
     (λ entry there. zero_least entry.optime base (not_is (is_before ZERO entry.optime) (in_filter (λ (e : Entry). not (is_before ZERO e.optime)) log entry there).1))
 
@@ -89,7 +89,7 @@ holds_none log base = go (same_optime base ZERO) refl
 
 nothing_told : (log : List Entry) (base commit : OpTime) (primary : Bool) → reply_of (log_up_to ZERO log) ZERO base commit primary ≡ reply_of [] ZERO base commit primary
 nothing_told log base commit primary =
-    ap (λ (entries : List Entry). record { base = base; holds = holds (log_up_to ZERO log) base; entries = if_held (holds (log_up_to ZERO log) base) (take 5000 entries); visible = ZERO; commit = commit; primary = primary }) (none_behind log base)
+    ap (λ (entries : List Entry). record { base = base; holds = holds (log_up_to ZERO log) base; entries = if_held (holds (log_up_to ZERO log) base) (take 5000 entries); visible = ZERO; commit = commit; primary = primary }) (none_after log base)
     ∙ ap (λ (held : Bool). record { base = base; holds = held; entries = if_held held (take 5000 []); visible = ZERO; commit = commit; primary = primary }) (holds_none log base)
   where
     if_held : Bool → List Entry → List Entry

@@ -37,7 +37,7 @@ use Rattle.set_model.specs.Taking.{CanTakeEntries}
 use Rattle.node_state.proofs.CommitLemmas.{coherent-commit, counted_between}
 use Rattle.node_state.proofs.EntryLemmas.{last_grows}
 use Rattle.node_state.proofs.StateLemmas.{of_term-joined}
-use Rattle.node_messages.proofs.FetchedLemmas.{coherent-fetched, follow_behind, joined, joined_oplog}
+use Rattle.node_messages.proofs.FetchedLemmas.{coherent-fetched, follow_after, joined, joined_oplog}
 use Rattle.node_messages.proofs.HearLemmas.{coherent-tables}
 use Rattle.node_state.proofs.SlotLemmas.{in_visible}
 
@@ -65,11 +65,11 @@ after_entry documents entry place before is =
     ap (λ (d : Option Fields). cond (is_at (place_of entry.op) place) (document_after entry.op d) d) is ∙ sym (get-step documents entry place)
 
 -- the versions of a log and of what follows it
-small_behind : (place : Place) (log entries : List Entry) (documents : Documents) (before : Option Fields) → before ≡ maps.get documents place → Small (versions_from place before log)
+small_after : (place : Place) (log entries : List Entry) (documents : Documents) (before : Option Fields) → before ≡ maps.get documents place → Small (versions_from place before log)
     → Small (versions_from place (maps.get (fold applied documents log) place) entries) → Small (versions_from place before (log ++ entries))
-small_behind place [] entries documents before is front back = subst (λ (d : Option Fields). Small (versions_from place d entries)) (sym is) back
-small_behind place (entry ∷ log) entries documents before is front back =
-    go (is_at (place_of entry.op) place) (after_entry documents entry place before is) (λ then same small. small_behind place log entries (applied documents entry) then same small back) front
+small_after place [] entries documents before is front back = subst (λ (d : Option Fields). Small (versions_from place d entries)) (sym is) back
+small_after place (entry ∷ log) entries documents before is front back =
+    go (is_at (place_of entry.op) place) (after_entry documents entry place before is) (λ then same small. small_after place log entries (applied documents entry) then same small back) front
   where
     version : Version
     version = record { at = entry.optime; doc = document_after entry.op before }
@@ -83,7 +83,7 @@ small_behind place (entry ∷ log) entries documents before is front back =
         (rest (document_after entry.op before) same (All-tail (λ (v : Version). IsSmall v.doc) version (versions_from place (document_after entry.op before) log) small))
     go false same rest small = rest before same small
 
--- the versions that come behind a log
+-- the versions that come after a log
 entries_small : (place : Place) (entries log : List Entry) → ((many : ℕ) → AreWithinDocument (log ++ take many entries)) → Small (versions_from place (maps.get (docs log) place) entries)
 entries_small place [] log within = λ k d inside. absurd (omega arith)
 entries_small place (entry ∷ rest) log within =
@@ -107,7 +107,7 @@ entries_small place (entry ∷ rest) log within =
 
 joined_small : (entries log : List Entry) → ((many : ℕ) → AreWithinDocument (log ++ take many entries)) → AreSmall log → AreSmall (log ++ entries)
 joined_small entries log within small place =
-    small_behind place log entries maps.empty None (sym (maps.get-empty {X = Fields} place_cmp place)) (small place) (entries_small place entries log within)
+    small_after place log entries maps.empty None (sym (maps.get-empty {X = Fields} place_cmp place)) (small place) (entries_small place entries log within)
 
 -- ---- what an answer is to a log that ends at its base
 
@@ -130,7 +130,7 @@ pub fetched_later : (node : Node) (term : ℕ) (reply : FetchReply) (entries : L
     → AtMost at (last_point node) → All (λ (entry : Entry). is_before at entry.optime ≡ true) entries
 fetched_later node term reply entries at is can goes most =
     subst (λ (list : List Entry). All (λ (entry : Entry). is_before at entry.optime ≡ true) list) (sym is)
-    (follow_behind at (last_point node) reply.entries most (follows_last node term reply can goes))
+    (follow_after at (last_point node) reply.entries most (follows_last node term reply can goes))
 
 pub fetched_small : (node : Node) (term : ℕ) (reply : FetchReply) (entries : List Entry) → entries ≡ reply.entries → CanTakeEntries node term reply → continues (last_point node) reply ≡ true
     → AreSmall node.log → AreSmall (node.log ++ entries)

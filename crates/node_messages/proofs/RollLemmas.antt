@@ -11,7 +11,7 @@ use Rattle.oplog_entry.specs.Visible.{ZERO, is_before, last_of, log_up_to}
 use Rattle.oplog_entry.specs.declared.entry.Entry.{Entry}
 use Rattle.oplog_store.specs.Log.{IsOplog}
 use Rattle.oplog_store.proofs.LogLemmas.{oplog_filter}
-use Rattle.repl_msg.specs.Logs.{later_of, log_behind}
+use Rattle.repl_msg.specs.Logs.{later_of, log_after}
 use Rattle.repl_msg.specs.Rollback.{is_common, common_point}
 use Rattle.rollback_core.proofs.Greatest.{greatest_last}
 use Rattle.set_model.specs.declared.reply.Ignored.{Ignored}
@@ -84,12 +84,12 @@ ignored_tells raised term old after optimes visible why reason = record { comes_
 
 pub rolled_tells : (raised : Bool) (term : ℕ) (old : Node) (at : OpTime) (after : OpTime) (optimes : List OpTime) (visible : OpTime) (point : OpTime) (removed : ℕ) (lost : List (Place × Option Fields))
     → IsOplog old.log → rollback_reason (taking raised term old) term after optimes visible ≡ None → point ≡ common_point old.log after optimes
-    → removed ≡ length (log_behind point old.log) → lost ≡ lost_documents (local_documents old) (log_behind point old.log)
+    → removed ≡ length (log_after point old.log) → lost ≡ lost_documents (local_documents old) (log_after point old.log)
     → IsPreparedFor (message_continuations.RolledBack point removed lost) raised term (λ node. common_told node term after optimes visible) old (record old { applied = at })
 rolled_tells raised term old at after optimes visible point removed lost oplog reason point_is removed_is lost_is =
-    record { comes_to = comes_to raised reason (lost_is ∙ ap (λ d. lost_documents d (log_behind point old.log)) (sym (taken_documents raised term old oplog))); at = at; same = refl }
+    record { comes_to = comes_to raised reason (lost_is ∙ ap (λ d. lost_documents d (log_after point old.log)) (sym (taken_documents raised term old oplog))); at = at; same = refl }
   where
-    comes_to : (raised : Bool) → rollback_reason (taking raised term old) term after optimes visible ≡ None → lost ≡ lost_documents (local_documents (taking raised term old)) (log_behind point old.log)
+    comes_to : (raised : Bool) → rollback_reason (taking raised term old) term after optimes visible ≡ None → lost ≡ lost_documents (local_documents (taking raised term old)) (log_after point old.log)
         → ComesTo (message_continuations.RolledBack point removed lost) raised term (λ node. common_told node term after optimes visible) old (record old { applied = at })
     comes_to true reason lost_is items =
         let node = taking true term (record old { records = items }) in

@@ -14,7 +14,7 @@ use Rattle.oplog_entry.proofs.LogLemmas.{last_is}
 use Rattle.oplog_store.specs.Log.{IsOplog}
 use Rattle.oplog_store.proofs.LogLemmas.{oplog_filter}
 use Rattle.visibility_point.proofs.Least.{none_listed, items_again}
-use Rattle.repl_msg.specs.Logs.{log_behind}
+use Rattle.repl_msg.specs.Logs.{log_after}
 use Rattle.set_model.specs.declared.reply.Refusal.TheVariants.{TooManyOptimes}
 use Rattle.set_model.specs.Node.{Node}
 use Rattle.set_model.specs.Points.{visible_log, visible_point}
@@ -28,12 +28,12 @@ not_so : (b : Bool) → not b ≡ true → b ≡ false
 not_so true is = cc is
 not_so false is = refl
 
--- the entries that are visible behind an optime, by the last visible one
-pub behind_shown : (slot : Option OpTime) (log : List Entry) (after : OpTime) → IsOplog log
-    → log_behind after (log_up_to (last_of (entries_before slot log)) log) ≡ log_behind after (entries_before slot log)
-behind_shown None log after oplog = ap (log_behind after) (up_to-last log oplog.order)
-behind_shown (Some slot) log after oplog =
-    same_log (log_behind after (log_up_to point log)) (log_behind after shown)
+-- the entries that are visible after an optime, by the last visible one
+pub after_shown : (slot : Option OpTime) (log : List Entry) (after : OpTime) → IsOplog log
+    → log_after after (log_up_to (last_of (entries_before slot log)) log) ≡ log_after after (entries_before slot log)
+after_shown None log after oplog = ap (log_after after) (up_to-last log oplog.order)
+after_shown (Some slot) log after oplog =
+    same_log (log_after after (log_up_to point log)) (log_after after shown)
     (oplog_filter (λ (e : Entry). is_before after e.optime) (log_up_to point log) (oplog_filter (λ (e : Entry). not (is_before point e.optime)) log oplog)).order
     (oplog_filter (λ (e : Entry). is_before after e.optime) shown shown_oplog).order over home
   where
@@ -65,14 +65,14 @@ behind_shown (Some slot) log after oplog =
             go true is = is
             go false is = let other : is_before b a ≡ true = before_at_most_trans b c a before is in absurd (cc (other, late))
 
-    over : (entry : Entry) → In entry (log_behind after (log_up_to point log)) → In entry (log_behind after shown)
+    over : (entry : Entry) → In entry (log_after after (log_up_to point log)) → In entry (log_after after shown)
     over entry there =
         let one : In entry (log_up_to point log) × (is_before after entry.optime ≡ true) = in_filter (λ (e : Entry). is_before after e.optime) (log_up_to point log) entry there in
         let two : In entry log × (not (is_before point entry.optime) ≡ true) = in_filter (λ (e : Entry). not (is_before point e.optime)) log entry one.0 in
         filter_in (λ (e : Entry). is_before after e.optime) shown entry
         (filter_in (λ (e : Entry). is_before e.optime slot) log entry two.0 (early entry one.1 (not_so (is_before point entry.optime) two.1))) one.1
 
-    home : (entry : Entry) → In entry (log_behind after shown) → In entry (log_behind after (log_up_to point log))
+    home : (entry : Entry) → In entry (log_after after shown) → In entry (log_after after (log_up_to point log))
     home entry there =
         let one : In entry shown × (is_before after entry.optime ≡ true) = in_filter (λ (e : Entry). is_before after e.optime) shown entry there in
         let two : In entry log × (is_before entry.optime slot ≡ true) = in_filter (λ (e : Entry). is_before e.optime slot) log entry one.0 in
@@ -80,31 +80,31 @@ behind_shown (Some slot) log after oplog =
         (filter_in (λ (e : Entry). not (is_before point e.optime)) log entry two.0 (ap not (below_last shown shown_oplog.order entry one.0))) one.1
 
 -- the same of a node that takes a message
-pub told_behind : (raised : Bool) (term : ℕ) (node : Node) (visible after : OpTime) → IsOplog node.log → visible ≡ visible_point (taking raised term node)
-    → log_behind after (log_up_to visible node.log) ≡ log_behind after (visible_log (taking raised term node))
-told_behind true term node visible after oplog is =
-    ap (λ o. log_behind after (log_up_to o node.log)) is ∙ behind_shown (least (sets.items (taking true term node).slots)) node.log after oplog
-told_behind false term node visible after oplog is =
-    ap (λ o. log_behind after (log_up_to o node.log)) is ∙ behind_shown (least (sets.items node.slots)) node.log after oplog
+pub told_after : (raised : Bool) (term : ℕ) (node : Node) (visible after : OpTime) → IsOplog node.log → visible ≡ visible_point (taking raised term node)
+    → log_after after (log_up_to visible node.log) ≡ log_after after (visible_log (taking raised term node))
+told_after true term node visible after oplog is =
+    ap (λ o. log_after after (log_up_to o node.log)) is ∙ after_shown (least (sets.items (taking true term node).slots)) node.log after oplog
+told_after false term node visible after oplog is =
+    ap (λ o. log_after after (log_up_to o node.log)) is ∙ after_shown (least (sets.items node.slots)) node.log after oplog
 
 -- what a node would tell, as it refuses to
-pub refused_by : (node : Node) (term : ℕ) (after : OpTime) (shown : List Entry) → shown ≡ log_behind after (visible_log (in_term term node))
+pub refused_by : (node : Node) (term : ℕ) (after : OpTime) (shown : List Entry) → shown ≡ log_after after (visible_log (in_term term node))
     → (cond (nat_lt 20000 (length shown)) (Some TooManyOptimes) None) ≡ common_refusal node term after
 refused_by node term after shown is =
-    ap (λ (l : List Entry). cond (nat_lt 20000 (length l)) (Some TooManyOptimes) None) (is ∙ ap (log_behind after) (by_term (nat_lt node.term term)))
+    ap (λ (l : List Entry). cond (nat_lt 20000 (length l)) (Some TooManyOptimes) None) (is ∙ ap (log_after after) (by_term (nat_lt node.term term)))
   where
     by_term : (b : Bool) → visible_log (taking b term node) ≡ cond b node.log (visible_log node)
     by_term true =
         ap (λ (slots : List OpTime). entries_before (least slots) node.log) (none_listed (sets.items (sets.empty {R = optime_cmp})) (items_again (sets.empty {R = optime_cmp})))
     by_term false = refl
 
-pub refused_many : (node : Node) (term : ℕ) (after : OpTime) (shown : List Entry) → shown ≡ log_behind after (visible_log (in_term term node))
+pub refused_many : (node : Node) (term : ℕ) (after : OpTime) (shown : List Entry) → shown ≡ log_after after (visible_log (in_term term node))
     → 20000 < length shown → Some TooManyOptimes ≡ common_refusal node term after
 refused_many node term after shown is many =
     let test : nat_lt 20000 (length shown) ≡ true = grind (arith, nat_tests) in
     sym (ap (λ b. cond b (Some TooManyOptimes) None) test) ∙ refused_by node term after shown is
 
-pub refused_few : (node : Node) (term : ℕ) (after : OpTime) (shown : List Entry) → shown ≡ log_behind after (visible_log (in_term term node))
+pub refused_few : (node : Node) (term : ℕ) (after : OpTime) (shown : List Entry) → shown ≡ log_after after (visible_log (in_term term node))
     → length shown ≤ 20000 → None ≡ common_refusal node term after
 refused_few node term after shown is few =
     let test : nat_lt 20000 (length shown) ≡ false = grind (arith, nat_tests) in

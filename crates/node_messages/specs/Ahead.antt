@@ -44,7 +44,7 @@ pub record IsPreparedFor (told : MessageContinuation) (raised : Bool) (term : �
   pub at : OpTime
   pub same : new ≡ record old { applied = at }
 
--- a message that is made ready so: no memory is taken for it once its term is
+-- a message that is made ready so: once its term is taken, it needs no more memory
 abbrev pub is_prepared : Body → Bool
 is_prepared (bodies.Fetch base) = true
 is_prepared (bodies.FetchReply reply) = true

@@ -22,7 +22,7 @@ installs node beat = is_secondary (given_way node beat).role && is_newer beat.co
 
 -- a newer configuration, where the node installs it
 abbrev pub newer : Bool → Config → Option NewConfig
-newer true config = Some (record { kept = config; installed = config })
+newer true config = Some (record { journaled = config; installed = config })
 newer false config = None
 
 -- what is told of a heartbeat

@@ -19,7 +19,7 @@ reached node point = record node {
   applied = if_primary node.role node.applied (later_of node.applied (last_of (log_up_to point node.log)));
 }
 
--- the log cut behind a point, and these documents lost
+-- the log cut after a point, and these documents lost
 abbrev pub rolled_node : Node → OpTime → List (Place × Option Fields) → Node
 rolled_node node point lost =
     record node {

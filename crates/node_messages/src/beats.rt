@@ -86,7 +86,7 @@ fn heard_of(
 {
     let newer = if installs(state, beat, role) {
         Some(NewConfig {
-            kept: beat.config.copy()?,
+            journaled: beat.config.copy()?,
             installed: beat.config.copy()?,
         })
     } else {
@@ -170,9 +170,12 @@ pub(crate) fn hear(state: &mut State, newer: Option<NewConfig>, hearing: HeardBe
     let Some(newer) = newer else {
         return heard(state, hearing);
     };
-    let NewConfig { kept, installed } = newer;
+    let NewConfig {
+        journaled,
+        installed,
+    } = newer;
     Turn::Storing {
-        item: Store::Record(Record::Config(kept)),
+        item: Store::Record(Record::Config(journaled)),
         then: Continuation::Installed {
             config: installed,
             hearing,

@@ -116,7 +116,7 @@ fn learn_from(state: &mut State, from: u32, visible: OpTime, commit: OpTime, pri
     state.known.set(from, visible, primary);
 }
 
-/// Its entries are written behind the log.
+/// Its entries are written after the log.
 fn append(state: &mut State, reply: FetchReply)
     requires fetched { CanTakeEntries state.old.node state.old.node.term reply }
     requires room { length reply.entries ≤ state.old.spare }

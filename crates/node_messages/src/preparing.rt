@@ -95,7 +95,7 @@ pub(crate) fn prepare<R: Threads + Sync>(
     }
 }
 
-/// A node asks for the entries behind its last.
+/// A node asks for the entries after its last.
 fn prepare_fetch(
     state: &mut State,
     next: u64,

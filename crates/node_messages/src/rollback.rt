@@ -1,6 +1,6 @@
 // Rolling back what a later primary doesn't have.
 ghost use Rattle.std.specs.Prelude.{◌≡◌, map, nat_lt, None, IfOk, OnErr, OnOk};
-ghost use Rattle.repl_msg.specs.Logs.{log_behind};
+ghost use Rattle.repl_msg.specs.Logs.{log_after};
 ghost use Rattle.repl_msg.specs.Rollback.{common_point};
 ghost use Rattle.rollback_core.specs.Lost.{lost_of};
 ghost use Rattle.set_model.specs.Reads.{local_documents};
@@ -54,7 +54,7 @@ pub(crate) fn common_refusal(state: &mut State, term: u64, after: OpTime) -> Opt
     None
 }
 
-/// Prepares the answer to a node that looks for the common point: the visible optimes behind that
+/// Prepares the answer to a node that looks for the common point: the visible optimes after that
 /// node's commit point.
 pub(crate) fn prepare_common_asked(
     state: &mut State,
@@ -82,7 +82,7 @@ pub(crate) fn prepare_common_asked(
     Ok(MessageContinuation::Answered { next, sent })
 }
 
-/// Prepares a rollback to the common point, by the optimes that the source has behind `after`.
+/// Prepares a rollback to the common point, by the optimes later than `after` that the source has.
 pub(crate) fn prepare_common_told<R: Threads + Sync>(
     state: &mut State,
     rt: &R,
@@ -110,8 +110,8 @@ pub(crate) fn prepare_common_told<R: Threads + Sync>(
         Ok(point) => point,
         Err(why) => return Ok(MessageContinuation::Ignored(why)),
     };
-    let removed = state.node_data.count_behind(point);
-    let lost = lost_behind(state, point)?;
+    let removed = state.node_data.count_after(point);
+    let lost = lost_after(state, point)?;
     reach(state, rt, point)?;
     Ok(MessageContinuation::RolledBack {
         point,
@@ -150,13 +150,13 @@ fn rollback_point(
     }
 }
 
-/// The documents that the entries behind a point touched, as they stand.
-fn lost_behind(state: &mut State, point: OpTime) -> Mem<LostList>
+/// The documents that the entries after a point touched, as they stand.
+fn lost_after(state: &mut State, point: OpTime) -> Mem<LostList>
     ensures lost { IfOk result (λ lost.
-        lost ≡ rows.lost_documents (local_documents state.old.node) (log_behind point state.old.node.log)) }
+        lost ≡ rows.lost_documents (local_documents state.old.node) (log_after point state.old.node.log)) }
     ensures same { state.new ≡ state.old }
 {
-    listed(state.alloc, state.node_data.lost_behind(point)?)
+    listed(state.alloc, state.node_data.lost_after(point)?)
 }
 
 /// Applies the log up to a point, so that it can be cut there.
@@ -170,7 +170,7 @@ fn reach<R: Threads + Sync>(state: &mut State, rt: &R, point: OpTime) -> Mem<()>
     }
 }
 
-/// Begins a rollback: stores the record that cuts the log behind `point`.
+/// Begins a rollback: stores the record that cuts the log after `point`.
 pub(crate) fn roll_back(state: &mut State, point: OpTime, removed: u64, lost: LostList) -> Turn
     requires ready { IsCut point state.old.node }
     ensures turn { Means result state.new.node
@@ -187,7 +187,7 @@ pub(crate) fn roll_back(state: &mut State, point: OpTime, removed: u64, lost: Lo
     }
 }
 
-/// Goes on once the record of a rollback is in the journal: cuts the log behind `point`, and replies.
+/// Goes on once the record of a rollback is in the journal: cuts the log after `point`, and replies.
 pub fn go_on_cut(
     state: &mut State,
     item: &Store,
@@ -205,7 +205,7 @@ pub fn go_on_cut(
     state.answered(Reply::RolledBack { to: point, removed })
 }
 
-/// The log is cut behind the point, and the record of that stands.
+/// The log is cut after the point, and the record of that stands.
 fn cut_log(state: &mut State, item: &Store, point: OpTime, lost: LostList)
     requires item { item.now ≡ cut_record point }
     requires ready { IsCut point state.old.node }

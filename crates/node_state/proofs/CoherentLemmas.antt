@@ -91,17 +91,17 @@ coherent-slots node slots writers seen tally optimes grows old = record {
 
 -- ---- an entry more
 
--- the entry is behind what is durable, has a place in the log, and what is visible goes no less far
+-- the entry is after what is durable, has a place in the log, and what is visible goes no less far
 pub record IsFresh (node : Node) (entry : Entry) (more : Node) : Type 0 where
-  pub behind : is_before node.durable entry.optime ≡ true
+  pub after : is_before node.durable entry.optime ≡ true
   pub fits : All (FitsBeside entry) node.log
   pub grows : AtMost (visible_point node) (visible_point more)
 
 same_ts_apart : (entry other : Entry) → FitsBeside entry other → other.optime ≢ entry.optime
 same_ts_apart entry other (inl before) same =
     let earlier : other.optime.ts < entry.optime.ts = before.earlier in let ts : other.optime.ts ≡ entry.optime.ts = ap (λ (o : OpTime). o.ts) same in omega (arith, earlier, ts)
-same_ts_apart entry other (inr behind) same =
-    let earlier : entry.optime.ts < other.optime.ts = behind.earlier in let ts : other.optime.ts ≡ entry.optime.ts = ap (λ (o : OpTime). o.ts) same in omega (arith, earlier, ts)
+same_ts_apart entry other (inr after) same =
+    let earlier : entry.optime.ts < other.optime.ts = after.earlier in let ts : other.optime.ts ≡ entry.optime.ts = ap (λ (o : OpTime). o.ts) same in omega (arith, earlier, ts)
 
 not_kept : (node : Node) (entry : Entry) → IsRecorded node → ((other : Entry) → In other node.log → other.optime ≢ entry.optime) → is_kept node entry ≡ false
 not_kept node entry recorded apart = go (has_entry (kept node.records).entries entry.optime) refl
@@ -150,7 +150,7 @@ coherent-written node entry slots writers seen tally optimes oplog fresh old = r
     early : (e : Entry) → In e (with_entry node.log entry) → is_before node.durable e.optime ≡ false → is_kept node e ≡ true
     early e there late = elim (with_in node.log entry e there) [
       | inl before ↦ all_in (λ (one : Entry). is_before node.durable one.optime ≡ false → is_kept node one ≡ true) node.log e old.recorded.early before late
-      | inr new ↦ let behind : is_before node.durable e.optime ≡ true = subst (λ (one : Entry). is_before node.durable one.optime ≡ true) new fresh.behind in absurd (cc (behind, late))
+      | inr new ↦ let after : is_before node.durable e.optime ≡ true = subst (λ (one : Entry). is_before node.durable one.optime ≡ true) new fresh.after in absurd (cc (after, late))
     ]
 
 -- ---- what the disks have

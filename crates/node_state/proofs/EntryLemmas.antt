@@ -70,7 +70,7 @@ last_before [] at first each = first
 last_before (entry ∷ []) at first each = each entry (inl refl)
 last_before (entry ∷ next ∷ log) at first each = last_before (next ∷ log) at first (λ one there. each one (inr there))
 
--- no entry is behind the last one
+-- no entry is after the last one
 pub below_last : (log : List Entry) → AllPairs StandsBefore log → (entry : Entry) → In entry log → AtMost entry.optime (last_of log)
 below_last [] order entry there = absurd there
 below_last (one ∷ []) order entry (inl same) = subst (λ (e : Entry). AtMost e.optime one.optime) same (at_most_refl one.optime)
@@ -94,10 +94,10 @@ with_first (other ∷ log) entry late =
     let test : nat_lt other.optime.ts entry.optime.ts ≡ false = grind arith in
     ap (λ b. cond b (other ∷ with_entry log entry) (entry ∷ other ∷ log)) test
 
-late_behind : (one : Entry) (log : List Entry) (entry : Entry) → AllPairs StandsBefore (one ∷ log) → nat_lt one.optime.ts entry.optime.ts ≡ false → (other : Entry) → In other (one ∷ log) → entry.optime.ts ≤ other.optime.ts
-late_behind one log entry order test other (inl same) =
+late_after : (one : Entry) (log : List Entry) (entry : Entry) → AllPairs StandsBefore (one ∷ log) → nat_lt one.optime.ts entry.optime.ts ≡ false → (other : Entry) → In other (one ∷ log) → entry.optime.ts ≤ other.optime.ts
+late_after one log entry order test other (inl same) =
     let here : entry.optime.ts ≤ one.optime.ts = grind (arith, nat_tests) in subst (λ (e : Entry). entry.optime.ts ≤ e.optime.ts) same here
-late_behind one log entry order test other (inr there) =
+late_after one log entry order test other (inr there) =
     let here : entry.optime.ts ≤ one.optime.ts = grind (arith, nat_tests) in
     let step : StandsBefore one other = all_in (StandsBefore one) log other (pairs_head StandsBefore one log order) there in
     let later : one.optime.ts < other.optime.ts = step.earlier in
@@ -117,4 +117,4 @@ filter-with p (other ∷ log) entry order passes = go (nat_lt other.optime.ts en
         with_test false = rest
     go false is rest =
         ap (λ b. cond b (entry ∷ filter p (other ∷ log)) (filter p (other ∷ log))) passes
-        ∙ sym (with_first (filter p (other ∷ log)) entry (in_all (λ (o : Entry). entry.optime.ts ≤ o.optime.ts) (filter p (other ∷ log)) (λ o there. late_behind other log entry order is o (in_filter p (other ∷ log) o there).0)))
+        ∙ sym (with_first (filter p (other ∷ log)) entry (in_all (λ (o : Entry). entry.optime.ts ≤ o.optime.ts) (filter p (other ∷ log)) (λ o there. late_after other log entry order is o (in_filter p (other ∷ log) o there).0)))

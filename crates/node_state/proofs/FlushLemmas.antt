@@ -51,7 +51,7 @@ last_taken (suc many) (x ∷ xs) some more = last_there x (take many xs)
 
 -- ---- how far the log is durable
 
--- no further than is visible, up to an entry or ZERO, no less than before, and what isn't taken is behind it
+-- no further than is visible, up to an entry or ZERO, no less than before, and what isn't taken is after it
 record IsNext (node : Node) (many : ℕ) (point : OpTime) : Type 0 where
   within : AtMost point (visible_point node)
   there : (point ≡ ZERO) ⊎ Has node.log point
@@ -77,7 +77,7 @@ module _ (node : Node) (oplog : IsOplog node.log) (points : ArePoints node) (rec
   unkept_log : (entry : Entry) → In entry (unjournaled node) → In entry node.log × (has_entry found entry.optime ≡ false)
   unkept_log = rest_log found node.log oplog (is_kept node) recorded.entries
 
-  -- what isn't in the records is behind what is durable
+  -- what isn't in the records is after what is durable
   unkept_late : (entry : Entry) → In entry (unjournaled node) → AtMost node.durable entry.optime
   unkept_late entry there = go (is_before node.durable entry.optime) refl (unkept_log entry there)
     where

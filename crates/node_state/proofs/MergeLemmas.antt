@@ -202,7 +202,7 @@ module _ (found log : List Entry) (oplog : IsOplog log) (test : Entry → Bool) 
         (λ entry there. filter_in (λ (e : Entry). has_entry merged e.optime) log entry (merged_log entry there) (in_has merged entry.optime entry there refl))
         (λ entry there. let both : In entry log × (has_entry merged entry.optime ≡ true) = in_filter (λ (e : Entry). has_entry merged e.optime) log entry there in log_merged entry both.0 both.1)
 
-    -- and those that aren't are the rest behind the first ones
+    -- and those that aren't are the rest after the first ones
     pub rest_after : filter (λ entry. not (has_entry merged entry.optime)) log ≡ drop many rest
     rest_after = same_log (filter (λ entry. not (has_entry merged entry.optime)) log) (drop many rest)
         (oplog_filter (λ (e : Entry). not (has_entry merged e.optime)) log oplog).order (rises_drop many rest rest_rises) over home

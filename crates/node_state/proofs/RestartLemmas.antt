@@ -117,7 +117,7 @@ restored_is first number records stable rollback clock found read =
     λ vote config entries point. seen_node (restored entries stable) (rest_read first number records stable rollback clock vote config point) in
     λ i. made (read.vote i) (read.config i) (read.entries i) (read.point i)
 
--- where nothing was read behind the point, nothing is kept behind it
+-- where nothing was read after the point, nothing is kept after it
 pub all_counted : (found : Kept) (records : List Record) → IsReadAs found records → counted records ≡ (kept records).entries
 all_counted found records read =
     filter-all (λ (e : Entry). not (is_before (kept records).point e.optime)) (kept records).entries

@@ -55,7 +55,7 @@ visible_order slots log oplog = go (least slots)
     go None = oplog.order
     go (Some slot) = (oplog_filter (λ (e : Entry). is_before e.optime slot) log oplog).order
 
--- more entries, and no slot that any of the earlier ones stands behind: what is visible goes no less far
+-- more entries, and no slot that any of the earlier ones comes after: what is visible goes no less far
 pub visible_grows : (slots others : List OpTime) (log more : List Entry) → IsOplog more → ((entry : Entry) → In entry log → In entry more)
     → ((slot : OpTime) → In slot others → In slot slots ⊎ ((entry : Entry) → In entry log → is_before entry.optime slot ≡ true))
     → AtMost (last_of (entries_before (least slots) log)) (last_of (entries_before (least others) more))

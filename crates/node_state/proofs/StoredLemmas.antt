@@ -80,8 +80,8 @@ module _ (node : Node) (tally : Option Tallied) (optimes : List OpTime) (sound :
   well : IsWellKept node.records node.stable
   well = well_kept node tally optimes sound of_term coherent
 
-  stable_behind : AtMost node.stable node.durable
-  stable_behind = at_most_trans node.stable node.commit node.durable coherent.points.stable coherent.points.commit
+  stable_within : AtMost node.stable node.durable
+  stable_within = at_most_trans node.stable node.commit node.durable coherent.points.stable coherent.points.commit
 
   term_is : (kept node.records).vote.term ≡ node.term
   term_is = ap (λ (v : Vote). v.term) coherent.recorded.vote
@@ -89,15 +89,15 @@ module _ (node : Node) (tally : Option Tallied) (optimes : List OpTime) (sound :
   stable_readable : IsReadable node node.stable
   stable_readable = record { kept = at_most_refl node.stable; reached = λ other. subst (AtMost node.stable) (other_point node.role (visible_point node) node.applied other) sound.stable }
 
-  next_behind : AtMost (next_stable node) node.durable
-  next_behind = at_most_trans (next_stable node) node.commit node.durable (earlier_left node.commit (applied_point node)) coherent.points.commit
+  next_within : AtMost (next_stable node) node.durable
+  next_within = at_most_trans (next_stable node) node.commit node.durable (earlier_left node.commit (applied_point node)) coherent.points.commit
 
   -- a vote for a member or for none, in no earlier term
   votes_well : (term : ℕ) (candidate : Option ℕ) → node.term ≤ term → term < 2 ^ 63 → IfSome candidate (λ member. member < 50) → StoresWell node (vote_record term candidate)
   votes_well term candidate later below within = record {
     well = well_voted node.records node.stable (record { term = term; candidate = candidate }) (omega (arith, term_is, later)) below within well;
     same = ap (λ (k : Kept). log_up_to node.stable k.entries) (kept_more node.records (records.Vote (record { term = term; candidate = candidate })));
-    shown = kept_up_to node node.stable coherent.recorded stable_behind;
+    shown = kept_up_to node node.stable coherent.recorded stable_within;
     readable = stable_readable;
   }
 
@@ -105,7 +105,7 @@ module _ (node : Node) (tally : Option Tallied) (optimes : List OpTime) (sound :
   configures_well config lawful = record {
     well = well_configured node.records node.stable config lawful well;
     same = ap (λ (k : Kept). log_up_to node.stable k.entries) (kept_more node.records (records.Config config));
-    shown = kept_up_to node node.stable coherent.recorded stable_behind;
+    shown = kept_up_to node node.stable coherent.recorded stable_within;
     readable = stable_readable;
   }
 
@@ -119,17 +119,17 @@ module _ (node : Node) (tally : Option Tallied) (optimes : List OpTime) (sound :
         well = well_kept (flushed_node node) tally (drop (length (next_entries node)) optimes) flushed_sound of_term after;
         same =
             kept_up_to (flushed_node node) node.stable after.recorded (at_most_trans node.stable node.commit (next_durable node) after.points.stable after.points.commit)
-            ∙ sym (kept_up_to node node.stable coherent.recorded stable_behind);
-        shown = kept_up_to node node.stable coherent.recorded stable_behind;
+            ∙ sym (kept_up_to node node.stable coherent.recorded stable_within);
+        shown = kept_up_to node node.stable coherent.recorded stable_within;
         readable = stable_readable;
       }
 
   checkpoints_well : StoresWell node (stores.Checkpoint (next_stable node))
   checkpoints_well = record {
     well = well_stable node.records node.stable (next_stable node)
-        (subst (AtMost (next_stable node)) (sym coherent.recorded.point) next_behind) well;
+        (subst (AtMost (next_stable node)) (sym coherent.recorded.point) next_within) well;
     same = refl;
-    shown = kept_up_to node (next_stable node) coherent.recorded next_behind;
+    shown = kept_up_to node (next_stable node) coherent.recorded next_within;
     readable = record {
       kept = earlier_by (AtMost node.stable) node.commit (applied_point node) coherent.points.stable sound.stable;
       reached = λ other. subst (AtMost (next_stable node)) (other_point node.role (visible_point node) node.applied other) (earlier_right node.commit (applied_point node));
@@ -152,12 +152,12 @@ module _ (node : Node) (tally : Option Tallied) (optimes : List OpTime) (sound :
 
   cuts_well : (point : OpTime) → IsCut point node → StoresWell node (cut_record point)
   cuts_well point can =
-      let behind : AtMost node.stable point = at_most_trans node.stable node.commit point coherent.points.stable can.commit in
+      let tail : AtMost node.stable point = at_most_trans node.stable node.commit point coherent.points.stable can.commit in
       record {
-        well = well_cut node.records node.stable point behind
+        well = well_cut node.records node.stable point tail
             (subst (λ o. (earlier_of o point ≡ ZERO) ⊎ Has (kept node.records).entries (earlier_of o point)) (sym coherent.recorded.point) (cut_there point can.there)) well;
-        same = ap (λ (k : Kept). log_up_to node.stable k.entries) (kept_more node.records (records.Cut point)) ∙ up_to-up_to node.stable point (kept node.records).entries behind;
-        shown = kept_up_to node node.stable coherent.recorded stable_behind;
+        same = ap (λ (k : Kept). log_up_to node.stable k.entries) (kept_more node.records (records.Cut point)) ∙ up_to-up_to node.stable point (kept node.records).entries tail;
+        shown = kept_up_to node node.stable coherent.recorded stable_within;
         readable = stable_readable;
       }
 

@@ -233,7 +233,7 @@ state-leading n m rest items config optimes is config_is are old = record {
 
 -- ---- votes counted
 
--- a candidate that has counted one more answer, or none for want of memory
+-- a candidate that has counted one more answer, or none since memory ran out
 pub coherent-counted : (n : Node) (rest : BesideData) (was now : Tallied) (optimes : List OpTime) → rest.tally ≡ Some was → now.voters ≡ was.voters
     → IsCoherent (seen_node n rest) rest.tally optimes → IsCoherent (seen_node n (record rest { tally = Some now })) (Some now) optimes
 coherent-counted n rest was now optimes is same old =

@@ -168,7 +168,7 @@ well_configured items stable config lawful old =
 -- a cut at ZERO or at an entry, no earlier than the documents of the other disk
 pub well_cut : (items : List Record) (stable at : OpTime) → AtMost stable at → (earlier_of (kept items).point at ≡ ZERO) ⊎ Has (kept items).entries (earlier_of (kept items).point at)
     → IsWellKept items stable → IsWellKept (items ++ records.Cut at ∷ []) stable
-well_cut items stable at behind there old =
+well_cut items stable at after there old =
     well_found (items ++ records.Cut at ∷ []) stable (with_record (kept items) (records.Cut at)) (kept_more items (records.Cut at)) (record {
       term = old.term;
       vote = old.vote;
@@ -179,7 +179,7 @@ well_cut items stable at behind there old =
       documents = subst AreSmall (sym counted_is)
           (small_up_to point (counted items) (oplog_filter (λ (e : Entry). not (is_before found.point e.optime)) found.entries old.oplog) old.documents);
       there = elim there [ inl none ↦ inl none | inr has ↦ inr (has_up_to found.entries point at has (earlier_right found.point at)) ];
-      stable_is = earlier_by (AtMost stable) found.point at old.stable_is behind;
+      stable_is = earlier_by (AtMost stable) found.point at old.stable_is after;
     })
   where
     found : Kept
@@ -198,7 +198,7 @@ pub well_stable : (items : List Record) (stable at : OpTime) → AtMost at (kept
 well_stable items stable at before old =
     record { term = old.term; vote = old.vote; config = old.config; oplog = old.oplog; terms = old.terms; entries = old.entries; documents = old.documents; there = old.there; stable_is = before }
 
--- ---- entries behind the point
+-- ---- entries after the point
 
 -- A cut at the point itself
 pub well_recovered : (items : List Record) (stable : OpTime) → IsWellKept items stable → IsWellKept (items ++ records.Cut (kept items).point ∷ []) stable
@@ -216,7 +216,7 @@ read_recovered items found is =
       entries = ap (λ (k : Kept). log_up_to k.point k.entries) is ∙ sym (ap (λ (k : Kept). k.entries) more);
     }
 
--- what was read where nothing stands behind the point
+-- what was read where nothing comes after the point
 pub read_whole : (items : List Record) (found : Kept) → found ≡ kept items → has_more (kept items) ≡ false → IsReadAs found items
 read_whole items found is none = record {
   vote = ap (λ (k : Kept). k.vote) is;

@@ -48,14 +48,14 @@ fits_next node at op session sound next = in_all (FitsBeside (record { optime = 
     let later : node.seen < at.ts = next.past in
     inl (record { earlier = omega (arith, seen, later); term = all_in (λ (e : Entry). e.optime.term ≤ at.term) node.log entry next.entries there }))
 
--- what is durable is before an optime that is behind each visible entry
+-- what is durable is before an optime that is after each visible entry
 durable_before : (node : Node) (at : OpTime) → AtMost node.durable (visible_point node) → is_before ZERO at ≡ true
     → ((entry : Entry) → In entry (entries_before (least (sets.items node.slots)) node.log) → is_before entry.optime at ≡ true) → is_before node.durable at ≡ true
 durable_before node at durable first each =
     at_most_before_trans node.durable (visible_point node) at durable (last_before (entries_before (least (sets.items node.slots)) node.log) at first each)
 
 zero_before : (stable at : OpTime) → is_before stable at ≡ true → is_before ZERO at ≡ true
-zero_before stable at behind = at_most_before_trans ZERO stable at (zero_at_most stable) behind
+zero_before stable at tail = at_most_before_trans ZERO stable at (zero_at_most stable) tail
 
 -- ---- each write
 
@@ -65,7 +65,7 @@ coherent-logged n m rest at op session tally optimes is next sound after old =
     subst (λ (k : Node). IsCoherent (seen_node k rest) tally (with_optime optimes at)) (sym is)
     (coherent-written (seen_node n rest) (record { optime = at; op = op; session = session }) n.slots n.writers at.ts tally optimes sound.oplog
     (record {
-      behind = durable_before (seen_node n rest) at old.points.durable (before_both ZERO at (omega arith) (omega (arith, next.past)))
+      after = durable_before (seen_node n rest) at old.points.durable (before_both ZERO at (omega arith) (omega (arith, next.past)))
           (λ entry there. before_next n at sound next entry (in_visible (sets.items n.slots) n.log entry there).0);
       fits = fits_next n at op session sound next;
       grows = visible_grows (sets.items n.slots) (sets.items n.slots) n.log (with_entry n.log (record { optime = at; op = op; session = session })) (subst (λ (k : Node). IsOplog k.log) is after.oplog)
@@ -91,7 +91,7 @@ coherent-settled n m rest number at op tally optimes is has sound writers after 
     subst (λ (k : Node). IsCoherent (seen_node k rest) tally (with_optime optimes at)) (sym is)
     (coherent-written (seen_node n rest) (record { optime = at; op = op; session = None }) (sets.remove n.slots at) (maps.insert n.writers number (Done at)) n.seen tally optimes sound.oplog
     (record {
-      behind = durable_before (seen_node n rest) at old.points.durable (zero_before n.stable at pending.unstable)
+      after = durable_before (seen_node n rest) at old.points.durable (zero_before n.stable at pending.unstable)
           (λ entry there. (in_visible (sets.items n.slots) n.log entry there).1 at (contains_in n.slots at pending.open_slot));
       fits = pending.newest.fits;
       grows = visible_grows (sets.items n.slots) (sets.items (sets.remove n.slots at)) n.log (with_entry n.log (record { optime = at; op = op; session = None })) (subst (λ (k : Node). IsOplog k.log) is after.oplog)

@@ -47,7 +47,7 @@ heard_with hearing (Some newer) node =
     then_stored node (config_record newer.installed)
     (λ n. finished (heard_outcome hearing (installed n newer.installed)))
 
--- the log is cut behind a point, and these documents are lost
+-- the log is cut after a point, and these documents are lost
 abbrev pub cut_outcome : OpTime → ℕ → List (Place × Option Fields) → Node → Outcome
 cut_outcome point removed lost node =
     replied (reply.RolledBack point removed)

@@ -115,7 +115,7 @@ pub record IsFetched (fetched : FetchReply) (standing : StateView) : Type 0 wher
 abbrev pub IsHeard : Option NewConfig → HeardBeat → StateView → Type 0
 IsHeard newer hearing standing =
     (0 < standing.places)
-    × IfSome newer (λ new. (new.kept ≡ new.installed) × (rule new.installed ≡ None)
+    × IfSome newer (λ new. (new.journaled ≡ new.installed) × (rule new.installed ≡ None)
     × ((given_way standing.node (beat_in hearing standing.node)).role ≡ Secondary))
 
 abbrev pub IsReadyMessage : MessageContinuation → StateView → Type 0

@@ -35,7 +35,7 @@ pub record IsWellKept (records : List Record) (stable : OpTime) : Type 0 where
   pub there : ((kept records).point ≡ ZERO) ⊎ Has (kept records).entries (kept records).point
   pub stable_is : AtMost stable (kept records).point
 
--- what was read of a journal whose entries behind the point are cut is what these records keep
+-- what was read of a journal whose entries after the point are cut is what these records keep
 pub record IsReadAs (found : Kept) (records : List Record) : Type 0 where
   pub vote : found.vote ≡ (kept records).vote
   pub config : found.config ≡ (kept records).config

@@ -42,7 +42,7 @@ pub struct Coming<'a> {
 
 impl State {
     /// A node that comes up with what was read of its journal (`found`), and with the documents that its
-    /// checkpoint has, as of the optime `stable`. Entries behind the journal's point are left out, since the
+    /// checkpoint has, as of the optime `stable`. Entries after the journal's point are left out, since the
     /// node cuts its log there as it comes up. Out of memory is the one error.
     pub fn restored<R: Threads + Sync>(
         rt: &R,
@@ -144,7 +144,7 @@ fn config_or(config: Option<Config>, first: &Config) -> Mem<Config>
     }
 }
 
-/// The entries that aren't behind a point.
+/// The entries that aren't after a point.
 fn entries_up_to(entries: EntryList, point: OpTime) -> EntryList
     ensures { result ≡ log_up_to point entries }
 {

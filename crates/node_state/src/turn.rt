@@ -71,7 +71,7 @@ pub enum Continuation {
         config: Config,
         hearing: HeardBeat,
     },
-    /// Its log is cut behind the point.
+    /// Its log is cut after the point.
     Cut {
         point: OpTime,
         removed: u64,
@@ -87,7 +87,7 @@ pub enum MessageContinuation {
         next: u64,
         sent: Vec<Message>,
     },
-    /// The answer's entries are written behind the log.
+    /// The answer's entries are written after the log.
     Fetched {
         from: u32,
         reply: FetchReply,
@@ -110,7 +110,7 @@ pub enum MessageContinuation {
 /// A newer configuration, once for the journal and once for the node.
 #[derive(Drop)]
 pub struct NewConfig {
-    pub kept: Config,
+    pub journaled: Config,
     pub installed: Config,
 }
 

@@ -11,7 +11,7 @@ use Rattle.oplog_entry.specs.Step.{strings_of}
 use Rattle.bson_doc.proofs.DocLemmas.{fields_from-end, trees_from-end}
 use Rattle.oplog_entry.proofs.FieldLemmas.{alike_swapped}
 
--- no place is kept yet, and no field is behind
+-- no place is kept yet, and no field follows
 pub index-init : (d : Fields) (q : List ℕ) (o : Option ℕ) → o ≡ None → option_and_then (value_at d) o ≡ found q (fields_from (count d) d)
 index-init d q o none = ap (option_and_then (value_at d)) none ∙ ap (found q) (sym (fields_from-end d (count d) (omega arith)))
 

@@ -2,7 +2,7 @@
 use Rattle.std.proofs.Common.{fold, ◌||◌, ◌≡◌, ℕ, Bool, true, false, cond, if◌then◌else◌, List, [], ◌∷◌, Option, None, Some, Contains, is_some, refl, sym, ap, subst, ◌∙◌, arith, unwrap_or}
 use Rattle.std.specs.Str.{bytes_eq}
 use Rattle.bson_doc.specs.Tree.{Tree, Fields, no_fields, field, Trees, found, with_field, with_set, without, IsDocument}
-use Rattle.oplog_entry.specs.Walk.{join, kept, fresh}
+use Rattle.oplog_entry.specs.Walk.{join, staying, fresh}
 use Rattle.oplog_entry.specs.Step.{with_sets, strings_of, changed}
 use Rattle.oplog_entry.specs.Lawful.{is_among}
 use Rattle.bson_doc.proofs.NameLemmas.{IsDocument-with_set, IsDocument-without}
@@ -37,9 +37,9 @@ next_name (field first one rest) name value later names =
     apart_from no_fields none = alike_swapped first name ∙ by_test (bytes_eq name first) (found first later) none
     apart_from (field second two fs) none = grind (arith, apart_from fs)
 
-pub kept-nothing_set : (gone : List (List ℕ)) (d : Fields) → kept gone no_fields d ≡ but gone d
-kept-nothing_set gone no_fields = refl
-kept-nothing_set gone (field name value rest) = ap (λ f. if is_among name gone then f else field name value f) (kept-nothing_set gone rest)
+pub staying-nothing_set : (gone : List (List ℕ)) (d : Fields) → staying gone no_fields d ≡ but gone d
+staying-nothing_set gone no_fields = refl
+staying-nothing_set gone (field name value rest) = ap (λ f. if is_among name gone then f else field name value f) (staying-nothing_set gone rest)
 
 but-none : (d : Fields) → but [] d ≡ d
 but-none no_fields = refl
@@ -64,31 +64,31 @@ without_all-but [] d names = sym (but-none d)
 without_all-but (name ∷ gone) d names = without_all-but gone (without d name) (IsDocument-without d name names) ∙ but-cons gone name d names
 
 -- a value more that is set, of a name that isn't there
-kept-absent : (gone : List (List ℕ)) (sets d : Fields) (name : List ℕ) (value : Tree) → found name d ≡ None → kept gone (field name value sets) d ≡ kept gone sets d
-kept-absent gone sets no_fields name value none = refl
-kept-absent gone sets (field first one rest) name value none = grind (arith, alike_swapped first name, kept-absent gone sets rest name value)
+staying-absent : (gone : List (List ℕ)) (sets d : Fields) (name : List ℕ) (value : Tree) → found name d ≡ None → staying gone (field name value sets) d ≡ staying gone sets d
+staying-absent gone sets no_fields name value none = refl
+staying-absent gone sets (field first one rest) name value none = grind (arith, alike_swapped first name, staying-absent gone sets rest name value)
 
 -- of a name that is there
-kept-present : (gone : List (List ℕ)) (sets d : Fields) (name : List ℕ) (value : Tree) → IsDocument d → is_some (found name d) ≡ true → found name sets ≡ None → kept gone sets (with_set d name value) ≡ kept gone (field name value sets) d
-kept-present gone sets no_fields name value names there none = cc
-kept-present gone sets (field first one rest) name value names there none =
-    elim (bytes_eq first name) as (λ b. bytes_eq first name ≡ b → is_some (cond b (Some one) (found name rest)) ≡ true → kept gone sets (cond b (field first value rest) (field first one (with_set rest name value))) ≡ (if is_among first gone then kept gone (field name value sets) rest else field first (unwrap_or (if bytes_eq name first then Some value else found first sets) one) (kept gone (field name value sets) rest))) [
+staying-present : (gone : List (List ℕ)) (sets d : Fields) (name : List ℕ) (value : Tree) → IsDocument d → is_some (found name d) ≡ true → found name sets ≡ None → staying gone sets (with_set d name value) ≡ staying gone (field name value sets) d
+staying-present gone sets no_fields name value names there none = cc
+staying-present gone sets (field first one rest) name value names there none =
+    elim (bytes_eq first name) as (λ b. bytes_eq first name ≡ b → is_some (cond b (Some one) (found name rest)) ≡ true → staying gone sets (cond b (field first value rest) (field first one (with_set rest name value))) ≡ (if is_among first gone then staying gone (field name value sets) rest else field first (unwrap_or (if bytes_eq name first then Some value else found first sets) one) (staying gone (field name value sets) rest))) [
       | true ↦ λ e _.
           let absent : found name rest ≡ None = ap (λ n. found n rest) (sym (same_name first name e)) ∙ names.1 in
           let unset : found first sets ≡ None = ap (λ n. found n sets) (same_name first name e) ∙ none in
-          let later = kept-absent gone sets rest name value absent in
+          let later = staying-absent gone sets rest name value absent in
           let here : bytes_eq name first ≡ true = alike_swapped name first ∙ e in
           grind arith
       | false ↦ λ e more.
-          let later = kept-present gone sets rest name value names.2 more none in
+          let later = staying-present gone sets rest name value names.2 more none in
           let here : bytes_eq name first ≡ false = alike_swapped name first ∙ e in
           grind arith
     ] refl there
 
 -- a field more at the end
-kept-new : (gone : List (List ℕ)) (sets d : Fields) (name : List ℕ) (value : Tree) → found name d ≡ None → found name sets ≡ None → kept gone sets (with_set d name value) ≡ join (kept gone sets d) (if is_among name gone then no_fields else field name value no_fields)
-kept-new gone sets no_fields name value absent unset = ap (λ (o : Option Tree). if is_among name gone then no_fields else field name (unwrap_or o value) no_fields) unset
-kept-new gone sets (field first one rest) name value absent unset = grind (arith, kept-new gone sets rest name value)
+staying-new : (gone : List (List ℕ)) (sets d : Fields) (name : List ℕ) (value : Tree) → found name d ≡ None → found name sets ≡ None → staying gone sets (with_set d name value) ≡ join (staying gone sets d) (if is_among name gone then no_fields else field name value no_fields)
+staying-new gone sets no_fields name value absent unset = ap (λ (o : Option Tree). if is_among name gone then no_fields else field name (unwrap_or o value) no_fields) unset
+staying-new gone sets (field first one rest) name value absent unset = grind (arith, staying-new gone sets rest name value)
 
 -- the other names are as new as before
 fresh-with_set : (gone : List (List ℕ)) (d sets : Fields) (name : List ℕ) (value : Tree) → found name sets ≡ None → fresh gone (with_set d name value) sets ≡ fresh gone d sets
@@ -100,19 +100,19 @@ by_presence : (o : Option Tree) (P : Type 0) → (is_some o ≡ true → P) → 
 by_presence (Some value) P there absent = there refl
 by_presence None P there absent = absent refl
 
-pub changed-walk : (sets d : Fields) (unsets : Trees) → IsDocument d → IsDocument sets → changed d sets unsets ≡ join (kept (strings_of unsets) sets d) (fresh (strings_of unsets) d sets)
+pub changed-walk : (sets d : Fields) (unsets : Trees) → IsDocument d → IsDocument sets → changed d sets unsets ≡ join (staying (strings_of unsets) sets d) (fresh (strings_of unsets) d sets)
 changed-walk no_fields d unsets names distinct =
-    without_all-but (strings_of unsets) d names ∙ sym (kept-nothing_set (strings_of unsets) d) ∙ sym (join-nothing (kept (strings_of unsets) no_fields d))
+    without_all-but (strings_of unsets) d names ∙ sym (staying-nothing_set (strings_of unsets) d) ∙ sym (join-nothing (staying (strings_of unsets) no_fields d))
 changed-walk (field name value rest) d unsets names distinct =
     let gone = strings_of unsets in
     let later = changed-walk rest (with_set d name value) unsets (IsDocument-with_set d name value names distinct.0) distinct.2 in
     let others = fresh-with_set gone d rest name value distinct.1 in
-    by_presence (found name d) (changed d (field name value rest) unsets ≡ join (kept gone (field name value rest) d) (fresh gone d (field name value rest))) (λ there.
-    let now = kept-present gone rest d name value names there distinct.1 in
+    by_presence (found name d) (changed d (field name value rest) unsets ≡ join (staying gone (field name value rest) d) (fresh gone d (field name value rest))) (λ there.
+    let now = staying-present gone rest d name value names there distinct.1 in
     later ∙ grind arith) (λ absent.
-    let now = kept-new gone rest d name value absent distinct.1 in
-    let before = kept-absent gone rest d name value absent in
-    let regroup = join-assoc (kept gone rest d) (if is_among name gone then no_fields else field name value no_fields) (fresh gone d rest) in
+    let now = staying-new gone rest d name value absent distinct.1 in
+    let before = staying-absent gone rest d name value absent in
+    let regroup = join-assoc (staying gone rest d) (if is_among name gone then no_fields else field name value no_fields) (fresh gone d rest) in
     later ∙ grind arith)
 
 pub IsDocument-changed : (d sets : Fields) (unsets : Trees) → IsDocument d → IsDocument sets → IsDocument (changed d sets unsets)
@@ -129,22 +129,22 @@ IsDocument-front (field name value rest) b names = (names.0, found-front rest na
     found-front (field first one fs) none = grind (arith, found-front fs)
 
 -- the parts of a changed document keep their names apart
-pub kept-IsDocument : (d sets : Fields) (unsets : Trees) → IsDocument d → IsDocument sets → IsDocument (kept (strings_of unsets) sets d)
-kept-IsDocument d sets unsets names distinct =
+pub staying-IsDocument : (d sets : Fields) (unsets : Trees) → IsDocument d → IsDocument sets → IsDocument (staying (strings_of unsets) sets d)
+staying-IsDocument d sets unsets names distinct =
     IsDocument-front _ _ (subst IsDocument (changed-walk sets d unsets names distinct) (IsDocument-changed d sets unsets names distinct))
 
 -- a field that stays has a clean name that is new
-pub kept-next : (gone : List (List ℕ)) (sets out rest whole : Fields) (name : List ℕ) (value : Tree) → join out (kept gone sets (field name value rest)) ≡ whole → IsDocument whole → is_among name gone ≡ false → (¬ Contains name 0) × (found name out ≡ None)
-kept-next gone sets out rest whole name value so_far names stays =
+pub staying-next : (gone : List (List ℕ)) (sets out rest whole : Fields) (name : List ℕ) (value : Tree) → join out (staying gone sets (field name value rest)) ≡ whole → IsDocument whole → is_among name gone ≡ false → (¬ Contains name 0) × (found name out ≡ None)
+staying-next gone sets out rest whole name value so_far names stays =
     let now = unwrap_or (found name sets) value in
-    let here = ap (λ b. join out (if b then kept gone sets rest else field name now (kept gone sets rest))) (sym stays) ∙ so_far in
-    next_name out name now (kept gone sets rest) (subst IsDocument (sym here) names)
+    let here = ap (λ b. join out (if b then staying gone sets rest else field name now (staying gone sets rest))) (sym stays) ∙ so_far in
+    next_name out name now (staying gone sets rest) (subst IsDocument (sym here) names)
 
-pub kept-step : (gone : List (List ℕ)) (sets out rest : Fields) (name : List ℕ) (value : Tree) → join (if is_among name gone then out else with_field out name (unwrap_or (found name sets) value)) (kept gone sets rest) ≡ join out (kept gone sets (field name value rest))
-kept-step gone sets out rest name value =
-    elim (is_among name gone) as (λ b. join (if b then out else with_field out name (unwrap_or (found name sets) value)) (kept gone sets rest) ≡ join out (if b then kept gone sets rest else field name (unwrap_or (found name sets) value) (kept gone sets rest))) [
+pub staying-step : (gone : List (List ℕ)) (sets out rest : Fields) (name : List ℕ) (value : Tree) → join (if is_among name gone then out else with_field out name (unwrap_or (found name sets) value)) (staying gone sets rest) ≡ join out (staying gone sets (field name value rest))
+staying-step gone sets out rest name value =
+    elim (is_among name gone) as (λ b. join (if b then out else with_field out name (unwrap_or (found name sets) value)) (staying gone sets rest) ≡ join out (if b then staying gone sets rest else field name (unwrap_or (found name sets) value) (staying gone sets rest))) [
       | true ↦ refl
-      | false ↦ join-with_field out name (unwrap_or (found name sets) value) (kept gone sets rest)
+      | false ↦ join-with_field out name (unwrap_or (found name sets) value) (staying gone sets rest)
     ]
 
 -- a new field has a clean name that is new

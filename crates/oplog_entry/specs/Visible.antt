@@ -29,7 +29,7 @@ abbrev pub entries_before : Option OpTime → List Entry → List Entry
 entries_before None log = log
 entries_before (Some slot) log = filter (λ entry. is_before entry.optime slot) log
 
--- the last entry before the least open slot, or ZERO: an entry behind a hole can't be read yet
+-- the last entry before the least open slot, or ZERO: an entry after a hole can't be read yet
 abbrev pub visible : List Entry → List OpTime → OpTime
 visible log slots = last_of (entries_before (least slots) log)
 
@@ -37,6 +37,6 @@ visible log slots = last_of (entries_before (least slots) log)
 abbrev pub log_up_to : OpTime → List Entry → List Entry
 log_up_to o log = filter (λ entry. not (is_before o entry.optime)) log
 
--- the entries behind an optime
-abbrev pub log_behind : OpTime → List Entry → List Entry
-log_behind o log = filter (λ entry. is_before o entry.optime) log
+-- the entries after an optime
+abbrev pub log_after : OpTime → List Entry → List Entry
+log_after o log = filter (λ entry. is_before o entry.optime) log

@@ -9,11 +9,11 @@ join no_fields later = later
 join (field name value rest) later = field name value (join rest later)
 
 -- what stays of a document, each field with its new value where there is one
-abbrev pub kept : List (List ℕ) → Fields → Fields → Fields
-kept gone sets no_fields = no_fields
-kept gone sets (field name value rest) =
-    if is_among name gone then kept gone sets rest
-    else field name (unwrap_or (found name sets) value) (kept gone sets rest)
+abbrev pub staying : List (List ℕ) → Fields → Fields → Fields
+staying gone sets no_fields = no_fields
+staying gone sets (field name value rest) =
+    if is_among name gone then staying gone sets rest
+    else field name (unwrap_or (found name sets) value) (staying gone sets rest)
 
 -- what is new to a document
 abbrev pub fresh : List (List ℕ) → Fields → Fields → Fields

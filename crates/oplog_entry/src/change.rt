@@ -3,7 +3,7 @@ ghost use Rattle.bson_doc.specs.Tree.{count, field, fields_from, found, with_fie
 ghost use Rattle.bson_doc.specs.View.{tree_of};
 ghost use Rattle.oplog_entry.specs.Lawful.{is_among};
 ghost use Rattle.oplog_entry.specs.Step.{changed, strings_of, with_sets};
-ghost use Rattle.oplog_entry.specs.Walk.{join, kept, fresh};
+ghost use Rattle.oplog_entry.specs.Walk.{join, staying, fresh};
 
 use crate::FieldIndex;
 use crate::names::NameSet;
@@ -41,9 +41,9 @@ fn keep(
 }
 
 /// What stays of a document, each field with its new value where there is one.
-fn kept(alloc: Global, document: &Doc, sets: &FieldIndex<'_>, gone: &NameSet<'_>) -> Mem<Doc>
-    requires { IsDocument (kept gone.now sets.now document.now) }
-    ensures { IfOk result (λ d. d ≡ kept gone.now sets.now document.now) }
+fn staying(alloc: Global, document: &Doc, sets: &FieldIndex<'_>, gone: &NameSet<'_>) -> Mem<Doc>
+    requires { IsDocument (staying gone.now sets.now document.now) }
+    ensures { IfOk result (λ d. d ≡ staying gone.now sets.now document.now) }
 {
     let mut out = Doc::new(alloc);
     for place in 0..document.len() {
@@ -111,7 +111,7 @@ fn with_many(alloc: Global, document: &Doc, sets: &Doc, unsets: &Items) -> Mem<D
     let gone = NameSet::new(alloc, unsets)?;
     let new_values = FieldIndex::new(alloc, sets, document.len())?;
     let old_values = FieldIndex::new(alloc, document, sets.len())?;
-    let mut changed = kept(alloc, document, &new_values, &gone)?;
+    let mut changed = staying(alloc, document, &new_values, &gone)?;
     add_fresh(alloc, &mut changed, sets, &old_values, &gone)?;
     Ok(changed)
 }

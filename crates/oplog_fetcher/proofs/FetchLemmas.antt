@@ -24,7 +24,7 @@ holds_found log visible base found other within some none = sym (has_found log b
 
 pub holds_hidden : (log : List Entry) (visible base : OpTime) → same_optime base ZERO ≡ false → not (is_before visible base) ≡ false
     → false ≡ holds (log_up_to visible log) base
-holds_hidden log visible base other behind = holds_as log visible base false other behind
+holds_hidden log visible base other after = holds_as log visible base false other after
 
 pub take_least : {X : Type 0} (xs : List X) (n : ℕ) → take (min (length xs) n) xs ≡ take n xs
 take_least {X = X} [] n = take_all (min (length {A = X} []) n) [] (omega arith) ∙ sym (take_all n [] (omega arith))

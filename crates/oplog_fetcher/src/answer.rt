@@ -2,7 +2,7 @@ ghost use Rattle.std.specs.Prelude.{◌≡◌, not, All, take, IfOk};
 ghost use Rattle.oplog_entry.specs.Lawful.{IsLawful};
 ghost use Rattle.oplog_entry.specs.Visible.{is_before, log_up_to};
 ghost use Rattle.oplog_store.specs.Log.{IsOplog};
-ghost use Rattle.repl_msg.specs.Logs.{log_behind};
+ghost use Rattle.repl_msg.specs.Logs.{log_after};
 ghost use Rattle.repl_msg.specs.Fetching.{holds as has_place};
 ghost use Rattle.oplog_fetcher.specs.Fetch.{reply_to as answered};
 
@@ -17,7 +17,7 @@ use std::alloc::Global;
 pub const MOST_ENTRIES: usize = 5_000;
 
 /// Answers a fetch by a node whose last optime is `base`, from a log that is visible up to `visible`: the
-/// next visible entries behind `base`, at most 5,000. Where `base` is neither ZERO nor a visible entry's
+/// next visible entries after `base`, at most 5,000. Where `base` is neither ZERO nor a visible entry's
 /// optime, there are none, and `holds` is false. Out of memory is the one error.
 pub fn reply_to(
     alloc: Global,
@@ -45,7 +45,7 @@ pub fn reply_to(
     })
 }
 
-/// Whether an answer can begin behind this optime: it is ZERO, or a visible entry's.
+/// Whether an answer can begin after this optime: it is ZERO, or a visible entry's.
 fn holds(log: &Oplog, visible: OpTime, base: OpTime) -> bool
     ensures { result ≡ has_place (log_up_to visible log.now.entries) base }
 {
@@ -59,19 +59,19 @@ fn is_within(at: OpTime, visible: OpTime) -> bool
     at <= visible
 }
 
-/// The next visible entries behind a place.
+/// The next visible entries after a place.
 fn next_entries(log: &Oplog, visible: OpTime, base: OpTime) -> &[Entry]
-    ensures entries { result.now ≡ take 5000 (log_behind base (log_up_to visible log.now.entries)) }
+    ensures entries { result.now ≡ take 5000 (log_after base (log_up_to visible log.now.entries)) }
     ensures lawful { All IsLawful result.now }
 {
-    let entries = behind(log.up_to(visible), base);
+    let entries = log_after(log.up_to(visible), base);
     &entries[..entries.len().min(MOST_ENTRIES)]
 }
 
-/// The entries of a log behind an optime.
-pub fn behind(entries: &[Entry], at: OpTime) -> &[Entry]
+/// The entries of a log after an optime.
+pub fn log_after(entries: &[Entry], at: OpTime) -> &[Entry]
     requires { IsOplog entries.now }
-    ensures entries { result.now ≡ log_behind at entries.now }
+    ensures entries { result.now ≡ log_after at entries.now }
     ensures lawful { All IsLawful result.now }
 {
     let count = entries.partition_point(

@@ -7,7 +7,7 @@ use repl_msg::FetchReply;
 use rs_optime::OpTime;
 use thiserror::Error;
 
-/// The answer doesn't continue this log: the source hasn't the log's last entry, or was asked when the
+/// The answer doesn't continue this log: the source doesn't have the log's last entry, or was asked when the
 /// log ended elsewhere.
 #[derive(Clone, Copy, Debug, PartialEq, Eq, Error)]
 #[error("the entries don't go on where the log ends")]

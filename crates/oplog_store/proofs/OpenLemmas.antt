@@ -21,9 +21,9 @@ not_earlier entry (next ∷ log) order =
     let rest : next.optime.ts ≤ (last_of (next ∷ log)).ts = not_earlier next log (pairs_tail StandsBefore entry (next ∷ log) order) in
     omega (arith, first.earlier)
 
-last_behind : (entry other : Entry) (log : List Entry) → last_of (other ∷ with_entry log entry) ≡ last_of (with_entry log entry)
-last_behind entry other [] = refl
-last_behind entry other (one ∷ log) =
+last_after : (entry other : Entry) (log : List Entry) → last_of (other ∷ with_entry log entry) ≡ last_of (with_entry log entry)
+last_after entry other [] = refl
+last_after entry other (one ∷ log) =
     elim (nat_lt one.optime.ts entry.optime.ts) as (λ test. last_of (other ∷ cond test (one ∷ with_entry log entry) (entry ∷ one ∷ log)) ≡ last_of (cond test (one ∷ with_entry log entry) (entry ∷ one ∷ log))) [
       | true ↦ refl
       | false ↦ refl
@@ -38,7 +38,7 @@ last_new (other ∷ log) entry order rises late =
     (λ test. nat_lt other.optime.ts entry.optime.ts ≡ test → AllPairs StandsBefore (cond test (other ∷ with_entry log entry) (entry ∷ other ∷ log))
     → last_of (cond test (other ∷ with_entry log entry) (entry ∷ other ∷ log)) ≡ entry.optime) [
       | true ↦ λ less whole.
-          last_behind entry other log ∙ last_new log entry (pairs_tail StandsBefore other (with_entry log entry) whole) (pairs_tail StandsBefore other log rises) (still_late other log entry late)
+          last_after entry other log ∙ last_new log entry (pairs_tail StandsBefore other (with_entry log entry) whole) (pairs_tail StandsBefore other log rises) (still_late other log entry late)
       | false ↦ λ not_less whole.
           let first : StandsBefore entry other = pairs_head StandsBefore entry (other ∷ log) whole zero entry (omega arith) in
           let last : other.optime.ts ≤ (last_of (other ∷ log)).ts = not_earlier other log rises in
@@ -59,7 +59,7 @@ last_old (other ∷ []) entry rises early =
 last_old (other ∷ next ∷ log) entry rises early =
     elim (nat_lt other.optime.ts entry.optime.ts) as
     (λ test. last_of (cond test (other ∷ with_entry (next ∷ log) entry) (entry ∷ other ∷ next ∷ log)) ≡ last_of (next ∷ log)) [
-      | true ↦ last_behind entry other (next ∷ log) ∙ last_old (next ∷ log) entry (pairs_tail StandsBefore other (next ∷ log) rises) early
+      | true ↦ last_after entry other (next ∷ log) ∙ last_old (next ∷ log) entry (pairs_tail StandsBefore other (next ∷ log) rises) early
       | false ↦ refl
     ]
 
@@ -69,7 +69,7 @@ holed_new log [] none empty = record {
   held = record {
     oplog = subst IsOplog (sym (append-nil log.entries ∙ none)) (record { order = λ i j d less within. absurd (omega arith); lawful = λ k d within. absurd (omega arith) });
     rise = λ i j d less within. absurd (omega arith);
-    behind = λ k d within. absurd (omega arith);
+    after = λ k d within. absurd (omega arith);
   };
   last = sym (ap last_of (append-nil log.entries ∙ none));
   room = omega arith;
@@ -96,8 +96,8 @@ last_now log entry at now oplog whole is late early = go (nat_lt entry.optime.ts
         let before : entry.optime.ts < at.ts = grind (arith, nat_tests) in
         early before ∙ is ∙ sym (last_old log entry oplog.order (subst (λ (o : OpTime). entry.optime.ts < o.ts) is before))
     go false less =
-        let behind : at.ts ≤ entry.optime.ts = grind (arith, nat_tests) in
-        late behind ∙ sym (last_new log entry whole.order oplog.order (subst (λ (o : OpTime). o.ts ≤ entry.optime.ts) is behind))
+        let after : at.ts ≤ entry.optime.ts = grind (arith, nat_tests) in
+        late after ∙ sym (last_new log entry whole.order oplog.order (subst (λ (o : OpTime). o.ts ≤ entry.optime.ts) is after))
 
 -- what is found in one of two parts
 pub found_first : (one two : List Entry) (at : OpTime) (place : ℕ) (entry : Entry) → StandsAt one place at → slice_get one place ≡ Some entry → IsEntryAt (one ++ two) at entry
@@ -121,7 +121,7 @@ some_more (Some x) P Q so h = so x h
 
 -- a log in one piece
 alone : (log : List Entry) (places : List Place) → places ≡ [] → IsOplog log → IsHeld log places
-alone log [] none oplog = record { oplog = subst IsOplog (sym (append-nil log)) oplog; rise = λ i j d less within. absurd (omega arith); behind = λ k d within. absurd (omega arith) }
+alone log [] none oplog = record { oplog = subst IsOplog (sym (append-nil log)) oplog; rise = λ i j d less within. absurd (omega arith); after = λ k d within. absurd (omega arith) }
 alone log (place ∷ places) none oplog = absurd (cc none)
 
 whole : (log : List Entry) (places : List Place) → places ≡ [] → log ++ written places ≡ log

@@ -15,7 +15,7 @@ use Rattle.std.proofs.Math.Nat.{eq-or-lt_of_le}
 use Rattle.std.proofs.Math.Seq.{take-suc}
 use Rattle.rs_optime.proofs.Optimes.{before_too}
 use Rattle.oplog_store.specs.Log.{IsOplog, StandsBefore, with_entry}
-use Rattle.oplog_store.specs.Places.{AllPrecede, IsBehind, IsHeld, Moved, Placed, Precedes, StandsFirst, optime_of, written}
+use Rattle.oplog_store.specs.Places.{AllPrecede, FollowsAll, IsHeld, Moved, Placed, Precedes, StandsFirst, optime_of, written}
 use Rattle.oplog_store.specs.declared.places.Place.{Place}
 use Rattle.oplog_store.specs.declared.places.Place.TheVariants.{Open, Written, Closed}
 use Rattle.oplog_store.proofs.Keeps.{pairs_head, pairs_tail, with_last}
@@ -87,7 +87,7 @@ pub on_none : {X : Type 0} (r : Option X) (P Q : Type 0) → (P → Q) → IfNon
 on_none None P Q so h = so h
 on_none (Some x) P Q so h = h
 
--- an entry is put behind those that are earlier
+-- an entry is put after those that are earlier
 with_front : (front log : List Entry) (entry : Entry) → All (λ other. other.optime.ts < entry.optime.ts) front → with_entry (front ++ log) entry ≡ front ++ with_entry log entry
 with_front [] log entry early = refl
 with_front (other ∷ front) log entry early =
@@ -148,7 +148,7 @@ written_closed (Written entry ∷ places) (suc i) at is = ap (λ rest. entry ∷
 pub placed_within : (settled : List Entry) (places : List Place) (entry : Entry) (i : ℕ) → IsHeld settled places → IsOplog (with_entry (settled ++ written places) entry)
     → slice_get places i ≡ Some (Open entry.optime) → Placed settled places entry (slice_set places i (Written entry))
 placed_within settled places entry i held oplog is =
-    let early : All (λ (other : Entry). other.optime.ts < entry.optime.ts) settled = λ k d within. (all_at (IsBehind settled) places i (Open entry.optime) is held.behind k d within).earlier in
+    let early : All (λ (other : Entry). other.optime.ts < entry.optime.ts) settled = λ k d within. (all_at (FollowsAll settled) places i (Open entry.optime) is held.after k d within).earlier in
     let entries : settled ++ written (slice_set places i (Written entry)) ≡ with_entry (settled ++ written places) entry =
     ap (λ rest. settled ++ rest) (written_filled places i entry held.rise is) ∙ sym (with_front settled (written places) entry early) in
     let long : length (slice_set places i (Written entry)) ≡ length places = set_length places i (Written entry) in
@@ -156,7 +156,7 @@ placed_within settled places entry i held oplog is =
       held = record {
         oplog = subst IsOplog (sym entries) oplog;
         rise = set_rises places i (Written entry) (Open entry.optime) is refl held.rise;
-        behind = set_all (IsBehind settled) places i (Written entry) (Open entry.optime) is (λ behind. behind) held.behind;
+        after = set_all (FollowsAll settled) places i (Written entry) (Open entry.optime) is (λ after. after) held.after;
       };
       entries = entries;
       room = omega arith;
@@ -176,17 +176,17 @@ places_before places last at rise is before k d within =
     ])
 
 -- and each entry that is settled
-pub settled_before : (settled : List Entry) (places : List Place) (last : Place) (at : OpTime) → All (IsBehind settled) places → slice_get places (length places - 1) ≡ Some last
+pub settled_before : (settled : List Entry) (places : List Place) (last : Place) (at : OpTime) → All (FollowsAll settled) places → slice_get places (length places - 1) ≡ Some last
     → Precedes (optime_of last) at → All (λ (entry : Entry). Precedes entry.optime at) settled
-settled_before settled places last at behind is before k d within =
-    precedes_on _ (optime_of last) at (all_at (IsBehind settled) places (length places - 1) last is behind k d within) before
+settled_before settled places last at after is before k d within =
+    precedes_on _ (optime_of last) at (all_at (FollowsAll settled) places (length places - 1) last is after k d within) before
 
--- an entry is put behind all places
+-- an entry is put after all places
 pub placed_last : (settled : List Entry) (places : List Place) (entry : Entry) (last : Place) → IsHeld settled places → IsOplog (with_entry (settled ++ written places) entry)
     → slice_get places (length places - 1) ≡ Some last → Precedes (optime_of last) entry.optime → Placed settled places entry (places ++ Written entry ∷ [])
 placed_last settled places entry last held oplog is before =
     let front = places_before places last entry.optime held.rise is before in
-    let early = settled_before settled places last entry.optime held.behind is before in
+    let early = settled_before settled places last entry.optime held.after is before in
     let all_early : All (λ (other : Entry). other.optime.ts < entry.optime.ts) (settled ++ written places) =
     All-append (λ (other : Entry). other.optime.ts < entry.optime.ts) settled (written places) (λ k d within. (early k d within).earlier)
     (written_all (λ other. other.optime.ts < entry.optime.ts) (λ place. Precedes (optime_of place) entry.optime) (λ other first. first.earlier) places front) in
@@ -196,7 +196,7 @@ placed_last settled places entry last held oplog is before =
       held = record {
         oplog = subst IsOplog (sym entries) oplog;
         rise = pairs_last StandsFirst places (Written entry) front held.rise;
-        behind = All-append (IsBehind settled) places (Written entry ∷ []) held.behind (all_one (IsBehind settled) (Written entry) early);
+        after = All-append (FollowsAll settled) places (Written entry ∷ []) held.after (all_one (FollowsAll settled) (Written entry) early);
       };
       entries = entries;
       room = omega (arith, last_length places (Written entry));
@@ -208,7 +208,7 @@ written_open (Open other ∷ places) at = written_open places at
 written_open (Closed other ∷ places) at = written_open places at
 written_open (Written entry ∷ places) at = ap (λ rest. entry ∷ rest) (written_open places at)
 
--- a slot opens behind all that stands
+-- a slot opens after all that stands
 pub moved_open : (settled : List Entry) (places : List Place) (at : OpTime) → IsHeld settled places → AllPrecede settled places at → Moved settled places 0 settled (places ++ Open at ∷ []) 1
 moved_open settled places at held before =
     let same : written (places ++ Open at ∷ []) ≡ written places = written_open places at in
@@ -216,7 +216,7 @@ moved_open settled places at held before =
       held = record {
         oplog = subst (λ rest. IsOplog (settled ++ rest)) (sym same) held.oplog;
         rise = pairs_last StandsFirst places (Open at) before.places_too held.rise;
-        behind = All-append (IsBehind settled) places (Open at ∷ []) held.behind (all_one (IsBehind settled) (Open at) before.entries);
+        after = All-append (FollowsAll settled) places (Open at ∷ []) held.after (all_one (FollowsAll settled) (Open at) before.entries);
       };
       entries = ap (λ rest. settled ++ rest) same;
       room = omega (arith, last_length places (Open at));
@@ -225,7 +225,7 @@ moved_open settled places at held before =
 pub all_precede : (settled : List Entry) (places : List Place) (last : Place) (at : OpTime) → IsHeld settled places → slice_get places (length places - 1) ≡ Some last
     → Precedes (optime_of last) at → AllPrecede settled places at
 all_precede settled places last at held is before =
-    record { entries = settled_before settled places last at held.behind is before; places_too = places_before places last at held.rise is before }
+    record { entries = settled_before settled places last at held.after is before; places_too = places_before places last at held.rise is before }
 
 stand_before : (log : List Entry) (at : OpTime) → AllPairs StandsBefore log → Precedes (last_of log) at → All (λ (entry : Entry). Precedes entry.optime at) log
 stand_before [] at order before = λ k d within. absurd (omega arith)
@@ -257,7 +257,7 @@ moved_closed settled places i at is held =
       held = record {
         oplog = subst (λ rest. IsOplog (settled ++ rest)) (sym same) held.oplog;
         rise = set_rises places i (Closed at) (Open at) is refl held.rise;
-        behind = set_all (IsBehind settled) places i (Closed at) (Open at) is (λ behind. behind) held.behind;
+        after = set_all (FollowsAll settled) places i (Closed at) (Open at) is (λ after. after) held.after;
       };
       entries = ap (λ rest. settled ++ rest) same;
       room = omega arith;
@@ -270,9 +270,9 @@ pub moved_more : (a b c : List Entry) (p q r : List Place) (x y z : ℕ) → Mov
 moved_more a b c p q r x y z one two = record { held = two.held; entries = two.entries ∙ one.entries; room = omega (arith, one.room, two.room) }
 
 settled_early : (settled : List Entry) (entry : Entry) (rest : List Place) → IsHeld settled (Written entry ∷ rest) → with_entry settled entry ≡ settled ++ entry ∷ []
-settled_early settled entry rest held = with_last settled entry (λ k d within. (held.behind zero (Written entry) (omega arith) k d within).earlier)
+settled_early settled entry rest held = with_last settled entry (λ k d within. (held.after zero (Written entry) (omega arith) k d within).earlier)
 
--- the entry at the first place goes behind what is settled
+-- the entry at the first place goes after what is settled
 pub first_stays : (settled : List Entry) (entry : Entry) (rest : List Place) → IsHeld settled (Written entry ∷ rest) → IsOplog (with_entry settled entry)
 first_stays settled entry rest held =
     subst IsOplog (sym (settled_early settled entry rest held)) (oplog_front (settled ++ entry ∷ []) (written rest) (subst IsOplog (sym (append_assoc settled (entry ∷ []) (written rest))) held.oplog))
@@ -286,9 +286,9 @@ moved_entry settled entry rest spare held some =
       held = record {
         oplog = subst IsOplog (sym (append_assoc settled (entry ∷ []) (written rest))) held.oplog;
         rise = pairs_tail StandsFirst (Written entry) rest held.rise;
-        behind = λ k d within.
+        after = λ k d within.
             All-append (λ (other : Entry). Precedes other.optime (optime_of (slice_index_or rest k d))) settled (entry ∷ [])
-            (All-tail (IsBehind settled) (Written entry) rest held.behind k d within)
+            (All-tail (FollowsAll settled) (Written entry) rest held.after k d within)
             (all_one (λ (other : Entry). Precedes other.optime (optime_of (slice_index_or rest k d))) entry (pairs_head StandsFirst (Written entry) rest held.rise k d within));
       };
       entries = append_assoc settled (entry ∷ []) (written rest);
@@ -300,7 +300,7 @@ held_tail : (settled : List Entry) (first : Place) (rest : List Place) → writt
 held_tail settled first rest same held = record {
   oplog = subst (λ log. IsOplog (settled ++ log)) same held.oplog;
   rise = pairs_tail StandsFirst first rest held.rise;
-  behind = All-tail (IsBehind settled) first rest held.behind;
+  after = All-tail (FollowsAll settled) first rest held.after;
 }
 
 pub moved_empty : (settled : List Entry) (first : Place) (rest : List Place) (spare : ℕ) → written (first ∷ rest) ≡ written rest → IsHeld settled (first ∷ rest)
@@ -421,7 +421,7 @@ all_late : (at : OpTime) (log : List Entry) → All (λ (entry : Entry). is_befo
 all_late at [] all = refl
 all_late at (entry ∷ log) all = rw (all zero entry (omega arith)) (all_late at log (All-tail (λ (e : Entry). is_before at e.optime ≡ true) entry log all))
 
--- where the first place is behind an optime, no entry is up to there
+-- where the first place is after an optime, no entry is up to there
 pub none_up_to : (places : List Place) (first : Place) (at : OpTime) → AllPairs StandsFirst places → slice_get places 0 ≡ Some first → is_before at (optime_of first) ≡ true
     → log_up_to at (written places) ≡ []
 none_up_to [] first at rise is late = refl

@@ -37,14 +37,14 @@ abbrev pub StandsFirst : Place → Place → Type 0
 StandsFirst one two = Precedes (optime_of one) (optime_of two)
 
 -- each entry comes before the place
-abbrev pub IsBehind : List Entry → Place → Type 0
-IsBehind settled place = All (λ (entry : Entry). Precedes entry.optime (optime_of place)) settled
+abbrev pub FollowsAll : List Entry → Place → Type 0
+FollowsAll settled place = All (λ (entry : Entry). Precedes entry.optime (optime_of place)) settled
 
--- the places rise behind what is settled, and all entries make one log
+-- the places rise after what is settled, and all entries make one log
 pub record IsHeld (settled : List Entry) (places : List Place) : Type 0 where
   pub oplog : IsOplog (settled ++ written places)
   pub rise : AllPairs StandsFirst places
-  pub behind : All (IsBehind settled) places
+  pub after : All (FollowsAll settled) places
 
 -- all that stands comes before an optime
 pub record AllPrecede (settled : List Entry) (places : List Place) (at : OpTime) : Type 0 where

@@ -15,7 +15,7 @@ use std::collections::VecDeque;
 use std::marker::Model;
 
 /// The oplog of a node whose slots may be open (MongoDB's "oplog holes"). A place is kept for the entry of
-/// each, so that it comes there without moving those behind it. An entry that has no place is put where it
+/// each, so that it comes there without moving those after it. An entry that has no place is put where it
 /// belongs all the same.
 #[derive(Drop)]
 pub struct OpenLog {
@@ -121,7 +121,7 @@ impl OpenLog {
         }
     }
 
-    /// Keeps a place for the entry of a slot that opens behind all others. Out of memory, none is kept, and
+    /// Keeps a place for the entry of a slot that opens after all others. Out of memory, none is kept, and
     /// the log is the same.
     pub fn open(&mut self, at: OpTime)
         ensures { self.new ≡ self.old }
@@ -180,7 +180,7 @@ impl OpenLog {
         }
     }
 
-    /// `get`, which looks at a likely place first, and leaves there the place behind the entry.
+    /// `get`, which looks at a likely place first, and leaves there the place after the entry.
     pub fn get_near(&self, likely: &mut usize, at: OpTime) -> Option<&Entry>
         ensures found { IfSome (option_copied result) (λ entry. IsEntryAt self.now.entries at entry) }
         ensures none { IfNone result (All (λ entry. entry.optime ≢ at) self.now.entries) }
@@ -220,7 +220,7 @@ impl OpenLog {
         Ok(copies)
     }
 
-    /// Drops the entries behind an optime.
+    /// Drops the entries after an optime.
     pub fn cut(&mut self, to: OpTime)
         ensures entries { self.new.entries ≡ log_up_to to self.old.entries }
         ensures spare { self.new.spare ≡ self.old.spare }

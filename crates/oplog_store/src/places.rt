@@ -55,14 +55,14 @@ impl Place {
     }
 }
 
-/// Whether an optime may stand behind another one.
+/// Whether an optime may come after another one.
 pub(crate) fn precedes(one: OpTime, two: OpTime) -> bool
     ensures { IsTrue result → Precedes one two }
 {
     one.ts < two.ts && one.term <= two.term
 }
 
-/// Keeps a place for the entry of a slot that opens. None is kept where something stands behind it, or when
+/// Keeps a place for the entry of a slot that opens. None is kept where something comes after it, or when
 /// memory runs out. `last` is the optime of the last entry.
 pub(crate) fn open(beyond: &mut VecDeque<Place>, last: OpTime, at: OpTime)
     ensures { (settled : List Entry) → IsHeld settled beyond.old.items
@@ -86,7 +86,7 @@ fn end_of(beyond: &VecDeque<Place>, last: OpTime) -> OpTime
     }
 }
 
-/// Puts an entry at the place that is kept for it, or behind all places. It comes back where there is no
+/// Puts an entry at the place that is kept for it, or after all places. It comes back where there is no
 /// place, or when memory runs out.
 pub(crate) fn put(beyond: &mut VecDeque<Place>, entry: Entry) -> Option<Entry>
     ensures placed { IfNone result ((settled : List Entry) → IsHeld settled beyond.old.items
@@ -156,7 +156,7 @@ fn is_up_to(one: OpTime, at: OpTime) -> bool
     one <= at
 }
 
-/// Copies all entries behind those that are copied.
+/// Copies all entries after those that are copied.
 pub(crate) fn copy_written(beyond: &VecDeque<Place>, copies: &mut Vec<Entry>) -> Mem<()>
     ensures { OnOk result (copies.new.items ≡ copies.old.items ++ written beyond.now.items) }
 {

@@ -23,7 +23,7 @@ pub record IsSeen (mark : ℕ) (at : OpTime) : Type 0 where
 abbrev pub AreSeen : FinSet optime_cmp → ℕ → Type 0
 AreSeen slots mark = (at : OpTime) → IsTrue (contains slots at) → IsSeen mark at
 
--- an open slot that no open slot is before
+-- an open slot with no open slot before it
 pub record IsLeast (reserved : Reserved) (at : OpTime) : Type 0 where
   pub here : IsOpen reserved at
   pub first : (other : OpTime) → IsOpen reserved other → is_gt (optime_cmp at other) ≡ false

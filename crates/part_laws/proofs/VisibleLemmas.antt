@@ -9,7 +9,7 @@ use Rattle.oplog_entry.specs.Visible.{ZERO, is_before, last_of, entries_before, 
 use Rattle.oplog_entry.proofs.LogLemmas.{stands_before, stands_most}
 use Rattle.oplog_store.specs.Log.{IsOplog, StandsBefore}
 use Rattle.oplog_store.proofs.Keeps.{pairs_tail, pairs_head}
-use Rattle.part_laws.specs.Logs.{AreBehindZero}
+use Rattle.part_laws.specs.Logs.{AreAfterZero}
 
 -- what passes for an entry passes for those before it
 abbrev PassesEarlier : (Entry → Bool) → Type 0
@@ -44,7 +44,7 @@ last_after first entry (next ∷ log) all = last_after first next log (All-tail 
 
 -- ---- a log
 
-one_more : (p : Entry → Bool) → PassesEarlier p → (entry : Entry) (rest : List Entry) → All (StandsBefore entry) rest → AreBehindZero (entry ∷ rest)
+one_more : (p : Entry → Bool) → PassesEarlier p → (entry : Entry) (rest : List Entry) → All (StandsBefore entry) rest → AreAfterZero (entry ∷ rest)
     → (b : Bool) (kept : List Entry) → p entry ≡ b → filter p rest ≡ kept → kept ≡ log_up_to (last_of kept) rest
     → cond b (entry ∷ kept) kept ≡ log_up_to (last_of (cond b (entry ∷ kept) kept)) (entry ∷ rest)
 one_more p earlier entry rest after zeros true [] is kept_is so_far =
@@ -61,7 +61,7 @@ one_more p earlier entry rest after zeros false (x ∷ xs) is kept_is so_far =
     let none : filter p rest ≡ [] = none_pass p rest (λ k d within. fails_later p earlier entry _ (after k d within) is) in
     absurd (cc)
 
-up_to_last : (p : Entry → Bool) → PassesEarlier p → (log : List Entry) → AllPairs StandsBefore log → AreBehindZero log
+up_to_last : (p : Entry → Bool) → PassesEarlier p → (log : List Entry) → AllPairs StandsBefore log → AreAfterZero log
     → filter p log ≡ log_up_to (last_of (filter p log)) log
 up_to_last p earlier [] order zeros = refl
 up_to_last p earlier (entry ∷ rest) order zeros =
@@ -72,7 +72,7 @@ all_pass : (log : List Entry) → filter (λ _. true) log ≡ log
 all_pass [] = refl
 all_pass (entry ∷ log) = ap (λ rest. entry ∷ rest) (all_pass log)
 
-pub visible_up_to : (slot : Option OpTime) (log : List Entry) → IsOplog log → AreBehindZero log
+pub visible_up_to : (slot : Option OpTime) (log : List Entry) → IsOplog log → AreAfterZero log
     → entries_before slot log ≡ log_up_to (last_of (entries_before slot log)) log
 visible_up_to None log oplog zeros =
     subst (λ whole. whole ≡ log_up_to (last_of whole) log) (all_pass log) (up_to_last (λ _. true) (λ one two before passes. refl) log oplog.order zeros)

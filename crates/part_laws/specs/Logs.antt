@@ -11,7 +11,7 @@ use Rattle.oplog_store.specs.Log.{IsOplog}
 use Rattle.member_config.specs.Numbers.{lowest}
 use Rattle.repl_msg.specs.declared.message.FetchReply.{FetchReply}
 use Rattle.repl_msg.specs.Fetching.{continues}
-use Rattle.repl_msg.specs.Logs.{has_entry, log_behind}
+use Rattle.repl_msg.specs.Logs.{has_entry, log_after}
 use Rattle.repl_msg.specs.Rollback.{common_point}
 use Rattle.repl_msg.specs.Sources.{sources_of}
 use Rattle.sync_source.specs.declared.source.Known.{Known}
@@ -46,13 +46,13 @@ SourcesAgree =
 -- ---- fetching
 
 -- no entry has the optime that stands before every log
-abbrev pub AreBehindZero : List Entry → Type 0
-AreBehindZero log = All (λ entry. is_before ZERO entry.optime ≡ true) log
+abbrev pub AreAfterZero : List Entry → Type 0
+AreAfterZero log = All (λ entry. is_before ZERO entry.optime ≡ true) log
 
 -- `reply_to` is what a node answers
 abbrev pub FetchesAgree : Type 0
 FetchesAgree =
-    (node : Node) (base : OpTime) → IsOplog node.log → AreBehindZero node.log
+    (node : Node) (base : OpTime) → IsOplog node.log → AreAfterZero node.log
     → reply_to node.log (visible_point node) base node.commit (is_primary node.role)
     ≡ fetching.reply_to node base
 
@@ -88,5 +88,5 @@ RollbacksAgree =
 abbrev pub CommonPointsAreLast : Type 0
 CommonPointsAreLast =
     (log shown : List Entry) (after : OpTime) → log_up_to after log ≡ log_up_to after shown
-    → common_point log after (rollback.optimes_of (log_behind after shown))
+    → common_point log after (rollback.optimes_of (log_after after shown))
     ≡ last_of (filter (λ entry. has_entry shown entry.optime) log)

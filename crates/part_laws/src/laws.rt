@@ -49,7 +49,7 @@ pub fn rollbacks_are_planned_as_a_node_does()
     ensures { RollbacksAgree }
 {}
 
-/// Of two logs that are one up to the asked optime, the common point is the last entry that both have.
+/// Of two logs that are the same up to the optime asked for, the common point is the last entry both have.
 pub fn common_points_are_the_last_in_common()
     ensures { CommonPointsAreLast }
 {}

@@ -1,4 +1,4 @@
--- Records that are added one behind the other: the calls of the disk, and what a crash leaves in each of them.
+-- Records that are added one after the other: the calls of the disk, and what a crash leaves in each of them.
 use Rattle.std.proofs.Common.{◌≡◌, inl, inr, ℕ, suc, zero, ◌+◌, ◌^◌, ◌<◌, List, [], ◌∷◌, ◌++◌, length, take, drop, refl, sym, ◌∙◌, ap, subst, arith, append_assoc, append-nil, length-append, take-append-drop}
 use Rattle.std.specs.Prelude.{◌≢◌, All, Vec, Result, Ok, Err, sum_by, slice_index_or}
 use Rattle.std.proofs.lemmas.List.{take_more, drop_more}
@@ -98,12 +98,12 @@ module _ (at : ℕ) (pieces : List (Vec ℕ Global)) (i : ℕ) (d : Vec ℕ Glob
 
   breaks_here : FailsWithin (append_steps (length (contents mid.file)) (body this.items ++ 0 ∷ [])) mid new → FailsWithin (adding_steps at (lists pieces)) old new
   breaks_here breaks =
-      let behind = drop (i + 1) pieces in
+      let further = drop (i + 1) pieces in
       let there = at + sum_by size_of (take i pieces) in
-      let whole : take i pieces ++ this ∷ behind ≡ pieces = ap (λ (l : List (Vec ℕ Global)). take i pieces ++ l) (sym (drop_more pieces i d within)) ∙ take-append-drop i pieces in
-      subst (λ (l : List Step). FailsWithin l old new) (sym (steps_append at (take i pieces) (this ∷ behind)) ∙ ap (λ (l : List (Vec ℕ Global)). adding_steps at (lists l)) whole)
-      (breaks_then (adding_steps at (lists (take i pieces))) (adding_steps there (lists (this ∷ behind))) old mid new made
-      (breaks_before (append_steps there (body this.items ++ 0 ∷ [])) (adding_steps (there + size_of this) (lists behind)) mid new
+      let whole : take i pieces ++ this ∷ further ≡ pieces = ap (λ (l : List (Vec ℕ Global)). take i pieces ++ l) (sym (drop_more pieces i d within)) ∙ take-append-drop i pieces in
+      subst (λ (l : List Step). FailsWithin l old new) (sym (steps_append at (take i pieces) (this ∷ further)) ∙ ap (λ (l : List (Vec ℕ Global)). adding_steps at (lists l)) whole)
+      (breaks_then (adding_steps at (lists (take i pieces))) (adding_steps there (lists (this ∷ further))) old mid new made
+      (breaks_before (append_steps there (body this.items ++ 0 ∷ [])) (adding_steps (there + size_of this) (lists further)) mid new
       (subst (λ (n : ℕ). FailsWithin (append_steps n (body this.items ++ 0 ∷ [])) mid new) long breaks)))
 
   -- the disk failed within it

@@ -16,7 +16,7 @@ use Rattle.record_file.specs.Files.{IsAtRest, IsOpen, IsBeforeOrAfter, IsRecordD
 use Rattle.record_file.proofs.ListLemmas.{begins_with, open_push}
 use Rattle.record_file.proofs.StepLemmas.{ended_moments}
 
--- bytes behind the end
+-- bytes after the end
 pub appended : (old bytes : List ℕ) (at : ℕ) → at ≡ length old → overwritten at bytes old ≡ old ++ bytes
 appended old bytes at is =
     ap (λ (l : List ℕ). l ++ bytes ++ drop (at + length bytes) old) (take_all at old (omega (arith, is)))
@@ -37,11 +37,11 @@ pub open_left : (state : State) → IsOpen state → IsRecordDisk state
 open_left state is_open = either_left is_open.records [] state state (before_all is_open.records [] state is_open.rests)
 
 module _ (records : List (List ℕ)) (front : List ℕ) (opened : AreOpen records front) where
-  -- a closed gate ends them, whatever stands behind it
+  -- a closed gate ends them, whatever follows it
   pub closed_has : (image rest : List ℕ) → image ≡ front ++ 0 ∷ rest → HasRecords image records
   closed_has image rest is = inr (front, rest, opened, is)
 
-  -- a write behind the closed gate keeps the records
+  -- a write after the closed gate keeps the records
   pub tail_leaves : (at : ℕ) (bytes image : List ℕ) → at ≡ length (front ++ 0 ∷ []) → IsImage (changed (write at bytes) (settled (front ++ 0 ∷ []))) image → HasRecords image records
   tail_leaves at bytes image at_is is =
       let old = front ++ 0 ∷ [] in
@@ -56,7 +56,7 @@ module _ (records : List (List ℕ)) (front : List ℕ) (opened : AreOpen record
     abbrev tail : List ℕ
     tail = body piece ++ 0 ∷ []
 
-    -- a whole record behind any gate counts or it doesn't
+    -- a whole record after any gate counts or it doesn't
     pub gate_has : (gate : ℕ) (image : List ℕ) → image ≡ front ++ gate ∷ tail → IsBeforeOrAfter records piece image
     gate_has gate image is = elim (cases_eq gate 0) [
       | inl closed ↦ inl (closed_has image tail (is ∙ ap (λ (n : ℕ). front ++ n ∷ tail) closed))
@@ -78,13 +78,13 @@ module _ (records : List (List ℕ)) (front : List ℕ) (opened : AreOpen record
         let begins : image ≡ front ++ drop (length front) image = begins_with front image (omega (arith, long, size))
         (λ k inside. is.kept k (omega (arith, same, size)) (elsewhere k (inl (omega (arith, at_is)))) ∙ get_or_append_left front (0 ∷ tail) 0 k inside) in
         let gate = get_or image (length front) 0 in
-        let behind : drop (length front) image ≡ gate ∷ drop (length front + 1) image = drop_more image (length front) 0 (omega (arith, long, size)) in
+        let later : drop (length front) image ≡ gate ∷ drop (length front + 1) image = drop_more image (length front) 0 (omega (arith, long, size)) in
         let rest : drop (length front + 1) image ≡ tail = ext_get_or 0 (drop (length front + 1) image) tail (omega (arith, length-drop (length front + 1) image, long, size))
         (λ k inside.
         let here : length front + 1 + k < length old = omega (arith, length-drop (length front + 1) image, long, size) in
         get_or-drop (length front + 1) image k 0 ∙ is.kept (length front + 1 + k) (omega (arith, same)) (elsewhere (length front + 1 + k) (inr (omega (arith, at_is))))
         ∙ get_or-append_right front (0 ∷ tail) (length front) (length front + 1 + k) 0 refl (omega arith) ∙ (let step : length front + 1 + k - length front ≡ suc k = omega arith in ap (λ (n : ℕ). get_or (0 ∷ tail) n 0) step)) in
-        gate_has gate image (begins ∙ ap (λ (l : List ℕ). front ++ l) (behind ∙ ap (λ (l : List ℕ). gate ∷ l) rest))
+        gate_has gate image (begins ∙ ap (λ (l : List ℕ). front ++ l) (later ∙ ap (λ (l : List ℕ). gate ∷ l) rest))
       where
         elsewhere : (k : ℕ) → ((k < at) ⊎ (at + 1 ≤ k)) → is_written k (write at (1 ∷ []) ∷ []) ≡ false
         elsewhere k (inl below) = grind (arith, nat_tests)
@@ -111,12 +111,12 @@ module _ (records : List (List ℕ)) (front : List ℕ) (opened : AreOpen record
       gate_is : at - 1 ≡ length front
       gate_is = omega (arith, at_is, length-append front (0 ∷ []))
 
-      -- the record is on the disk, behind a closed gate
+      -- the record is on the disk, after a closed gate
       staged : overwritten at bytes (front ++ 0 ∷ []) ≡ front ++ 0 ∷ tail
       staged = appended (front ++ 0 ∷ []) bytes at at_is ∙ ap (λ (l : List ℕ). (front ++ 0 ∷ []) ++ l) is_tail ∙ append_assoc front (0 ∷ []) tail
 
-      behind : LeavesOnly P (changed (write at bytes) (settled (front ++ 0 ∷ [])))
-      behind image left = inl (tail_leaves at bytes image at_is left)
+      later : LeavesOnly P (changed (write at bytes) (settled (front ++ 0 ∷ [])))
+      later image left = inl (tail_leaves at bytes image at_is left)
 
       opens : LeavesOnly P (changed (write (at - 1) (1 ∷ [])) (settled (overwritten at bytes (front ++ 0 ∷ []))))
       opens = subst (λ (l : List ℕ). LeavesOnly P (changed (write (at - 1) (1 ∷ [])) (settled l))) (sym staged) (λ image left. gate_leaves (at - 1) image gate_is left)
@@ -124,9 +124,9 @@ module _ (records : List (List ℕ)) (front : List ℕ) (opened : AreOpen record
       pub each_leaves : EachLeaves P (append_steps at bytes) (settled (front ++ 0 ∷ []))
       each_leaves =
           let start = settled_leaves P (front ++ 0 ∷ []) (inl (closed_has (front ++ 0 ∷ []) [] refl)) in
-          let staged_leaves = synced_leaves P (changed (write at bytes) (settled (front ++ 0 ∷ []))) behind in
+          let staged_leaves = synced_leaves P (changed (write at bytes) (settled (front ++ 0 ∷ []))) later in
           let last = synced_leaves P (changed (write (at - 1) (1 ∷ [])) (settled (overwritten at bytes (front ++ 0 ∷ [])))) opens in
-          (start, behind, (behind, behind, (staged_leaves, opens, (opens, opens, last))))
+          (start, later, (later, later, (staged_leaves, opens, (opens, opens, last))))
 
       -- the file then is that of one record more
       pub file_after : after_steps (append_steps at bytes) (settled (front ++ 0 ∷ [])) ≡ settled ((front ++ 1 ∷ body piece) ++ 0 ∷ [])

@@ -34,8 +34,8 @@ item_suc IsItem item_bytes (p ∷ pieces) [] i d each same within = absurd (omeg
 item_suc IsItem item_bytes (p ∷ pieces) (a ∷ items) zero d each same within =
     (a, each zero a (omega arith), same_head p.items (item_bytes a) (lists pieces) (map item_bytes items) same, refl)
 item_suc {A = A} IsItem item_bytes (p ∷ pieces) (a ∷ items) (suc i) d each same within =
-    let behind = same_tail p.items (item_bytes a) (lists pieces) (map item_bytes items) same in
-    let rest = item_suc IsItem item_bytes pieces items i d (λ k e inside. each (suc k) e (omega arith)) behind (omega arith) in
+    let after = same_tail p.items (item_bytes a) (lists pieces) (map item_bytes items) same in
+    let rest = item_suc IsItem item_bytes pieces items i d (λ k e inside. each (suc k) e (omega arith)) after (omega arith) in
     (rest.0, rest.1, rest.2, ap (λ (l : List A). a ∷ l) rest.3)
 
 -- the item of a piece

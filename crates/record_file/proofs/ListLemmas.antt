@@ -1,4 +1,4 @@
--- Lists of open records, and lists of which a front is known.
+-- Lists of open records, and lists of which a prefix is known.
 use Rattle.std.proofs.Common.{◌≡◌, ◌≢◌, ℕ, ◌^◌, ◌<◌, ◌≤◌, List, [], ◌∷◌, ◌++◌, length, take, drop, refl, sym, ◌∙◌, ap, arith, length-take, take-append-drop}
 use Rattle.std.specs.Prelude.{slice_index}
 use Rattle.std.proofs.lemmas.List.{append_assoc, append-nil, drop_at, ext_get_or, get_or-take, take_at}
@@ -27,9 +27,9 @@ open_push (first ∷ records) front gate piece (first_gate, rest, first_open, fi
   open_push records rest gate piece others is_open small,
 )
 
--- a front by its length, and what stands behind it
-pub piece_is : (front behind rest piece : List ℕ) (size : ℕ) → rest ≡ front ++ behind → size ≡ length front → piece ≡ take size rest → piece ≡ front
-piece_is front behind rest piece size is size_is read = read ∙ ap (λ (l : List ℕ). take size l) is ∙ take_at front behind size (sym size_is)
+-- a prefix by its length, and what follows it
+pub piece_is : (front later rest piece : List ℕ) (size : ℕ) → rest ≡ front ++ later → size ≡ length front → piece ≡ take size rest → piece ≡ front
+piece_is front later rest piece size is size_is read = read ∙ ap (λ (l : List ℕ). take size l) is ∙ take_at front later size (sym size_is)
 
-pub behind_is : (front behind rest after : List ℕ) (size : ℕ) → rest ≡ front ++ behind → size ≡ length front → after ≡ drop size rest → after ≡ behind
-behind_is front behind rest after size is size_is read = read ∙ ap (λ (l : List ℕ). drop size l) is ∙ drop_at front behind size (sym size_is)
+pub later_is : (front later rest after : List ℕ) (size : ℕ) → rest ≡ front ++ later → size ≡ length front → after ≡ drop size rest → after ≡ later
+later_is front later rest after size is size_is read = read ∙ ap (λ (l : List ℕ). drop size l) is ∙ drop_at front later size (sym size_is)

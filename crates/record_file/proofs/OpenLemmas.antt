@@ -27,28 +27,28 @@ module _ (bytes : List ℕ) (records : List (List ℕ)) (end : ℕ) (parsed : Is
   abbrev front : List ℕ
   front = parsed.0
 
-  abbrev behind : List ℕ
-  behind = parsed.1
+  abbrev after : List ℕ
+  after = parsed.1
 
-  whole : bytes ≡ (front ++ 0 ∷ []) ++ behind
-  whole = parsed.3 ∙ sym (append_assoc front (0 ∷ []) behind)
+  whole : bytes ≡ (front ++ 0 ∷ []) ++ after
+  whole = parsed.3 ∙ sym (append_assoc front (0 ∷ []) after)
 
   end_is : length (front ++ 0 ∷ []) ≡ end
   end_is = omega (arith, length-append front (0 ∷ []), parsed.4)
 
   pub has_parsed : HasRecords bytes records
-  has_parsed = inr (front, behind, parsed.2, parsed.3)
+  has_parsed = inr (front, after, parsed.2, parsed.3)
 
   pub cut_off : take end bytes ≡ front ++ 0 ∷ []
-  cut_off = ap (λ (l : List ℕ). take end l) whole ∙ take_at (front ++ 0 ∷ []) behind end end_is
+  cut_off = ap (λ (l : List ℕ). take end l) whole ∙ take_at (front ++ 0 ∷ []) after end end_is
 
-  -- a cut behind the gate keeps the records
+  -- a cut after the gate keeps the records
   pub cut_has : (image : List ℕ) → IsImage (changed (cut end) (settled bytes)) image → HasRecords image records
   cut_has image is =
-      let short : length (front ++ 0 ∷ []) ≤ length image = omega (arith, is.no_shorter, ap length cut_off, ap length whole, length-append (front ++ 0 ∷ []) behind, end_is) in
+      let short : length (front ++ 0 ∷ []) ≤ length image = omega (arith, is.no_shorter, ap length cut_off, ap length whole, length-append (front ++ 0 ∷ []) after, end_is) in
       let begins : image ≡ (front ++ 0 ∷ []) ++ drop (length (front ++ 0 ∷ [])) image = begins_with (front ++ 0 ∷ []) image short
-      (λ k inside. is.kept k (omega (arith, ap length cut_off, ap length whole, length-append (front ++ 0 ∷ []) behind)) refl
-      ∙ ap (λ (l : List ℕ). get_or l k 0) whole ∙ get_or_append_left (front ++ 0 ∷ []) behind 0 k inside) in
+      (λ k inside. is.kept k (omega (arith, ap length cut_off, ap length whole, length-append (front ++ 0 ∷ []) after)) refl
+      ∙ ap (λ (l : List ℕ). get_or l k 0) whole ∙ get_or_append_left (front ++ 0 ∷ []) after 0 k inside) in
       inr (front, drop (length (front ++ 0 ∷ [])) image, parsed.2, begins ∙ append_assoc front (0 ∷ []) (drop (length (front ++ 0 ∷ [])) image))
 
 -- each list that is found on the way is one from before
@@ -133,7 +133,7 @@ module _ {T : Type 0} (result : Result T FileError) (old : State) where
       ends_more result syncs (reads ∷ changes (cut end) ∷ syncs ∷ []) old mid new is_synced ends,
     )
 
--- the calls of an opening that wanted memory behind them
+-- the calls of an opening that ran out of memory after them
 pub opened_calls : {X : Type 0} (result : Result X FileError) (old new : State) → result ≡ Err Memory → OpensBy {T = Unit {0}} (Ok tt) old new → OpensBy result old new
 opened_calls {X} result old new is (steps, are, made) =
     subst (λ (r : Result X FileError). OpensBy r old new) (sym is) (steps, are, (steps, [], sym (append-nil steps), made))

@@ -56,16 +56,16 @@ same_first gate gate' piece piece' rest rest' small small' same =
     let pieces : piece ≡ piece' = sym (take_at piece rest (length piece) refl) ∙ ap (λ (l : List ℕ). take (length piece) l) both ∙ take_at piece' rest' (length piece) (sym size) in
     (pieces, append_cancel_left piece rest rest' (both ∙ ap (λ (l : List ℕ). l ++ rest') (sym pieces)))
 
--- what is left behind a record has records too
-pub left_behind : (bytes : List ℕ) (records : List (List ℕ)) (gate : ℕ) (piece rest : List ℕ) → AreInFront bytes records → IsFirst bytes gate piece rest
+-- what is left after a record has records too
+pub left_after : (bytes : List ℕ) (records : List (List ℕ)) (gate : ℕ) (piece rest : List ℕ) → AreInFront bytes records → IsFirst bytes gate piece rest
     → (others : List (List ℕ)) × AreInFront rest others
-left_behind bytes [] gate piece rest (front, behind, none, is) (is_open, small, first) =
-    let same : 0 ∷ behind ≡ gate ∷ body piece ++ rest = sym (is ∙ ap (λ (l : List ℕ). l ++ 0 ∷ behind) none) ∙ first in
+left_after bytes [] gate piece rest (front, later, none, is) (is_open, small, first) =
+    let same : 0 ∷ later ≡ gate ∷ body piece ++ rest = sym (is ∙ ap (λ (l : List ℕ). l ++ 0 ∷ later) none) ∙ first in
     absurd (is_open (sym (ap (λ (l : List ℕ). get_or l 0 0) same)))
-left_behind bytes (other ∷ records) gate piece rest (front, behind, (gate', others, is_open', small', front_is, open_others), is) (is_open, small, first) =
-    let same : gate ∷ body piece ++ rest ≡ gate' ∷ body other ++ (others ++ 0 ∷ behind) =
-    sym first ∙ is ∙ ap (λ (l : List ℕ). l ++ 0 ∷ behind) front_is ∙ append_assoc (gate' ∷ body other) others (0 ∷ behind) in
-    (records, (others, behind, open_others, (same_first gate gate' piece other rest (others ++ 0 ∷ behind) small small' same).1))
+left_after bytes (other ∷ records) gate piece rest (front, later, (gate', others, is_open', small', front_is, open_others), is) (is_open, small, first) =
+    let same : gate ∷ body piece ++ rest ≡ gate' ∷ body other ++ (others ++ 0 ∷ later) =
+    sym first ∙ is ∙ ap (λ (l : List ℕ). l ++ 0 ∷ later) front_is ∙ append_assoc (gate' ∷ body other) others (0 ∷ later) in
+    (records, (others, later, open_others, (same_first gate gate' piece other rest (others ++ 0 ∷ later) small small' same).1))
 
 -- one record more is read
 pub reads_more : (bytes rest after piece front : List ℕ) (records : List (Vec ℕ Global)) (v : Vec ℕ Global) (gate : ℕ) → AreOpen (lists records) front
@@ -82,38 +82,38 @@ reads_more bytes rest after piece front records v gate opened is (is_open, small
 -- no record is left
 pub reads_all : (bytes rest : List ℕ) (records : List (List ℕ)) (left : List (List ℕ)) → (front : List ℕ) × AreOpen records front × (bytes ≡ front ++ rest)
     → AreInFront rest left → ((gate : ℕ) (piece after : List ℕ) → IsFirst rest gate piece after → ⊥) → IsParsed bytes records (length bytes - length rest + 1)
-reads_all bytes rest records [] (front, opened, is) (none, behind, none_is, rest_is) no_more =
-    let closed : rest ≡ 0 ∷ behind = rest_is ∙ ap (λ (l : List ℕ). l ++ 0 ∷ behind) none_is in (
+reads_all bytes rest records [] (front, opened, is) (none, later, none_is, rest_is) no_more =
+    let closed : rest ≡ 0 ∷ later = rest_is ∙ ap (λ (l : List ℕ). l ++ 0 ∷ later) none_is in (
       front,
-      behind,
+      later,
       opened,
       is ∙ ap (λ (l : List ℕ). front ++ l) closed,
       omega (arith, ap length is, length-append front rest),
     )
-reads_all bytes rest records (other ∷ left) read (front, behind, (gate, others, is_open, small, front_is, open_others), rest_is) no_more =
-    absurd (no_more gate other (others ++ 0 ∷ behind) (is_open, small, rest_is ∙ ap (λ (l : List ℕ). l ++ 0 ∷ behind) front_is ∙ append_assoc (gate ∷ body other) others (0 ∷ behind)))
+reads_all bytes rest records (other ∷ left) read (front, later, (gate, others, is_open, small, front_is, open_others), rest_is) no_more =
+    absurd (no_more gate other (others ++ 0 ∷ later) (is_open, small, rest_is ∙ ap (λ (l : List ℕ). l ++ 0 ∷ later) front_is ∙ append_assoc (gate ∷ body other) others (0 ∷ later)))
 
 -- the records in front of a closed gate are the only ones
 same_open : (records others : List (List ℕ)) (front front' rest rest' : List ℕ) → AreOpen records front → AreOpen others front'
     → front ++ 0 ∷ rest ≡ front' ++ 0 ∷ rest' → records ≡ others
 same_open [] [] front front' rest rest' none none' same = refl
-same_open [] (other ∷ others) front front' rest rest' none (gate, behind, is_open, small, is, more) same =
-    let heads : 0 ∷ rest ≡ (gate ∷ body other ++ behind) ++ 0 ∷ rest' = sym (ap (λ (l : List ℕ). l ++ 0 ∷ rest) none) ∙ same ∙ ap (λ (l : List ℕ). l ++ 0 ∷ rest') is in
+same_open [] (other ∷ others) front front' rest rest' none (gate, later, is_open, small, is, more) same =
+    let heads : 0 ∷ rest ≡ (gate ∷ body other ++ later) ++ 0 ∷ rest' = sym (ap (λ (l : List ℕ). l ++ 0 ∷ rest) none) ∙ same ∙ ap (λ (l : List ℕ). l ++ 0 ∷ rest') is in
     absurd (is_open (sym (ap (λ (l : List ℕ). get_or l 0 0) heads)))
-same_open (piece ∷ records) [] front front' rest rest' (gate, behind, is_open, small, is, more) none same =
-    let heads : (gate ∷ body piece ++ behind) ++ 0 ∷ rest ≡ 0 ∷ rest' = sym (ap (λ (l : List ℕ). l ++ 0 ∷ rest) is) ∙ same ∙ ap (λ (l : List ℕ). l ++ 0 ∷ rest') none in
+same_open (piece ∷ records) [] front front' rest rest' (gate, later, is_open, small, is, more) none same =
+    let heads : (gate ∷ body piece ++ later) ++ 0 ∷ rest ≡ 0 ∷ rest' = sym (ap (λ (l : List ℕ). l ++ 0 ∷ rest) is) ∙ same ∙ ap (λ (l : List ℕ). l ++ 0 ∷ rest') none in
     absurd (is_open (ap (λ (l : List ℕ). get_or l 0 0) heads))
-same_open (piece ∷ records) (other ∷ others) front front' rest rest' (gate, behind, is_open, small, is, more) (gate', behind', is_open', small', is', more') same =
-    let both : gate ∷ body piece ++ (behind ++ 0 ∷ rest) ≡ gate' ∷ body other ++ (behind' ++ 0 ∷ rest') =
-    sym (append_assoc (gate ∷ body piece) behind (0 ∷ rest)) ∙ sym (ap (λ (l : List ℕ). l ++ 0 ∷ rest) is) ∙ same
-    ∙ ap (λ (l : List ℕ). l ++ 0 ∷ rest') is' ∙ append_assoc (gate' ∷ body other) behind' (0 ∷ rest') in
-    let first = same_first gate gate' piece other (behind ++ 0 ∷ rest) (behind' ++ 0 ∷ rest') small small' both in
-    λ i. first.0 i ∷ same_open records others behind behind' rest rest' more more' first.1 i
+same_open (piece ∷ records) (other ∷ others) front front' rest rest' (gate, later, is_open, small, is, more) (gate', later', is_open', small', is', more') same =
+    let both : gate ∷ body piece ++ (later ++ 0 ∷ rest) ≡ gate' ∷ body other ++ (later' ++ 0 ∷ rest') =
+    sym (append_assoc (gate ∷ body piece) later (0 ∷ rest)) ∙ sym (ap (λ (l : List ℕ). l ++ 0 ∷ rest) is) ∙ same
+    ∙ ap (λ (l : List ℕ). l ++ 0 ∷ rest') is' ∙ append_assoc (gate' ∷ body other) later' (0 ∷ rest') in
+    let first = same_first gate gate' piece other (later ++ 0 ∷ rest) (later' ++ 0 ∷ rest') small small' both in
+    λ i. first.0 i ∷ same_open records others later later' rest rest' more more' first.1 i
 
 none_in_short : (bytes : List ℕ) (records : List (List ℕ)) → length bytes ≤ 1 → AreInFront bytes records → records ≡ []
 none_in_short bytes [] short has = refl
-none_in_short bytes (piece ∷ records) short (front, rest, (gate, behind, is_open, small, is, more), whole) =
-    absurd (omega (arith, ap length whole, length-append front (0 ∷ rest), ap length is, length-append (gate ∷ body piece) behind, short))
+none_in_short bytes (piece ∷ records) short (front, rest, (gate, later, is_open, small, is, more), whole) =
+    absurd (omega (arith, ap length whole, length-append front (0 ∷ rest), ap length is, length-append (gate ∷ body piece) later, short))
 
 -- a file has one list of records
 pub one_list : (bytes : List ℕ) (records others : List (List ℕ)) → HasRecords bytes records → HasRecords bytes others → records ≡ others

@@ -23,9 +23,9 @@ ends_more (Ok value) step steps old mid new is ends = makes_more step steps old 
 ends_more (Err error) step steps old mid new is ends = stops_more error step steps old mid new is ends
 
 -- two calls before the others
-stops_behind : (error : FileError) (one two : Step) (steps : List Step) (old mid new : State) → Makes (one ∷ two ∷ []) old mid → StopsBy error steps mid new
+stops_after : (error : FileError) (one two : Step) (steps : List Step) (old mid new : State) → Makes (one ∷ two ∷ []) old mid → StopsBy error steps mid new
     → StopsBy error (one ∷ two ∷ steps) old new
-stops_behind error one two steps old mid new made stops =
+stops_after error one two steps old mid new made stops =
     let first = record old { file = after_step one old.file; past = in_step one old.file ∷ old.file ∷ old.past } in
     stops_more error one (two ∷ steps) old first new (record { file = refl; past = refl })
     (stops_more error two steps first mid new (record { file = made.file; past = made.past }) stops)
@@ -35,13 +35,13 @@ pub stops_ends : {T : Type 0} (result : Result T FileError) (error : FileError) 
     → EndsBy result steps old new
 stops_ends {T = T} result error steps old new is stops = subst (λ (r : Result T FileError). EndsBy r steps old new) (sym is) stops
 
--- an append that stops behind its first sync
+-- an append that stops after its first sync
 pub append_stops : {T : Type 0} (result : Result T FileError) (error : FileError) (at end : ℕ) (tail : List ℕ) (old mid new : State) → result ≡ Err error → at ≡ end
     → Makes (changes (write at tail) ∷ syncs ∷ []) old mid → StopsBy error (changes (write (at - 1) (1 ∷ [])) ∷ syncs ∷ []) mid new
     → EndsBy result (append_steps end tail) old new
 append_stops result error at end tail old mid new is at_is made stops =
     stops_ends result error (append_steps end tail) old new is
-    (subst (λ (n : ℕ). StopsBy error (append_steps n tail) old new) at_is (stops_behind error _ _ _ old mid new made stops))
+    (subst (λ (n : ℕ). StopsBy error (append_steps n tail) old new) at_is (stops_after error _ _ _ old mid new made stops))
 
 -- calls that were not reached
 pub stops_before : (error : FileError) (step : Step) (steps : List Step) (old new : State) → StopsBy error (step ∷ []) old new → StopsBy error (step ∷ steps) old new

@@ -43,7 +43,7 @@ empty_disk state empty =
 abbrev pub IsBeforeOrAfter : List (List ℕ) → List ℕ → List ℕ → Type 0
 IsBeforeOrAfter records piece image = HasRecords image records ⊎ HasRecords image (records ++ piece ∷ [])
 
--- the records, and behind them the first of those that are added
+-- the records, and after them the first of those that are added
 abbrev pub HasFirst : List (List ℕ) → List (List ℕ) → List ℕ → Type 0
 HasFirst records added image =
     (first : List (List ℕ)) × (rest : List (List ℕ)) × (added ≡ first ++ rest)
@@ -74,12 +74,12 @@ abbrev pub EndsBy : {T : Type 0} → Result T FileError → List Step → State 
 EndsBy (Ok value) steps old new = Makes steps old new
 EndsBy (Err error) steps old new = StopsBy error steps old new
 
--- the calls of an append: behind the last gate the record with the next gate, a sync, the last gate
+-- the calls of an append: after the last gate the record with the next gate, a sync, the last gate
 -- itself, a sync
 abbrev pub append_steps : ℕ → List ℕ → List Step
 append_steps at tail = changes (write at tail) ∷ syncs ∷ changes (write (at - 1) (1 ∷ [])) ∷ syncs ∷ []
 
--- the calls that add these records, one behind the other, to a file of so many bytes
+-- the calls that add these records, one after the other, to a file of so many bytes
 abbrev pub adding_steps : ℕ → List (List ℕ) → List Step
 adding_steps at [] = []
 adding_steps at (piece ∷ pieces) =
@@ -92,7 +92,7 @@ first_steps = syncs ∷ changes (write 0 (0 ∷ [])) ∷ syncs ∷ []
 abbrev pub repair_steps : ℕ → List Step
 repair_steps end = syncs ∷ reads ∷ changes (cut end) ∷ syncs ∷ []
 
--- The calls of an opening, by what its first sync keeps: a file with records is cut behind the
+-- The calls of an opening, by what its first sync keeps: a file with records is cut after the
 -- first closed gate.
 abbrev pub AreOpeningSteps : List ℕ → List Step → Type 0
 AreOpeningSteps bytes steps = ((length bytes ≤ 1) × (steps ≡ first_steps))

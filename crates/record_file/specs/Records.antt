@@ -1,17 +1,17 @@
 -- Which list of records the bytes of a file stand for.
 --
 -- A record is a gate byte, its length in 4 bytes with the lowest first, and its bytes. A gate is closed where
--- it is 0 and else open. The records that count stand in front of the first closed gate; what stands behind
+-- it is 0 and else open. The records that count come before the first closed gate; what follows
 -- it means nothing.
 use Rattle.std.specs.Prelude.{◌≡◌, ◌≢◌, ◌⊎◌, ℕ, ◌^◌, ◌<◌, ◌≤◌, List, [], ◌∷◌, ◌++◌, length, map, Vec}
 use Rattle.std.specs.Int.{to_le_bytes, w32}
 use Rattle.std.specs.declared.alloc.Global.{Global}
 
--- a record behind its gate
+-- a record after its gate
 abbrev pub body : List ℕ → List ℕ
 body piece = to_le_bytes w32 (length piece) ++ piece
 
--- the bytes are these records, each behind an open gate
+-- the bytes are these records, each after an open gate
 abbrev pub AreOpen : List (List ℕ) → List ℕ → Type 0
 AreOpen [] bytes = bytes ≡ []
 AreOpen (piece ∷ records) bytes = (gate : ℕ) × (rest : List ℕ)

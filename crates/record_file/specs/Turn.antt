@@ -1,21 +1,21 @@
--- Items that stand one behind the other in a record's bytes.
+-- Items that stand one after the other in a record's bytes.
 use Rattle.std.specs.Prelude.{◌≡◌, ℕ, List, ◌++◌, length, All}
 use Rattle.std.specs.List.{flat_map}
 
--- so many items stand one behind the other
+-- so many items stand one after the other
 pub record StandInTurn {A : Type 0} (IsItem : A → Type 0) (item_bytes : A → List ℕ) (count : ℕ)
     (items : List A) (bytes : List ℕ) : Type 0 where
   pub number : length items ≡ count
   pub each : All IsItem items
   pub spelled : bytes ≡ flat_map item_bytes items
 
--- wherever such a thing stands in front of the bytes, it is the one that was read, and the rest is behind it
+-- wherever such a thing stands in front of the bytes, it is the one that was read, and the rest is after it
 abbrev pub Reads : {A : Type 0} → (A → Type 0) → (A → List ℕ) → List ℕ → A → List ℕ → Type 0
 Reads {A = A} IsItem item_bytes bytes read rest =
-    (item : A) (behind : List ℕ) → IsItem item → bytes ≡ item_bytes item ++ behind
-    → (read ≡ item) × (rest ≡ behind)
+    (item : A) (after : List ℕ) → IsItem item → bytes ≡ item_bytes item ++ after
+    → (read ≡ item) × (rest ≡ after)
 
 -- such a thing stands in front of the bytes
 abbrev pub BeginsWith : {A : Type 0} → (A → Type 0) → (A → List ℕ) → List ℕ → Type 0
 BeginsWith {A = A} IsItem item_bytes bytes =
-    (item : A) × (behind : List ℕ) × IsItem item × (bytes ≡ item_bytes item ++ behind)
+    (item : A) × (after : List ℕ) × IsItem item × (bytes ≡ item_bytes item ++ after)

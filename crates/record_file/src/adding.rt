@@ -10,7 +10,7 @@ use crate::store::store;
 use rs_disk::Disk;
 use std::alloc::AllocError;
 
-// What goes behind a record's gate takes 5 bytes more than the record: its length, and the next gate.
+// What goes after a record's gate takes 5 bytes more than the record: its length, and the next gate.
 const AROUND: usize = 5;
 
 // Lays out a record in the buffer, and stores it.
@@ -38,7 +38,7 @@ pub(crate) fn add<D: Disk>(
     store(disk, buffer)
 }
 
-// Lays out what goes behind a record's gate: its bytes and the next gate.
+// Lays out what goes after a record's gate: its bytes and the next gate.
 fn lay(buffer: &mut Vec<u8>, piece: &[u8]) -> Result<(), AllocError>
     requires { length piece.now < 2 ^ 32 }
     ensures laid { OnOk result (buffer.new.items ≡ body piece.now ++ 0 ∷ []) }
@@ -53,7 +53,7 @@ fn lay(buffer: &mut Vec<u8>, piece: &[u8]) -> Result<(), AllocError>
     Ok(())
 }
 
-// Takes the memory for these records, and then adds them one behind the other.
+// Takes the memory for these records, and then adds them one after the other.
 pub(crate) fn add_all<D: Disk>(
     disk: &mut D,
     buffer: &mut Vec<u8>,

@@ -1,7 +1,7 @@
 // An append-only list of byte records on one disk.
 //
-// The gate of a new record stands closed and synced before anything behind it is written, and it is opened
-// only after the record is synced. So no checksum is needed: what a crash tears stands behind a closed gate.
+// The gate of a new record stands closed and synced before anything after it is written, and it is opened
+// only after the record is synced. So no checksum is needed: what a crash tears comes after a closed gate.
 ghost use Rattle.std.specs.Prelude.{◌≡◌, ◌≢◌, ◌+◌, ◌^◌, ◌<◌, ◌≤◌, List, ℕ, [], ◌∷◌, ◌++◌, All, length, Err, IfErr, IfOk, OnOk, IsErrOf};
 ghost use Rattle.rs_disk.specs.File.{contents};
 ghost use Rattle.rs_disk.specs.Moments.{EachMoment};
@@ -140,7 +140,7 @@ impl<D: Disk> RecordFile<D> {
         add(&mut self.disk, &mut self.buffer, piece)
     }
 
-    /// Adds records one behind the other. After `Ok` every crash leaves all of them.
+    /// Adds records one after the other. After `Ok` every crash leaves all of them.
     ///
     /// # Errors
     /// `Memory` leaves the file as it was: what they take is taken before the first of them is added. After

@@ -5,7 +5,7 @@ ghost use Rattle.record_file.specs.Parsed.{IsFirst, IsParsed};
 
 use std::alloc::{AllocError, Global};
 
-// The records up to the first closed gate, and the place behind that gate.
+// The records up to the first closed gate, and the place after that gate.
 pub(crate) fn parse(alloc: Global, bytes: &[u8]) -> Result<(Vec<Vec<u8>>, usize), AllocError>
     requires { (records : List (List ℕ)) × AreInFront bytes.now records }
     ensures { IfOk result (λ parsed. IsParsed bytes.now (lists parsed.0.items) parsed.1) }
@@ -19,7 +19,7 @@ pub(crate) fn parse(alloc: Global, bytes: &[u8]) -> Result<(Vec<Vec<u8>>, usize)
     Ok((records, bytes.len() - rest.len() + 1))
 }
 
-// The record behind an open gate at the front, and what stands behind it.
+// The record after an open gate at the front, and what follows it.
 fn first_record(bytes: &[u8]) -> Option<(&[u8], &[u8])>
     ensures { MatchOption result ((gate : ℕ) (piece rest : List ℕ) → IsFirst bytes.now gate piece rest → ⊥)
         (λ parts. (gate : ℕ) × IsFirst bytes.now gate parts.0.now parts.1.now) }

@@ -1,4 +1,4 @@
-// The disk calls behind the first sync of an opening.
+// The disk calls after the first sync of an opening.
 ghost use Rattle.std.specs.Prelude.{◌≡◌, ◌<◌, ◌≤◌, List, ℕ, IfOk, OnOk, IsErrOf, [], ◌∷◌, length};
 ghost use Rattle.rs_disk.specs.File.{contents, cut, settled, write};
 ghost use Rattle.rs_disk.specs.State.{Keeps};
@@ -25,7 +25,7 @@ pub(crate) fn begin<D: Disk>(disk: &mut D) -> Result<(), FileError>
     put(disk, 0, &[0])
 }
 
-// Reads the records, and cuts the file behind the first closed gate.
+// Reads the records, and cuts the file after the first closed gate.
 pub(crate) fn repair<D: Disk>(alloc: Global, disk: &mut D) -> Result<Vec<Vec<u8>>, FileError>
     requires synced { (D.state disk.old).file ≡ settled (contents (D.state disk.old).file) }
     requires long { 1 < length (contents (D.state disk.old).file) }

@@ -8,7 +8,7 @@ ghost use Rattle.record_file.specs.Files.{IsOpen, EndsBy, append_steps};
 use crate::FileError;
 use rs_disk::Disk;
 
-// Puts a record behind the last gate, with a closed gate of its own behind it, and opens that last gate once
+// Puts a record after the last gate, with a closed gate of its own after it, and opens that last gate once
 // the record is synced.
 #[tactic(auto, using(crate::proofs::StepLemmas::append_stops))]
 pub(crate) fn store<D: Disk>(disk: &mut D, tail: &[u8]) -> Result<(), FileError>

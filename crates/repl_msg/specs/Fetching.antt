@@ -1,18 +1,18 @@
--- Fetching what comes behind a node's last entry (MongoDB's replication architecture guide, oplog fetching).
+-- Fetching what comes after a node's last entry (MongoDB's replication architecture guide, oplog fetching).
 use Rattle.std.specs.Prelude.{Bool, ◌&&◌, ◌||◌, List, [], take, if◌then◌else◌}
 use Rattle.rs_optime.specs.declared.optime.OpTime.{OpTime}
 use Rattle.oplog_entry.specs.declared.entry.Entry.{Entry}
 use Rattle.oplog_entry.specs.Visible.{ZERO}
 use Rattle.repl_msg.specs.declared.message.FetchReply.{FetchReply}
-use Rattle.repl_msg.specs.Logs.{same_optime, has_entry, log_behind}
+use Rattle.repl_msg.specs.Logs.{same_optime, has_entry, log_after}
 
 -- the visible log has this place: ZERO, or an entry's
 abbrev pub holds : List Entry → OpTime → Bool
 holds shown base = same_optime base ZERO || has_entry shown base
 
--- the next visible entries behind a place, at most 5,000; none, where the place isn't there
+-- the next visible entries after a place, at most 5,000; none, where the place isn't there
 abbrev pub entries_after : List Entry → OpTime → List Entry
-entries_after shown base = if holds shown base then take 5000 (log_behind base shown) else []
+entries_after shown base = if holds shown base then take 5000 (log_after base shown) else []
 
 -- what a source answers whose visible log this is, with its visible optime, its commit point and whether
 -- it is primary
@@ -27,6 +27,6 @@ reply_of shown visible base commit primary =
       primary = primary;
     }
 
--- the answer goes on behind a log's last optime
+-- the answer goes on after a log's last optime
 abbrev pub continues : OpTime → FetchReply → Bool
 continues last reply = reply.holds && same_optime reply.base last

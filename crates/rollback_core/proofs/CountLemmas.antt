@@ -13,7 +13,7 @@ use Rattle.oplog_store.proofs.Keeps.{pairs_head, pairs_tail}
 use Rattle.repl_msg.specs.Logs.{same_optime, has_entry}
 use Rattle.repl_msg.proofs.HasLemmas.{same_is}
 use Rattle.rollback_core.proofs.Steps.{is_past, stands_at, IsCountUpTo}
-use Rattle.rollback_core.proofs.Greatest.{stands_behind}
+use Rattle.rollback_core.proofs.Greatest.{stands_after}
 
 tail_oplog : (entry : Entry) (log : List Entry) → IsOplog (entry ∷ log) → IsOplog log
 tail_oplog entry log oplog = record { order = pairs_tail StandsBefore entry log oplog.order; lawful = All-tail IsLawful entry log oplog.lawful }
@@ -29,16 +29,16 @@ none_has (entry ∷ log) at oplog first = go (has_entry (entry ∷ log) at) refl
     go : (b : Bool) → has_entry (entry ∷ log) at ≡ b → has_entry (entry ∷ log) at ≡ false
     go true is = elim (or_cases _ _ is) [
       | inl same ↦ let late : is_before at entry.optime ≡ false = ap (is_before at) (same_is entry.optime at same) ∙ at_most_refl at in absurd (cc (past, late))
-      | inr there ↦ let late : is_before at entry.optime ≡ false = stands_behind entry log at (pairs_head StandsBefore entry log oplog.order) there in absurd (cc (past, late))
+      | inr there ↦ let late : is_before at entry.optime ≡ false = stands_after entry log at (pairs_head StandsBefore entry log oplog.order) there in absurd (cc (past, late))
     ]
     go false is = is
 
--- each entry behind another is past it
-past_behind : (entry : Entry) (log : List Entry) (n : ℕ) → All (StandsBefore entry) log → n < length log → is_past log n entry.optime ≡ true
-past_behind entry [] n behind within = absurd (omega arith)
-past_behind entry (next ∷ log) zero behind within =
-    let before : StandsBefore entry next = behind zero next (omega arith) in before_both entry.optime next.optime before.term before.earlier
-past_behind entry (next ∷ log) (suc n) behind within = past_behind entry log n (All-tail (StandsBefore entry) next log behind) (omega arith)
+-- each entry after another is past it
+past_after : (entry : Entry) (log : List Entry) (n : ℕ) → All (StandsBefore entry) log → n < length log → is_past log n entry.optime ≡ true
+past_after entry [] n after within = absurd (omega arith)
+past_after entry (next ∷ log) zero after within =
+    let before : StandsBefore entry next = after zero next (omega arith) in before_both entry.optime next.optime before.term before.earlier
+past_after entry (next ∷ log) (suc n) after within = past_after entry log n (All-tail (StandsBefore entry) next log after) (omega arith)
 
 -- where the next is past an optime and the last isn't, the log has it if that is the last one's
 last_has : (log : List Entry) (n : ℕ) (at : OpTime) → IsOplog log → n < length log → is_past log n at ≡ false
@@ -55,7 +55,7 @@ last_has (entry ∷ log) (suc n) at oplog within last next = go (same_optime ent
   where
     go : (b : Bool) → same_optime entry.optime at ≡ b → has_entry log at ≡ stands_at log n at → (same_optime entry.optime at || has_entry log at) ≡ stands_at log n at
     go true same rest =
-        let past : is_past log n entry.optime ≡ true = past_behind entry log n (pairs_head StandsBefore entry log oplog.order) (omega arith) in
+        let past : is_past log n entry.optime ≡ true = past_after entry log n (pairs_head StandsBefore entry log oplog.order) (omega arith) in
         let here : is_past log n at ≡ true = ap (is_past log n) (sym (same_is entry.optime at same)) ∙ past in
         let late : is_past log n at ≡ false = last in
         absurd (cc (here, late))

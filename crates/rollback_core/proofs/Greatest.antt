@@ -32,14 +32,14 @@ last_there entry [] = or_left _ _ (same_itself entry.optime)
 last_there entry (next ∷ log) = or_right _ _ (last_there next log)
 
 -- an entry of a list is one at a place of it
-pub stands_behind : (entry : Entry) (log : List Entry) (o : OpTime) → All (StandsBefore entry) log → has_entry log o ≡ true → is_before o entry.optime ≡ false
-stands_behind entry [] o behind has = cc has
-stands_behind entry (next ∷ log) o behind has = elim (or_cases _ _ has) [
+pub stands_after : (entry : Entry) (log : List Entry) (o : OpTime) → All (StandsBefore entry) log → has_entry log o ≡ true → is_before o entry.optime ≡ false
+stands_after entry [] o later has = cc has
+stands_after entry (next ∷ log) o later has = elim (or_cases _ _ has) [
   | inl same ↦
       let is : next.optime ≡ o = same_is next.optime o same in
-      let before : StandsBefore entry next = behind zero next (omega arith) in
+      let before : StandsBefore entry next = later zero next (omega arith) in
       ap (λ x. is_before x entry.optime) (sym is) ∙ late entry next before
-  | inr there ↦ stands_behind entry log o (All-tail (StandsBefore entry) next log behind) there
+  | inr there ↦ stands_after entry log o (All-tail (StandsBefore entry) next log later) there
 ]
   where
     late : (one two : Entry) → StandsBefore one two → is_before two.optime one.optime ≡ false
@@ -58,7 +58,7 @@ last_is_greatest (entry ∷ []) oplog o has = elim (or_cases _ _ has) [
 last_is_greatest (entry ∷ next ∷ log) oplog o has = elim (or_cases _ _ has) [
   | inl same ↦
       ap (is_before (last_of (next ∷ log))) (sym (same_is entry.optime o same))
-      ∙ stands_behind entry (next ∷ log) (last_of (next ∷ log)) (pairs_head StandsBefore entry (next ∷ log) oplog.order) (last_there next log)
+      ∙ stands_after entry (next ∷ log) (last_of (next ∷ log)) (pairs_head StandsBefore entry (next ∷ log) oplog.order) (last_there next log)
   | inr there ↦ last_is_greatest (next ∷ log)
       (record { order = pairs_tail StandsBefore entry (next ∷ log) oplog.order; lawful = All-tail IsLawful entry (next ∷ log) oplog.lawful }) o there
 ]

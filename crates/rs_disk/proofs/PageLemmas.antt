@@ -76,7 +76,7 @@ take_nothing zero xs none = refl
 take_nothing (suc n) [] none = refl
 take_nothing (suc n) (x ∷ xs) none = absurd (omega (arith, none))
 
--- a part, and some of what stands behind it
+-- a part, and some of what follows it
 take_past : (n m : ℕ) (xs ys : List ℕ) → length xs ≡ n → take (n + m) (xs ++ ys) ≡ xs ++ take m ys
 take_past zero m [] ys long = ap (λ (k : ℕ). take k ys) (omega arith)
 take_past zero m (x ∷ xs) ys long = absurd (omega (arith, long))
@@ -401,7 +401,7 @@ module _ (old new : Pages) (file : File) (at : ℕ) (bytes : List ℕ) (holds : 
   early place after below (inr past) = overwritten_above from marks old.marks.items false (place - old.first) (omega (arith, from_is)) (omega (arith, from_is, to_is, length-marks))
 
   touched_at : (place : ℕ) → new.first ≤ place → place < new.least → slice_index_or new.marks.items (place - new.first) false ≡ is_written place (write at bytes ∷ file.changes)
-  touched_at place behind inside =
+  touched_at place later inside =
       let is : is_written place file.changes ≡ slice_index_or old.marks.items (place - old.first) false = sym (holds.touched place (omega (arith, first)) (omega (arith, least))) in
       let inside_synced : place < old.synced = omega (arith, least, least_synced old file holds) in
       (λ i. get_or (touched i) (place - first i) false) ∙ ⊎_elim
@@ -425,7 +425,7 @@ module _ (old new : Pages) (file : File) (at : ℕ) (bytes : List ℕ) (holds : 
       ∙ overwritten_below at bytes old.now.items 0 k (omega arith) (omega (arith, holds.within.first, holds.within.end))
       ∙ sym (get_or-take old.first old.now.items k 0 here))
 
-  -- and so is what was synced behind that
+  -- and so is what was synced after that
   back_kept : slice_range new.now.items (last_of old) old.synced ≡ slice_range old.now.items (last_of old) old.synced
   back_kept = ext_get_or 0 (slice_range new.now.items (last_of old) old.synced) (slice_range old.now.items (last_of old) old.synced)
       (length-range (last_of old) old.synced new.now.items (omega (arith, now_length, holds.within.synced)) ∙ sym (length-range (last_of old) old.synced old.now.items holds.within.synced))

@@ -1,7 +1,7 @@
 -- A file between two syncs, and what a crash may leave of it.
 --
 -- The model is that of a disk with a volatile cache. Between two syncs each range that was written, and
--- everything behind the least end that the file has had, may hold any bytes after a crash: old, new or
+-- everything after the least end that the file has had, may hold any bytes after a crash: old, new or
 -- neither. The file may then end anywhere from the least to the greatest end that it has had. All other bytes
 -- stay. A sync that succeeds leaves one outcome. Bytes are numbers below 256, and a file is a list of them.
 use Rattle.std.specs.Prelude.{◌≡◌, ℕ, ◌+◌, ◌<◌, ◌≤◌, min, max, Bool, false, ◌&&◌, ◌||◌, nat_le, nat_lt, List, [], ◌∷◌, ◌++◌, length, take, drop, slice_index, ⊤}
@@ -58,7 +58,7 @@ is_written place (write at bytes ∷ changes) =
     nat_le at place && nat_lt place (at + length bytes) || is_written place changes
 is_written place (cut to ∷ changes) = is_written place changes
 
--- numbers below 256; a place behind the end counts as 0
+-- numbers below 256; a place past the end counts as 0
 abbrev pub AreBytes : List ℕ → Type 0
 AreBytes list = (place : ℕ) → slice_index list place < 256
 

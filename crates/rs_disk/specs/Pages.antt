@@ -37,6 +37,6 @@ pub record Holds (pages : Pages) (file : File) : Type 0 where
   pub least : pages.least ≡ least_of file.synced file.changes
   pub touched : (place : ℕ) → pages.first ≤ place → place < pages.least
       → slice_index_or pages.marks.items (place - pages.first) false ≡ is_written place file.changes
-  -- what was written lies behind this place
+  -- what was written lies at or after this place
   pub first : pages.first ≤ pages.least
   pub untouched : (place : ℕ) → place < pages.first → is_written place file.changes ≡ false

@@ -4,7 +4,7 @@ ghost use Rattle.rs_disk.specs.File.{overwritten};
 
 use std::alloc::AllocError;
 
-// Puts bytes over others from a place on, and the rest of them behind the others. There is room for them.
+// Puts bytes over others from a place on, and the rest of them after the others. There is room for them.
 pub(crate) fn overwrite(list: &mut Vec<u8>, at: usize, bytes: &[u8])
     requires place { at ≤ vec_len list.old }
     requires room { at + length bytes.now ≤ vec_capacity list.old }
@@ -12,12 +12,12 @@ pub(crate) fn overwrite(list: &mut Vec<u8>, at: usize, bytes: &[u8])
     ensures capacity { vec_capacity list.old ≤ vec_capacity list.new }
 {
     let inside = bytes.len().min(list.len() - at);
-    let (over, behind) = bytes.split_at(inside);
+    let (over, after) = bytes.split_at(inside);
     list[at..at + inside].copy_from_slice(over);
-    append(list, behind);
+    append(list, after);
 }
 
-// Puts bytes behind the others. There is room for them.
+// Puts bytes after the others. There is room for them.
 pub(crate) fn append(list: &mut Vec<u8>, bytes: &[u8])
     requires { vec_len list.old + length bytes.now ≤ vec_capacity list.old }
     ensures items { list.new.items ≡ list.old.items ++ bytes.now }
@@ -28,7 +28,7 @@ pub(crate) fn append(list: &mut Vec<u8>, bytes: &[u8])
     };
 }
 
-// Puts marks that aren't set behind the others. There is room for them.
+// Puts marks that aren't set after the others. There is room for them.
 pub(crate) fn append_unset(marks: &mut Vec<bool>, count: usize)
     requires { vec_len marks.old + count ≤ vec_capacity marks.old }
     ensures items { marks.new.items ≡ marks.old.items ++ replicate count false }
@@ -99,7 +99,7 @@ pub(crate) fn mark_part(marks: &mut Vec<bool>, start: usize, end: usize, mark: b
     marks[start..end].fill(mark);
 }
 
-// Puts other bytes at the places between two that are marked, or at or behind the least end. The marks begin
+// Puts other bytes at the places between two that are marked, or at or after the least end. The marks begin
 // at the first of the two.
 pub(crate) fn fill_open(
     bytes: &mut Vec<u8>,
@@ -125,7 +125,7 @@ pub(crate) fn fill_open(
     }
 }
 
-// Whether the mark at a place is set. Behind the marks there is none.
+// Whether the mark at a place is set. After the marks there is none.
 fn is_set(marks: &[bool], place: usize) -> bool
     ensures { result ≡ slice_index_or marks.now place false }
 {

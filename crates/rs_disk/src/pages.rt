@@ -14,7 +14,7 @@ use std::alloc::{AllocError, Global};
 // bytes there is always room, since neither a write, a cut nor a power cut may take memory.
 #[derive(Drop)]
 pub(crate) struct Pages {
-    // What a read gives up to the end. What lies behind the end is what was synced there, where it isn't
+    // What a read gives up to the end. What lies after the end is what was synced there, where it isn't
     // kept, and else means nothing.
     pub(crate) now: Vec<u8>,
     // How long a file may get before memory is needed.
@@ -129,7 +129,7 @@ impl Pages {
     // Writes where what was synced is kept.
     fn put(&mut self, at: usize, bytes: &[u8])
         requires within { IsWithin self.old }
-        requires behind { self.old.first ≤ at }
+        requires after { self.old.first ≤ at }
         requires kept { min (at + length bytes.now) self.old.synced
             ≤ self.old.first + length self.old.kept.items }
         requires start { at ≤ self.old.end }

@@ -1,4 +1,4 @@
--- Pieces that are put one behind another, and where a putting of one piece stands.
+-- Pieces that are put one after another, and where a putting of one piece stands.
 use Rattle.std.proofs.Common.{ℕ, ◌≡◌, ◌+◌, List, ◌++◌, take, drop, append_assoc, ap, ◌∙◌}
 use Rattle.std.specs.Prelude.{Option, None, Some}
 use Rattle.std.proofs.Math.Seq.{take-add}
@@ -17,13 +17,13 @@ Appends-keeps (Some a) None new xs first kept = absurd first
 Appends-keeps (Some a) (Some b) None xs first kept = absurd kept
 Appends-keeps (Some a) (Some b) (Some c) xs first kept = kept ∙ first
 
--- a front of the piece was appended, and this is what is left of it
+-- a prefix of the piece was appended, and this is what is left of it
 pub record PutSoFar (old new : Option (List ℕ)) (piece rest : List ℕ) : Type 0 where
   pub count : ℕ
   pub left : rest ≡ drop count piece
   pub put : Appends old new (take count piece)
 
--- a front of what was left is appended too
+-- a prefix of what was left is appended too
 pub put_more : (old mid new : Option (List ℕ)) (piece rest after : List ℕ) (n : ℕ) → PutSoFar old mid piece rest → Appends mid new (take n rest) → after ≡ drop n rest → PutSoFar old new piece after
 put_more old mid new piece rest after n so_far more is = record {
   count = so_far.count + n;

@@ -107,7 +107,7 @@ before_at_most a b before = elim (before_parts a b before) [
   | inr same ↦ at_most_from a b (inr (same.0, omega (arith, same.1)))
 ]
 
--- what is before another one is not at or behind it
+-- what is before another one is not at or after it
 pub not_both : (a b : OpTime) → Before a b → AtMost b a → ⊥
 not_both a b before late = elim (before_parts a b before) [
   | inl less ↦ elim (at_most_parts b a late) [ inl more ↦ omega arith | inr same ↦ omega (arith, same.0) ]

@@ -14,8 +14,8 @@ use Rattle.set_model.specs.Safety.{Safe}
 use Rattle.set_model.specs.World.{World, step}
 use Rattle.run_checker.specs.declared.checking.CheckError.{CheckError}
 use Rattle.run_checker.specs.declared.checking.CheckError.TheVariants.{BadEvent, BadHeader, Memory, NoFit, OtherReply}
-use Rattle.run_checker.specs.Reading.{behind_line, event_in, header_in, is_line_feed, line_at}
-use Rattle.run_checker.specs.Checking.{IsTrace, RulesOut, Says, Shows, Stops, Tells, TellsSome, behind_reply, behind_text, by_header, checked, event_or, event_told, fits, if_fits, number_behind, opening_of, reply_text, set_of, told, told_from, told_one}
+use Rattle.run_checker.specs.Reading.{after_line, event_in, header_in, is_line_feed, line_at}
+use Rattle.run_checker.specs.Checking.{IsTrace, RulesOut, Says, Shows, Stops, Tells, TellsSome, after_reply, after_text, by_header, checked, event_or, event_told, fits, if_fits, number_after, opening_of, reply_text, set_of, told, told_from, told_one}
 use Rattle.run_checker.proofs.HeaderLemmas.{header_sizes}
 use Rattle.run_checker.proofs.PassingLemmas.{one_line}
 
@@ -28,13 +28,13 @@ same_byte : (c d : ℕ) → (c == d) ≡ true → c ≡ d
 same_byte c d is = grind arith
 
 -- a text is passed over where it stands
-passed_over : (number : ℕ) (text rest : List ℕ) → (end : ℕ) × (behind_text number text (text ++ rest) ≡ Ok (rest, end))
+passed_over : (number : ℕ) (text rest : List ℕ) → (end : ℕ) × (after_text number text (text ++ rest) ≡ Ok (rest, end))
 passed_over number [] rest = (number, refl)
 passed_over number (c ∷ text) rest =
-    let later = passed_over (number_behind c number) text rest in
+    let later = passed_over (number_after c number) text rest in
     (later.0, rw (itself c) later.1)
 
--- what stands behind it, with the number of the line there
+-- what follows it, with the number of the line there
 abbrev left_in : Result (List ℕ × ℕ) CheckError → List ℕ × ℕ
 left_in (Ok left) = left
 left_in (Err error) = ([], 0)
@@ -44,19 +44,19 @@ record Passed (number : ℕ) (text bytes : List ℕ) (left : List ℕ × ℕ) : 
   numbers : left.1 + length left.0 ≤ number + length bytes
 
 -- and only there
-stood_there : (number : ℕ) (text bytes : List ℕ) (left : List ℕ × ℕ) → behind_text number text bytes ≡ Ok left → Passed number text bytes left
+stood_there : (number : ℕ) (text bytes : List ℕ) (left : List ℕ × ℕ) → after_text number text bytes ≡ Ok left → Passed number text bytes left
 stood_there number [] bytes left is = subst (Passed number [] bytes) (ap left_in is) (record { parts = refl; numbers = omega arith })
 stood_there number (c ∷ text) [] left is = absurd (cc is)
-stood_there number (c ∷ text) (d ∷ bytes) left is = by_test (c == d) refl (λ found. stood_there (number_behind c number) text bytes left found) is
+stood_there number (c ∷ text) (d ∷ bytes) left is = by_test (c == d) refl (λ found. stood_there (number_after c number) text bytes left found) is
   where
-    by_test : (b : Bool) → (c == d) ≡ b → (behind_text (number_behind c number) text bytes ≡ Ok left → Passed (number_behind c number) text bytes left)
-        → cond b (behind_text (number_behind c number) text bytes) (Err (OtherReply number)) ≡ Ok left → Passed number (c ∷ text) (d ∷ bytes) left
-    by_test true same behind found =
-        let later = behind found in
+    by_test : (b : Bool) → (c == d) ≡ b → (after_text (number_after c number) text bytes ≡ Ok left → Passed (number_after c number) text bytes left)
+        → cond b (after_text (number_after c number) text bytes) (Err (OtherReply number)) ≡ Ok left → Passed number (c ∷ text) (d ∷ bytes) left
+    by_test true same after found =
+        let later = after found in
         let next = one_line c number in
-        let least : left.1 + length left.0 ≤ number_behind c number + length bytes = later.numbers in
+        let least : left.1 + length left.0 ≤ number_after c number + length bytes = later.numbers in
         record { parts = ap (λ (x : ℕ). x ∷ bytes) (sym (same_byte c d same)) ∙ ap (λ (xs : List ℕ). c ∷ xs) later.parts; numbers = omega (arith, next, least) }
-    by_test false other behind found = absurd (cc found)
+    by_test false other after found = absurd (cc found)
 
 -- ---- lines
 
@@ -64,7 +64,7 @@ some_same : (x y : List ℕ) → Some x ≡ Some y → x ≡ y
 some_same x y is = cc
 
 -- a line takes at least a byte
-pub shorter : (bytes rest : List ℕ) → behind_line bytes ≡ Some rest → length rest < length bytes
+pub shorter : (bytes rest : List ℕ) → after_line bytes ≡ Some rest → length rest < length bytes
 shorter [] rest is = absurd (cc is)
 shorter (c ∷ bytes) rest is = by_test (list_any is_line_feed (c ∷ bytes)) refl is
   where
@@ -75,13 +75,13 @@ shorter (c ∷ bytes) rest is = by_test (list_any is_line_feed (c ∷ bytes)) re
     by_test false none same = absurd (cc same)
 
 record Replied (number : ℕ) (text bytes : List ℕ) (left : List ℕ × ℕ) : Type 0 where
-  stands : behind_line bytes ≡ Some (text ++ left.0)
+  stands : after_line bytes ≡ Some (text ++ left.0)
   numbers : left.1 + length left.0 < number + length bytes
 
-reply_stood : (number : ℕ) (text bytes : List ℕ) (left : List ℕ × ℕ) → behind_reply number text (behind_line bytes) ≡ Ok left → Replied number text bytes left
-reply_stood number text bytes left is = by_line (behind_line bytes) refl is
+reply_stood : (number : ℕ) (text bytes : List ℕ) (left : List ℕ × ℕ) → after_reply number text (after_line bytes) ≡ Ok left → Replied number text bytes left
+reply_stood number text bytes left is = by_line (after_line bytes) refl is
   where
-    by_line : (line : Left) → behind_line bytes ≡ line → behind_reply number text line ≡ Ok left → Replied number text bytes left
+    by_line : (line : Left) → after_line bytes ≡ line → after_reply number text line ≡ Ok left → Replied number text bytes left
     by_line None same found = absurd (cc found)
     by_line (Some rest) same found =
         let passed = stood_there number text rest left found in
@@ -110,7 +110,7 @@ ok_same x y is = cc
 -- what an event's line and its reply come to
 pub record Told (nodes : ℕ) (world : World) (number : ℕ) (bytes : List ℕ) (one : Event × List ℕ × ℕ) : Type 0 where
   pub read : event_in nodes (line_at bytes) ≡ Ok one.0
-  pub stands : behind_line bytes ≡ Some (reply_text world one.0 ++ one.1)
+  pub stands : after_line bytes ≡ Some (reply_text world one.0 ++ one.1)
   pub numbers : one.2 + length one.1 ≤ number + length bytes
   pub fewer : length one.1 < length bytes
 
@@ -135,13 +135,13 @@ module _ (nodes : ℕ) (world : World) (number : ℕ) (bytes : List ℕ) where
   with_reply event left = Ok (event, left.0, left.1)
 
   abbrev pub with_event : Event → Result (Event × List ℕ × ℕ) CheckError
-  with_event event = behind_reply (number + 1) (reply_text world event) (behind_line bytes) >>= with_reply event
+  with_event event = after_reply (number + 1) (reply_text world event) (after_line bytes) >>= with_reply event
 
   pub one_told : (one : Event × List ℕ × ℕ) → told_one nodes world number bytes ≡ Ok one → Told nodes world number bytes one
   unfolding told_one
   one_told one is =
       let event = bind_ok (event_told nodes world number (line_at bytes)) with_event one is in
-      let left = bind_ok (behind_reply (number + 1) (reply_text world event.0) (behind_line bytes)) (with_reply event.0) one event.2 in
+      let left = bind_ok (after_reply (number + 1) (reply_text world event.0) (after_line bytes)) (with_reply event.0) one event.2 in
       let read = event_was nodes world number (line_at bytes) event.0 event.1 in
       let replied = reply_stood (number + 1) (reply_text world event.0) bytes left.0 left.1 in
       let least : left.0.1 + length left.0.0 < number + 1 + length bytes = replied.numbers in
@@ -150,7 +150,7 @@ module _ (nodes : ℕ) (world : World) (number : ℕ) (bytes : List ℕ) where
       record { read = read; stands = replied.stands; numbers = omega (arith, least); fewer = omega (arith, short, length-append (reply_text world event.0) left.0.0) } in
       subst (Told nodes world number bytes) (ap (one_in (event.0, left.0.0, left.0.1)) left.2) told
 
-  one_so : (event : Event) (rest : List ℕ) → event_in nodes (line_at bytes) ≡ Ok event → Fits world event → behind_line bytes ≡ Some (reply_text world event ++ rest)
+  one_so : (event : Event) (rest : List ℕ) → event_in nodes (line_at bytes) ≡ Ok event → Fits world event → after_line bytes ≡ Some (reply_text world event ++ rest)
       → (end : ℕ) × (told_one nodes world number bytes ≡ Ok (event, rest, end))
   unfolding told_one
   one_so event rest read fit stands =
@@ -177,15 +177,15 @@ module _ (nodes : ℕ) where
   -- the bytes determine the events
   same_events : (world : World) (one other : List Event) (bytes : List ℕ) → Tells nodes world one bytes → Tells nodes world other bytes → one ≡ other
   same_events world [] [] bytes first second = refl
-  same_events world [] (event ∷ events) bytes first (rest, read, fit, stands, later) = absurd (cc (ap behind_line first, stands))
-  same_events world (event ∷ events) [] bytes (rest, read, fit, stands, later) second = absurd (cc (ap behind_line second, stands))
+  same_events world [] (event ∷ events) bytes first (rest, read, fit, stands, later) = absurd (cc (ap after_line first, stands))
+  same_events world (event ∷ events) [] bytes (rest, read, fit, stands, later) second = absurd (cc (ap after_line second, stands))
   same_events world (a ∷ one) (b ∷ other) bytes (rest, is_a, fit, stands, later) (rest2, is_b, fit2, stands2, later2) =
       let same : a ≡ b = ok_same a b (sym is_a ∙ is_b) in
       let left : reply_text world a ++ rest ≡ reply_text world b ++ rest2 = some_same (reply_text world a ++ rest) (reply_text world b ++ rest2) (sym stands ∙ stands2) in
       let tail : rest ≡ rest2 = append_cancel_left (reply_text world a) rest rest2 (left ∙ ap (λ (e : Event). reply_text world e ++ rest2) (sym same)) in
       let again : Tells nodes (step world a).world other rest = subst (λ (xs : List ℕ). Tells nodes (step world a).world other xs) (sym tail) (subst (λ (e : Event). Tells nodes (step world e).world other rest2) (sym same) later2) in
-      let behind = same_events (step world a).world one other rest later again in
-      ap (λ (e : Event). e ∷ one) same ∙ ap (λ (es : List Event). b ∷ es) behind
+      let after = same_events (step world a).world one other rest later again in
+      ap (λ (e : Event). e ∷ one) same ∙ ap (λ (es : List Event). b ∷ es) after
 
   -- each event fits the world that it meets
   all_fit : (world : World) (events : List Event) (bytes : List ℕ) → Tells nodes world events bytes → AllFit world events

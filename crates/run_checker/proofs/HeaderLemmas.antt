@@ -10,7 +10,7 @@ use Rattle.script_words.proofs.CommandsFit.{IsIn, number_within}
 use Rattle.script_words.proofs.Gets.{bind_any, ended_gets}
 use Rattle.set_model.specs.Run.{AreSizes}
 use Rattle.run_checker.specs.Checking.{set_of}
-use Rattle.run_checker.specs.Reading.{behind_first, behind_line, header_at, header_in, header_of, line_at, sizes_in, text_of, with_rest}
+use Rattle.run_checker.specs.Reading.{without_first, after_line, header_at, header_in, header_of, line_at, sizes_in, text_of, with_rest}
 
 from_least : (least most n : ℕ) → IsIn least most n → least ≤ n
 from_least least most n within = let low = (and_parts (nat_le least n) (nat_le n most) within).0 in grind arith
@@ -38,7 +38,7 @@ of_set nodes voters members few some same = record {
 header_gets : (text : List ℕ) → Gets (header_at text) AreOfSet
 unfolding header_at
 header_gets text =
-    bind_any (word_at (Some text)) _ AreOfSet (λ first. bind_any (behind_first (codes "trace") first) _ AreOfSet (λ left.
+    bind_any (word_at (Some text)) _ AreOfSet (λ first. bind_any (without_first (codes "trace") first) _ AreOfSet (λ left.
     bind_gets (number_at 1 50 left) _ (λ x. IsIn 1 50 x.0) AreOfSet (number_within 1 50 left) (λ nodes few.
     bind_gets (number_at 1 (most_voters nodes.0) nodes.1) _ (λ x. IsIn 1 (most_voters nodes.0) x.0) AreOfSet (number_within 1 (most_voters nodes.0) nodes.1) (λ voters some.
     bind_gets (number_at voters.0 nodes.0 voters.1) _ (λ x. IsIn voters.0 nodes.0 x.0) AreOfSet (number_within voters.0 nodes.0 voters.1) (λ members same.
@@ -54,9 +54,9 @@ sizes_or default None = default
 sizes_or default (Some read) = read.0
 
 pub header_sizes : (bytes rest : List ℕ) (sizes : ℕ × ℕ × ℕ) → header_in bytes ≡ Some (sizes, rest) → AreSizes (set_of sizes)
-header_sizes bytes rest sizes is = by_parts (header_of (line_at bytes)) (behind_line bytes) (line_gets (line_at bytes)) is
+header_sizes bytes rest sizes is = by_parts (header_of (line_at bytes)) (after_line bytes) (line_gets (line_at bytes)) is
   where
     by_parts : (read : Result (ℕ × ℕ × ℕ) ScriptRule) (left : Left) → Gets read AreOfSet → with_rest (sizes_in read) left ≡ Some (sizes, rest) → AreOfSet sizes
-    by_parts (Ok own) (Some behind) fine is = subst AreOfSet (ap (sizes_or own) is) fine
+    by_parts (Ok own) (Some after) fine is = subst AreOfSet (ap (sizes_or own) is) fine
     by_parts (Ok own) None fine is = absurd (cc is)
     by_parts (Err rule) left fine is = absurd (cc is)

@@ -8,18 +8,18 @@ use Rattle.std.proofs.lemmas.List.Folds.{list_any_at, list_any_none}
 use Rattle.std.proofs.lemmas.List.Sums.{fails_before_first, passes_at_first}
 use Rattle.std.proofs.lemmas.Str.{is_utf8-from_IsUtf8, IsUtf8-from_is_utf8}
 use Rattle.script_words.specs.declared.rule.ScriptRule.TheVariants.{NotUtf8}
-use Rattle.run_checker.specs.Reading.{behind_line, is_line_feed, text_of}
+use Rattle.run_checker.specs.Reading.{after_line, is_line_feed, text_of}
 
--- behind a line feed
-pub behind_feed : (bytes : List ℕ) (end : ℕ) → Some end ≡ position is_line_feed bytes → Some (take (length bytes - (end + 1)) (drop (end + 1) bytes)) ≡ behind_line bytes
-behind_feed bytes end found =
+-- after a line feed
+pub after_feed : (bytes : List ℕ) (end : ℕ) → Some end ≡ position is_line_feed bytes → Some (take (length bytes - (end + 1)) (drop (end + 1) bytes)) ≡ after_line bytes
+after_feed bytes end found =
     let inside : position_or_len is_line_feed bytes < length bytes = grind arith in
     let at : end ≡ position_or_len is_line_feed bytes = grind arith in
     let some : list_any is_line_feed bytes ≡ true = list_any_at is_line_feed bytes (position_or_len is_line_feed bytes) 0 inside (passes_at_first is_line_feed bytes 0 inside) in
     rw (take_rest bytes (end + 1), some) (ap (λ (n : ℕ). Some (drop (n + 1) bytes)) at)
 
 -- there is none
-pub no_feed : (bytes : List ℕ) → None ≡ position is_line_feed bytes → None ≡ behind_line bytes
+pub no_feed : (bytes : List ℕ) → None ≡ position is_line_feed bytes → None ≡ after_line bytes
 no_feed bytes nowhere =
     let far : length bytes ≤ position_or_len is_line_feed bytes = grind arith in
     let none : list_any is_line_feed bytes ≡ false =

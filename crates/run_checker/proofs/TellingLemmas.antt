@@ -1,4 +1,4 @@
--- How far a trace was told: some events, whose run is defined, and what stands behind them.
+-- How far a trace was told: some events, whose run is defined, and what follows them.
 use Rattle.std.proofs.Common.{◌≡◌, ℕ, zero, suc, ◌+◌, ◌<◌, ◌≤◌, Bool, true, false, cond, List, [], ◌∷◌, ◌++◌, length, take, None, Some, Result, Ok, Err, refl, sym, ap, subst, arith, append_assoc, ◌∙◌}
 use Rattle.std.specs.Prelude.{IfErr, IfOk, IfSome, not, ◌||◌, ◌≢◌}
 use Rattle.std.proofs.lemmas.Bool.{and_parts}
@@ -15,13 +15,13 @@ use Rattle.set_model.specs.World.{World, event_plan, step}
 use Rattle.set_model.proofs.RunLemmas.{world_of-append}
 use Rattle.run_checker.specs.declared.checking.CheckError.{CheckError}
 use Rattle.run_checker.specs.declared.checking.CheckError.TheVariants.{BadEvent, BadHeader, Memory, NoFit, OtherReply}
-use Rattle.run_checker.specs.Reading.{behind_line, event_in, line_at}
-use Rattle.run_checker.specs.Checking.{Done, DoneLine, Goes, Reads, Stops, Tells, TellsSome, behind_text, event_or, event_told, fits, if_fits, opening_of, reply_text, set_of, told, told_from, told_one}
+use Rattle.run_checker.specs.Reading.{after_line, event_in, line_at}
+use Rattle.run_checker.specs.Checking.{Done, DoneLine, Goes, Reads, Stops, Tells, TellsSome, after_text, event_or, event_told, fits, if_fits, opening_of, reply_text, set_of, told, told_from, told_one}
 use Rattle.run_checker.proofs.CheckedLemmas.{Told, event_read, event_so, one_told, with_event}
 
 -- ---- one event
 
--- an error ends what goes on behind it
+-- an error ends what goes on after it
 stops_all : {A B : Type 0} (why : CheckError) (r : Result A CheckError) (f : A → Result B CheckError) → Stops why r → Stops why (r >>= f)
 stops_all Memory r f stops = tt
 stops_all (BadHeader number) r f stops = rw stops refl
@@ -66,30 +66,30 @@ module _ (nodes : ℕ) (world : World) (number : ℕ) (bytes own : List ℕ) (fi
     is_told : event_told nodes world number (line_at bytes) ≡ Ok line.event
     is_told = event_so nodes world number (line_at bytes) line.event (ap (λ (l : List ℕ). event_in nodes l) (sym first) ∙ line.read) line.done.fit
 
-    -- nothing stands behind it
-    pub no_reply : behind_line bytes ≡ None → told_one nodes world number bytes ≡ Err (OtherReply (number + 1))
+    -- nothing comes after it
+    pub no_reply : after_line bytes ≡ None → told_one nodes world number bytes ≡ Err (OtherReply (number + 1))
     unfolding told_one
     no_reply none = rw (is_told, none) refl
 
-    module _ (behind : List ℕ) (stands : behind_line bytes ≡ Some behind) where
-      passed_is : (left : Result (List ℕ × ℕ) CheckError) → behind_text (number + 1) text behind ≡ left → behind_text (number + 1) (reply_text world line.event) behind ≡ left
-      passed_is left is = ap (λ (xs : List ℕ). behind_text (number + 1) xs behind) (sym line.done.text_is) ∙ is
+    module _ (after : List ℕ) (stands : after_line bytes ≡ Some after) where
+      passed_is : (left : Result (List ℕ × ℕ) CheckError) → after_text (number + 1) text after ≡ left → after_text (number + 1) (reply_text world line.event) after ≡ left
+      passed_is left is = ap (λ (xs : List ℕ). after_text (number + 1) xs after) (sym line.done.text_is) ∙ is
 
-      one_is : (left : List ℕ × ℕ) → behind_text (number + 1) text behind ≡ Ok left → told_one nodes world number bytes ≡ Ok (line.event, left.0, left.1)
+      one_is : (left : List ℕ × ℕ) → after_text (number + 1) text after ≡ Ok left → told_one nodes world number bytes ≡ Ok (line.event, left.0, left.1)
       unfolding told_one
       one_is left is = let passed = passed_is (Ok left) is in rw (is_told, stands, passed) refl
 
-      none_is : (why : CheckError) → behind_text (number + 1) text behind ≡ Err why → told_one nodes world number bytes ≡ Err why
+      none_is : (why : CheckError) → after_text (number + 1) text after ≡ Err why → told_one nodes world number bytes ≡ Err why
       unfolding told_one
       none_is why is = let passed = passed_is (Err why) is in rw (is_told, stands, passed) refl
 
       -- its reply does, or another text
-      pub goes : {X : Type 0} (rest_of : X → List ℕ) (next_of : X → ℕ) (result : Result X CheckError) → Reads (λ x. (rest_of x, next_of x)) result (behind_text (number + 1) text behind)
+      pub goes : {X : Type 0} (rest_of : X → List ℕ) (next_of : X → ℕ) (result : Result X CheckError) → Reads (λ x. (rest_of x, next_of x)) result (after_text (number + 1) text after)
           → IfOk result (λ x. Goes nodes world number bytes new (rest_of x) (next_of x))
       goes rest_of next_of (Ok x) is = record { event = line.event; told = one_is (rest_of x, next_of x) is; fit = line.done.fit; world = line.done.world }
       goes rest_of next_of (Err why) is = tt
 
-      pub other_reply : {X : Type 0} (rest_of : X → List ℕ) (next_of : X → ℕ) (result : Result X CheckError) → Reads (λ x. (rest_of x, next_of x)) result (behind_text (number + 1) text behind)
+      pub other_reply : {X : Type 0} (rest_of : X → List ℕ) (next_of : X → ℕ) (result : Result X CheckError) → Reads (λ x. (rest_of x, next_of x)) result (after_text (number + 1) text after)
           → IfErr result (λ why. Stops why (told_one nodes world number bytes))
       other_reply rest_of next_of (Ok x) is = tt
       other_reply rest_of next_of (Err why) is = stop_of why (told_one nodes world number bytes) (none_is why is)
@@ -107,7 +107,7 @@ unfit number world event command documents none = by_test (fits world event) ref
 
 -- ---- some events
 
--- From this world on the rest is told behind so many events, as the whole is from the beginning.
+-- From this world on the rest is told after so many events, as the whole is from the beginning.
 pub record SoFar (sizes : ℕ × ℕ × ℕ) (whole : List ℕ) (world : World) (rest : List ℕ) (number count : ℕ) : Type 0 where
   pub events : List Event
   pub is : world ≡ (run (set_of sizes) events).world
@@ -184,21 +184,21 @@ module _ (sizes : ℕ × ℕ × ℕ) (whole : List ℕ) where
         at_event (suc most) (x ∷ xs) few some none = stops_all why (told_one sizes.0 world number (x ∷ xs)) (λ one. told_from most sizes.0 (step world one.0).world one.2 (count + 1) one.1) none
 
     -- one event more
-    module _ (new : World) (behind : List ℕ) (next : ℕ) (goes : Goes sizes.0 world number rest new behind next) where
-      one : Told sizes.0 world number rest (goes.event, behind, next)
-      one = one_told sizes.0 world number rest (goes.event, behind, next) goes.told
+    module _ (new : World) (after : List ℕ) (next : ℕ) (goes : Goes sizes.0 world number rest new after next) where
+      one : Told sizes.0 world number rest (goes.event, after, next)
+      one = one_told sizes.0 world number rest (goes.event, after, next) goes.told
 
-      left_behind : (most : ℕ) (xs : List ℕ) → length xs < most → 0 < length xs → length behind < length xs → told_one sizes.0 world number xs ≡ Ok (goes.event, behind, next)
-          → (fewer : ℕ) × (length behind < fewer) × (told_from fewer sizes.0 new next (count + 1) behind ≡ told_from most sizes.0 world number count xs)
-      left_behind zero xs few some short is = absurd (omega (arith, few))
-      left_behind (suc most) [] few some short is = absurd (omega (arith, some))
-      left_behind (suc most) (x ∷ xs) few some short is =
-          let here : told_from (suc most) sizes.0 world number count (x ∷ xs) ≡ told_from most sizes.0 (step world goes.event).world next (count + 1) behind = rw is refl in
-          (most, omega (arith, few, short), ap (λ (w : World). told_from most sizes.0 w next (count + 1) behind) goes.world ∙ sym here)
+      left_after : (most : ℕ) (xs : List ℕ) → length xs < most → 0 < length xs → length after < length xs → told_one sizes.0 world number xs ≡ Ok (goes.event, after, next)
+          → (fewer : ℕ) × (length after < fewer) × (told_from fewer sizes.0 new next (count + 1) after ≡ told_from most sizes.0 world number count xs)
+      left_after zero xs few some short is = absurd (omega (arith, few))
+      left_after (suc most) [] few some short is = absurd (omega (arith, some))
+      left_after (suc most) (x ∷ xs) few some short is =
+          let here : told_from (suc most) sizes.0 world number count (x ∷ xs) ≡ told_from most sizes.0 (step world goes.event).world next (count + 1) after = rw is refl in
+          (most, omega (arith, few, short), ap (λ (w : World). told_from most sizes.0 w next (count + 1) after) goes.world ∙ sym here)
 
-      pub more : count ≢ 4294967294 → 0 < length rest → SoFar sizes whole new behind next (count + 1)
+      pub more : count ≢ 4294967294 → 0 < length rest → SoFar sizes whole new after next (count + 1)
       more apart some =
-          let later = left_behind so_far.most rest so_far.fewer some one.fewer goes.told in
+          let later = left_after so_far.most rest so_far.fewer some one.fewer goes.told in
           let run_is : new ≡ (run (set_of sizes) (so_far.events ++ goes.event ∷ [])).world =
           goes.world ∙ ap (λ (w : World). (step w goes.event).world) so_far.is ∙ sym (world_of-append (set_of sizes) so_far.events goes.event) in
           record {
@@ -208,7 +208,7 @@ module _ (sizes : ℕ × ℕ × ℕ) (whole : List ℕ) where
             fit = λ others fit. subst (IsRun (set_of sizes)) (sym (append_assoc so_far.events (goes.event ∷ []) others))
                 (so_far.fit (goes.event ∷ others) (goes.fit, subst (λ (w : World). AllFit w others) goes.world fit));
             tells = λ others tells. subst (λ (es : List Event). Tells sizes.0 (opening_of sizes) es whole) (sym (append_assoc so_far.events (goes.event ∷ []) others))
-                (so_far.tells (goes.event ∷ others) (behind, one.read, goes.fit, one.stands, subst (λ (w : World). Tells sizes.0 w others behind) goes.world tells));
+                (so_far.tells (goes.event ∷ others) (after, one.read, goes.fit, one.stands, subst (λ (w : World). Tells sizes.0 w others after) goes.world tells));
             most = later.0;
             fewer = later.1;
             left = later.2 ∙ so_far.left;

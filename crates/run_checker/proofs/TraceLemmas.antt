@@ -7,9 +7,9 @@ use Rattle.set_model.specs.declared.command.Event.{Event}
 use Rattle.set_model.specs.declared.reply.Reply.{Reply}
 use Rattle.run_checker.specs.Trace.{entries_text, entry_text}
 
--- a front of what others stand behind
-pub take_front : (cut : ℕ) (front behind : List ℕ) → take cut front ≡ take (min cut (length front)) (front ++ behind)
-take_front cut front behind = sym (take_min cut front) ∙ sym (take-append-le (min cut (length front)) front behind (omega arith))
+-- a prefix of what others follow
+pub take_front : (cut : ℕ) (front rest : List ℕ) → take cut front ≡ take (min cut (length front)) (front ++ rest)
+take_front cut front rest = sym (take_min cut front) ∙ sym (take-append-le (min cut (length front)) front rest (omega arith))
 
 module _ (event : Event) (reply : Reply) where
   next_entry : (events : List Event) (replies : List Reply) (place : ℕ) → place < length events → place < length replies → event ≡ get_or events place event → reply ≡ get_or replies place reply
@@ -31,7 +31,7 @@ module _ (event : Event) (reply : Reply) where
       rw (same, next_entry events replies place within too is_event is_reply)
       (one ∙ ap (λ (xs : List ℕ). xs ++ entry_text (event, reply)) put ∙ append_assoc before (entries_text (take place events) (take place replies)) (entry_text (event, reply)))
 
-  -- some first events, and a front of the next one, are a front of all
+  -- some first events, and a prefix of the next one, are a prefix of all
   pub entries_front : (events : List Event) (replies : List Reply) (place cut : ℕ) → place < length events → place < length replies → event ≡ get_or events place event → reply ≡ get_or replies place reply
       → (count : ℕ) × (entries_text (take place events) (take place replies) ++ take cut (entry_text (event, reply)) ≡ take count (entries_text events replies))
   entries_front [] replies place cut within too is_event is_reply = absurd (omega arith)
@@ -45,7 +45,7 @@ module _ (event : Event) (reply : Reply) where
             ∙ ap (λ (xs : List ℕ). entry_text (e, r) ++ xs) later.1 ∙ sym (take-append-add (entry_text (e, r)) (entries_text es rs) later.0),
       )
 
--- behind the last event all are there
+-- after the last event all are there
 pub entries_all : (events : List Event) (replies : List Reply) (count : ℕ) → length events ≡ length replies → count ≡ min (length events) (length replies)
     → entries_text (take count events) (take count replies) ≡ entries_text events replies
 entries_all events replies count same is =

@@ -13,7 +13,7 @@ use Rattle.script_words.specs.Words.{Left}
 use Rattle.transcript.specs.Replies.{line_text}
 use Rattle.run_checker.specs.declared.checking.CheckError.{CheckError}
 use Rattle.run_checker.specs.declared.checking.CheckError.TheVariants.{BadHeader, BadEvent, Memory, NoFit, OtherReply}
-use Rattle.run_checker.specs.Reading.{behind_line, event_in, header_in, is_line_feed, line_at}
+use Rattle.run_checker.specs.Reading.{after_line, event_in, header_in, is_line_feed, line_at}
 
 -- ---- traces
 
@@ -24,7 +24,7 @@ set_of sizes = record { nodes = sizes.0; voters = sizes.1; members = sizes.2 }
 abbrev pub opening_of : ℕ × ℕ × ℕ → World
 opening_of sizes = opening_world sizes.0 sizes.1 sizes.2
 
--- what is said of an event, and of what stands behind it
+-- what is said of an event, and of what follows it
 abbrev pub reply_text : World → Event → List ℕ
 reply_text world event = line_text (event.line, (step world event).reply)
 
@@ -34,7 +34,7 @@ abbrev pub Tells : ℕ → World → List Event → List ℕ → Type 0
 Tells nodes world [] bytes = bytes ≡ []
 Tells nodes world (event ∷ events) bytes =
     (rest : List ℕ) × (event_in nodes (line_at bytes) ≡ Ok event) × Fits world event
-    × (behind_line bytes ≡ Some (reply_text world event ++ rest))
+    × (after_line bytes ≡ Some (reply_text world event ++ rest))
     × Tells nodes (step world event).world events rest
 
 -- the bytes are a trace of these events, of a set of as many nodes, voters and members
@@ -78,21 +78,21 @@ abbrev pub stands_at : ℕ → ℕ → List ℕ → Bool
 stands_at byte place bytes = nat_lt place (length bytes) && byte == slice_index bytes place
 
 -- the number of the line in which the next byte stands
-abbrev pub number_behind : ℕ → ℕ → ℕ
-number_behind byte number = if is_line_feed byte then number + 1 else number
+abbrev pub number_after : ℕ → ℕ → ℕ
+number_after byte number = if is_line_feed byte then number + 1 else number
 
--- What stands behind a text, with the number of the line there, where this one is the number of the first
+-- What follows a text, with the number of the line there, where this one is the number of the first
 -- line; else the number of the line in which another byte stands, or none.
-abbrev pub behind_text : ℕ → List ℕ → List ℕ → Result (List ℕ × ℕ) CheckError
-behind_text number [] bytes = Ok (bytes, number)
-behind_text number (c ∷ text) [] = Err (OtherReply number)
-behind_text number (c ∷ text) (d ∷ bytes) =
-    if c == d then behind_text (number_behind c number) text bytes else Err (OtherReply number)
+abbrev pub after_text : ℕ → List ℕ → List ℕ → Result (List ℕ × ℕ) CheckError
+after_text number [] bytes = Ok (bytes, number)
+after_text number (c ∷ text) [] = Err (OtherReply number)
+after_text number (c ∷ text) (d ∷ bytes) =
+    if c == d then after_text (number_after c number) text bytes else Err (OtherReply number)
 
--- behind an event's line, which may be the last and go without its end
-abbrev pub behind_reply : ℕ → List ℕ → Left → Result (List ℕ × ℕ) CheckError
-behind_reply number text None = Err (OtherReply number)
-behind_reply number text (Some rest) = behind_text number text rest
+-- after an event's line, which may be the last and go without its end
+abbrev pub after_reply : ℕ → List ℕ → Left → Result (List ℕ × ℕ) CheckError
+after_reply number text None = Err (OtherReply number)
+after_reply number text (Some rest) = after_text number text rest
 
 abbrev pub event_or : ℕ → Result Event ScriptRule → Result Event CheckError
 event_or number (Ok event) = Ok event
@@ -107,14 +107,14 @@ event_told nodes world number line = do
   event ← event_or number (event_in nodes line)
   if_fits number world event
 
--- the event of the first line, with what stands behind its reply and the number of the line there
+-- the event of the first line, with what follows its reply and the number of the line there
 unfoldable pub told_one : ℕ → World → ℕ → List ℕ → Result (Event × List ℕ × ℕ) CheckError
 told_one nodes world number bytes = do
   event ← event_told nodes world number (line_at bytes)
-  rest ← behind_reply (number + 1) (reply_text world event) (behind_line bytes)
+  rest ← after_reply (number + 1) (reply_text world event) (after_line bytes)
   Ok (event, rest.0, rest.1)
 
--- How many events these bytes tell of, from a line of this number and a world, behind so many events. There
+-- How many events these bytes tell of, from a line of this number and a world, after so many events. There
 -- are fewer events than bytes.
 abbrev pub told_from : ℕ → ℕ → World → ℕ → ℕ → List ℕ → Result ℕ CheckError
 told_from zero nodes world number count bytes = Ok count
@@ -123,7 +123,7 @@ told_from (suc most) nodes world number count (c ∷ bytes) = do
   one ← told_one nodes world number (c ∷ bytes)
   told_from most nodes (step world one.0).world one.2 (count + 1) one.1
 
--- how many events stand behind the header of a set
+-- how many events come after the header of a set
 abbrev pub told : ℕ × ℕ × ℕ → List ℕ → Result ℕ CheckError
 told sizes rest = told_from (suc (length rest)) sizes.0 (opening_of sizes) 2 0 rest
 
@@ -145,7 +145,7 @@ Stops (BadEvent number) said = said ≡ Err (BadEvent number)
 Stops (NoFit number) said = said ≡ Err (NoFit number)
 Stops (OtherReply number) said = said ≡ Err (OtherReply number)
 
--- that is what was said, but for want of memory
+-- that is what was said, unless memory ran out
 abbrev pub Says : {X Y : Type 0} → (X → Y) → Result X CheckError → Result Y CheckError → Type 0
 Says view (Ok x) said = said ≡ Ok (view x)
 Says view (Err error) said = Stops error said
@@ -155,7 +155,7 @@ abbrev pub Reads : {X Y : Type 0} → (X → Y) → Result X CheckError → Resu
 Reads view (Ok x) read = read ≡ Ok (view x)
 Reads view (Err error) read = read ≡ Err error
 
--- behind the header of a set the bytes tell of so many events
+-- after the header of a set the bytes tell of so many events
 pub record TellsSome (sizes : ℕ × ℕ × ℕ) (count : ℕ) (bytes : List ℕ) : Type 0 where
   pub events : List Event
   pub tells : Tells sizes.0 (opening_of sizes) events bytes
@@ -173,7 +173,7 @@ pub record DoneLine (nodes : ℕ) (old : World) (line : List ℕ) (new : World) 
   pub read : event_in nodes line ≡ Ok event
   pub done : Done old event new text
 
--- An event was told, and this stands behind it.
+-- An event was told, and this comes after it.
 pub record Goes (nodes : ℕ) (old : World) (number : ℕ) (bytes : List ℕ) (new : World) (rest : List ℕ)
     (next : ℕ) : Type 0 where
   pub event : Event

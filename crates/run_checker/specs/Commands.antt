@@ -21,7 +21,7 @@ use Rattle.set_model.specs.declared.command.ReadLevel.TheVariants as levels
 use Rattle.set_model.specs.declared.command.Target.{Target}
 use Rattle.set_model.specs.declared.command.Target.TheVariants as targets
 
--- ---- words, each behind a space where it isn't told otherwise
+-- ---- words, each after a space where it isn't told otherwise
 
 abbrev pub document_words : List ℕ → Fields → List ℕ
 document_words collection fields = codes " " ++ collection ++ codes " " ++ printed (document fields)
@@ -129,7 +129,7 @@ is_of_documents (Read node level collection id) = true
 is_of_documents (Dump node level) = true
 is_of_documents _ = false
 
--- it has other words behind the node
+-- it has other words after the node
 abbrev pub is_of_words : Command → Bool
 is_of_words (Heartbeat node to) = true
 is_of_words (Report node to) = true

@@ -24,17 +24,17 @@ is_line_feed byte = byte == 10
 abbrev pub line_at : List ℕ → List ℕ
 line_at bytes = before_first is_line_feed bytes
 
--- what stands behind the first line's end, where it has one
-abbrev pub behind_line : List ℕ → Left
-behind_line bytes = if list_any is_line_feed bytes then Some (after_first is_line_feed bytes) else None
+-- what follows the first line's end, where it has one
+abbrev pub after_line : List ℕ → Left
+after_line bytes = if list_any is_line_feed bytes then Some (after_first is_line_feed bytes) else None
 
 -- the text of a line, which is UTF-8
 abbrev pub text_of : List ℕ → Result (List ℕ) ScriptRule
 text_of line = if is_utf8 line then Ok line else Err NotUtf8
 
--- what is left behind this first word
-abbrev pub behind_first : List ℕ → List ℕ × Left → Result Left ScriptRule
-behind_first name first = if bytes_eq first.0 name then Ok first.1 else Err UnknownCommand
+-- what is left after this first word
+abbrev pub without_first : List ℕ → List ℕ × Left → Result Left ScriptRule
+without_first name first = if bytes_eq first.0 name then Ok first.1 else Err UnknownCommand
 
 -- ---- the header
 
@@ -42,7 +42,7 @@ behind_first name first = if bytes_eq first.0 name then Ok first.1 else Err Unkn
 unfoldable pub header_at : List ℕ → Result (ℕ × ℕ × ℕ) ScriptRule
 header_at text = do
   first ← word_at (Some text)
-  left ← behind_first (codes "trace") first
+  left ← without_first (codes "trace") first
   nodes ← number_at 1 50 left
   voters ← number_at 1 (most_voters nodes.0) nodes.1
   members ← number_at voters.0 nodes.0 voters.1
@@ -63,9 +63,9 @@ with_rest (Some sizes) (Some rest) = Some (sizes, rest)
 with_rest (Some sizes) None = None
 with_rest None left = None
 
--- the sizes that a trace's header names, and what stands behind the header
+-- the sizes that a trace's header names, and what follows the header
 abbrev pub header_in : List ℕ → Option ((ℕ × ℕ × ℕ) × List ℕ)
-header_in bytes = with_rest (sizes_in (header_of (line_at bytes))) (behind_line bytes)
+header_in bytes = with_rest (sizes_in (header_of (line_at bytes))) (after_line bytes)
 
 -- ---- an event
 
@@ -85,7 +85,7 @@ failed_at left = do
 unfoldable pub event_at : ℕ → List ℕ → Result Event ScriptRule
 event_at nodes text = do
   first ← word_at (Some text)
-  left ← behind_first (codes "event") first
+  left ← without_first (codes "event") first
   line ← number_at 0 4294967295 left
   failed ← failed_at line.1
   kept ← number_at 0 1 failed.1

@@ -1,7 +1,7 @@
 -- What a trace is: a run, printed so that it can be played again.
 --
 --     trace NODES VOTERS MEMBERS          the sizes of the set
---     event LINE FAILED KEPT COMMAND      an event, and behind it
+--     event LINE FAILED KEPT COMMAND      an event, and after it
 --     LINE: ..                            the text of its reply
 --
 -- LINE is the number of the event's line. FAILED is the number of the store that failed in it, or `-`. KEPT

@@ -3,7 +3,7 @@ ghost use Rattle.std.specs.Prelude.{◌≡◌, ◌+◌, ◌-◌, ◌<◌, ◌^�
 ghost use Rattle.checker_machine.specs.Reached.{IsReached};
 ghost use Rattle.set_model.specs.Limits.{IsSoundWrite, is_for, write_of};
 ghost use Rattle.set_model.specs.Run.{AreSizes};
-ghost use Rattle.run_checker.specs.Checking.{Done, DoneLine, Goes, Reads, RulesOut, Says, Shows, Stops, TellsSome, behind_text, checked, event_or, event_told, if_fits, number_behind, set_of, stands_at, told, told_one};
+ghost use Rattle.run_checker.specs.Checking.{Done, DoneLine, Goes, Reads, RulesOut, Says, Shows, Stops, TellsSome, after_text, checked, event_or, event_told, if_fits, number_after, set_of, stands_at, told, told_one};
 ghost use Rattle.run_checker.specs.Reading.{event_in};
 
 use crate::lines::next_line;
@@ -16,7 +16,7 @@ use set_model::{Command, Event};
 use std::alloc::{AllocError, Global};
 use transcript::set_reply;
 
-/// Behind so many events a number of the machine may outgrow its type.
+/// After so many events a number of the machine may outgrow its type.
 const MOST_EVENTS: u64 = 4_294_967_294;
 
 /// Why bytes are no trace, each with the number of the line that shows it, counted from 1. The first that is
@@ -29,8 +29,8 @@ pub enum CheckError {
     BadEvent(u64),
     /// The event doesn't fit the world that it meets.
     NoFit(u64),
-    /// What stands behind an event isn't its reply: the first line that differs, or, where the bytes end
-    /// behind a whole line or the event itself, the next one.
+    /// What follows an event isn't its reply: the first line that differs, or, where the bytes end
+    /// after a whole line or the event itself, the next one.
     OtherReply(u64),
     /// Memory ran out, or there are more than 4,294,967,294 events.
     Memory,
@@ -62,7 +62,7 @@ pub fn check(alloc: Global, bytes: &[u8]) -> Result<u64, CheckError>
     told(alloc, sizes, rest)
 }
 
-/// How many events are told behind the header of a set.
+/// How many events are told after the header of a set.
 fn told(alloc: Global, sizes: Sizes, bytes: &[u8]) -> Result<u64, CheckError>
     requires { AreSizes (set_of sizes) }
     ensures tells { IfOk result (λ count. TellsSome sizes count bytes.now) }
@@ -84,7 +84,7 @@ fn told(alloc: Global, sizes: Sizes, bytes: &[u8]) -> Result<u64, CheckError>
 }
 
 /// Does the event that the first line is, whose number is `line`, and passes over its reply: what stands
-/// behind it, and the number of the next line. Uses the memory of `text`.
+/// after it, and the number of the next line. Uses the memory of `text`.
 fn told_one<'a>(
     nodes: u32,
     machine: &mut Machine,
@@ -100,12 +100,12 @@ fn told_one<'a>(
         (λ left. Goes nodes machine.old line bytes.now machine.new left.0.now left.1) }
     ensures err { IfErr result (λ why. Stops why (told_one nodes machine.old line bytes.now)) }
 {
-    let (own, behind) = next_line(bytes);
+    let (own, after) = next_line(bytes);
     done_line(nodes, machine, own, line, text)?;
-    let Some(behind) = behind else {
+    let Some(after) = after else {
         return Err(CheckError::OtherReply(line + 1));
     };
-    passed(text.as_bytes(), behind, line + 1)
+    passed(text.as_bytes(), after, line + 1)
 }
 
 /// Does the event that a line of this number is, and writes its reply in place of `text`.
@@ -159,18 +159,18 @@ fn step(
     Ok(())
 }
 
-/// Passes over a reply, whose first line has this number: what stands behind it, and the number of the
+/// Passes over a reply, whose first line has this number: what follows it, and the number of the
 /// next line.
 fn passed<'a>(reply: &[u8], rest: &'a [u8], line: u64) -> Result<(&'a [u8], u64), CheckError>
     requires { line + length rest.now < 2 ^ 64 }
-    ensures { Reads (λ x. (x.0.now, x.1)) result (behind_text line reply.now rest.now) }
+    ensures { Reads (λ x. (x.0.now, x.1)) result (after_text line reply.now rest.now) }
 {
     let mut next = line;
     for place in 0..reply.len() {
         if !stands_at(reply[place], place, rest) {
             return Err(CheckError::OtherReply(next));
         }
-        next = number_behind(reply[place], next);
+        next = number_after(reply[place], next);
     }
     Ok((&rest[reply.len()..], next))
 }
@@ -183,9 +183,9 @@ fn stands_at(byte: u8, place: usize, bytes: &[u8]) -> bool
 }
 
 /// The number of the line in which the next byte stands.
-fn number_behind(byte: u8, line: u64) -> u64
+fn number_after(byte: u8, line: u64) -> u64
     requires { line < 2 ^ 64 - 1 }
-    ensures { result ≡ number_behind byte line }
+    ensures { result ≡ number_after byte line }
 {
     if byte == b'\n' { line + 1 } else { line }
 }

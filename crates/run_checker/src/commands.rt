@@ -124,7 +124,7 @@ fn write_of_documents(command: &Command, out: &mut String) -> Mem<()>
     }
 }
 
-/// Appends a command that has other words behind the node.
+/// Appends a command that has other words after the node.
 fn write_of_words(command: &Command, out: &mut String) -> Mem<()>
     requires { is_of_words command.now ≡ true }
     ensures { OnOk result (string_bytes out.new ≡ string_bytes out.old ++ command_text command.now) }

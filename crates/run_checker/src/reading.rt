@@ -3,7 +3,7 @@ ghost use Rattle.std.specs.Prelude.{◌≡◌, true, IfOk, MatchOption, None, So
 ghost use Rattle.std.specs.Option.{option_copied};
 ghost use Rattle.script_words.specs.Gives.{Gives, Reads};
 ghost use Rattle.set_model.specs.Limits.{is_for};
-ghost use Rattle.run_checker.specs.Reading.{behind_first, event_at, event_in, failed_at, failed_of, header_at, header_in, header_of};
+ghost use Rattle.run_checker.specs.Reading.{without_first, event_at, event_in, failed_at, failed_of, header_at, header_in, header_of};
 
 use crate::lines::{next_line, text_of};
 use crate::sizes::Sizes;
@@ -12,7 +12,7 @@ use script_words::{Left, MAX_NODES, Read, most_voters, number, number_of, text, 
 use set_model::Event;
 use std::alloc::Global;
 
-/// The sizes that a trace's header names, and what stands behind the header. None where the bytes don't
+/// The sizes that a trace's header names, and what follows the header. None where the bytes don't
 /// begin with one.
 pub fn read_header(bytes: &[u8]) -> Option<(Sizes, &[u8])>
     ensures { MatchOption result (header_in bytes.now ≡ None)
@@ -38,7 +38,7 @@ fn header(text: &str) -> Result<Sizes, ScriptRule>
     ensures { result ≡ header_at text.now }
 {
     let (first, left) = word(Some(text))?;
-    let left = behind_first("trace", first, left)?;
+    let left = without_first("trace", first, left)?;
     let (nodes, left) = number(left, 1, MAX_NODES)?;
     let (voters, left) = number(left, 1, most_voters(nodes))?;
     let (members, left) = number(left, voters, nodes)?;
@@ -48,9 +48,9 @@ fn header(text: &str) -> Result<Sizes, ScriptRule>
     }
 }
 
-/// What is left behind a line's first word, which is to have this name.
-fn behind_first<'a>(name: &str, first: &str, left: Left<'a>) -> Result<Left<'a>, ScriptRule>
-    ensures { Reads option_copied result (behind_first name.now (first.now, option_copied left.entry)) }
+/// What is left after a line's first word, which is to have this name.
+fn without_first<'a>(name: &str, first: &str, left: Left<'a>) -> Result<Left<'a>, ScriptRule>
+    ensures { Reads option_copied result (without_first name.now (first.now, option_copied left.entry)) }
 {
     if first == name {
         Ok(left)
@@ -75,7 +75,7 @@ fn event(alloc: Global, nodes: u32, line: &str) -> Result<Event, CommandError>
     ensures fits { IfOk result (λ event. is_for nodes event.command ≡ true) }
 {
     let (first, left) = word(Some(line))?;
-    let left = behind_first("event", first, left)?;
+    let left = without_first("event", first, left)?;
     let (line, left) = number(left, 0, u32::MAX)?;
     let (failed, left) = failed(left)?;
     let (kept, left) = number(left, 0, 1)?;

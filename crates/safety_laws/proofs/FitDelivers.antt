@@ -29,7 +29,7 @@ use Rattle.safety_laws.proofs.FitRows.{FitNow, FitOn, FitsOn, ended, follows, ou
 use Rattle.safety_laws.proofs.Outcomes.{secondary_back, secondary_not}
 
 module _ (node : Node) (fit : FitNow (standing_of node)) where
-  -- entries that are taken stand behind the log of a secondary
+  -- entries that are taken come after the log of a secondary
   entries_fit : (from : ℕ) (fetched : FetchReply) → FitsOn (standing_of (entries_told node from fetched).node)
   entries_fit from fetched = go (is_secondary node.role) refl
     where

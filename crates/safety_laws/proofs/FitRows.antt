@@ -1,4 +1,4 @@
--- What each row leaves of a node that leads behind it: its log is fit, where it was before.
+-- What each row leaves of a node that leads after it: its log is fit, where it was before.
 use Rattle.std.proofs.Common.{◌≡◌, ◌≢◌, ◌<◌, ◌&&◌, inl, inr, ap, sym, subst, refl, arith, ltb-true, ℕ, zero, suc, Bool, true, false, nat_lt, ◌+◌, Option, None, Some, if◌then◌else◌, Result, Ok, Err, List, [], ◌∷◌}
 use Rattle.std.proofs.lemmas.Bool.{and_parts, cases_Bool}
 use Rattle.std.specs.Prelude.{IfSome, nat_le}
@@ -118,7 +118,7 @@ numbered_session session within =
     record { id = ltb-true session.id 4294967296 both.0; number = omega (arith, number) }
 
 module _ (node : Node) (fit : IsFit (standing_of node)) (log : HasLog node) where
-  -- an entry behind the log that was ready, of which the numbers of its session go up
+  -- an entry after the log that was ready, of which the numbers of its session go up
   logged_fits : (op : Op) (session : Option Session) → is_primary node.role ≡ true → IsAdmitted node op session
       → ((other : Entry) → In other node.log → GoesUp other (next_entry node op session)) → IsFit (standing_of (logged node op session))
   logged_fits op session primary new above =

@@ -21,7 +21,7 @@ use Rattle.set_model.proofs.SessionLemmas.{Ascends, ascends_left}
 use Rattle.set_model.specs.World.{World, Task, acts, takes, nothing, task, touched_node, plan_of, by_plan, with_outcome, step}
 use Rattle.commit_machine.specs.Nodes.{Snapshot, State, Was}
 use Rattle.commit_machine.specs.Words.{Has}
-use Rattle.commit_machine.proofs.Facts.{Kept}
+use Rattle.commit_machine.proofs.Facts.{Invariant}
 use Rattle.safety_laws.proofs.Along.{worlds_before, IsKeptAlong}
 use Rattle.safety_laws.proofs.FitDelivers.{deliver_fits}
 use Rattle.safety_laws.proofs.FitNodes.{IsFit, IsFitEntry, follower_fit, standing_of}
@@ -47,7 +47,7 @@ drains roles.Candidate leads none = absurd (cc leads)
 drains roles.Primary leads none = absurd (cc none)
 
 -- a leader that hasn't drained has no entry of its term
-drain_fresh : (state : State) (number : ℕ) (node : Node) → Kept state → IsUp state node → Was state number (snapshot_of node) → IsFresh node
+drain_fresh : (state : State) (number : ℕ) (node : Node) → Invariant state → IsUp state node → Was state number (snapshot_of node) → IsFresh node
 drain_fresh state number node kept up was draining entry there same =
     let older : entry.optime.term < node.term =
     kept.candidate_log number (snapshot_of node) was (inr (ap role_of (draining_is node.role draining))) entry.optime
@@ -88,7 +88,7 @@ now_fit past world state rel fits number node there up = elim (cases_Bool (is_le
 
 -- ---- one event
 
-module _ (past : List World) (world : World) (state : State) (event : Event) (kept : Kept state) (rel : Rel world state) (fits : Fits world event) (led : AreLedFit past world state) where
+module _ (past : List World) (world : World) (state : State) (event : Event) (kept : Invariant state) (rel : Rel world state) (fits : Fits world event) (led : AreLedFit past world state) where
   plan_fits : (number : ℕ) (node : Node) → slice_get world.nodes number ≡ Some node → (what : Task) (plan : Plan) → plan_of world event what node ≡ Some plan → FitOn plan
   plan_fits number node there (acts n) plan is =
       subst FitOn (same_Some _ plan is)

@@ -13,7 +13,7 @@ use Rattle.set_model.specs.Run.{Sizes, AreSizes}
 use Rattle.set_model.specs.Safety as safety
 use Rattle.commit_machine.specs.Words.{AtMost, Has, IsPointOf}
 use Rattle.commit_machine.specs.Nodes.{Snapshot, State, Was}
-use Rattle.commit_machine.proofs.Facts.{HasOrigin, HasWon, Kept}
+use Rattle.commit_machine.proofs.Facts.{HasOrigin, HasWon, Invariant}
 use Rattle.commit_machine.proofs.Growth.{in_append, in_left}
 use Rattle.safety_laws.specs.Logs.{LeadersAddTheirOwn, LeadersHadWhatIsBefore}
 use Rattle.safety_laws.proofs.Frame.{RowsTied, DeliveriesTied}
@@ -60,7 +60,7 @@ module _ (rows_tied : RowsTied) (deliveries_tied : DeliveriesTied) (sizes : Size
   abbrev at_place : ℕ → State
   at_place place = state_of rows_tied deliveries_tied sizes events are is place
 
-  kept : (place : ℕ) → Kept (at_place place)
+  kept : (place : ℕ) → Invariant (at_place place)
   kept place = kept_of rows_tied deliveries_tied sizes events are is place
 
   log_of : (place number : ℕ) (node : Node) → safety.IsAt sizes events place number node → HasLog node

@@ -10,8 +10,8 @@ use Rattle.set_model.specs.Run.{Sizes, AreSizes, world_at}
 use Rattle.set_model.specs.Safety as safety
 use Rattle.set_model.specs.World.{World, step}
 use Rattle.commit_machine.specs.Nodes.{Secondary, Candidate, Primary, Snapshot, Leads, State, Was, now}
-use Rattle.commit_machine.specs.Machine.{Action, actor, before, behind, after, IsAllowed, AreAllowed, run}
-use Rattle.commit_machine.proofs.Facts.{Kept}
+use Rattle.commit_machine.specs.Machine.{Action, actor, before, actor_after, after, IsAllowed, AreAllowed, run}
+use Rattle.commit_machine.proofs.Facts.{Invariant}
 use Rattle.commit_machine.proofs.Growth.{now_was, now_actor, now_other, was_before}
 use Rattle.commit_machine.proofs.Keeps.{keeps}
 use Rattle.safety_laws.specs.Leaders.{PrimariesStay}
@@ -25,8 +25,8 @@ use Rattle.safety_laws.proofs.WrittenEntries.{leading_of, now_is, step_plain, th
 
 -- ---- the actions of an event
 
--- a primary that leads behind an action is primary still
-next_primary : (state : State) (action : Action) → IsAllowed state action → (before state action).role ≡ Primary → Leads (behind state action) → (behind state action).role ≡ Primary
+-- a primary that leads after an action is primary still
+next_primary : (state : State) (action : Action) → IsAllowed state action → (before state action).role ≡ Primary → Leads (actor_after state action) → (actor_after state action).role ≡ Primary
 next_primary state (Action.Raise node term) may role leads = absurd (not_secondary Secondary refl leads)
 next_primary state (Action.Campaign node) may role leads = absurd (not_candidate Candidate refl leads)
 next_primary state (Action.Grant node candidate shown) may role leads = absurd (not_secondary Secondary refl leads)
@@ -44,14 +44,14 @@ next_primary state (Action.Install node source shown) may role leads = role
 next_primary state (Action.Reconfig node version voters) may role leads = role
 next_primary state (Action.Send node) may role leads = role
 
--- and behind many, where it leads in the same term
-still_primary : (state : State) (actions : List Action) → Kept state → AreAllowed state actions → (n : ℕ) → (now state n).role ≡ Primary → Leads (now (run state actions) n)
+-- and after many, where it leads in the same term
+still_primary : (state : State) (actions : List Action) → Invariant state → AreAllowed state actions → (n : ℕ) → (now state n).role ≡ Primary → Leads (now (run state actions) n)
     → (now state n).term ≡ (now (run state actions) n).term → (now (run state actions) n).role ≡ Primary
 still_primary state [] kept allowed n role leads same = role
 still_primary state (action ∷ actions) kept allowed n role leads same =
     still_primary (after state action) actions kept_next allowed.1 n (next (cases_eq (actor action) n)) leads (sym mid.1 ∙ same)
   where
-    kept_next : Kept (after state action)
+    kept_next : Invariant (after state action)
     kept_next = keeps state action allowed.0 kept
 
     mid : Leads (now (after state action) n) × ((now state n).term ≡ (now (after state action) n).term)
@@ -60,18 +60,18 @@ still_primary state (action ∷ actions) kept allowed n role leads same =
     next : (actor action ≡ n) ⊎ (actor action ≡ n → ⊥) → (now (after state action) n).role ≡ Primary
     next (inr other) = ap (λ (x : Snapshot). x.role) (now_other state action n other) ∙ role
     next (inl own) =
-        let here : now (after state action) n ≡ behind state action = ap (now (after state action)) (sym own) ∙ now_actor state action in
+        let here : now (after state action) n ≡ actor_after state action = ap (now (after state action)) (sym own) ∙ now_actor state action in
         ap (λ (x : Snapshot). x.role) here
         ∙ next_primary state action allowed.0 (ap (λ m. (now state m).role) own ∙ role) (subst (λ x. Leads x) here mid.0)
 
 -- ---- an event
 
 module _ (rows_tied : RowsTied) (deliveries_tied : DeliveriesTied) (sizes : Sizes) (events : List Event) (are : AreSizes sizes) (is : IsRun sizes events) where
-  -- it led in the term as the event came, and is primary behind it where it was before
+  -- it led in the term as the event came, and is primary after it where it was before
   abbrev LedOn : ℕ → ℕ → ℕ → Node → Type 0
   LedOn place m term cur = (old : Node) × safety.Leads sizes events place m term old × (old.role ≡ roles.Primary → cur.role ≡ roles.Primary)
 
-  -- what had led in a term by then, and leads in it behind the event
+  -- what had led in a term by then, and leads in it after the event
   module _ (place m term : ℕ) (y : Snapshot) (was : Was (state_of rows_tied deliveries_tied sizes events are is place) m y) (led : Leads y) (y_term : y.term ≡ term)
       (cur : Node) (leads : safety.Leads sizes events (suc place) m term cur) where
     same_world : world_at sizes events (suc place) ≡ world_at sizes events place → LedOn place m term cur
@@ -99,7 +99,7 @@ module _ (rows_tied : RowsTied) (deliveries_tied : DeliveriesTied) (sizes : Size
         old_at : safety.IsAt sizes events place m old.0
         old_at = record { there = old.1; up = ((step_plain (world_at sizes events place) event).stays m old.0 cur old.1 there leads.at.up leads.role).0 }
 
-        kept : Kept (state_of rows_tied deliveries_tied sizes events are is place)
+        kept : Invariant (state_of rows_tied deliveries_tied sizes events are is place)
         kept = kept_of rows_tied deliveries_tied sizes events are is place
 
         old_is : now (state_of rows_tied deliveries_tied sizes events are is place) m ≡ snapshot_of old.0

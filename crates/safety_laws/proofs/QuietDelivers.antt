@@ -23,7 +23,7 @@ use Rattle.set_model.specs.Deliver.{body_refusal, brings_term, deliver, take_ter
 use Rattle.set_model.specs.Fetching.{entries_told}
 use Rattle.set_model.specs.Node.{Node, DryTally, down}
 use Rattle.set_model.specs.Outcome.{Outcome, ignored, refused, replied, sending}
-use Rattle.set_model.specs.Points.{last_point, log_behind}
+use Rattle.set_model.specs.Points.{last_point, log_after}
 use Rattle.set_model.specs.Reports.{report_told}
 use Rattle.set_model.specs.Roles.{is_secondary, is_candidate, is_primary}
 use Rattle.set_model.specs.Rollback.{common_point, common_told, cut_record, roll_back, rollback_reason, shown_in}
@@ -156,7 +156,7 @@ module _ (base : Node) (earlier : List Store) (node : Node) (disks : down node �
 -- ---- each message
 
 body_works : (node : Node) (term : ℕ) (body : Body) → Works (body_refusal node term body)
-body_works node term (CommonAsk after) = works_if (nat_lt 20000 (length (log_behind after (shown_in node term)))) (Some why.TooManyOptimes) None refl tt
+body_works node term (CommonAsk after) = works_if (nat_lt 20000 (length (log_after after (shown_in node term)))) (Some why.TooManyOptimes) None refl tt
 body_works node term (Fetch at) = tt
 body_works node term (Fetched fetched) = tt
 body_works node term (Reported config durable) = tt

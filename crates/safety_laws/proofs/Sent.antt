@@ -1,4 +1,4 @@
--- Each message of a run was sent by an event, and what it tells is known of the world behind that.
+-- Each message of a run was sent by an event, and what it tells is known of the world after that.
 use Rattle.std.proofs.Common.{◌≡◌, ◌<◌, ◌≤◌, inl, inr, ap, sym, subst, refl, arith, length, ℕ, zero, suc, take, Option, None, Some, slice_get, List, [], ◌∷◌}
 use Rattle.repl_msg.specs.declared.message.Message.{Message}
 use Rattle.set_model.specs.declared.command.Event.{Event}
@@ -18,7 +18,7 @@ taken_all (event ∷ events) zero none = absurd (cc none)
 taken_all (event ∷ events) (suc place) none = ap (λ rest. event ∷ rest) (taken_all events place none)
 
 module _ (sizes : Sizes) (events : List Event) where
-  -- the event behind an earlier place sent the message of this number, and touched this node
+  -- the event after an earlier place sent the message of this number, and touched this node
   pub record WasSent (until number : ℕ) (message : Message) : Type 0 where
     pub place : ℕ
     pub before : place < until

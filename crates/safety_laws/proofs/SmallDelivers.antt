@@ -21,7 +21,7 @@ use Rattle.set_model.specs.Deliver.{body_refusal, brings_term, vote_reply_told, 
 use Rattle.set_model.specs.Fetching.{holds, entries_told, reply_to}
 use Rattle.set_model.specs.Node.{Node, DryTally}
 use Rattle.set_model.specs.Outcome.{Outcome, replied, sending}
-use Rattle.set_model.specs.Points.{last_point, log_behind, visible_log, same_optime}
+use Rattle.set_model.specs.Points.{last_point, log_after, visible_log, same_optime}
 use Rattle.set_model.specs.Reports.{report_told}
 use Rattle.set_model.specs.Roles.{is_secondary, is_candidate, is_primary}
 use Rattle.set_model.specs.Rollback.{common_told, common_point, roll_back, rollback_reason, cut_record}
@@ -51,8 +51,8 @@ module _ (l : Limits) (from : ℕ) (known : from < l.nodes) where
   fetch_told_fine : (next : ℕ) (node : Node) (base : OpTime) → NodeFine l node → FineOutcome l (sending (reply.Replied next) node from (bodies.FetchReply (reply_to node base)))
   fetch_told_fine next node base ok = says l _ node from (bodies.FetchReply (reply_to node base)) ok known tt (go (holds node base))
     where
-      go : (b : Bool) → AreTimely l.time (cond b (take 5000 (log_behind base (visible_log node))) [])
-      go true = take_timely l.time 5000 (log_behind base (visible_log node)) (filter_timely l.time _ (visible_log node) (visible_timely l.time node ok.0.timely))
+      go : (b : Bool) → AreTimely l.time (cond b (take 5000 (log_after base (visible_log node))) [])
+      go true = take_timely l.time 5000 (log_after base (visible_log node)) (filter_timely l.time _ (visible_log node) (visible_timely l.time node ok.0.timely))
       go false = λ entry there. absurd there
 
   entries_fine : (node : Node) (fetched : FetchReply) → NodeFine l node → AreTimely l.time fetched.entries → FineOutcome l (entries_told node from fetched)

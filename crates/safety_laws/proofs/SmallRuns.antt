@@ -38,7 +38,7 @@ use Rattle.safety_laws.proofs.SmallRows.{RoomFor, row_fine}
 use Rattle.safety_laws.proofs.SmallDelivers.{deliver_fine}
 use Rattle.safety_laws.proofs.TermBounds.{asked_term, termed_at, sent_in}
 
--- ---- the limits behind so many events
+-- ---- the limits after so many events
 
 abbrev limits : ℕ → ℕ → ℕ → Limits
 limits nodes events place = record { nodes = nodes; place = place; time = last_timestamp events; rollbacks = events; records = 2 * events + 1 }

@@ -1,4 +1,4 @@
--- The documents that a log leaves, place by place: each of its fronts leaves there what may be stored.
+-- The documents that a log leaves, place by place: each of its prefixes leaves there what may be stored.
 use Rattle.std.proofs.Common.{◌≡◌, ◌∙◌, ◌≤◌, ◌<◌, inl, inr, ap, sym, subst, refl, arith, ltb-false, ℕ, T, Bool, true, false, ◌&&◌, cond, nat_lt, fold, Option, None, Some, List, [], ◌∷◌, ◌++◌}
 use Rattle.std.specs.Cmp.{tied_itself, Equal-is}
 use Rattle.std.specs.FinMap as maps
@@ -37,7 +37,7 @@ doc_from place before (entry ∷ log) = doc_from place (next_at place before ent
 abbrev pub doc_at : Place → List Entry → Option Fields
 doc_at place log = doc_from place None log
 
--- each front of a log leaves at a place what may be stored
+-- each prefix of a log leaves at a place what may be stored
 abbrev pub AreStoredFrom : Place → Option Fields → List Entry → Type 0
 AreStoredFrom place before [] = IsStored place before
 AreStoredFrom place before (entry ∷ log) = IsStored place before × AreStoredFrom place (next_at place before entry) log
@@ -165,7 +165,7 @@ late_apart place ts first log late rises earlier other there = by_test (is_at (p
   where
     after : In other (first ∷ log) → ts ≤ other.optime.ts
     after (inl same) = let from : ts ≤ first.optime.ts = ltb-false first.optime.ts ts late in let is : first.optime.ts ≡ other.optime.ts = ap (λ (e : Entry). e.optime.ts) same in omega (arith, from, is)
-    after (inr behind) = let from : ts ≤ first.optime.ts = ltb-false first.optime.ts ts late in let follows : Follows first.optime other.optime = rises.0 other.optime (in_has other log behind) in
+    after (inr tail) = let from : ts ≤ first.optime.ts = ltb-false first.optime.ts ts late in let follows : Follows first.optime other.optime = rises.0 other.optime (in_has other log tail) in
         omega (arith, from, follows.0)
 
     by_test : (b : Bool) → is_at (place_of other.op) place ≡ b → is_at (place_of other.op) place ≡ false

@@ -7,7 +7,7 @@ use Rattle.set_model.specs.Node.{Node}
 use Rattle.set_model.specs.Run.{Sizes}
 use Rattle.set_model.specs.Safety.{Leads}
 
--- Who is primary in a term, and leads in it later, is primary in it all the time between.
+-- Who is primary in a term, and leads in it later, is primary in it all the time in between.
 abbrev pub PrimariesStay : Sizes → List Event → Type 0
 PrimariesStay sizes events =
     (i j k number term : ℕ) (old new : Node) → i ≤ j → j ≤ k

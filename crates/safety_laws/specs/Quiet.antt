@@ -147,7 +147,7 @@ IsStopped true (suc number) there old new whole =
 abbrev pub unfailed : Event → Event
 unfailed event = record event { failed = None }
 
--- A store of the event failed, and that is all that became of it: nothing is sent, and no other node changed.
+-- A store of the event failed, and nothing else happened: nothing is sent, and no other node changed.
 pub record BreaksOff (world : World) (event : Event) : Type 0 where
   pub number : ℕ
   pub fails : event.failed ≡ Some number

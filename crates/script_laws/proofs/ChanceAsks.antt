@@ -18,7 +18,7 @@ use Rattle.script_words.specs.Words.{Left, has_shape, word_at, word_count, numbe
 use Rattle.script_words.specs.Commands.{keyword_of, keyword_at, shape_of, words_at, of_node, heartbeat_at, report_at, common_at, apply_at, crash_at, clock_at, deliver_latest}
 use Rattle.script_words.proofs.Gets.{both}
 use Rattle.script_laws.proofs.ChanceLines.{is_text, is_inside, IsCommand, AreCommands, one_command}
-use Rattle.script_laws.proofs.ChanceWords.{word_is_text, word_is, behind_is, one_more_word, only_word, is_written, name_of, name_inside, node_is, last_node, other_last_node, last_number}
+use Rattle.script_laws.proofs.ChanceWords.{word_is_text, word_is, after_is, one_more_word, only_word, is_written, name_of, name_inside, node_is, last_node, other_last_node, last_number}
 
 -- ---- first words
 
@@ -48,8 +48,8 @@ a_command nodes word left verb command first plain short shaped asked = record {
   asked = asked;
 }
 
-pub ask_is : (word : List ℕ) (node : ℕ) (behind : List ℕ) → ask word node behind ≡ (word ++ 32 ∷ (name_of node ++ behind)) ++ 10 ∷ []
-ask_is word node behind = simp append_assoc
+pub ask_is : (word : List ℕ) (node : ℕ) (after : List ℕ) → ask word node after ≡ (word ++ 32 ∷ (name_of node ++ after)) ++ 10 ∷ []
+ask_is word node after = simp append_assoc
 
 -- the name of a node of a small set
 pub record IsName (node : ℕ) : Type 0 where
@@ -68,14 +68,14 @@ alone nodes node word verb command first within few shaped asked =
     one_command nodes (word ++ 32 ∷ name_of node) (ask word node []) one (simp append_assoc)
 
 -- a word, a node and a last word
-pub with_word : (nodes node : ℕ) (word behind : List ℕ) (verb : Verb) (command : Command) → IsFirstWord word verb → node < nodes → nodes ≤ 50 → list_all is_inside behind ≡ true → length behind ≤ 100
-    → ((left : Left) → word_count left ≡ 2 → has_shape (shape_of verb) left ≡ true) → words_at nodes verb (Some (name_of node ++ 32 ∷ behind)) ≡ Ok command → AreCommands nodes 1 (ask word node (32 ∷ behind))
-with_word nodes node word behind verb command first within few inside short shaped asked =
+pub with_word : (nodes node : ℕ) (word after : List ℕ) (verb : Verb) (command : Command) → IsFirstWord word verb → node < nodes → nodes ≤ 50 → list_all is_inside after ≡ true → length after ≤ 100
+    → ((left : Left) → word_count left ≡ 2 → has_shape (shape_of verb) left ≡ true) → words_at nodes verb (Some (name_of node ++ 32 ∷ after)) ≡ Ok command → AreCommands nodes 1 (ask word node (32 ∷ after))
+with_word nodes node word after verb command first within few inside short shaped asked =
     let name = is_name nodes node within few in
-    let left = name_of node ++ 32 ∷ behind in
-    let words : word_count (Some left) ≡ 2 = omega (arith, one_more_word (name_of node) behind name.inside, only_word behind inside) in
-    let one = a_command nodes word left verb command first (texts (name_of node) (32 ∷ behind) (word_is_text (name_of node) name.inside) (word_is_text behind inside)) (omega (arith, name.short, short, length-append (name_of node) (32 ∷ behind))) (shaped (Some left) words) asked in
-    one_command nodes (word ++ 32 ∷ left) (ask word node (32 ∷ behind)) one (ask_is word node (32 ∷ behind))
+    let left = name_of node ++ 32 ∷ after in
+    let words : word_count (Some left) ≡ 2 = omega (arith, one_more_word (name_of node) after name.inside, only_word after inside) in
+    let one = a_command nodes word left verb command first (texts (name_of node) (32 ∷ after) (word_is_text (name_of node) name.inside) (word_is_text after inside)) (omega (arith, name.short, short, length-append (name_of node) (32 ∷ after))) (shaped (Some left) words) asked in
+    one_command nodes (word ++ 32 ∷ left) (ask word node (32 ∷ after)) one (ask_is word node (32 ∷ after))
 
 -- ---- words with one node
 
@@ -159,4 +159,4 @@ unfolding deliver_latest
 delivers nodes node other within second few apart =
     let name = is_name nodes other second few in
     with_word nodes node (codes "deliver") (name_of other) verbs.Deliver (commands.DeliverLatest node other) (record { inside = refl; short = omega arith; said = λ rest. refl; named = refl }) within few name.inside (omega (arith, name.short)) (λ left two. rw two refl)
-    (rw (behind_is (name_of node) (name_of other) (is_name nodes node within few).inside, node_is nodes node (name_of other) within few, other_last_node nodes node other second few apart) refl)
+    (rw (after_is (name_of node) (name_of other) (is_name nodes node within few).inside, node_is nodes node (name_of other) within few, other_last_node nodes node other second few apart) refl)

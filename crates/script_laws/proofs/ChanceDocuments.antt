@@ -13,7 +13,7 @@ use Rattle.doc_text.proofs.NamesAreClean.{no_zero}
 use Rattle.doc_text.proofs.PrintedIsSpelled.{read_again}
 use Rattle.script_words.specs.Values.{value_at, last_value, last_document}
 
--- a value that is printed, with what stands behind it
+-- a value that is printed, with what follows it
 pub value_is : (tree : Tree) (rest : List ℕ) → IsLawful tree → value_levels tree ≤ 100 → EndsThere tree rest → value_at (printed tree ++ rest) ≡ Ok (tree, rest)
 unfolding value_at
 value_is tree rest lawful shallow whole =
@@ -61,7 +61,7 @@ operators_are =
     let lawful : IsLawful (document operators) = ((no_zero (codes "$inc") (omega arith, (omega arith, (omega arith, (omega arith, tt)))), refl, tt), (((no_zero (codes "n") (omega arith, tt), refl, tt), (refl, tt)), tt)) in
     ap last_document (sym operators_text) ∙ last_document_is operators lawful (omega arith)
 
--- a number, with what is no number behind it
+-- a number, with what is no number after it
 pub number_value : (id : ℕ) (rest : List ℕ) → id < 2 ^ 31 → EndsThere (int32 (pos id)) rest → value_at (decimal id ++ rest) ≡ Ok (int32 (pos id), rest)
 unfolding printed
 number_value id rest few whole = value_is (int32 (pos id)) rest (fits_small id few) (omega arith) whole

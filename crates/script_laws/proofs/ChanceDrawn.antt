@@ -24,7 +24,7 @@ IsWithin nodes event (Restart node) = node < nodes
 IsWithin nodes event (StepDown node) = node < nodes
 IsWithin nodes event (Clock node seconds) = (node < nodes) × (seconds < 1000)
 
--- the same of what is drawn, with the generator behind it
+-- the same of what is drawn, with the generator after it
 record Gives (nodes event : ℕ) (read : Happening × Lcg) : Type 0 where
   inside : IsWithin nodes event read.0
 

@@ -70,7 +70,7 @@ command_read : (number : ℕ) (reading : Reading) (set : SetLine) (line : List �
 unfolding with_line with_command
 command_read number reading set line one few known closed = rw (text_is number line few one.short one.plain, one.said, known, one.named, closed, one.asked) refl
 
--- such lines behind the `set` line
+-- such lines after the `set` line
 pub commands_read : (set : SetLine) (later : List (List ℕ)) (number : ℕ) (reading : Reading) → AllByRecursion (IsCommand set.nodes) later → number + length later ≤ 200001 → reading.set ≡ Some set → reading.block ≡ None
     → (read : Script) × (script_from number reading later ≡ Ok read) × (read.nodes ≡ set.nodes) × (read.voters ≡ set.voters) × (read.members ≡ set.members)
 commands_read set [] number reading all few known closed =

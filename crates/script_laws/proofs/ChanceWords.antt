@@ -11,7 +11,7 @@ use Rattle.std.proofs.lemmas.Fmt.{decimal_is_IsNumeral, length-decimal-le}
 use Rattle.std.proofs.lemmas.Str.Parse.{digit_from_value}
 use Rattle.script_words.specs.declared.rule.ScriptRule.{ScriptRule}
 use Rattle.script_words.specs.declared.rule.ScriptRule.TheVariants.{BadNode}
-use Rattle.script_words.specs.Words.{is_space, Left, left_behind, word_count, word_at, number_of, number_at, node_at, other_node_at}
+use Rattle.script_words.specs.Words.{is_space, Left, left_after, word_count, word_at, number_of, number_at, node_at, other_node_at}
 use Rattle.script_words.proofs.Gets.{both}
 use Rattle.script_laws.proofs.ChanceLines.{is_text, is_inside, each_true}
 
@@ -30,7 +30,7 @@ word_is_text (c ∷ word) all = let parts = each_true (is_inside c) (list_all is
 counted : (b : Bool) (c : ℕ) (text : List ℕ) → is_space c ≡ b → count_by is_space (c ∷ text) ≡ cond b 1 0 + count_by is_space text
 counted b c text is = sum_by-cons (λ x. cond (is_space x) 1 0) c text ∙ ap (λ (x : Bool). cond x 1 0 + count_by is_space text) is
 
--- a word with a space behind it
+-- a word with a space after it
 record IsCut (word rest : List ℕ) : Type 0 where
   place : position_or_len is_space (word ++ 32 ∷ rest) ≡ length word
   some : list_any is_space (word ++ 32 ∷ rest) ≡ true
@@ -44,7 +44,7 @@ cut (c ∷ word) rest all =
     let other = not_space c parts.0 in
     record { place = rw other (omega (arith, later.place)); some = rw other later.some; count = omega (arith, counted false c (word ++ 32 ∷ rest) other, later.count) }
 
--- a word with nothing behind it
+-- a word with nothing after it
 record IsLast (word : List ℕ) : Type 0 where
   place : position_or_len is_space word ≡ length word
   none : list_any is_space word ≡ false
@@ -58,30 +58,30 @@ last (c ∷ word) all =
     let other = not_space c parts.0 in
     record { place = rw other (omega (arith, later.place)); none = rw other later.none; count = omega (arith, counted false c word other, later.count) }
 
-pub behind_is : (word rest : List ℕ) → list_all is_inside word ≡ true → left_behind (word ++ 32 ∷ rest) ≡ Some rest
-behind_is word rest all =
+pub after_is : (word rest : List ℕ) → list_all is_inside word ≡ true → left_after (word ++ 32 ∷ rest) ≡ Some rest
+after_is word rest all =
     let c = cut word rest all in
-    let behind : after_first is_space (word ++ 32 ∷ rest) ≡ rest = rw c.place (behind_length word rest) in
-    rw (c.some, behind) refl
+    let after : after_first is_space (word ++ 32 ∷ rest) ≡ rest = rw c.place (after_length word rest) in
+    rw (c.some, after) refl
   where
-    behind_length : (xs ys : List ℕ) → drop (length xs + 1) (xs ++ 32 ∷ ys) ≡ ys
-    behind_length [] ys = refl
-    behind_length (x ∷ xs) ys = let more : length (x ∷ xs) + 1 ≡ suc (length xs + 1) = omega arith in rw more (behind_length xs ys)
+    after_length : (xs ys : List ℕ) → drop (length xs + 1) (xs ++ 32 ∷ ys) ≡ ys
+    after_length [] ys = refl
+    after_length (x ∷ xs) ys = let more : length (x ∷ xs) + 1 ≡ suc (length xs + 1) = omega arith in rw more (after_length xs ys)
 
 pub word_is : (word rest : List ℕ) → list_all is_inside word ≡ true → word_at (Some (word ++ 32 ∷ rest)) ≡ Ok (word, Some rest)
 unfolding word_at
 word_is word rest all =
     let before : before_first is_space (word ++ 32 ∷ rest) ≡ word = rw ((cut word rest all).place) (take-append_seam word (32 ∷ rest)) in
-    let behind : left_behind (word ++ 32 ∷ rest) ≡ Some rest = behind_is word rest all in
-    ap (λ (w : List ℕ). Ok (w, left_behind (word ++ 32 ∷ rest))) before ∙ ap (λ (l : Left). Ok (word, l)) behind
+    let after : left_after (word ++ 32 ∷ rest) ≡ Some rest = after_is word rest all in
+    ap (λ (w : List ℕ). Ok (w, left_after (word ++ 32 ∷ rest))) before ∙ ap (λ (l : Left). Ok (word, l)) after
 
 pub last_word : (word : List ℕ) → list_all is_inside word ≡ true → word_at (Some word) ≡ Ok (word, None)
 unfolding word_at
 last_word word all =
     let l = last word all in
     let before : before_first is_space word ≡ word = rw (l.place) (take-length word) in
-    let behind : left_behind word ≡ None = rw (l.none) refl in
-    ap (λ (w : List ℕ). Ok (w, left_behind word)) before ∙ ap (λ (x : Left). Ok (word, x)) behind
+    let after : left_after word ≡ None = rw (l.none) refl in
+    ap (λ (w : List ℕ). Ok (w, left_after word)) before ∙ ap (λ (x : Left). Ok (word, x)) after
 
 pub one_more_word : (word rest : List ℕ) → list_all is_inside word ≡ true → word_count (Some (word ++ 32 ∷ rest)) ≡ 1 + word_count (Some rest)
 one_more_word word rest all = omega (arith, (cut word rest all).count)

@@ -13,11 +13,11 @@ use Rattle.script_words.specs.declared.verb.WriteKind.{WriteKind}
 use Rattle.script_words.specs.declared.verb.WriteKind.TheVariants.{Insert, Update, Delete}
 use Rattle.script_words.specs.declared.shape.Shape.TheVariants.{Value}
 use Rattle.chance_script.specs.Generated.{ask}
-use Rattle.script_words.specs.Words.{has_text, has_shape, left_behind, collection_at}
+use Rattle.script_words.specs.Words.{has_text, has_shape, left_after, collection_at}
 use Rattle.script_words.specs.Values.{value_of, text_at, value_at}
 use Rattle.script_words.specs.Commands.{insert_at, update_at, delete_at, write_at, write_command, words_at}
 use Rattle.script_laws.proofs.ChanceLines.{is_text, AreCommands, one_command}
-use Rattle.script_laws.proofs.ChanceWords.{word_is_text, word_is, behind_is, is_written, name_of, node_is}
+use Rattle.script_laws.proofs.ChanceWords.{word_is_text, word_is, after_is, is_written, name_of, node_is}
 use Rattle.script_laws.proofs.ChanceAsks.{IsFirstWord, texts, a_command, ask_is, is_name}
 use Rattle.script_laws.proofs.ChanceDocuments.{inserted, operators, inserted_is, operators_are, number_value, last_number_value}
 
@@ -30,13 +30,13 @@ a_write : (nodes node : ℕ) (word text : List ℕ) (kind : WriteKind) (op : Wri
     → list_all is_text text ≡ true → length text ≤ 500 → has_text (Some text) ≡ true → write_at kind (Some (116 ∷ 32 ∷ text)) ≡ Ok op → AreCommands nodes 1 (ask word node (32 ∷ 116 ∷ 32 ∷ text))
 a_write nodes node word text kind op first within few plain short some read =
     let name = is_name nodes node within few in
-    let behind = 116 ∷ 32 ∷ text in
-    let left = name_of node ++ 32 ∷ behind in
-    let second : left_behind left ≡ Some behind = behind_is (name_of node) behind name.inside in
+    let after = 116 ∷ 32 ∷ text in
+    let left = name_of node ++ 32 ∷ after in
+    let second : left_after left ≡ Some after = after_is (name_of node) after name.inside in
     let shaped : has_shape (Value 2) (Some left) ≡ true = rw second some in
-    let asked : words_at nodes (verbs.Node (asks.Write kind)) (Some left) ≡ Ok (write_command node op) = rw (node_is nodes node behind within few, read) refl in
-    let one = a_command nodes word left (verbs.Node (asks.Write kind)) (write_command node op) first (texts (name_of node) (32 ∷ behind) (word_is_text (name_of node) name.inside) plain) (omega (arith, name.short, short, length-append (name_of node) (32 ∷ behind))) shaped asked in
-    one_command nodes (word ++ 32 ∷ left) (ask word node (32 ∷ behind)) one (ask_is word node (32 ∷ behind))
+    let asked : words_at nodes (verbs.Node (asks.Write kind)) (Some left) ≡ Ok (write_command node op) = rw (node_is nodes node after within few, read) refl in
+    let one = a_command nodes word left (verbs.Node (asks.Write kind)) (write_command node op) first (texts (name_of node) (32 ∷ after) (word_is_text (name_of node) name.inside) plain) (omega (arith, name.short, short, length-append (name_of node) (32 ∷ after))) shaped asked in
+    one_command nodes (word ++ 32 ∷ left) (ask word node (32 ∷ after)) one (ask_is word node (32 ∷ after))
 
 -- ---- numbers
 

@@ -19,9 +19,9 @@ use Rattle.script_words.specs.declared.verb.NodeVerb.{NodeVerb}
 use Rattle.script_words.specs.declared.verb.NodeVerb.TheVariants as asks
 use Rattle.script_words.specs.declared.verb.WriteKind.{WriteKind}
 use Rattle.script_words.specs.declared.verb.WriteKind.TheVariants.{Insert, Replace, Update, Delete}
-use Rattle.script_words.specs.Words.{Left, behind_word, word_at, number_of, numbered, number_at, optional_at, pick_at, node_at, other_node_at, writer_at, message_at, collection_at, target_of, optime_of, optime_target, writer_target, concern_of, target_at, concern_at, level_at, disk_at}
+use Rattle.script_words.specs.Words.{Left, after_word, word_at, number_of, numbered, number_at, optional_at, pick_at, node_at, other_node_at, writer_at, message_at, collection_at, target_of, optime_of, optime_target, writer_target, concern_of, target_at, concern_at, level_at, disk_at}
 use Rattle.script_words.specs.Configs.{config_of}
-use Rattle.script_words.specs.Values.{text_at, value_at, behind_space, last_value, last_document}
+use Rattle.script_words.specs.Values.{text_at, value_at, after_space, last_value, last_document}
 use Rattle.script_words.specs.Commands.{write_kind, insert_at, delete_at, replace_at, update_at, write_at, write_command, retry_kind, retry_at, begin_kind, begin_at, commit_at, abort_at, ack_at, read_at, dump_at, heartbeat_at, report_at, common_at, apply_at, reconfig_at, crash_at, disk_fail_at, clock_at, of_node, deliver_one, deliver_latest, deliver_at, words_at}
 use Rattle.bson_doc.proofs.BindLemmas.{Gets, bind_gets, cond_gets}
 use Rattle.script_words.proofs.Gets.{bind_any, tested, ended_gets, both}
@@ -116,11 +116,11 @@ write_within Insert left =
 write_within Replace left =
     bind_gets (collection_at left) _ (λ x. is_collection x.0 ≡ true) IsNamed (collection_within left) (λ ns named.
     bind_any (text_at ns.1) _ IsNamed (λ text. bind_any (value_at text) _ IsNamed (λ id.
-    bind_any (behind_space id.1) _ IsNamed (λ rest. bind_any (last_document rest) _ IsNamed (λ document. named)))))
+    bind_any (after_space id.1) _ IsNamed (λ rest. bind_any (last_document rest) _ IsNamed (λ document. named)))))
 write_within Update left =
     bind_gets (collection_at left) _ (λ x. is_collection x.0 ≡ true) IsNamed (collection_within left) (λ ns named.
     bind_any (text_at ns.1) _ IsNamed (λ text. bind_any (value_at text) _ IsNamed (λ id.
-    bind_any (behind_space id.1) _ IsNamed (λ rest. bind_any (last_document rest) _ IsNamed (λ document. named)))))
+    bind_any (after_space id.1) _ IsNamed (λ rest. bind_any (last_document rest) _ IsNamed (λ document. named)))))
 write_within Delete left =
     bind_gets (collection_at left) _ (λ x. is_collection x.0 ≡ true) IsNamed (collection_within left) (λ ns named.
     bind_any (text_at ns.1) _ IsNamed (λ text. bind_any (last_value text) _ IsNamed (λ id. named)))
@@ -291,12 +291,12 @@ one_within : (nodes : ℕ) (left : Left) → Gets (deliver_one left) (Fit nodes)
 unfolding deliver_one
 one_within nodes left = bind_any (message_at left) _ (Fit nodes) (λ message. ended_gets message.1 _ (Fit nodes) refl)
 
-deliver_within : (nodes : ℕ) (behind left : Left) → Gets (deliver_at nodes behind left) (Fit nodes)
+deliver_within : (nodes : ℕ) (after left : Left) → Gets (deliver_at nodes after left) (Fit nodes)
 deliver_within nodes None left = one_within nodes left
 deliver_within nodes (Some text) left = latest_within nodes left
 
--- the words behind a command's first one
+-- the words after a command's first one
 pub words_within : (nodes : ℕ) (verb : Verb) (left : Left) → Gets (words_at nodes verb left) (Fit nodes)
-words_within nodes verbs.Deliver left = deliver_within nodes (behind_word left) left
+words_within nodes verbs.Deliver left = deliver_within nodes (after_word left) left
 words_within nodes (verbs.Node verb) left =
     bind_gets (node_at nodes left) _ (λ x. IsOurs nodes x.0) (Fit nodes) (node_within nodes left) (λ node ours. node_words nodes verb node.0 node.1 ours)

@@ -7,8 +7,8 @@ use Rattle.std.proofs.lemmas.List.Folds.{list_any_at}
 use Rattle.std.proofs.lemmas.List.Sums.{passes_at_first, prefix_len-le-length}
 use Rattle.script_words.specs.declared.rule.ScriptRule.{ScriptRule}
 use Rattle.script_words.specs.declared.rule.ScriptRule.TheVariants.{BadWord}
-use Rattle.script_words.specs.Words.{is_space, is_slash, Left, behind_word, word_at, numbered, cut_at_slash, optime_of, optime_target, target_of}
-use Rattle.script_words.specs.Values.{behind_space, unexpected}
+use Rattle.script_words.specs.Words.{is_space, is_slash, Left, after_word, word_at, numbered, cut_at_slash, optime_of, optime_target, target_of}
+use Rattle.script_words.specs.Values.{after_space, unexpected}
 
 -- a text that begins with another letter is no letter and number
 pub numbered_other : (rule : ScriptRule) (letter most : ℕ) (text : List ℕ) → ((rest : List ℕ) → text ≢ letter ∷ rest) → numbered rule letter most text ≡ Err rule
@@ -20,9 +20,9 @@ numbered_other rule letter most (c ∷ digits) other =
     ]
 
 -- a text that begins with no space
-pub behind_space_other : (text : List ℕ) → ((rest : List ℕ) → text ≢ 32 ∷ rest) → behind_space text ≡ unexpected
-behind_space_other [] other = refl
-behind_space_other (c ∷ rest) other =
+pub after_space_other : (text : List ℕ) → ((rest : List ℕ) → text ≢ 32 ∷ rest) → after_space text ≡ unexpected
+after_space_other [] other = refl
+after_space_other (c ∷ rest) other =
     elim (cases_eq c 32) [
       | inl same ↦ absurd (other rest (ap (λ (x : ℕ). x ∷ rest) same))
       | inr apart ↦ grind arith
@@ -70,16 +70,16 @@ abbrev left_of : Result (List ℕ × Left) ScriptRule → Left
 left_of (Ok read) = read.1
 left_of (Err rule) = None
 
--- what is left behind a word that is read
-pub behind_read : (left : Left) (word : List ℕ) (rest : Left) → word_at left ≡ Ok (word, rest) → rest ≡ behind_word left
+-- what is left after a word that is read
+pub after_read : (left : Left) (word : List ℕ) (rest : Left) → word_at left ≡ Ok (word, rest) → rest ≡ after_word left
 unfolding word_at
-behind_read None word rest is = absurd cc
-behind_read (Some text) word rest is = sym (ap left_of is)
+after_read None word rest is = absurd cc
+after_read (Some text) word rest is = sym (ap left_of is)
 
-pub behind_none : (left : Left) (rule : ScriptRule) → word_at left ≡ Err rule → None ≡ behind_word left
+pub after_none : (left : Left) (rule : ScriptRule) → word_at left ≡ Err rule → None ≡ after_word left
 unfolding word_at
-behind_none None rule is = refl
-behind_none (Some text) rule is = absurd cc
+after_none None rule is = refl
+after_none (Some text) rule is = absurd cc
 
 -- a text that doesn't begin with `w` names no writer
 pub target_other : (text : List ℕ) → ((rest : List ℕ) → text ≢ 119 ∷ rest) → optime_target text ≡ target_of text

@@ -20,8 +20,8 @@ use Rattle.script_words.specs.declared.verb.NodeVerb.TheVariants as asks
 use Rattle.script_words.specs.declared.verb.WriteKind.{WriteKind}
 use Rattle.script_words.specs.declared.verb.WriteKind.TheVariants.{Insert, Replace, Update, Delete}
 use Rattle.script_words.specs.Configs.{config_of}
-use Rattle.script_words.specs.Words.{Left, behind_word, has_shape, word_at, ended, number_at, optional_at, pick_at, node_at, other_node_at, writer_at, message_at, collection_at, target_at, concern_at, level_at, disk_at}
-use Rattle.script_words.specs.Values.{value_of, text_at, value_at, behind_space, last_value, last_document}
+use Rattle.script_words.specs.Words.{Left, after_word, has_shape, word_at, ended, number_at, optional_at, pick_at, node_at, other_node_at, writer_at, message_at, collection_at, target_at, concern_at, level_at, disk_at}
+use Rattle.script_words.specs.Values.{value_of, text_at, value_at, after_space, last_value, last_document}
 
 -- ---- first words
 
@@ -81,7 +81,7 @@ as_verb None = None
 abbrev pub verb_of : List ℕ → Option Verb
 verb_of word = if bytes_eq word (codes "deliver") then Some verbs.Deliver else as_verb (node_verb word)
 
--- how many words a line with this first word has behind it
+-- how many words a line with this first word has after it
 abbrev pub node_shape : NodeVerb → Shape
 node_shape (asks.Write kind) = Value 2
 node_shape asks.Retry = Value 5
@@ -174,7 +174,7 @@ replace_at left = do
   ns ← collection_at left
   text ← text_at ns.1
   id ← value_at text
-  rest ← behind_space id.1
+  rest ← after_space id.1
   document ← last_document rest
   Ok (ops.Replace ns.0 (value_of id.0) document)
 
@@ -184,7 +184,7 @@ update_at left = do
   ns ← collection_at left
   text ← text_at ns.1
   id ← value_at text
-  rest ← behind_space id.1
+  rest ← after_space id.1
   operators ← last_document rest
   Ok (ops.Update ns.0 (value_of id.0) operators)
 
@@ -230,7 +230,7 @@ begin_at node left = do
   kind ← word_at writer.1
   begin_kind node writer.0 (write_kind kind.0) kind.1
 
--- ---- the other words behind a node
+-- ---- the other words after a node
 
 unfoldable pub commit_at : ℕ → Left → Result Command ScriptRule
 commit_at node left = do
@@ -313,7 +313,7 @@ clock_at node left = do
   seconds ← number_at 0 2147483647 left
   ended seconds.1 (commands.Clock node seconds.0)
 
--- the words behind the node
+-- the words after the node
 abbrev pub of_node : ℕ → NodeVerb → ℕ → Left → Result Command ScriptRule
 of_node nodes (asks.Write kind) node left = write_at kind left >>= λ op. Ok (write_command node op)
 of_node nodes asks.Retry node left = retry_at node left
@@ -364,10 +364,10 @@ abbrev pub deliver_at : ℕ → Left → Left → Result Command ScriptRule
 deliver_at nodes None left = deliver_one left
 deliver_at nodes (Some text) left = deliver_latest nodes left
 
--- ---- the words behind the first one
+-- ---- the words after the first one
 
 abbrev pub words_at : ℕ → Verb → Left → Result Command ScriptRule
-words_at nodes verbs.Deliver left = deliver_at nodes (behind_word left) left
+words_at nodes verbs.Deliver left = deliver_at nodes (after_word left) left
 words_at nodes (verbs.Node verb) left = node_at nodes left >>= λ node. of_node nodes verb node.0 node.1
 
 -- ---- a command alone

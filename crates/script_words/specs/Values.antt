@@ -30,7 +30,7 @@ value_of (timestamp ts) = Timestamp ts
 abbrev pub unexpected : {A : Type 0} → Result A ScriptRule
 unexpected = Err (BadText Unexpected)
 
--- the rule that an error tells. The definition of reading knows no out of memory.
+-- the rule that an error tells. The definition of reading never runs out of memory.
 abbrev pub text_rule : TextError → TextRule
 text_rule (errors.Unexpected place) = Unexpected
 text_rule (errors.Number place) = Number
@@ -51,18 +51,18 @@ text_at None = Err WordCount
 text_at (Some []) = Err WordCount
 text_at (Some (c ∷ rest)) = Ok (c ∷ rest)
 
--- the value that begins a text, with what stands behind it
+-- the value that begins a text, with what follows it
 unfoldable pub value_at : List ℕ → Result (Tree × List ℕ) ScriptRule
 value_at bytes = do
   value ← or_bad_text (answer_at bytes 0)
   Ok (value.0, drop value.1 bytes)
 
--- behind a value that another follows stands one space
-abbrev pub behind_space : List ℕ → Result (List ℕ) ScriptRule
-behind_space [] = unexpected
-behind_space (c ∷ rest) = if c == 32 then Ok rest else unexpected
+-- after a value that another follows stands one space
+abbrev pub after_space : List ℕ → Result (List ℕ) ScriptRule
+after_space [] = unexpected
+after_space (c ∷ rest) = if c == 32 then Ok rest else unexpected
 
--- behind the last value stands nothing
+-- after the last value stands nothing
 abbrev pub only_value : Tree × List ℕ → Result Tree ScriptRule
 only_value (tree, []) = Ok tree
 only_value (tree, c ∷ rest) = unexpected

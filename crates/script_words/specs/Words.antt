@@ -21,7 +21,7 @@ use Rattle.script_words.specs.declared.rule.ScriptRule.TheVariants.{WordCount, B
 use Rattle.script_words.specs.declared.shape.Shape.{Shape}
 use Rattle.script_words.specs.declared.shape.Shape.TheVariants.{Words, Value}
 
--- what is left of a line: what stands behind the last space, or nothing behind the last word
+-- what is left of a line: what follows the last space, or nothing after the last word
 abbrev pub Left : Type 0
 Left = Option (List ℕ)
 
@@ -31,18 +31,18 @@ Read A = Result (A × Left) ScriptRule
 
 -- ---- how many words there are
 
--- what stands behind the first space, where there is one
-abbrev pub left_behind : List ℕ → Left
-left_behind text = if list_any is_space text then Some (after_first is_space text) else None
+-- what follows the first space, where there is one
+abbrev pub left_after : List ℕ → Left
+left_after text = if list_any is_space text then Some (after_first is_space text) else None
 
-abbrev pub behind_word : Left → Left
-behind_word None = None
-behind_word (Some text) = left_behind text
+abbrev pub after_word : Left → Left
+after_word None = None
+after_word (Some text) = left_after text
 
--- what is left behind so many words
+-- what is left after so many words
 abbrev pub skip : ℕ → Left → Left
 skip zero left = left
-skip (suc words) left = behind_word (skip words left)
+skip (suc words) left = after_word (skip words left)
 
 -- at least one byte is left
 abbrev pub has_text : Left → Bool
@@ -54,7 +54,7 @@ abbrev pub word_count : Left → ℕ
 word_count None = 0
 word_count (Some text) = count_by is_space text + 1
 
--- behind its first word a line has as many words as its form asks for
+-- after its first word a line has as many words as its form asks for
 abbrev pub has_shape : Shape → Left → Bool
 has_shape (Words least most) left = nat_le least (word_count left) && nat_le (word_count left) most
 has_shape (Value before) left = has_text (skip before left)
@@ -64,7 +64,7 @@ has_shape (Value before) left = has_text (skip before left)
 -- the word up to the next space, or up to the line's end
 unfoldable pub word_at : Left → Read (List ℕ)
 word_at None = Err WordCount
-word_at (Some text) = Ok (before_first is_space text, left_behind text)
+word_at (Some text) = Ok (before_first is_space text, left_after text)
 
 -- nothing is left
 abbrev pub ended : {A : Type 0} → Left → A → Result A ScriptRule
@@ -140,7 +140,7 @@ collection_at left = do
 abbrev pub is_slash : ℕ → Bool
 is_slash c = c == 47
 
--- what stands before the first slash, and what behind it
+-- what stands before the first slash, and what follows it
 abbrev pub cut_at_slash : List ℕ → Result (List ℕ × List ℕ) ScriptRule
 cut_at_slash text =
     if list_any is_slash text then Ok (before_first is_slash text, after_first is_slash text) else Err BadWord

@@ -3,7 +3,7 @@ ghost use Rattle.std.specs.Prelude.{◌≡◌, false};
 ghost use Rattle.std.specs.Option.{option_copied};
 ghost use Rattle.script_words.specs.Gives.{Reads, Gives};
 ghost use Rattle.script_words.specs.Commands.{commit_at, abort_at, ack_at, dump_at, heartbeat_at, report_at, common_at, apply_at, reconfig_at, or_zero, crash_at, disk_fail_at, clock_at, read_at, begin_at, retry_at, of_node, deliver_one, deliver_latest, deliver_at, keyword_at, verb_at, words_at, write_command, node_shape, ends_in_value};
-ghost use Rattle.script_words.specs.Words.{ended, behind_word};
+ghost use Rattle.script_words.specs.Words.{ended, after_word};
 
 use crate::choices::{concern, disk, level, target};
 use crate::configs::config_of;
@@ -11,7 +11,7 @@ use crate::rule::{LineError, ScriptRule};
 use crate::values::{last_value, text};
 use crate::verb::{Keyword, NodeVerb, Verb, WriteKind};
 use crate::words::{
-    Left, behind_word, collection, has_shape, message, node, number, optional, other_node, pick,
+    Left, after_word, collection, has_shape, message, node, number, optional, other_node, pick,
     word, writer,
 };
 use crate::writes::write;
@@ -68,9 +68,9 @@ pub fn command(alloc: Global, nodes: u32, verb: Verb, left: Left<'_>) -> Result<
 
 /// A message, or two nodes.
 fn deliver(nodes: u32, left: Left<'_>) -> Result<Command, ScriptRule>
-    ensures { result ≡ deliver_at nodes (behind_word (option_copied left.entry)) (option_copied left.entry) }
+    ensures { result ≡ deliver_at nodes (after_word (option_copied left.entry)) (option_copied left.entry) }
 {
-    match behind_word(left) {
+    match after_word(left) {
         None => deliver_one(left),
         Some(_) => deliver_latest(nodes, left),
     }
@@ -95,7 +95,7 @@ fn deliver_latest(nodes: u32, left: Left<'_>) -> Result<Command, ScriptRule>
     ended(left, Command::DeliverLatest { from, to })
 }
 
-/// The command whose words behind the node are left.
+/// The command whose words after the node are left.
 fn of_node(
     alloc: Global,
     nodes: u32,

@@ -40,7 +40,7 @@ pub fn set_line(text: &str) -> Result<SetLine, ScriptRule>
     sizes(left)
 }
 
-/// `NODES`, then `VOTERS` or nothing, and behind it `MEMBERS` or nothing
+/// `NODES`, then `VOTERS` or nothing, and after it `MEMBERS` or nothing
 #[tactic(auto, unfolding(crate::specs::Set::sizes_at))]
 fn sizes(left: Left<'_>) -> Result<SetLine, ScriptRule>
     ensures { result ≡ sizes_at (option_copied left.entry) }

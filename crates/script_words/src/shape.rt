@@ -1,4 +1,4 @@
-/// How many words a line has behind the first one.
+/// How many words a line has after the first one.
 #[derive(Clone, Copy, Debug, PartialEq, Eq)]
 pub enum Shape {
     /// From so many to so many.

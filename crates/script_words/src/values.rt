@@ -2,7 +2,7 @@
 ghost use Rattle.std.specs.Option.{option_copied};
 ghost use Rattle.bson_doc.specs.View.{tree_of};
 ghost use Rattle.script_words.specs.Gives.{Reads, Gives};
-ghost use Rattle.script_words.specs.Values.{text_at, value_at, behind_space, last_value, last_document};
+ghost use Rattle.script_words.specs.Values.{text_at, value_at, after_space, last_value, last_document};
 
 use crate::rule::{LineError, ScriptRule, TextRule};
 use crate::words::Left;
@@ -20,7 +20,7 @@ pub fn text(left: Left<'_>) -> Result<&str, ScriptRule>
     }
 }
 
-/// The value that begins a text, with what stands behind it.
+/// The value that begins a text, with what follows it.
 #[tactic(auto, unfolding(crate::specs::Values::value_at))]
 pub fn value(alloc: Global, text: &str) -> Result<(Value, &str), LineError>
     ensures { Gives (λ x. (tree_of x.0, x.1.now)) result (value_at text.now) }
@@ -29,9 +29,9 @@ pub fn value(alloc: Global, text: &str) -> Result<(Value, &str), LineError>
     Ok((value, &text[end..]))
 }
 
-/// The text behind the single space that parts a value from the one that follows it.
-pub fn behind_space(text: &str) -> Result<&str, ScriptRule>
-    ensures { Reads (λ rest. rest.now) result (behind_space text.now) }
+/// The text after the single space that parts a value from the one that follows it.
+pub fn after_space(text: &str) -> Result<&str, ScriptRule>
+    ensures { Reads (λ rest. rest.now) result (after_space text.now) }
 {
     match text.strip_prefix(' ') {
         Some(rest) => Ok(rest),

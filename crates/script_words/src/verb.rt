@@ -46,7 +46,7 @@ pub enum NodeVerb {
     Clock,
 }
 
-/// What a line behind the `set` line says.
+/// What a line after the `set` line says.
 #[derive(Clone, Copy, Debug, PartialEq, Eq)]
 pub enum Keyword {
     /// A block begins.
@@ -185,7 +185,7 @@ impl Verb {
         }
     }
 
-    /// How many words a line with this first word has behind it.
+    /// How many words a line with this first word has after it.
     pub fn shape(self) -> Shape
         ensures { result ≡ shape_of self }
     {
@@ -209,7 +209,7 @@ impl Keyword {
         }
     }
 
-    /// How many words a line with this first word has behind it.
+    /// How many words a line with this first word has after it.
     pub fn shape(self) -> Shape
         ensures { result ≡ keyword_shape self }
     {

@@ -1,4 +1,4 @@
-// The words of a line, each with what is left of the line behind it.
+// The words of a line, each with what is left of the line after it.
 ghost use Rattle.std.specs.Prelude.{◌≡◌, ◌<◌, Ok, Some};
 ghost use Rattle.std.specs.Char.{is_ascii_digit};
 ghost use Rattle.std.specs.List.{list_all, count_by, position};
@@ -6,20 +6,20 @@ ghost use Rattle.std.specs.Option.{option_copied};
 ghost use Rattle.set_model.specs.Limits.{is_collection, is_name_byte};
 ghost use Rattle.script_words.specs.declared.rule.ScriptRule.TheVariants.{BadWord};
 ghost use Rattle.script_words.specs.Gives.{Reads};
-ghost use Rattle.script_words.specs.Words.{is_space, behind_word, skip, word_count, has_shape, word_at, number_of, numbered, number_at, optional_at, pick_at, node_at, other_node_at, writer_at, message_at, collection_at};
+ghost use Rattle.script_words.specs.Words.{is_space, after_word, skip, word_count, has_shape, word_at, number_of, numbered, number_at, optional_at, pick_at, node_at, other_node_at, writer_at, message_at, collection_at};
 
 use crate::rule::ScriptRule;
 use crate::shape::Shape;
 
-/// What is left of a line: what stands behind the last space, or nothing behind the last word.
+/// What is left of a line: what follows the last space, or nothing after the last word.
 pub type Left<'a> = Option<&'a str>;
 
 /// What was read of a line, with what is left then.
 pub type Read<'a, T> = Result<(T, Left<'a>), ScriptRule>;
 
-/// What is left behind the next word.
-pub fn behind_word(left: Left<'_>) -> Left<'_>
-    ensures { option_copied result ≡ behind_word (option_copied left.entry) }
+/// What is left after the next word.
+pub fn after_word(left: Left<'_>) -> Left<'_>
+    ensures { option_copied result ≡ after_word (option_copied left.entry) }
 {
     match word(left) {
         Ok((_, rest)) => rest,
@@ -27,13 +27,13 @@ pub fn behind_word(left: Left<'_>) -> Left<'_>
     }
 }
 
-/// What is left behind so many words.
+/// What is left after so many words.
 fn skip(left: Left<'_>, words: u32) -> Left<'_>
     ensures { option_copied result ≡ skip words (option_copied left.entry) }
 {
     let mut rest = left;
     for _ in 0..words {
-        rest = behind_word(rest);
+        rest = after_word(rest);
     }
     rest
 }
@@ -54,7 +54,7 @@ fn space_count(text: &str) -> usize
     text.as_bytes().iter().filter(|byte| **byte == b' ').count()
 }
 
-/// Whether a line has as many words behind its first one as its form asks for.
+/// Whether a line has as many words after its first one as its form asks for.
 pub fn has_shape(left: Left<'_>, shape: Shape) -> bool
     ensures { result ≡ has_shape shape (option_copied left.entry) }
 {

@@ -4,7 +4,7 @@ ghost use Rattle.script_words.specs.Gives.{Gives};
 ghost use Rattle.script_words.specs.Commands.{insert_at, replace_at, update_at, delete_at, write_at};
 
 use crate::rule::LineError;
-use crate::values::{behind_space, last_document, last_value, text, value};
+use crate::values::{after_space, last_document, last_value, text, value};
 use crate::verb::WriteKind;
 use crate::words::{Left, collection};
 use bson_doc::Text;
@@ -55,8 +55,8 @@ fn replace(alloc: Global, left: Left<'_>) -> Result<WriteOp, LineError>
     ensures { Gives (λ op. op) result (replace_at (option_copied left.entry)) }
 {
     let (ns, left) = collection(left)?;
-    let (id, behind) = value(alloc, text(left)?)?;
-    let doc = last_document(alloc, behind_space(behind)?)?;
+    let (id, after) = value(alloc, text(left)?)?;
+    let doc = last_document(alloc, after_space(after)?)?;
     Ok(WriteOp::Replace {
         ns: Text::from_str(alloc, ns)?,
         id,
@@ -70,8 +70,8 @@ fn update(alloc: Global, left: Left<'_>) -> Result<WriteOp, LineError>
     ensures { Gives (λ op. op) result (update_at (option_copied left.entry)) }
 {
     let (ns, left) = collection(left)?;
-    let (id, behind) = value(alloc, text(left)?)?;
-    let operators = last_document(alloc, behind_space(behind)?)?;
+    let (id, after) = value(alloc, text(left)?)?;
+    let operators = last_document(alloc, after_space(after)?)?;
     Ok(WriteOp::Update {
         ns: Text::from_str(alloc, ns)?,
         id,

@@ -31,24 +31,24 @@ abbrev session_length : Option Session → ℕ
 session_length None = 0
 session_length (Some session) = 33
 
-behind_length : (session : Option Session) → fields_length (session_members session) ≡ session_length session
-behind_length None = refl
-behind_length (Some session) =
+after_length : (session : Option Session) → fields_length (session_members session) ≡ session_length session
+after_length None = refl
+after_length (Some session) =
     let id : length (codes "lsid") ≡ 4 = refl in
     let number : length (codes "txnNumber") ≡ 9 = refl in
     omega (arith, id, number)
 
-behind_levels : (session : Option Session) → fields_levels (session_members session) ≡ 0
-behind_levels None = refl
-behind_levels (Some session) = omega arith
+after_levels : (session : Option Session) → fields_levels (session_members session) ≡ 0
+after_levels None = refl
+after_levels (Some session) = omega arith
 
 last_length : (target : Option Fields) (session : Option Session) → fields_length (last_members target session) ≡ target_length target + session_length session
-last_length None session = omega (arith, behind_length session)
-last_length (Some target) session = let name : length (codes "o2") ≡ 2 = refl in omega (arith, name, behind_length session)
+last_length None session = omega (arith, after_length session)
+last_length (Some target) session = let name : length (codes "o2") ≡ 2 = refl in omega (arith, name, after_length session)
 
 last_levels : (target : Option Fields) (session : Option Session) → fields_levels (last_members target session) ≤ target_levels target
-last_levels None session = omega (arith, behind_levels session)
-last_levels (Some target) session = omega (arith, behind_levels session)
+last_levels None session = omega (arith, after_levels session)
+last_levels (Some target) session = omega (arith, after_levels session)
 
 members_length : (at : OpTime) (letter collection : List ℕ) (body : Fields) (target : Option Fields) (session : Option Session)
     → document_length (members at letter collection body target session) ≡ 61 + length letter + length collection + fields_length body + target_length target + session_length session

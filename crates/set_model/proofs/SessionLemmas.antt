@@ -71,7 +71,7 @@ below_from id number (first ∷ log) last past =
       now.0,
       λ entry there. elim there [
         | inl same ↦ subst (λ (e : Entry). (s : Session) → e.session ≡ Some s → s.id ≡ id → s.number < number) same now.1
-        | inr behind ↦ later.1 entry behind
+        | inr after ↦ later.1 entry after
       ],
     )
 
@@ -98,7 +98,7 @@ ascends_left (entry ∷ front) rest up = (λ other there. up.0 other (left other
     left other (first ∷ one) (inl same) = inl same
     left other (first ∷ one) (inr there) = inr (left other one there)
 
--- with an entry behind that goes up from each
+-- with one entry more, which goes up from each
 pub ascends_last : (log : List Entry) (entry : Entry) → Ascends log → ((other : Entry) → In other log → GoesUp other entry) → Ascends (log ++ entry ∷ [])
 ascends_last [] entry up new = (λ other there. absurd there, tt)
 ascends_last (first ∷ log) entry up new = (
@@ -181,9 +181,9 @@ none_below session log below = none_is session log (λ entry there is.
     let same : own.0.number ≡ session.number = own.3 in
     omega (arith, less, same))
 
--- behind a write of a session no other has its number
-none_behind : (session : Session) (first : Entry) (log : List Entry) → is_write session first ≡ true → ((other : Entry) → In other log → GoesUp first other) → writes session log ≡ []
-none_behind session first log is up = none_is session log (λ entry there too.
+-- after a write of a session no other has its number
+none_after : (session : Session) (first : Entry) (log : List Entry) → is_write session first ≡ true → ((other : Entry) → In other log → GoesUp first other) → writes session log ≡ []
+none_after session first log is up = none_is session log (λ entry there too.
     let one = write_is session first is in
     let two = write_is session entry too in
     let less : one.0.number < two.0.number = up entry there one.0 two.0 one.1 two.1 (one.2 ∙ sym two.2) in
@@ -196,7 +196,7 @@ once_each session [] up = omega arith
 once_each session (entry ∷ log) up = by_test (is_write session entry) refl (once_each session log up.1)
   where
     by_test : (b : Bool) → is_write session entry ≡ b → length (writes session log) ≤ 1 → length (cond b (entry ∷ writes session log) (writes session log)) ≤ 1
-    by_test true is rest = let none : length (writes session log) ≡ 0 = ap length (none_behind session entry log is up.0) in omega (arith, none)
+    by_test true is rest = let none : length (writes session log) ≡ 0 = ap length (none_after session entry log is up.0) in omega (arith, none)
     by_test false is rest = rest
 
 -- this write of a session
@@ -240,12 +240,12 @@ only_one session [] entry up there is = absurd there
 only_one session (first ∷ log) entry up (inl same) is =
     let own : is_write session first ≡ true = ap (is_write session) same ∙ is in
     ap (λ b. cond b (first ∷ writes session log) (writes session log)) own
-    ∙ ap (λ l. first ∷ l) (none_behind session first log own up.0) ∙ ap (λ (e : Entry). e ∷ []) same
+    ∙ ap (λ l. first ∷ l) (none_after session first log own up.0) ∙ ap (λ (e : Entry). e ∷ []) same
 only_one session (first ∷ log) entry up (inr there) is = by_test (is_write session first) refl (only_one session log entry up.1 there is)
   where
     by_test : (b : Bool) → is_write session first ≡ b → writes session log ≡ entry ∷ [] → cond b (first ∷ writes session log) (writes session log) ≡ entry ∷ []
     by_test false is_no rest = rest
-    by_test true is_too rest = absurd (cc (sym rest ∙ none_behind session first log is_too up.0))
+    by_test true is_too rest = absurd (cc (sym rest ∙ none_after session first log is_too up.0))
 
 abbrev pub optimes : List Entry → List OpTime
 optimes log = map (λ (entry : Entry). entry.optime) log
@@ -259,14 +259,14 @@ found_once session log last up is number = elim (last_there session.id log None 
       ap optimes (only_one session log found.0 up found.1 (is_write_of session found.0 has)) ∙ ap (λ o. o ∷ []) found.2
 ]
 
--- a write that is past the last stands there once, behind the log
+-- a write that is past the last stands there once, after the log
 pub written_once : (session : Session) (log : List Entry) (entry : Entry) → entry.session ≡ Some session → is_past (last_write session.id log) session.number ≡ true
     → writes session (log ++ entry ∷ []) ≡ entry ∷ []
-written_once session log entry has past = behind log (none_below session log (all_below session.id session.number log past))
+written_once session log entry has past = after log (none_below session log (all_below session.id session.number log past))
   where
-    behind : (one : List Entry) → writes session one ≡ [] → writes session (one ++ entry ∷ []) ≡ entry ∷ []
-    behind [] none = ap (λ b. cond b (entry ∷ []) []) (is_write_of session entry has)
-    behind (first ∷ one) none = by_test (is_write session first) none (behind one)
+    after : (one : List Entry) → writes session one ≡ [] → writes session (one ++ entry ∷ []) ≡ entry ∷ []
+    after [] none = ap (λ b. cond b (entry ∷ []) []) (is_write_of session entry has)
+    after (first ∷ one) none = by_test (is_write session first) none (after one)
       where
         by_test : (b : Bool) → cond b (first ∷ writes session one) (writes session one) ≡ [] → (writes session one ≡ [] → writes session (one ++ entry ∷ []) ≡ entry ∷ [])
             → cond b (first ∷ writes session (one ++ entry ∷ [])) (writes session (one ++ entry ∷ [])) ≡ entry ∷ []

@@ -22,7 +22,7 @@ use Rattle.set_model.specs.declared.store.Store.{Store}
 use Rattle.set_model.specs.declared.store.Store.TheVariants as stores
 use Rattle.set_model.specs.Node.{Node}
 use Rattle.set_model.specs.Roles.{is_secondary}
-use Rattle.set_model.specs.Points.{earlier_of, log_behind, last_point, visible_log, visible_point}
+use Rattle.set_model.specs.Points.{earlier_of, log_after, last_point, visible_log, visible_point}
 use Rattle.set_model.specs.Reads.{local_documents}
 use Rattle.set_model.specs.Outcome.{Outcome, replied, ignored, sending}
 use Rattle.set_model.specs.Stores.{Plan, finished, then_stored}
@@ -45,11 +45,11 @@ shown_in node term = if nat_lt node.term term then node.log else visible_log nod
 -- more than 20,000 optimes would be told
 abbrev pub common_refusal : Node → ℕ → OpTime → Option Refusal
 common_refusal node term after =
-    if nat_lt 20000 (length (log_behind after (shown_in node term))) then Some TooManyOptimes else None
+    if nat_lt 20000 (length (log_after after (shown_in node term))) then Some TooManyOptimes else None
 
 abbrev pub common_reply : Node → OpTime → Body
 common_reply node after =
-    bodies.CommonReply after (optimes_of (log_behind after (visible_log node))) (visible_point node)
+    bodies.CommonReply after (optimes_of (log_after after (visible_log node))) (visible_point node)
 
 abbrev pub common_asked : ℕ → Node → ℕ → OpTime → Outcome
 common_asked next node from after = sending (Replied next) node from (common_reply node after)
@@ -76,21 +76,21 @@ lost_documents documents entries = touched_documents (maps.get documents) entrie
 abbrev pub cut_record : OpTime → Store
 cut_record at = stores.Record (records.Cut at)
 
--- the log is cut behind a point, and the documents are those of what is left
+-- the log is cut after a point, and the documents are those of what is left
 abbrev pub cut_back : Node → OpTime → Node
 cut_back node point =
     record node {
       log = log_up_to point node.log;
       applied = point;
       durable = earlier_of node.durable point;
-      lost = lost_documents (local_documents node) (log_behind point node.log);
+      lost = lost_documents (local_documents node) (log_after point node.log);
       rollback = node.rollback + 1;
     }
 
 abbrev pub rolled_back : Node → OpTime → Plan
 rolled_back node point =
     then_stored node (cut_record point)
-    (λ n. finished (replied (RolledBack point (length (log_behind point n.log))) (cut_back n point)))
+    (λ n. finished (replied (RolledBack point (length (log_after point n.log))) (cut_back n point)))
 
 abbrev pub roll_back : Node → OpTime → Option Ignored → Plan
 roll_back node point (Some why) = finished (ignored why node)

@@ -16,7 +16,7 @@ use Rattle.set_model.specs.Points.{last_point}
 use Rattle.set_model.specs.Rollback.{common_point, rollback_reason}
 use Rattle.set_model.specs.Safety.{AtMost}
 
--- The entries of an answer go on behind its base, each fits into a record, and a log that ends at the base
+-- The entries of an answer go on after its base, each fits into a record, and a log that ends at the base
 -- may go on with them.
 pub record CanTakeEntries (node : Node) (term : ℕ) (fetched : FetchReply) : Type 0 where
   pub order : IsOplog fetched.entries
@@ -27,7 +27,7 @@ pub record CanTakeEntries (node : Node) (term : ℕ) (fetched : FetchReply) : Ty
       → (many : ℕ) → AreWithinDocument (node.log ++ take many fetched.entries)
 
 -- Its numbers are in their bounds, its configuration breaks no rule, its entries go on, and no rollback goes
--- behind the commit point.
+-- back before the commit point.
 pub record CanTake (node : Node) (message : Message) : Type 0 where
   pub sender : message.from < 50
   pub term : message.term < 2 ^ 63

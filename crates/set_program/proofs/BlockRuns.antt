@@ -92,10 +92,10 @@ module _ (sizes : Sizes) (before : List Event) (ts us : List (ℕ × Event)) (be
   all_still_told (c ∷ cs) [] at is = absurd is
   all_still_told (c ∷ cs) (told ∷ each) at is = (still_told c told (all_head (IsSeen ts) c cs at) is.0, all_still_told cs each (all_tail (IsSeen ts) c cs at) is.1)
 
--- what stands behind the same begins the same
-pub same_behind : {A : Type 0} (xs ys zs : List A) → xs ++ ys ≡ xs ++ zs → ys ≡ zs
-same_behind [] ys zs same = same
-same_behind (x ∷ xs) ys zs same = same_behind xs ys zs (ap (λ l. drop 1 l) same)
+-- what follows the same begins the same
+pub same_after : {A : Type 0} (xs ys zs : List A) → xs ++ ys ≡ xs ++ zs → ys ≡ zs
+same_after [] ys zs same = same
+same_after (x ∷ xs) ys zs same = same_after xs ys zs (ap (λ l. drop 1 l) same)
 
 all_further : (ts us : List (ℕ × Event)) → IsPrefix ts us → (cs : List (ℕ × List Event)) → All (IsSeen ts) cs → All (IsSeen us) cs
 all_further ts us begins cs at = λ k d within. seen_further ts us (slice_index_or cs k d).0 (slice_index_or cs k d).1 begins (at k d within)
@@ -151,13 +151,13 @@ module _ {F : Type 0} (sizes : Sizes) where
   module _ (others : List (List (ℕ × Command))) (last : List (ℕ × Command)) (v w u : View Event F) (number : ℕ) (some_parts : 1 < v.parts)
       (begun_w : w.begun ≡ v.begun) (begun_u : u.begun ≡ v.begun) (of_w : IsPrefix w.turns (joined w u).turns) (of_u : IsPrefix u.turns (joined w u).turns)
       (one_each : (p : ℕ) → times p (names (joined w u).calls) ≤ 1) where
-    -- what was seen behind the turns of v
+    -- what was seen after the turns of v
     abbrev later_is : (later : List (ℕ × Event)) → w.turns ≡ v.turns ++ later → (joined w u).turns ≡ v.turns ++ (later ++ of_w.0)
     later_is later turns = sym of_w.1 ∙ ap (λ (l : List (ℕ × Event)). l ++ of_w.0) turns ∙ append_assoc v.turns later of_w.0
 
     later_of_u : (later own : List (ℕ × Event)) → w.turns ≡ v.turns ++ later → u.turns ≡ v.turns ++ own → IsPrefix own (later ++ of_w.0)
     later_of_u later own turns turns_u =
-        (of_u.0, same_behind v.turns (own ++ of_u.0) (later ++ of_w.0) (sym (append_assoc v.turns own of_u.0) ∙ ap (λ (l : List (ℕ × Event)). l ++ of_u.0) (sym turns_u) ∙ of_u.1 ∙ later_is later turns))
+        (of_u.0, same_after v.turns (own ++ of_u.0) (later ++ of_w.0) (sym (append_assoc v.turns own of_u.0) ∙ ap (λ (l : List (ℕ × Event)). l ++ of_u.0) (sym turns_u) ∙ of_u.1 ∙ later_is later turns))
 
     abbrev calls_are : (cs : List (ℕ × List Event)) (c : ℕ × List Event) → w.calls ≡ v.calls ++ cs → u.calls ≡ c ∷ [] → (joined w u).calls ≡ v.calls ++ (cs ++ c ∷ [])
     calls_are cs c of_each own = ap (λ (l : List (ℕ × List Event)). l ++ u.calls) of_each ∙ ap (λ (l : List (ℕ × List Event)). (v.calls ++ cs) ++ l) own ∙ append_assoc v.calls cs (c ∷ [])

@@ -29,14 +29,14 @@ use Rattle.set_program.proofs.OpenLemmas.{unarmed_at}
 
 -- ---- the two disks
 
-get_behind : {A : Type 0} (n m k : ℕ) (xs : List A) → n + m ≡ k → slice_get (drop n xs) m ≡ slice_get xs k
-get_behind zero m k xs is = ap (λ j. slice_get xs j) (let same : m ≡ k = omega (arith, is) in same)
-get_behind (suc n) m k [] is = refl
-get_behind (suc n) m zero (x ∷ xs) is = absurd (let false : zero ≡ suc zero = omega (arith, is) in cc false)
-get_behind (suc n) m (suc k) (x ∷ xs) is = get_behind n m k xs (let same : n + m ≡ k = omega (arith, is) in same)
+get_after : {A : Type 0} (n m k : ℕ) (xs : List A) → n + m ≡ k → slice_get (drop n xs) m ≡ slice_get xs k
+get_after zero m k xs is = ap (λ j. slice_get xs j) (let same : m ≡ k = omega (arith, is) in same)
+get_after (suc n) m k [] is = refl
+get_after (suc n) m zero (x ∷ xs) is = absurd (let false : zero ≡ suc zero = omega (arith, is) in cc false)
+get_after (suc n) m (suc k) (x ∷ xs) is = get_after n m k xs (let same : n + m ≡ k = omega (arith, is) in same)
 
-same_behind : {A : Type 0} (xs ys : List A) (n m k : ℕ) → n + m ≡ k → drop n xs ≡ drop n ys → slice_get xs k ≡ slice_get ys k
-same_behind xs ys n m k is same = sym (get_behind n m k xs is) ∙ ap (λ l. slice_get l m) same ∙ get_behind n m k ys is
+same_after : {A : Type 0} (xs ys : List A) (n m k : ℕ) → n + m ≡ k → drop n xs ≡ drop n ys → slice_get xs k ≡ slice_get ys k
+same_after xs ys n m k is same = sym (get_after n m k xs is) ∙ ap (λ l. slice_get l m) same ∙ get_after n m k ys is
 
 -- the disks of the member, as they were handed in and as they are left
 record MemberDisks {D : Type 0} (state : D → State) (nodes : ℕ) (handed left : List D) (made : Result (Unit {0}) SyncStop) : Type 0 where
@@ -71,11 +71,11 @@ module _ {D : Type 0} (state : D → State) (handed : List D) (call : Call D) (o
     journal' = one.journal';
     checkpoints = one.checkpoints;
     checkpoints' = one.checkpoints';
-    journal_was = sym (same_behind closed.disks handed (2 * count) 0 (2 * count) (omega arith) idle) ∙ one.journal_at;
+    journal_was = sym (same_after closed.disks handed (2 * count) 0 (2 * count) (omega arith) idle) ∙ one.journal_at;
     journal_is = ap (λ l. slice_get l (2 * count)) one.disks
         ∙ get_set_other (slice_set closed.disks (2 * count) one.journal') (2 * count + 1) (2 * count) one.checkpoints' (λ same. omega (arith, same))
         ∙ get_set_same closed.disks (2 * count) one.journal' one.journal one.journal_at;
-    checkpoints_was = sym (same_behind closed.disks handed (2 * count) 1 (2 * count + 1) (omega arith) idle) ∙ one.checkpoints_at;
+    checkpoints_was = sym (same_after closed.disks handed (2 * count) 1 (2 * count + 1) (omega arith) idle) ∙ one.checkpoints_at;
     checkpoints_is = ap (λ l. slice_get l (2 * count + 1)) one.disks
         ∙ get_set_same (slice_set closed.disks (2 * count) one.journal') (2 * count + 1) one.checkpoints' one.checkpoints
         (get_set_other closed.disks (2 * count) (2 * count + 1) one.journal' (λ same. omega (arith, same)) ∙ one.checkpoints_at);

@@ -21,7 +21,7 @@ use Rattle.set_world.specs.Disks.{AtTouchedNode, DisksStep, DisksTouched, DisksU
 use Rattle.set_world.specs.Went.{AllUndone, DisksPlay, DisksRun}
 use Rattle.set_world.proofs.DiskLemmas.{delivered_disks}
 use Rattle.set_world.proofs.FaultLemmas.{only_broken}
-use Rattle.set_program.specs.Counts.{FailedAtLeast, EitherFaultCounted, OrdersAre, failures_at, orders_behind}
+use Rattle.set_program.specs.Counts.{FailedAtLeast, EitherFaultCounted, OrdersAre, failures_at, orders_since}
 
 -- ---- lists
 
@@ -52,7 +52,7 @@ NodeStep number world event j j' c c' =
     ((touched_node world event.command ≡ number) × DisksActed event.command (step world event).reply (IsSome event.failed) j j' c c')
     ⊎ ((touched_node world event.command ≢ number) × (j' ≡ j) × (c' ≡ c))
 
--- before, between and behind the events commands that weren't done may have used the disks
+-- before, between and after the events commands that weren't done may have used the disks
 abbrev pub NodePlay : ℕ → World → List Event → State → State → State → State → Type 0
 NodePlay number world [] j j' c c' = RunsWithoutOrders ⊥ j j' c c'
 NodePlay number world (event ∷ later) j j' c c' =
@@ -231,28 +231,28 @@ node_played state world (event ∷ later) old new number j c has played =
 pub node_run : {D : Type 0} (state : D → State) (world : World) (events : List Event) (old new : List D) (number : ℕ) (j c : State) → NodeHas state number old j c → DisksRun state world events old new
     → PlaysOn state world events new number j c
 node_run state world [] old new number j c has (undone, used) = all_undone state world undone old new number j c has used
-node_run state world (event ∷ later) old new number j c has (undone, before, behind, used, stepped, rest) =
+node_run state world (event ∷ later) old new number j c has (undone, before, tail, used, stepped, rest) =
     let first = all_undone state world undone old before number j c has used in
-    let one = at_node state world event before behind number first.0 first.1 first.2 stepped in
-    let more = node_run state (step world event).world later behind new number one.0 one.1 one.2 rest in
+    let one = at_node state world event before tail number first.0 first.1 first.2 stepped in
+    let more = node_run state (step world event).world later tail new number one.0 one.1 one.2 rest in
     (more.0, more.1, more.2, (first.0, first.1, one.0, one.1, first.3, one.3, more.3))
 
--- such commands before and behind
+-- such commands before and after
 used_before : (number : ℕ) (world : World) (events : List Event) (j0 j j' c0 c c' : State) → RunsWithoutOrders ⊥ j0 j c0 c → NodePlay number world events j j' c c' → NodePlay number world events j0 j' c0 c'
 used_before number world [] j0 j j' c0 c c' used played = two_runs j0 j j' c0 c c' used played
 used_before number world (event ∷ later) j0 j j' c0 c c' used (jb, cb, jm, cm, between, one, rest) = (jb, cb, jm, cm, two_runs j0 j jb c0 c cb used between, one, rest)
 
-pub used_behind : (number : ℕ) (world : World) (events : List Event) (j j' jn c c' cn : State) → NodePlay number world events j j' c c' → RunsWithoutOrders ⊥ j' jn c' cn → NodePlay number world events j jn c cn
-used_behind number world [] j j' jn c c' cn played used = two_runs j j' jn c c' cn played used
-used_behind number world (event ∷ later) j j' jn c c' cn (jb, cb, jm, cm, between, one, rest) used =
-    (jb, cb, jm, cm, between, one, used_behind number (step world event).world later jm j' jn cm c' cn rest used)
+pub used_after : (number : ℕ) (world : World) (events : List Event) (j j' jn c c' cn : State) → NodePlay number world events j j' c c' → RunsWithoutOrders ⊥ j' jn c' cn → NodePlay number world events j jn c cn
+used_after number world [] j j' jn c c' cn played used = two_runs j j' jn c c' cn played used
+used_after number world (event ∷ later) j j' jn c c' cn (jb, cb, jm, cm, between, one, rest) used =
+    (jb, cb, jm, cm, between, one, used_after number (step world event).world later jm j' jn cm c' cn rest used)
 
 -- more events
-pub plays_behind : (number : ℕ) (so_far : Run) (events more : List Event) (j jm j' c cm c' : State) → NodePlay number so_far.world events j jm c cm → NodePlay number (fold after so_far events).world more jm j' cm c'
+pub plays_after : (number : ℕ) (so_far : Run) (events more : List Event) (j jm j' c cm c' : State) → NodePlay number so_far.world events j jm c cm → NodePlay number (fold after so_far events).world more jm j' cm c'
     → NodePlay number so_far.world (events ++ more) j j' c c'
-plays_behind number so_far [] more j jm j' c cm c' used rest = used_before number so_far.world more j jm j' c cm c' used rest
-plays_behind number so_far (event ∷ events) more j jm j' c cm c' (jb, cb, ja, ca, between, one, later) rest =
-    (jb, cb, ja, ca, between, one, plays_behind number (after so_far event) events more ja jm j' ca cm c' later rest)
+plays_after number so_far [] more j jm j' c cm c' used rest = used_before number so_far.world more j jm j' c cm c' used rest
+plays_after number so_far (event ∷ events) more j jm j' c cm c' (jb, cb, ja, ca, between, one, later) rest =
+    (jb, cb, ja, ca, between, one, plays_after number (after so_far event) events more ja jm j' ca cm c' later rest)
 
 -- ---- counts
 
@@ -312,18 +312,18 @@ failures_counted number world (event ∷ later) j j' c c' (jb, cb, jm, cm, used,
     rose : (is_some event.failed && touched_node world event.command == number) ≡ true → EitherFaultCounted j jm c cm
     rose is = rose_wider j jb jm jm c cb cm cm used.fails.journal_faults used.fails.checkpoint_faults (omega arith) (omega arith) (failed_here number world event jb jm cb cm one is)
 
-    behind : (jm.faults ≤ j'.faults) × (cm.faults ≤ c'.faults)
-    behind = play_rises number (step world event).world later jm j' cm c' rest
+    tail : (jm.faults ≤ j'.faults) × (cm.faults ≤ c'.faults)
+    tail = play_rises number (step world event).world later jm j' cm c' rest
 
     by_test : FailedAtLeast (failures_at number (step world event).world later) jm j' cm c' → (b : Bool) → (is_some event.failed && touched_node world event.command == number) ≡ b → FailedAtLeast ((if b then 1 else 0) + failures_at number (step world event).world later) j j' c c'
     by_test again true is =
         sums (2 ^ 64 - 1) 1 (failures_at number (step world event).world later) j.faults jm.faults j'.faults c.faults cm.faults c'.faults
-        (rose_by_one (2 ^ 64 - 1) j.faults jm.faults c.faults cm.faults (rose is) first.0 first.1) behind.0 behind.1 again
+        (rose_by_one (2 ^ 64 - 1) j.faults jm.faults c.faults cm.faults (rose is) first.0 first.1) tail.0 tail.1 again
     by_test again false is =
         sums (2 ^ 64 - 1) 0 (failures_at number (step world event).world later) j.faults jm.faults j'.faults c.faults cm.faults c'.faults
-        (inl (omega (arith, first.0, first.1))) behind.0 behind.1 again
+        (inl (omega (arith, first.0, first.1))) tail.0 tail.1 again
 
--- the counts before and behind are further apart
+-- the counts before and after are further apart
 pub failed_wider : (count : ℕ) (jo j j' jn co c c' cn : State) → jo.faults ≤ j.faults → co.faults ≤ c.faults → j'.faults ≤ jn.faults → c'.faults ≤ cn.faults
     → FailedAtLeast count j j' c c' → FailedAtLeast count jo jn co cn
 failed_wider count jo j j' jn co c c' cn one two three four (inl sum) = inl (omega (arith, one, two, three, four, sum))
@@ -337,7 +337,7 @@ orders_told number world [] j j' c c' used = (used.journal_orders, used.checkpoi
 orders_told number world (event ∷ later) j j' c c' (jb, cb, jm, cm, used, one, rest) =
     let again = orders_told number (step world event).world later jm j' cm c' rest in
     let first = first_orders one in
-    (again.0 ∙ ap (orders_behind Journal number (step world event).world later) first.0, again.1 ∙ ap (orders_behind Checkpoint number (step world event).world later) first.1)
+    (again.0 ∙ ap (orders_since Journal number (step world event).world later) first.0, again.1 ∙ ap (orders_since Checkpoint number (step world event).world later) first.1)
   where
     next : DiskName → Orders → Bool → Orders
     next name orders b = if b then orders_after name event.command (step world event).reply orders else orders
@@ -358,7 +358,7 @@ orders_told number world (event ∷ later) j j' c c' (jb, cb, jm, cm, used, one,
 
 -- ---- refusals
 
--- the event behind so many, at the world that it meets
+-- the event after so many, at the world that it meets
 pub record AnswersHere (so_far : Run) (events : List Event) (place number : ℕ) (event : Event) (answer : Reply) : Type 0 where
   pub event_is : slice_get events place ≡ Some event
   pub touches : touched_node (fold after so_far (take place events)).world event.command ≡ number
@@ -384,8 +384,8 @@ pub fault_caused : (number : ℕ) (so_far : Run) (events : List Event) (j j' c c
     → (place : ℕ) (event : Event) → AnswersHere so_far events place number event (Refused DiskFailed) → EitherFaultCounted j j' c c'
 fault_caused number so_far [] j j' c c' same place event is = absurd (cc is.event_is)
 fault_caused number so_far (first ∷ later) j j' c c' (jb, cb, jm, cm, used, one, rest) zero event is =
-    let behind = play_rises number (step so_far.world first).world later jm j' cm c' rest in
-    rose_wider j jb jm j' c cb cm c' used.fails.journal_faults used.fails.checkpoint_faults behind.0 behind.1 (here one)
+    let tail = play_rises number (step so_far.world first).world later jm j' cm c' rest in
+    rose_wider j jb jm j' c cb cm c' used.fails.journal_faults used.fails.checkpoint_faults tail.0 tail.1 (here one)
   where
     failed : (IsSome first.failed) × (touched_node so_far.world first.command ≡ number)
     failed = broke number so_far.world first event (same_Some first event is.event_is) is.touches is.reply_is

@@ -273,17 +273,17 @@ never P (Chaos seed events nodes) parts old new Refused set before ends = absurd
 member_never : (stop : Stop) (made : Result (Unit {0}) SyncStop) → ends_before stop ≡ true → Err stop ≡ ended_so made → ⊥
 unfolding ends_before
 member_never stop (Ok done) before is = cc is
-member_never stop (Err why) before is = cc (before, ap early is, behind why)
+member_never stop (Err why) before is = cc (before, ap early is, later why)
   where
     early : Result (Unit {0}) Stop → Bool
     early (Ok done) = false
     early (Err other) = ends_before other
 
-    behind : (why : SyncStop) → ends_before (of_sync why) ≡ false
-    behind (syncs.Refused reason) = refl
-    behind syncs.DiskFault = refl
-    behind syncs.WriteFault = refl
-    behind syncs.Memory = refl
+    later : (why : SyncStop) → ends_before (of_sync why) ≡ false
+    later (syncs.Refused reason) = refl
+    later syncs.DiskFault = refl
+    later syncs.WriteFault = refl
+    later syncs.Memory = refl
 
 -- so nothing was run where a call ends otherwise
 only_unrun : {D : Type 0} (P : Type 0) (state : D → State) (call : Call D) (handed : List D) (words : List (String Global)) (left rest old new : Option (List ℕ)) (stop : Stop) (outcome : Left D)
@@ -332,7 +332,7 @@ made_unrefused held now text (Err syncs.DiskFault) is puts = cc is
 made_unrefused held now text (Err syncs.WriteFault) is puts = cc is
 made_unrefused held now text (Err syncs.Memory) is puts = cc is
 
--- only work behind a script is refused
+-- only work after a script is refused
 may_refuse : {D : Type 0} (task : Task) (parts : List Part) (old new : Option (List ℕ)) (set : Set D) → EndsTask task parts old new (Err Refused) set → IsOneOf (may_end_in task) 9
 may_refuse Run parts old new set ends = absurd ends
 may_refuse Trace parts old new set ends = absurd ends
@@ -348,7 +348,7 @@ refused_ending state call handed words left rest old new (Parts events disks) (i
 refused_ending state call handed words left rest old new (Parts events disks) (inr (asked, ends)) =
     absurd (made_unrefused _ _ _ ends.member.made ends.member.ends ends.member.adds.puts)
 
--- only the disks of a new member fail behind a script
+-- only the disks of a new member fail after a script
 never_copied : {D : Type 0} (P : Type 0) (task : Task) (parts : List Part) (old new : Option (List ℕ)) (set : Set D) → EndsTask task parts old new (Err CopyFault) set → P
 never_copied P Run parts old new set ends = absurd ends
 never_copied P Trace parts old new set ends = absurd ends

@@ -1,4 +1,4 @@
--- A linear read behind a script.
+-- A linear read after a script.
 use Rattle.std.proofs.Common.{◌≡◌, ℕ, true, false, List, Option, Err}
 use Rattle.set_model.specs.declared.command.Event.{Event}
 use Rattle.set_model.specs.Run.{Sizes}
@@ -10,7 +10,7 @@ use Rattle.set_program.specs.declared.stop.Stop.{Stop}
 use Rattle.set_program.specs.declared.stop.Stop.TheVariants.{Memory, Usage, Script as NoScript, ReadFault, WriteFault, TooLong, DiskFault, CopyFault, Refused}
 use Rattle.set_program.specs.Causes.{of_linear}
 use Rattle.set_program.specs.ReadingLinearly.{ReadsLinearly}
-use Rattle.set_program.proofs.BehindLemmas.{stops_work}
+use Rattle.set_program.proofs.AfterScriptLemmas.{stops_work}
 
 pub linear_stops : (linear : Linear) (sizes : Sizes) (scripted events : List Event) (told new : Option (List ℕ)) (stop : LinearStop) → Tells true sizes linear scripted events told new (Err stop)
     → ReadsLinearly linear sizes events new (Err (of_linear stop)) scripted told

@@ -29,8 +29,8 @@ module _ {A : Type 0} where
   pub prefix_equal : (xs ys : List A) → ys ≡ xs → IsPrefix xs ys
   prefix_equal xs ys is = ([], append-nil xs ∙ sym is)
 
-  pub front_of : (n : ℕ) (xs : List A) → IsPrefix (take n xs) xs
-  front_of n xs = (drop n xs, take-append-drop n xs)
+  pub prefix_of : (n : ℕ) (xs : List A) → IsPrefix (take n xs) xs
+  prefix_of n xs = (drop n xs, take-append-drop n xs)
 
 module _ {E : Type 0} where
   pub calls_more : (p : ℕ) (ts us : List (ℕ × E)) → calls_by p (ts ++ us) ≡ calls_by p ts ++ calls_by p us
@@ -78,25 +78,25 @@ module _ {F : Type 0} (sizes : Sizes) where
   }
 
   module _ (v u : View Event F) (lines : List (ℕ × Command)) (told : List (ℕ × ℕ × Reply)) (so : TellsList sizes lines v u told) (turns : List (ℕ × Event)) (begins : IsPrefix u.turns turns) where
-    -- the turns behind those that the pass began with
-    abbrev behind : List (ℕ × Event)
-    behind = so.ran.later ++ begins.0
+    -- the turns after those that the pass began with
+    abbrev after : List (ℕ × Event)
+    after = so.ran.later ++ begins.0
 
-    turns_are : turns ≡ v.turns ++ behind
+    turns_are : turns ≡ v.turns ++ after
     turns_are = sym begins.1 ∙ ap (λ (l : List (ℕ × Event)). l ++ begins.0) so.ran.turns ∙ append_assoc v.turns so.ran.later begins.0
 
-    all_behind : u.begun ++ events turns ≡ seen v ++ events behind
-    all_behind = (λ i. so.ran.begun i ++ events (turns_are i)) ∙ ap (λ (l : List Event). v.begun ++ l) (events_append v.turns behind) ∙ sym (append_assoc v.begun (events v.turns) (events behind))
+    all_after : u.begun ++ events turns ≡ seen v ++ events after
+    all_after = (λ i. so.ran.begun i ++ events (turns_are i)) ∙ ap (λ (l : List Event). v.begun ++ l) (events_append v.turns after) ∙ sym (append_assoc v.begun (events v.turns) (events after))
 
-    calls_behind : calls_by so.ran.pass behind ≡ calls_by so.ran.pass turns
-    calls_behind = sym (ap (calls_by so.ran.pass) turns_are ∙ calls_more so.ran.pass v.turns behind ∙ ap (λ (l : List Event). l ++ calls_by so.ran.pass behind) so.ran.unheard)
+    calls_after : calls_by so.ran.pass after ≡ calls_by so.ran.pass turns
+    calls_after = sym (ap (calls_by so.ran.pass) turns_are ∙ calls_more so.ran.pass v.turns after ∙ ap (λ (l : List Event). l ++ calls_by so.ran.pass after) so.ran.unheard)
 
-    told_behind : calls_by so.ran.pass turns ≡ so.ran.events → told ≡ told_of sizes (λ q. so.ran.pass == q) (seen v) behind
-    told_behind stand =
-        let count = told_count sizes so.ran.pass (seen v) behind in
-        let same = ap (λ (l : List Event). length l) (calls_behind ∙ stand) in
-        so.told_is ∙ sym (told_stays sizes so.ran.pass (length so.ran.events) (seen v) so.ran.later behind (begins.0, refl) (prefix_length so.ran.events (calls_by so.ran.pass so.ran.later) so.ran.seen))
-        ∙ take_all (length so.ran.events) (told_of sizes (λ q. so.ran.pass == q) (seen v) behind) (omega (arith, count, same))
+    told_after : calls_by so.ran.pass turns ≡ so.ran.events → told ≡ told_of sizes (λ q. so.ran.pass == q) (seen v) after
+    told_after stand =
+        let count = told_count sizes so.ran.pass (seen v) after in
+        let same = ap (λ (l : List Event). length l) (calls_after ∙ stand) in
+        so.told_is ∙ sym (told_stays sizes so.ran.pass (length so.ran.events) (seen v) so.ran.later after (begins.0, refl) (prefix_length so.ran.events (calls_by so.ran.pass so.ran.later) so.ran.seen))
+        ∙ take_all (length so.ran.events) (told_of sizes (λ q. so.ran.pass == q) (seen v) after) (omega (arith, count, same))
 
   module _ (v u w : View Event F) (lines : List (ℕ × Command)) (told : List (ℕ × ℕ × Reply)) (so : TellsList sizes lines v u told) where
     pub list_step : (line : ℕ) (command : Command) (place : ℕ) (reply : Reply) → Steps sizes u w line command place reply
@@ -106,12 +106,12 @@ module _ {F : Type 0} (sizes : Sizes) where
         let pass_is : so.ran.pass ≡ s.pass = ap (λ (l : List (ℕ × List Event)). (slice_index_or l 0 (0, [])).0) one in
         let past_is : so.ran.events ≡ s.past = ap (λ (l : List (ℕ × List Event)). (slice_index_or l 0 (0, [])).1) one in
         let others_is : [] ≡ s.others = ap (λ (l : List (ℕ × List Event)). drop 1 l) one in
-        let mid = behind v u lines told so s.turns s.meets.begins in
+        let mid = after v u lines told so s.turns s.meets.begins in
         let turns_is = turns_are v u lines told so s.turns s.meets.begins in
         let stands : calls_by s.pass s.turns ≡ s.past = (subst (λ (l : List (ℕ × List Event)). Stand s.turns l) s.calls s.meets.calls).0 in
         let stands_so : calls_by so.ran.pass s.turns ≡ so.ran.events = ap (λ (p : ℕ). calls_by p s.turns) pass_is ∙ stands ∙ sym past_is in
-        let stand : calls_by s.pass mid ≡ s.past = ap (λ (p : ℕ). calls_by p mid) (sym pass_is) ∙ calls_behind v u lines told so s.turns s.meets.begins ∙ stands_so ∙ past_is in
-        let before : told ≡ told_of sizes (λ q. s.pass == q) (seen v) mid = told_behind v u lines told so s.turns s.meets.begins stands_so
+        let stand : calls_by s.pass mid ≡ s.past = ap (λ (p : ℕ). calls_by p mid) (sym pass_is) ∙ calls_after v u lines told so s.turns s.meets.begins ∙ stands_so ∙ past_is in
+        let before : told ≡ told_of sizes (λ q. s.pass == q) (seen v) mid = told_after v u lines told so s.turns s.meets.begins stands_so
         ∙ ap (λ (p : ℕ). told_of sizes (λ q. p == q) (seen v) mid) pass_is in
         let more : length (told_of sizes (λ q. s.pass == q) (seen v) (mid ++ (s.pass, s.event) ∷ [])) ≡ length (s.past ++ s.event ∷ []) =
         told_count sizes s.pass (seen v) (mid ++ (s.pass, s.event) ∷ []) ∙ ap (λ (l : List Event). length l) (calls_own s.pass mid s.event ∙ ap (λ (l : List Event). l ++ s.event ∷ []) stand) in
@@ -132,7 +132,7 @@ module _ {F : Type 0} (sizes : Sizes) where
           };
           told_is = ap (λ (l : List (ℕ × ℕ × Reply)). l ++ (place, line, reply) ∷ []) before
               ∙ (λ i. told_of sizes (λ q. s.pass == q) (seen v) mid ++ (s.place_is i, sym s.line_is i, s.reply_is i) ∷ [])
-              ∙ ap (λ (es : List Event). told_of sizes (λ q. s.pass == q) (seen v) mid ++ (length es, s.event.line, reply_to sizes es s.event) ∷ []) (all_behind v u lines told so s.turns s.meets.begins)
+              ∙ ap (λ (es : List Event). told_of sizes (λ q. s.pass == q) (seen v) mid ++ (length es, s.event.line, reply_to sizes es s.event) ∷ []) (all_after v u lines told so s.turns s.meets.begins)
               ∙ sym (told_own sizes s.pass (seen v) mid s.event)
               ∙ sym (take_all (length (s.past ++ s.event ∷ [])) (told_of sizes (λ q. s.pass == q) (seen v) (mid ++ (s.pass, s.event) ∷ [])) (omega (arith, more)));
         })
@@ -141,7 +141,7 @@ module _ {F : Type 0} (sizes : Sizes) where
     pub list_waits : Waits sizes u w → RanList (AreOf lines) v w
     list_waits s =
         let stand : calls_by so.ran.pass s.turns ≡ so.ran.events = (subst (λ (l : List (ℕ × List Event)). Stand s.turns l) so.ran.calls s.meets.calls).0 in
-        let mid = behind v u lines told so s.turns s.meets.begins in
+        let mid = after v u lines told so s.turns s.meets.begins in
         subst (λ (z : View Event F). RanList (AreOf lines) v z) (sym s.now) (record {
           pass = so.ran.pass;
           events = so.ran.events;
@@ -151,7 +151,7 @@ module _ {F : Type 0} (sizes : Sizes) where
           begun = so.ran.begun;
           turns = turns_are v u lines told so s.turns s.meets.begins;
           unheard = so.ran.unheard;
-          seen = prefix_equal so.ran.events (calls_by so.ran.pass mid) (calls_behind v u lines told so s.turns s.meets.begins ∙ stand);
+          seen = prefix_equal so.ran.events (calls_by so.ran.pass mid) (calls_after v u lines told so s.turns s.meets.begins ∙ stand);
           parts = so.ran.parts;
           answers = so.ran.answers;
         })
@@ -188,7 +188,7 @@ module _ {F : Type 0} (sizes : Sizes) where
   module _ (v u w : View Event F) (items lines : List (ℕ × Command)) (same : items ≡ lines) (n : ℕ) (told : List (ℕ × ℕ × Reply)) (so : TellsList sizes (take n items) v u told) where
     pub list_fails : (error : StepError) → Waits sizes u w → (error ≡ HistoryFull → length (seen w) ≡ 4294967295) → EndsList sizes lines v w (Err error)
     list_fails error waits full =
-        list_broken v w lines error (list_some v w (take n items) lines (subst (λ (l : List (ℕ × Command)). IsPrefix (take n items) l) same (front_of n items)) (list_waits v u w (take n items) told so waits)) full
+        list_broken v w lines error (list_some v w (take n items) lines (subst (λ (l : List (ℕ × Command)). IsPrefix (take n items) l) same (prefix_of n items)) (list_waits v u w (take n items) told so waits)) full
 
     module _ (x : ℕ × Command) (within : n < length items) (is : x ≡ slice_index_or items n x) (place : ℕ) (reply : Reply) (steps : Steps sizes u w x.0 x.1 place reply) where
       one_more : take n items ++ x ∷ [] ≡ take (n + 1) items
@@ -201,7 +201,7 @@ module _ {F : Type 0} (sizes : Sizes) where
       list_next kept is_kept = subst (λ (l : List (ℕ × Command)). TellsList sizes l v w kept) one_more (subst (λ (t : List (ℕ × ℕ × Reply)). TellsList sizes (take n items ++ x ∷ []) v w t) (sym is_kept) more)
 
       pub list_unkept : RanList (AreOfSome lines) v w
-      list_unkept = list_some v w (take n items ++ x ∷ []) lines (subst (λ (l : List (ℕ × Command)). IsPrefix l lines) (sym one_more) (subst (λ (l : List (ℕ × Command)). IsPrefix (take (n + 1) items) l) same (front_of (n + 1) items))) more.ran
+      list_unkept = list_some v w (take n items ++ x ∷ []) lines (subst (λ (l : List (ℕ × Command)). IsPrefix l lines) (sym one_more) (subst (λ (l : List (ℕ × Command)). IsPrefix (take (n + 1) items) l) same (prefix_of (n + 1) items))) more.ran
 
     pub list_whole : length items ≤ n → TellsList sizes lines v u told
     list_whole over = subst (λ (l : List (ℕ × Command)). TellsList sizes l v u told) (take_all n items over ∙ same) so

@@ -72,7 +72,7 @@ module _ {A : Type 0} where
       let r = regroup m list h.0 last earlier h.2 k in
       (r.0, merge_more lists last h.0 r.0 h.1 r.1, r.2)
 
-  -- a merge of fronts goes on as a merge of the whole lists
+  -- a merge of prefixes goes on as a merge of the whole lists
   pub merge_goes_on : (lists fronts : List (List A)) (m : List A) → AllZip (λ (list front : List A). IsPrefix front list) lists fronts → IsMerge fronts m
       → (rest : List A) × IsMerge lists (m ++ rest)
   merge_goes_on [] [] m each h = ([], subst (λ (l : List A). l ++ [] ≡ []) (sym h) refl)

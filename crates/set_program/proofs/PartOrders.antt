@@ -56,7 +56,7 @@ orders_long (part ∷ later) lines (own, others, is, order, rest) =
 pub follows_long : (parts : List Part) (events : List Event) → Follows parts events → length events ≡ length (lines_in parts)
 follows_long parts events follows = sym (length-map events line_of) ∙ orders_long parts (map line_of events) follows
 
--- ---- parts behind parts
+-- ---- parts after parts
 
 -- the lines as they stand are in such an order
 pub order_of : (part : Part) → IsOrderOf part (lines_of part)
@@ -75,7 +75,7 @@ orders_join (part ∷ later) second own others (lines, rest, is, order, orders) 
 pub one_order : (part : Part) (lines : List (ℕ × Command)) → IsOrderOf part lines → AreOrdersOf (part ∷ []) lines
 one_order part lines order = (lines, [], sym (append-nil lines), order, refl)
 
--- ---- a part behind those that are done
+-- ---- a part after those that are done
 
 module _ (done : List Part) (part : Part) (earlier later : List Event) (follows : Follows done earlier) where
   -- it is played

@@ -68,7 +68,7 @@ module _ (event : Event) (one : IsPlain event) where
       let same : more ≡ suc place = omega (arith, next) in
       subst (λ (n : ℕ). AllByRecursion IsPlain (take n events)) (sym same) (next_plain events place within is so_far)
 
--- behind the last event all are plain
+-- after the last event all are plain
 pub all_plain : (events : List Event) (replies : List (ℕ × Reply)) (count : ℕ) → length events ≡ length replies → count ≡ min (length events) (length replies)
     → AllByRecursion IsPlain (take count events) → AllByRecursion IsPlain events
 all_plain events replies count same is so_far =

@@ -47,7 +47,7 @@ use Rattle.set_program.proofs.CopiedLemmas.{copy_failed}
 use Rattle.set_program.proofs.EndLemmas.{no_call}
 use Rattle.set_program.proofs.OpenLemmas.{disk_failed, unarmed_at}
 use Rattle.set_program.proofs.WrittenLemmas.{goes_as_written, nothing_failed}
-use Rattle.set_program.proofs.CountLemmas.{AnswersHere, NodeHas, NodePlay, NodeStep, PlaysOn, broke, failed_wider, failures_counted, fault_caused, node_played, node_run, one_event_back, one_event_on, orders_told, plays_behind, rose_wider, undone_there, used_behind}
+use Rattle.set_program.proofs.CountLemmas.{AnswersHere, NodeHas, NodePlay, NodeStep, PlaysOn, broke, failed_wider, failures_counted, fault_caused, node_played, node_run, one_event_back, one_event_on, orders_told, plays_after, rose_wider, undone_there, used_after}
 
 -- ---- who armed a disk
 
@@ -149,8 +149,8 @@ ran_to : {D : Type 0} (state : D → State) (OutOfMemory : Type 0) (IsNext : ℕ
 ran_to state OutOfMemory IsNext IsBlock opened set (inl played) number j c has = node_played state (opening set.sizes).world set.history opened set.disks number j c has played
 ran_to state OutOfMemory IsNext IsBlock opened set (inr (out, inl began)) number j c has =
     let events = node_played state (opening set.sizes).world set.history opened began.last number j c has began.played in
-    let behind = undone_there state began.command began.last set.disks number events.0 events.1 events.2 (run set.sizes set.history).world began.undone in
-    (behind.0, behind.1, behind.2, used_behind number (opening set.sizes).world set.history j events.0 behind.0 c events.1 behind.1 events.3 behind.3)
+    let tail = undone_there state began.command began.last set.disks number events.0 events.1 events.2 (run set.sizes set.history).world began.undone in
+    (tail.0, tail.1, tail.2, used_after number (opening set.sizes).world set.history j events.0 tail.0 c events.1 tail.1 events.3 tail.3)
 ran_to state OutOfMemory IsNext IsBlock opened set (inr (out, inr block)) number j c has =
     let before = node_played state (opening set.sizes).world block.earlier opened block.begun number j c has block.played in
     let later = node_run state (run set.sizes block.earlier).world (done_in block.tried) block.begun set.disks number before.0 before.1 before.2
@@ -159,7 +159,7 @@ ran_to state OutOfMemory IsNext IsBlock opened set (inr (out, inr block)) number
       later.1,
       later.2,
       subst (λ (es : List Event). NodePlay number (opening set.sizes).world es j later.0 c later.1) (sym block.events_are)
-          (plays_behind number (opening set.sizes) block.earlier (done_in block.tried) j before.0 later.0 c before.1 later.1 before.3 later.3),
+          (plays_after number (opening set.sizes) block.earlier (done_in block.tried) j before.0 later.0 c before.1 later.1 before.3 later.3),
     )
 
 pub node_ran : {D : Type 0} (state : D → State) (handed opened : List D) (set : Set D) → Opens state set.sizes.nodes (Ok tt) handed opened → RanTo state opened set → (number : ℕ) → 2 * number + 1 < length handed
@@ -281,7 +281,7 @@ module _ {D : Type 0} (state : D → State) (handed : List D) (many : length han
         armed_ran number set.sizes set.history (state node.journal) (state node.journal') (state node.checkpoints) (state node.checkpoints') node.so is_run
         (unarmed_at state handed unarmed (2 * number) node.journal node.journal_was) (unarmed_at state handed unarmed (2 * number + 1) node.checkpoints node.checkpoints_was) place event is
 
-  -- a set that was closed behind its events
+  -- a set that was closed after its events
   pub ran_safely : (opened : List D) (set : Set D) → AreSizes set.sizes → Opens state set.sizes.nodes (Ok tt) handed opened → DisksPlayed state opened set → IsRun set.sizes set.history → InEveryRun Safe → IsRunSafely state handed set
   ran_safely opened set sizes opens played is_run law =
       let ran : RanTo state opened set = ran_to state ⊥ (λ line command. ⊥) (λ earlier later. ⊥) opened set (inl played) in

@@ -1,4 +1,4 @@
--- A block that ran on a shared set, which was closed behind it.
+-- A block that ran on a shared set, which was closed after it.
 use Rattle.std.proofs.Common.{ℕ, zero, suc, ◌≡◌, ◌∙◌, ◌+◌, ◌≤◌, ap, sym, subst, arith, refl, true, List, [], ◌∷◌, ◌++◌, length, length-append, take}
 use Rattle.std.specs.Prelude.{IfOk, OnErr, OnOk, Result, Ok, Err, Vec, map}
 use Rattle.std.specs.List.{AllByRecursion, AllPass, list_all}
@@ -29,10 +29,10 @@ use Rattle.set_program.specs.Blocks.{AreOfSome, RanBlock, TellsBlock}
 use Rattle.set_program.specs.Parts.{Stepped, SteppedSome, Steps, can_be_run, has_few_threads, unplaced}
 use Rattle.set_program.specs.Steps.{Adds, line_of}
 use Rattle.set_program.proofs.BlockLemmas.{block_adds, block_adds_some, block_told}
-use Rattle.set_program.proofs.BlockRuns.{same_behind}
+use Rattle.set_program.proofs.BlockRuns.{same_after}
 use Rattle.set_program.proofs.PartOrders.{order_long, order_of}
 
--- ---- before and behind it
+-- ---- before and after it
 
 -- its pass has its parts again
 pub parts_back : {F : Type 0} (sizes : Sizes) (lists : List (List (ℕ × Command))) (v w : View Event F) (result : Result (Vec (ℕ × ℕ × Reply) Global) StepError)
@@ -66,10 +66,10 @@ module _ {D F : Type 0} (state : D → State) (lists : List (List (ℕ × Comman
     (fresh : v ≡ opened fixed old.history) (same : w.begun ≡ old.history) (closes : Closes old.sizes w new.history) (went : WentOn state old new)
     (by : WentOnBy state undone old new) (of_lists : AllByRecursion (IsInSome lists) (undone_in by.all)) where
   lines_of_added : (lines : List (ℕ × Command)) → Adds lines old.history new.history → map line_of went.added ≡ lines
-  lines_of_added lines adds = ap (map line_of) (same_behind old.history went.added adds.added (sym went.history ∙ adds.events)) ∙ adds.lines_are
+  lines_of_added lines adds = ap (map line_of) (same_after old.history went.added adds.added (sym went.history ∙ adds.events)) ∙ adds.lines_are
 
-  front_of : (lines next : List (ℕ × Command)) → map line_of went.added ≡ lines → lines ≡ take (length lines) next → map line_of went.added ≡ take (length went.added) next
-  front_of lines next is front = is ∙ front ∙ ap (λ (n : ℕ). take n next) (ap (λ (ls : List (ℕ × Command)). length ls) (sym is) ∙ length-map went.added line_of)
+  prefix_of : (lines next : List (ℕ × Command)) → map line_of went.added ≡ lines → lines ≡ take (length lines) next → map line_of went.added ≡ take (length went.added) next
+  prefix_of lines next is front = is ∙ front ∙ ap (λ (n : ℕ). take n next) (ap (λ (ls : List (ℕ × Command)). length ls) (sym is) ∙ length-map went.added line_of)
 
   -- all of it is played
   pub block_stepped : (told : List (ℕ × ℕ × Reply)) (before after : List (ℕ × Reply)) → new.whole ≡ true → TellsBlock old.sizes lists v w told → after ≡ before ++ unplaced told
@@ -95,20 +95,20 @@ module _ {D F : Type 0} (state : D → State) (lists : List (List (ℕ × Comman
     lines = next;
     order = merge;
     front = front;
-    disks = (by.all, same_behind old.history (done_in by.all) went.added (sym by.went.history ∙ went.history), of_lists, by.went.disks);
+    disks = (by.all, same_after old.history (done_in by.all) went.added (sym by.went.history ∙ went.history), of_lists, by.went.disks);
   }
 
-  -- memory ran out behind it
+  -- memory ran out after it
   pub block_unkept : (told : List (ℕ × ℕ × Reply)) → TellsBlock old.sizes lists v w told → SteppedSome state (Par lists) old new
   block_unkept told tells =
       let played = block_adds old.sizes lists fixed old.history v w new.history fresh same closes tells.ran in
-      stopped played.0 played.1 (front_of played.0 played.0 (lines_of_added played.0 played.2) (sym (take-length played.0)))
+      stopped played.0 played.1 (prefix_of played.0 played.0 (lines_of_added played.0 played.2) (sym (take-length played.0)))
 
   -- it stopped
   pub block_stopped : RanBlock AreOfSome lists v w → SteppedSome state (Par lists) old new
   block_stopped ran =
       let some = block_adds_some old.sizes lists fixed old.history v w new.history fresh same closes ran in
-      stopped some.1 some.2 (front_of some.0 some.1 (lines_of_added some.0 some.4) some.3)
+      stopped some.1 some.2 (prefix_of some.0 some.1 (lines_of_added some.0 some.4) some.3)
 
   -- all of it is played, and its replies are kept or not
   pub block_kept : (told : List (ℕ × ℕ × Reply)) (before after : List (ℕ × Reply)) (result : Result (Unit {0}) AllocError) → new.whole ≡ true → TellsBlock old.sizes lists v w told

@@ -1,4 +1,4 @@
--- A sync behind a script.
+-- A sync after a script.
 use Rattle.std.proofs.Common.{◌≡◌, ◌≢◌, ◌∙◌, ◌≤◌, ◌+◌, ◌*◌, ◌++◌, ◌∷◌, ap, sym, subst, refl, inr, ℕ, List, [], Option, Result, Ok, Err, length, drop}
 use Rattle.std.specs.Prelude.{All, IfErr, IfOk, IsErrOf, Vec}
 use Rattle.std.proofs.lemmas.List.Elements.{All-drop}
@@ -18,9 +18,9 @@ use Rattle.safety_laws.specs.Bounds.{NumbersStaySmall}
 use Rattle.safety_laws.specs.Laws.{InEveryRun}
 use Rattle.set_world.specs.Disks.{Opens}
 use Rattle.set_world.specs.World.{Set}
-use Rattle.sync_member.proofs.IdleLemmas.{played_idle, room_behind}
+use Rattle.sync_member.proofs.IdleLemmas.{played_idle, room_after}
 use Rattle.sync_member.proofs.MemberLemmas.{cause_then}
-use Rattle.sync_member.specs.Adding.{AddsMember, AsksInVain}
+use Rattle.sync_member.specs.Adding.{AddsMember, AddsNoMember}
 use Rattle.sync_pin.specs.Asking.{Pins}
 use Rattle.sync_words.specs.declared.stop.SyncStop.{SyncStop}
 use Rattle.sync_words.specs.declared.stop.SyncStop.TheVariants as syncs
@@ -32,27 +32,27 @@ use Rattle.set_program.specs.declared.stop.Stop.TheVariants.{Memory, WriteFault}
 use Rattle.task_words.specs.declared.words.Task.{Task}
 use Rattle.task_words.specs.declared.words.Task.TheVariants.{Sync}
 use Rattle.set_program.specs.Asking.{OpensScript, PlaysScript, RunsScript, call_of}
-use Rattle.set_program.specs.Behind.{Behind, EndsBehind}
+use Rattle.set_program.specs.AfterScript.{AfterScript, EndsAfterScript}
 use Rattle.set_program.specs.Causes.{of_sync}
 use Rattle.set_program.specs.Disks.{DisksPlayed}
 use Rattle.set_program.specs.Headline.{EndsTask, status_of}
 use Rattle.set_program.specs.Left.{IfParts, IfSet}
 use Rattle.set_program.specs.Orders.{Follows}
-use Rattle.set_program.specs.Parts.{DisksBehind, DisksEnd}
-use Rattle.set_program.specs.Syncing.{IsRunSafely, MadeMember, MakesMember, SyncsInVain, ended_so, left_so}
+use Rattle.set_program.specs.Parts.{DisksAfterScript, DisksEnd}
+use Rattle.set_program.specs.Syncing.{IsRunSafely, MadeMember, MakesMember, MakesNoMember, ended_so, left_so}
 use Rattle.set_program.proofs.DisksLemmas.{played_on}
 use Rattle.set_program.proofs.OpenLemmas.{set_leaves}
 use Rattle.set_program.proofs.RanLemmas.{ran_safely}
-use Rattle.set_program.proofs.BehindLemmas.{work_disks}
+use Rattle.set_program.proofs.AfterScriptLemmas.{work_disks}
 
 -- ---- the script was played to its end, and the set is still there
 
 module _ {D : Type 0} (state : D → State) (node : ℕ) (parts : List Part) (old told new : Option (List ℕ)) (first : List D) (mid last : Set D) (follows : Follows parts mid.history) (put : Appends old told (text (run mid.sizes mid.history))) where
-  vain_ends : (why : SyncStop) → last.sizes ≡ mid.sizes → Pins mid.sizes node mid.history last.history told new (Err why) → EndsBehind parts old new (SyncsInVain node last.sizes last.history new) (Err (of_sync why)) last
-  vain_ends why same pins = by_stop why pins
+  no_member_ends : (why : SyncStop) → last.sizes ≡ mid.sizes → Pins mid.sizes node mid.history last.history told new (Err why) → EndsAfterScript parts old new (MakesNoMember node last.sizes last.history new) (Err (of_sync why)) last
+  no_member_ends why same pins = by_stop why pins
     where
-      behind : (stop : SyncStop) → Pins mid.sizes node mid.history last.history told new (Err stop) → Behind parts old last (SyncsInVain node last.sizes last.history new (Err (of_sync stop)))
-      behind stop pinned = record {
+      after : (stop : SyncStop) → Pins mid.sizes node mid.history last.history told new (Err stop) → AfterScript parts old last (MakesNoMember node last.sizes last.history new (Err (of_sync stop)))
+      after stop pinned = record {
         scripted = mid.history;
         follows = follows;
         told = told;
@@ -60,31 +60,31 @@ module _ {D : Type 0} (state : D → State) (node : ℕ) (parts : List Part) (ol
         work = (stop, refl, subst (λ (s : Sizes). Pins s node mid.history last.history told new (Err stop)) (sym same) pinned);
       }
 
-      by_stop : (stop : SyncStop) → Pins mid.sizes node mid.history last.history told new (Err stop) → EndsBehind parts old new (SyncsInVain node last.sizes last.history new) (Err (of_sync stop)) last
-      by_stop (syncs.Refused reason) pinned = behind (syncs.Refused reason) pinned
+      by_stop : (stop : SyncStop) → Pins mid.sizes node mid.history last.history told new (Err stop) → EndsAfterScript parts old new (MakesNoMember node last.sizes last.history new) (Err (of_sync stop)) last
+      by_stop (syncs.Refused reason) pinned = after (syncs.Refused reason) pinned
       by_stop syncs.DiskFault never = absurd never
-      by_stop syncs.WriteFault pinned = inr (behind syncs.WriteFault pinned)
-      by_stop syncs.Memory pinned = inr (behind syncs.Memory pinned)
+      by_stop syncs.WriteFault pinned = inr (after syncs.WriteFault pinned)
+      by_stop syncs.Memory pinned = inr (after syncs.Memory pinned)
 
-  pub in_vain : (ended : Result (Unit {0}) SyncStop) → AsksInVain state node mid last told new ended → EndsBehind parts old new (SyncsInVain node last.sizes last.history new) (ended_so ended) last
-  in_vain ended vain =
-      subst (λ e. EndsBehind parts old new (SyncsInVain node last.sizes last.history new) (ended_so e) last) (sym vain.ends) (vain_ends vain.why vain.went.sizes vain.pins)
+  pub without_member : (ended : Result (Unit {0}) SyncStop) → AddsNoMember state node mid last told new ended → EndsAfterScript parts old new (MakesNoMember node last.sizes last.history new) (ended_so ended) last
+  without_member ended no_member =
+      subst (λ e. EndsAfterScript parts old new (MakesNoMember node last.sizes last.history new) (ended_so e) last) (sym no_member.ends) (no_member_ends no_member.why no_member.went.sizes no_member.pins)
 
 out_of_memory : (why : SyncStop) → ended_so (Err why) ≢ Err Memory → why ≢ syncs.Memory
 out_of_memory why other is = other (ap (λ (s : SyncStop). ended_so (Err s)) is)
 
-pub vain_disks : {D : Type 0} (state : D → State) (node : ℕ) (parts : List Part) (first : List D) (mid last : Set D) (told new : Option (List ℕ)) (ended : Result (Unit {0}) SyncStop)
-    → Follows parts mid.history → DisksPlayed state first mid → AsksInVain state node mid last told new ended → DisksBehind state parts first last (ended_so ended ≡ Err Memory)
-vain_disks {D} state node parts first mid last told new ended follows played vain =
-    subst (λ e. DisksBehind state parts first last (ended_so e ≡ Err Memory)) (sym vain.ends)
-    (work_disks state parts first mid last vain.went follows played (Err (of_sync vain.why)) (λ other. vain.whole (out_of_memory vain.why other)))
+pub no_member_disks : {D : Type 0} (state : D → State) (node : ℕ) (parts : List Part) (first : List D) (mid last : Set D) (told new : Option (List ℕ)) (ended : Result (Unit {0}) SyncStop)
+    → Follows parts mid.history → DisksPlayed state first mid → AddsNoMember state node mid last told new ended → DisksAfterScript state parts first last (ended_so ended ≡ Err Memory)
+no_member_disks {D} state node parts first mid last told new ended follows played no_member =
+    subst (λ e. DisksAfterScript state parts first last (ended_so e ≡ Err Memory)) (sym no_member.ends)
+    (work_disks state parts first mid last no_member.went follows played (Err (of_sync no_member.why)) (λ other. no_member.whole (out_of_memory no_member.why other)))
 
 -- ---- or it was closed, and a member made
 
-pub made_behind : {D : Type 0} (state : D → State) (node : ℕ) (parts : List Part) (old told new : Option (List ℕ)) (first : List D) (mid : Set D) (sizes : Sizes) (ended : Result (Unit {0}) SyncStop) (events : List Event) (disks : List D)
+pub made_after : {D : Type 0} (state : D → State) (node : ℕ) (parts : List Part) (old told new : Option (List ℕ)) (first : List D) (mid : Set D) (sizes : Sizes) (ended : Result (Unit {0}) SyncStop) (events : List Event) (disks : List D)
     → mid.sizes ≡ sizes → Follows parts mid.history → Appends old told (text (run mid.sizes mid.history)) → DisksPlayed state first mid → AddsMember state node mid told new ended events disks
     → MakesMember state node parts sizes first old new (ended_so ended) events disks
-made_behind state node parts old told new first mid sizes ended events disks same follows put played adds = record {
+made_after state node parts old told new first mid sizes ended events disks same follows put played adds = record {
   scripted = mid;
   sizes_are = same;
   follows = follows;
@@ -103,26 +103,26 @@ Both D = Result (Vec Event Global × Vec D Global) (Set D)
 
 module _ {D : Type 0} (state : D → State) (node : ℕ) (parts : List Part) (old told new : Option (List ℕ)) (first : List D) (sizes : Sizes) (mid : Set D) (ended : Result (Unit {0}) SyncStop)
     (same : mid.sizes ≡ sizes) (follows : Follows parts mid.history) (put : Appends old told (text (run mid.sizes mid.history))) (played : DisksPlayed state first mid) where
-  abbrev Vain : Set D → Type 0
-  Vain set = AsksInVain state node mid set told new ended
+  abbrev AddsNone : Set D → Type 0
+  AddsNone set = AddsNoMember state node mid set told new ended
 
   abbrev Adds : Vec Event Global × Vec D Global → Type 0
   Adds closed = AddsMember state node mid told new ended closed.0.items closed.1.items
 
-  pub synced_ends : (left : Both D) → IfErr left Vain → IfSet (left_so left) (λ set. EndsBehind parts old new (SyncsInVain node set.sizes set.history new) (ended_so ended) set)
-  synced_ends (Ok closed) vain = tt
-  synced_ends (Err set) vain = in_vain state node parts old told new first mid set follows put ended vain
+  pub synced_ends : (left : Both D) → IfErr left AddsNone → IfSet (left_so left) (λ set. EndsAfterScript parts old new (MakesNoMember node set.sizes set.history new) (ended_so ended) set)
+  synced_ends (Ok closed) no_member = tt
+  synced_ends (Err set) no_member = without_member state node parts old told new first mid set follows put ended no_member
 
-  pub synced_sizes : (left : Both D) → IfErr left Vain → IfSet (left_so left) (λ set. set.sizes ≡ sizes)
-  synced_sizes (Ok closed) vain = tt
-  synced_sizes (Err set) vain = vain.went.sizes ∙ same
+  pub synced_sizes : (left : Both D) → IfErr left AddsNone → IfSet (left_so left) (λ set. set.sizes ≡ sizes)
+  synced_sizes (Ok closed) no_member = tt
+  synced_sizes (Err set) no_member = no_member.went.sizes ∙ same
 
-  pub synced_disks : (left : Both D) → IfErr left Vain → IfSet (left_so left) (λ set. DisksBehind state parts first set (ended_so ended ≡ Err Memory))
-  synced_disks (Ok closed) vain = tt
-  synced_disks (Err set) vain = vain_disks state node parts first mid set told new ended follows played vain
+  pub synced_disks : (left : Both D) → IfErr left AddsNone → IfSet (left_so left) (λ set. DisksAfterScript state parts first set (ended_so ended ≡ Err Memory))
+  synced_disks (Ok closed) no_member = tt
+  synced_disks (Err set) no_member = no_member_disks state node parts first mid set told new ended follows played no_member
 
   pub synced_member : (left : Both D) → IfOk left Adds → IfParts (left_so left) (λ events disks. MakesMember state node parts sizes first old new (ended_so ended) events disks)
-  synced_member (Ok closed) adds = made_behind state node parts old told new first mid sizes ended closed.0.items closed.1.items same follows put played adds
+  synced_member (Ok closed) adds = made_after state node parts old told new first mid sizes ended closed.0.items closed.1.items same follows put played adds
   synced_member (Err set) adds = tt
 
 -- the same of the task that asked for it
@@ -152,17 +152,17 @@ synced_steady (Err syncs.DiskFault) other is = cc is
 synced_steady (Err syncs.WriteFault) other is = other refl
 synced_steady (Err syncs.Memory) other is = cc is
 
--- ---- the disks of the new member are still empty behind the script
+-- ---- the disks of the new member are still empty after the script
 
 module _ {D : Type 0} (state : D → State) (first : List D) (mid : Set D) (small : NumbersStaySmall mid.sizes mid.history) (is_run : IsRun mid.sizes mid.history) (played : DisksPlayed state first mid) where
   idle : drop (2 * mid.sizes.nodes) mid.disks ≡ drop (2 * mid.sizes.nodes) first
   idle = played_idle state mid.sizes mid.history small is_run first mid.disks played
 
-  pub spare_behind : All (λ (disk : D). IsEmpty (state disk).file) (drop (2 * mid.sizes.nodes) first) → All (λ (disk : D). IsEmpty (state disk).file) (drop (2 * mid.sizes.nodes) mid.disks)
-  spare_behind spare = subst (All (λ (disk : D). IsEmpty (state disk).file)) (sym idle) spare
+  pub spare_after : All (λ (disk : D). IsEmpty (state disk).file) (drop (2 * mid.sizes.nodes) first) → All (λ (disk : D). IsEmpty (state disk).file) (drop (2 * mid.sizes.nodes) mid.disks)
+  spare_after spare = subst (All (λ (disk : D). IsEmpty (state disk).file)) (sym idle) spare
 
   pub room_still : 2 * mid.sizes.nodes + 2 ≤ length first → 2 * mid.sizes.nodes + 2 ≤ length mid.disks
-  room_still room = room_behind (2 * mid.sizes.nodes) first mid.disks idle room
+  room_still room = room_after (2 * mid.sizes.nodes) first mid.disks idle room
 
 -- as the set is opened, they are as they were handed in
 pub spare_first : {D : Type 0} (state : D → State) (handed : List D) (begun : Set D) (sizes : Sizes) → begun.sizes ≡ sizes → Opens state sizes.nodes (Ok tt) handed begun.disks → All (λ (disk : D). IsEmpty (state disk).file) handed
@@ -196,7 +196,7 @@ task_leaves state task read handed begun (World set) held now result sizes opens
 task_leaves state task read handed begun (Parts events disks) held now result sizes opens same goes (node, is, made) =
     inr (subst (λ r. status_of r ≢ 7) (sym made.ends) (not_opened made.made), has_events state node made.scripted made.told now made.made events.items disks.items made.adds)
 
--- what holds of a member that was made behind the script of a set that was opened
+-- what holds of a member that was made after the script of a set that was opened
 record IsMadeSoundly {D : Type 0} (state : D → State) (handed : List D) (node : ℕ) (parts : List Part) (first : List D) (old new : Option (List ℕ)) (ended : Result (Unit {0}) Stop) (events : List Event) (disks : List D)
     (sizes : Sizes) : Type 0 where
   made : MakesMember state node parts sizes first old new ended events disks

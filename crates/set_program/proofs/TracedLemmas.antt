@@ -74,7 +74,7 @@ module _ (events : List Event) (replies : List (ℕ × Reply)) (place : ℕ) (ev
   entry_stops DiskFault never = absurd never
   entry_stops Refused never = absurd never
 
--- behind the last event all are put
+-- after the last event all are put
 pub all_put : (events : List Event) (replies : List (ℕ × Reply)) (count : ℕ) (first now : Option (List ℕ)) → length events ≡ length replies → count ≡ min (length events) (length replies)
     → Appends first now (entries_text (take count events) (take count (bare replies))) → Appends first now (entries_text events (bare replies))
 all_put events replies count first now same is put =
@@ -114,7 +114,7 @@ module _ {D : Type 0} (held now : Option (List ℕ)) (set : Set D) (sizes : ℕ 
       stops DiskFault never = absurd never
       stops Refused never = absurd never
 
-  -- behind the header come the events
+  -- after the header come the events
   pub trace_goes_on : (mid : Option (List ℕ)) (events : List Event) (replies : List (ℕ × Reply)) (result : Result (Unit {0}) Stop) → events ≡ set.history → replies ≡ (run set.sizes set.history).replies
       → Appends held mid (header_text sizes) → PutsEntries mid now events replies result → PutsTrace held now set result
   trace_goes_on mid events replies result events_are is put entries =

@@ -19,8 +19,8 @@ use Rattle.set_program.specs.Blocks.{TriedBlock, TriedList}
 undone_first : {D : Type 0} (state : D → State) (world : World) (command : Command) (events : List Event) (old between new : List D) → is_for (length world.nodes) command ≡ true
     → DisksUndone state world command old between → DisksRun state world events between new → DisksRun state world events old new
 undone_first state world command [] old between new fits used (undone, all) = (command ∷ undone, (between, fits, used, all))
-undone_first state world command (event ∷ later) old between new fits used (undone, before, behind, all, stepped, rest) =
-    (command ∷ undone, before, behind, (between, fits, used, all), stepped, rest)
+undone_first state world command (event ∷ later) old between new fits used (undone, before, tail, all, stepped, rest) =
+    (command ∷ undone, before, tail, (between, fits, used, all), stepped, rest)
 
 -- so the events ran, with some commands that weren't done
 pub attempts_run : {D : Type 0} (state : D → State) (world : World) (tried : List Attempt) (old new : List D) → AttemptsLeave state world tried old new → DisksRun state world (done_in tried) old new
@@ -41,9 +41,9 @@ all_undone_tried state world (command ∷ more) tried old between new (mid, fits
 pub run_tried : {D : Type 0} (state : D → State) (world : World) (events : List Event) (old new : List D) → DisksRun state world events old new
     → (tried : List Attempt) × (done_in tried ≡ events) × AttemptsLeave state world tried old new
 run_tried state world [] old new (undone, all) = all_undone_tried state world undone [] old new new all refl
-run_tried state world (event ∷ later) old new (undone, before, behind, all, stepped, rest) =
-    let more = run_tried state (step world event).world later behind new rest in
-    let first = all_undone_tried state world undone (Done event ∷ more.0) old before new all (behind, stepped, more.2) in
+run_tried state world (event ∷ later) old new (undone, before, tail, all, stepped, rest) =
+    let more = run_tried state (step world event).world later tail new rest in
+    let first = all_undone_tried state world undone (Done event ∷ more.0) old before new all (tail, stepped, more.2) in
     (first.0, first.1 ∙ ap (λ (es : List Event). event ∷ es) more.1, first.2)
 
 -- ---- the lines of a block
@@ -61,9 +61,9 @@ each_so : {A : Type 0} (P Q : A → Type 0) → ((x : A) → P x → Q x) → (x
 each_so P Q so [] all = tt
 each_so P Q so (x ∷ xs) all = (so x all.0, each_so P Q so xs all.1)
 
-all_behind : {A : Type 0} (P : A → Type 0) (xs ys : List A) → AllByRecursion P xs → AllByRecursion P ys → AllByRecursion P (xs ++ ys)
-all_behind P [] ys first second = second
-all_behind P (x ∷ xs) ys first second = (first.0, all_behind P xs ys first.1 second)
+all_after : {A : Type 0} (P : A → Type 0) (xs ys : List A) → AllByRecursion P xs → AllByRecursion P ys → AllByRecursion P (xs ++ ys)
+all_after P [] ys first second = second
+all_after P (x ∷ xs) ys first second = (first.0, all_after P xs ys first.1 second)
 
 pub tried_none : (lists : List (List (ℕ × Command))) (before : List (List (ℕ × Command))) → TriedBlock lists before before
 tried_none lists before = ([], sym (append-nil before), tt)
@@ -75,7 +75,7 @@ tried_block lists others last v v' w u z lists_are left (joined, w_is, all) (own
   joined ++ own ∷ [],
   both ∙ ap (λ l. l ++ u) (w_is ∙ ap (λ l. l ++ joined) left) ∙ ap (λ l. (v ++ joined) ++ l) u_is ∙ append_assoc v joined (own ∷ []),
   subst (λ (ls : List (List (ℕ × Command))). AllByRecursion (AllByRecursion (IsInSome ls)) (joined ++ own ∷ [])) (sym lists_are)
-      (all_behind (AllByRecursion (IsInSome (others ++ last ∷ []))) joined (own ∷ [])
+      (all_after (AllByRecursion (IsInSome (others ++ last ∷ []))) joined (own ∷ [])
       (each_so (AllByRecursion (IsInSome others)) (AllByRecursion (IsInSome (others ++ last ∷ []))) (each_so (IsInSome others) (IsInSome (others ++ last ∷ [])) (λ line has. in_more others (last ∷ []) line has)) joined all)
       (each_so (Contains last) (IsInSome (others ++ last ∷ [])) (λ line has. in_last others last line has) own of_last, tt)),
 )

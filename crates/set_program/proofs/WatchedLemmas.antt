@@ -1,4 +1,4 @@
--- A watch behind a script.
+-- A watch after a script.
 use Rattle.std.proofs.Common.{◌≡◌, ℕ, true, false, List, Option, Err}
 use Rattle.set_model.specs.declared.command.Event.{Event}
 use Rattle.set_model.specs.Run.{Sizes}
@@ -10,7 +10,7 @@ use Rattle.set_program.specs.declared.stop.Stop.{Stop}
 use Rattle.set_program.specs.declared.stop.Stop.TheVariants.{Memory, Usage, Script as NoScript, ReadFault, WriteFault, TooLong, DiskFault, CopyFault, Refused}
 use Rattle.set_program.specs.Causes.{of_watch}
 use Rattle.set_program.specs.Watching.{Watches}
-use Rattle.set_program.proofs.BehindLemmas.{stops_work}
+use Rattle.set_program.proofs.AfterScriptLemmas.{stops_work}
 
 pub watch_stops : (watch : Watch) (sizes : Sizes) (scripted events : List Event) (told new : Option (List ℕ)) (stop : WatchStop) → Asks true sizes watch scripted events told new (Err stop)
     → Watches watch sizes events new (Err (of_watch stop)) scripted told

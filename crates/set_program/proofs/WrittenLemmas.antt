@@ -108,7 +108,7 @@ lines_are (parts.Line number command ∷ later) lines plain (own, others, is, or
     is ∙ ap (λ l. l ++ others) order ∙ ap (λ l. (number, command) ∷ l) (lines_are later others (and_parts (is_line (parts.Line number command)) (list_all is_line later) plain).1 rest)
 lines_are (parts.Par threads ∷ later) lines plain orders = absurd (cc (and_parts (is_line (parts.Par threads)) (list_all is_line later) plain).0)
 
--- a script behind which nothing comes was played to its end
+-- a script after which nothing comes was played to its end
 follows_alone : {D : Type 0} (task : Task) (ps : List Part) (old new : Option (List ℕ)) (set : Set D) → is_script_alone task ≡ true → EndsTask task ps old new (Ok tt) set → Follows ps set.history
 follows_alone Run ps old new set alone ends = ends.0
 follows_alone Trace ps old new set alone ends = ends.0

@@ -38,7 +38,7 @@ told_of sizes is_one before (turn ∷ later) =
     ∷ told_of sizes is_one (before ++ turn.1 ∷ []) later
     else told_of sizes is_one (before ++ turn.1 ∷ []) later
 
--- this is told of the calls of a pass among the turns behind these events, one after another
+-- this is told of the calls of a pass among the turns after these events, one after another
 abbrev pub IsToldOf : Sizes → List Event → List (ℕ × Event) → ℕ × List Event → List (ℕ × ℕ × Reply) → Type 0
 IsToldOf sizes before later calls told =
     told ≡ take (length calls.1) (told_of sizes (λ pass. calls.0 == pass) before later)
@@ -54,7 +54,7 @@ Rises told = IsNonDecreasingBy (λ t. t.0) told
 -- ---- a block
 
 -- One pass for each list was joined into v, which is then w, has its parts again, and has seen their calls
--- behind all that it had seen. Those of each pass are `So` of its list, and no other in w has its number.
+-- after all that it had seen. Those of each pass are `So` of its list, and no other in w has its number.
 pub record RanBlock {F : Type 0} (So : List (ℕ × Command) → List Event → Type 0)
     (lists : List (List (ℕ × Command))) (v w : View Event F) : Type 0 where
   pub joined : List (ℕ × List Event)
@@ -104,7 +104,7 @@ EndsBlock sizes lists v w (Err HistoryFull) =
 abbrev pub IsNew : {F : Type 0} → View Event F → Type 0
 IsNew v = (pass : ℕ) × (v.calls ≡ (pass, []) ∷ []) × (calls_by pass v.turns ≡ [])
 
--- A new pass, which is then w, made such calls and has seen them behind all that it had seen.
+-- A new pass, which is then w, made such calls and has seen them after all that it had seen.
 pub record RanList {F : Type 0} (So : List Event → Type 0) (v w : View Event F) : Type 0 where
   pub pass : ℕ
   pub events : List Event

@@ -68,20 +68,20 @@ FaultsAreArmed sizes events =
 
 -- ---- orders
 
--- The orders of a node's disk behind these events: each event at the node that is answered `down`, or `armed`
+-- The orders of a node's disk after these events: each event at the node that is answered `down`, or `armed`
 -- for this disk, gives it one, and nothing else does.
-abbrev pub orders_behind : DiskName → ℕ → World → List Event → Orders → Orders
-orders_behind name number world [] orders = orders
-orders_behind name number world (event ∷ later) orders =
-    orders_behind name number (step world event).world later
+abbrev pub orders_since : DiskName → ℕ → World → List Event → Orders → Orders
+orders_since name number world [] orders = orders
+orders_since name number world (event ∷ later) orders =
+    orders_since name number (step world event).world later
     (if touched_node world event.command == number
     then orders_after name event.command (step world event).reply orders
     else orders)
 
 abbrev pub OrdersAre : ℕ → World → List Event → State → State → State → State → Type 0
 OrdersAre number world events j j' c c' =
-    (j'.orders ≡ orders_behind Journal number world events j.orders)
-    × (c'.orders ≡ orders_behind Checkpoint number world events c.orders)
+    (j'.orders ≡ orders_since Journal number world events j.orders)
+    × (c'.orders ≡ orders_since Checkpoint number world events c.orders)
 
 -- Each disk of a node has the orders that the events gave to it.
 abbrev pub OrdersCount : {D : Type 0} → (D → State) → List D → Set D → Type 0

@@ -31,7 +31,7 @@ AreOrdersOf (part ∷ later) lines = (own others : List (ℕ × Command)) × (li
 abbrev pub Follows : List Part → List Event → Type 0
 Follows parts events = AreOrdersOf parts (map line_of events)
 
--- This line comes next behind those of the events, in an order in which all may be played.
+-- This line comes next after those of the events, in an order in which all may be played.
 abbrev pub ComesNext : List Part → List Event → ℕ → Command → Type 0
 ComesNext parts events line command =
     (later : List (ℕ × Command)) × AreOrdersOf parts (map line_of events ++ (line, command) ∷ later)
@@ -48,9 +48,9 @@ pub record IsInBlock (whole : List Part) (earlier : List Event) (tried : List At
   pub front : map line_of (done_in tried) ≡ take (length (done_in tried)) lines
   pub undone : AllByRecursion (IsInSome threads) (undone_in tried)
 
--- in a block, or in the work behind the whole script
-abbrev pub IsInBlockOrBehind : List Part → List Event → List Attempt → Type 0
-IsInBlockOrBehind whole earlier tried = IsInBlock whole earlier tried ⊎ Follows whole earlier
+-- in a block, or in the work after the whole script
+abbrev pub IsInBlockOrAfter : List Part → List Event → List Attempt → Type 0
+IsInBlockOrAfter whole earlier tried = IsInBlock whole earlier tried ⊎ Follows whole earlier
 
 -- the events are those of some first lines, in an order in which all may be played
 pub record FollowsInPart (parts : List Part) (events : List Event) : Type 0 where
@@ -64,15 +64,15 @@ pub record FollowsInPart (parts : List Part) (events : List Event) : Type 0 wher
 abbrev pub NoPrefix : ℕ → Type 0
 NoPrefix cut = cut ≡ 0
 
--- where the sink fails, any front of the last text may be put
+-- where the sink fails, any prefix of the last text may be put
 abbrev pub AnyPrefix : ℕ → Type 0
 AnyPrefix cut = Unit {0}
 
--- what was to be put whole was put, and behind it a front of the next text, of a length that may be
+-- what was to be put whole was put, and after it a prefix of the next text, of a length that may be
 abbrev pub PutsPrefix : (ℕ → Type 0) → Option (List ℕ) → Option (List ℕ) → List ℕ → List ℕ → Type 0
 PutsPrefix MayBe old new whole next = (cut : ℕ) × MayBe cut × Appends old new (whole ++ take cut next)
 
--- some first replies were put whole, and a front of the next one
+-- some first replies were put whole, and a prefix of the next one
 pub record PutsReplies (MayBe : ℕ → Type 0) (old new : Option (List ℕ))
     (replies : List (ℕ × Reply)) : Type 0 where
   pub whole : ℕ

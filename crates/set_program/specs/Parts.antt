@@ -18,7 +18,7 @@ use Rattle.shared_set.specs.Attempts.{AttemptsLeave, IsInSome, done_in, undone_i
 use Rattle.set_world.specs.World.{Set}
 use Rattle.set_program.specs.Disks.{DisksRan}
 use Rattle.set_program.specs.Headline.{BreaksIn}
-use Rattle.set_program.specs.Orders.{ComesNext, Follows, FollowsInPart, IsInBlock, IsInBlockOrBehind, IsOrderOf}
+use Rattle.set_program.specs.Orders.{ComesNext, Follows, FollowsInPart, IsInBlock, IsInBlockOrAfter, IsOrderOf}
 use Rattle.set_program.specs.Steps.{GoesOn, line_of}
 use Rattle.task_words.specs.declared.words.Task.{Task}
 
@@ -37,7 +37,7 @@ unplaced told = map (λ t. (t.1, t.2)) told
 
 -- ---- one part
 
--- all its lines are played, and their replies kept behind earlier ones
+-- all its lines are played, and their replies kept after earlier ones
 pub record Stepped {D : Type 0} (state : D → State) (part : Part) (old new : Set D)
     (before after : List (ℕ × Reply)) : Type 0 where
   pub sizes : new.sizes ≡ old.sizes
@@ -81,15 +81,15 @@ abbrev pub DisksGo : {D : Type 0} → (D → State) → List Part → List D →
 DisksGo state parts first set OutOfMemory =
     DisksRan state OutOfMemory (ComesNext parts set.history) (IsInBlock parts) first set
 
--- the same of a task: memory may run out in the work behind the parts, too
+-- the same of a task: memory may run out in the work after the parts, too
 abbrev pub DisksEnd : {D : Type 0} → (D → State) → Task → List Part → List D → Set D → Type 0 → Type 0
 DisksEnd state task parts first set OutOfMemory =
     DisksRan state OutOfMemory (ComesNext parts set.history) (BreaksIn task parts) first set
 
--- the same of each task whose work comes behind the parts
-abbrev pub DisksBehind : {D : Type 0} → (D → State) → List Part → List D → Set D → Type 0 → Type 0
-DisksBehind state parts first set OutOfMemory =
-    DisksRan state OutOfMemory (ComesNext parts set.history) (IsInBlockOrBehind parts) first set
+-- the same of each task whose work comes after the parts
+abbrev pub DisksAfterScript : {D : Type 0} → (D → State) → List Part → List D → Set D → Type 0 → Type 0
+DisksAfterScript state parts first set OutOfMemory =
+    DisksRan state OutOfMemory (ComesNext parts set.history) (IsInBlockOrAfter parts) first set
 
 -- all parts are played, and the replies of the run kept
 pub record AllStepped {D : Type 0} (state : D → State) (parts : List Part) (old new : Set D)

@@ -21,7 +21,7 @@ use Rattle.set_program.specs.Steps.{GoesOn, line_of}
 
 -- ---- texts
 
--- a text is put, or a front of it where the sink fails
+-- a text is put, or a prefix of it where the sink fails
 abbrev pub PutsText : Option (List ℕ) → Option (List ℕ) → List ℕ → Result (Unit {0}) Stop → Type 0
 PutsText held now piece (Ok done) = Appends held now piece
 PutsText held now piece (Err Memory) = Keeps held now

@@ -1,4 +1,4 @@
--- What a linear read does behind a script.
+-- What a linear read does after a script.
 use Rattle.std.specs.Prelude.{ℕ, true, Option, Result, Ok, Err, List}
 use Rattle.set_model.specs.declared.command.Event.{Event}
 use Rattle.set_model.specs.Run.{Sizes}
@@ -8,8 +8,8 @@ use Rattle.linear_tell.specs.Telling.{Tells}
 use Rattle.set_program.specs.declared.stop.Stop.{Stop}
 use Rattle.set_program.specs.declared.stop.Stop.TheVariants.{Memory, Usage, Script as NoScript, ReadFault, WriteFault, TooLong, DiskFault, CopyFault, Refused}
 
--- Its commands are those from the script's events to those that the set has, and the line that tells what
--- came of it is put behind what the sink held.
+-- Its commands are those from the script's events to those that the set has, and the line that tells the
+-- result is put after what the sink held.
 abbrev pub ReadsLinearly : Linear → Sizes → List Event → Option (List ℕ) → Result (Unit {0}) Stop → List Event
     → Option (List ℕ) → Type 0
 ReadsLinearly linear sizes events new (Ok done) scripted told =

@@ -18,7 +18,7 @@ reply_to sizes history event = (step (run sizes history).world event).reply
 pub record GoesOn (sizes : Sizes) (old new : List Event) (replies : List (ℕ × Reply)) : Type 0 where
   pub longer : (run sizes new).replies ≡ (run sizes old).replies ++ replies
 
--- events of these lines come behind the first ones
+-- events of these lines come after the first ones
 pub record Adds (lines : List (ℕ × Command)) (old new : List Event) : Type 0 where
   pub added : List Event
   pub events : new ≡ old ++ added

@@ -1,4 +1,4 @@
--- What a sync does behind a script: a node is asked, the set is closed, and a new member is made.
+-- What a sync does after a script: a node is asked, the set is closed, and a new member is made.
 use Rattle.std.specs.Prelude.{◌≡◌, ◌≤◌, ◌<◌, ◌+◌, ◌*◌, ℕ, All, List, Option, Result, Ok, Err, Some, Vec, drop, slice_get}
 use Rattle.std.specs.List.{AllByRecursion}
 use Rattle.std.specs.Io.KnownBytes.{Appends}
@@ -40,9 +40,9 @@ left_so (Err set) = World set
 
 -- The set is still there: the node was asked, from the script's events to those that the set has, and there
 -- is nothing to begin with, or that couldn't be told.
-abbrev pub SyncsInVain : ℕ → Sizes → List Event → Option (List ℕ) → Result (Unit {0}) Stop → List Event
+abbrev pub MakesNoMember : ℕ → Sizes → List Event → Option (List ℕ) → Result (Unit {0}) Stop → List Event
     → Option (List ℕ) → Type 0
-SyncsInVain node sizes events new ended scripted told =
+MakesNoMember node sizes events new ended scripted told =
     (stop : SyncStop) × (ended ≡ Err (of_sync stop)) × Pins sizes node scripted events told new (Err stop)
 
 -- The script was played to its end on the disks with which its set was opened, and its transcript put. Then a
@@ -90,7 +90,7 @@ pub record EndsWithMember {D : Type 0} (state : D → State) (handed : List D) (
   -- those without a node, of which the new member gets two, are then as they were handed in
   pub idle : drop (2 * call.read.nodes) member.adds.set.disks ≡ drop (2 * call.read.nodes) handed
 
--- the count of one of the two disks behind those of so many nodes rose
+-- the count of one of the two disks after those of so many nodes rose
 abbrev pub MemberFaultCounted : {D : Type 0} → (D → State) → ℕ → List D → List D → Type 0
 MemberFaultCounted {D} state nodes old new =
     (place : ℕ) × (before : D) × (after : D) × (2 * nodes ≤ place) × (place < 2 * nodes + 2)

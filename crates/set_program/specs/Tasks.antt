@@ -12,7 +12,7 @@ is_of_source (Watches watch) = true
 is_of_source (Sync node) = true
 is_of_source (Chaos seed events nodes) = false
 
--- nothing of a task comes behind its script
+-- nothing of a task comes after its script
 abbrev pub is_script_alone : Task → Bool
 is_script_alone Run = true
 is_script_alone Trace = true

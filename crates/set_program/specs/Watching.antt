@@ -1,4 +1,4 @@
--- What a watch does behind a script.
+-- What a watch does after a script.
 use Rattle.std.specs.Prelude.{ℕ, true, Option, Result, Ok, Err, List}
 use Rattle.set_model.specs.declared.command.Event.{Event}
 use Rattle.set_model.specs.Run.{Sizes}
@@ -9,7 +9,7 @@ use Rattle.change_watch.specs.Following.{Follows}
 use Rattle.set_program.specs.declared.stop.Stop.{Stop}
 use Rattle.set_program.specs.declared.stop.Stop.TheVariants.{Memory, Usage, Script as NoScript, ReadFault, WriteFault, TooLong, DiskFault, CopyFault, Refused}
 
--- It asks its nodes, from the script's events to those that the set has, and what it tells is put behind what
+-- It asks its nodes, from the script's events to those that the set has, and what it tells is put after what
 -- the sink held.
 abbrev pub Watches : Watch → Sizes → List Event → Option (List ℕ) → Result (Unit {0}) Stop → List Event
     → Option (List ℕ) → Type 0

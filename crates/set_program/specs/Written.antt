@@ -33,7 +33,7 @@ is_line (Line number command) = true
 is_line (Par threads) = false
 
 -- In no event did anything fail. Where a script without blocks was played to its end, and nothing comes
--- behind it, the events are exactly its lines and their commands.
+-- after it, the events are exactly its lines and their commands.
 pub record GoesAsWritten {D : Type 0} (call : Call D) (status : ℕ) (set : Set D) : Type 0 where
   pub unfailed : AllByRecursion NothingFailed set.history
   pub lines : status ≡ 0 → is_script_alone call.task ≡ true → list_all is_line call.read.parts ≡ true

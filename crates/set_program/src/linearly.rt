@@ -5,7 +5,7 @@ ghost use Rattle.rs_io.specs.Fault.{HasCause};
 ghost use Rattle.fault_script.specs.Script.{lines_in, sizes_of};
 ghost use Rattle.fault_script.specs.Lines.{MOST_LINES};
 ghost use Rattle.set_world.specs.Went.{WentOn};
-ghost use Rattle.set_program.specs.Behind.{EndsBehind};
+ghost use Rattle.set_program.specs.AfterScript.{EndsAfterScript};
 ghost use Rattle.task_words.specs.declared.words.Task.TheVariants.{Linear as IsLinear};
 ghost use Rattle.set_program.specs.Parts.{can_be_run, DisksEnd};
 ghost use Rattle.set_program.specs.ReadingLinearly.{ReadsLinearly};
@@ -38,7 +38,7 @@ pub fn play_linear<K: Sink, D: Disk + Send, G: Gate + Sync, R: Threads + Wait + 
     requires script { world.sizes ≡ sizes_of script }
     requires few { length (lines_in script.parts) ≤ MOST_LINES }
     requires fits { AllPass (can_be_run world.sizes.nodes) script.parts }
-    ensures ends { EndsBehind script.parts (K.held sink.old) (K.held sink.new)
+    ensures ends { EndsAfterScript script.parts (K.held sink.old) (K.held sink.new)
         (ReadsLinearly linear result.1.sizes result.1.history (K.held sink.new)) result.0 result.1 }
     ensures sizes { result.1.sizes ≡ world.sizes }
     ensures disks { DisksEnd D.state (IsLinear linear) script.parts world.disks result.1

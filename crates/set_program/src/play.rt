@@ -92,7 +92,7 @@ fn play_line<K: Sink, D: Disk, R: Threads + Sync>(
     }
 }
 
-/// The replies of a block are put behind it, when all its lines are played.
+/// The replies of a block are put after it, when all its lines are played.
 fn play_block<K: Sink, D: Disk + Send, G: Gate + Sync, R: Threads + Wait + Sync>(
     rt: &R,
     gate: &G,

@@ -5,11 +5,11 @@ ghost use Rattle.rs_disk.specs.File.{IsEmpty};
 ghost use Rattle.rs_io.specs.Fault.{HasCause};
 ghost use Rattle.fault_script.specs.Script.{lines_in, sizes_of};
 ghost use Rattle.fault_script.specs.Lines.{MOST_LINES};
-ghost use Rattle.set_program.specs.Behind.{EndsBehind};
+ghost use Rattle.set_program.specs.AfterScript.{EndsAfterScript};
 ghost use Rattle.task_words.specs.declared.words.Task.TheVariants.{Sync as IsSync};
 ghost use Rattle.set_program.specs.Left.{IfParts, IfSet};
 ghost use Rattle.set_program.specs.Parts.{can_be_run, DisksEnd};
-ghost use Rattle.set_program.specs.Syncing.{MakesMember, SyncsInVain, ended_so, left_so};
+ghost use Rattle.set_program.specs.Syncing.{MakesMember, MakesNoMember, ended_so, left_so};
 
 use crate::outcome::Left;
 use crate::play::play;
@@ -46,8 +46,8 @@ pub fn play_synced<K: Sink, D: Disk + Send, G: Gate + Sync, R: Threads + Wait + 
     requires many { length world.disks ≡ 100 }
     requires spare { All (λ (disk : D). IsEmpty (D.state disk).file)
         (drop (2 * world.sizes.nodes) world.disks) }
-    ensures ends { IfSet result.1 (λ set. EndsBehind script.parts (K.held sink.old) (K.held sink.new)
-        (SyncsInVain node set.sizes set.history (K.held sink.new)) result.0 set) }
+    ensures ends { IfSet result.1 (λ set. EndsAfterScript script.parts (K.held sink.old) (K.held sink.new)
+        (MakesNoMember node set.sizes set.history (K.held sink.new)) result.0 set) }
     ensures sizes { IfSet result.1 (λ set. set.sizes ≡ world.sizes) }
     ensures disks { IfSet result.1 (λ set. DisksEnd D.state (IsSync node) script.parts world.disks set
         (result.0 ≡ Err Stop.Memory)) }

@@ -1,4 +1,4 @@
-// A script, played for its replies, for what comes behind it, for its trace or for its summary.
+// A script, played for its replies, for what comes after it, for its trace or for its summary.
 ghost use Rattle.std.specs.Prelude.{◌≡◌, ◌≢◌, ◌≤◌, ◌*◌, [], All, drop, length, true, Err, IsErrOf};
 ghost use Rattle.std.specs.List.{AllPass};
 ghost use Rattle.rs_disk.specs.File.{IsEmpty};

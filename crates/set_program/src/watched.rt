@@ -1,11 +1,11 @@
-// A script, played for its replies, and then for the changes that nodes have behind a token.
+// A script, played for its replies, and then for the changes that nodes have after a token.
 ghost use Rattle.std.specs.Prelude.{◌≡◌, ◌≢◌, ◌≤◌, [], length, true, Err, IsErrOf};
 ghost use Rattle.std.specs.List.{AllPass};
 ghost use Rattle.rs_io.specs.Fault.{HasCause};
 ghost use Rattle.fault_script.specs.Script.{lines_in, sizes_of};
 ghost use Rattle.fault_script.specs.Lines.{MOST_LINES};
 ghost use Rattle.set_world.specs.Went.{WentOn};
-ghost use Rattle.set_program.specs.Behind.{EndsBehind};
+ghost use Rattle.set_program.specs.AfterScript.{EndsAfterScript};
 ghost use Rattle.task_words.specs.declared.words.Task.TheVariants.{Watch as IsWatch};
 ghost use Rattle.set_program.specs.Parts.{can_be_run, DisksEnd};
 ghost use Rattle.set_program.specs.Watching.{Watches};
@@ -38,7 +38,7 @@ pub fn play_watched<K: Sink, D: Disk + Send, G: Gate + Sync, R: Threads + Wait +
     requires script { world.sizes ≡ sizes_of script }
     requires few { length (lines_in script.parts) ≤ MOST_LINES }
     requires fits { AllPass (can_be_run world.sizes.nodes) script.parts }
-    ensures ends { EndsBehind script.parts (K.held sink.old) (K.held sink.new)
+    ensures ends { EndsAfterScript script.parts (K.held sink.old) (K.held sink.new)
         (Watches watch result.1.sizes result.1.history (K.held sink.new)) result.0 result.1 }
     ensures sizes { result.1.sizes ≡ world.sizes }
     ensures disks { DisksEnd D.state (IsWatch watch) script.parts world.disks result.1

@@ -19,7 +19,7 @@ use Rattle.set_world.specs.World.{disks_in, nodes_in}
 use Rattle.set_world.proofs.DiskLemmas.{checkpoints_of, journal_of}
 use Rattle.set_world.proofs.DisksOpenLemmas.{disks_long, get_seam}
 use Rattle.set_world.proofs.NodesLemmas.{get_in}
-use Rattle.set_world.proofs.OpenLemmas.{all_behind}
+use Rattle.set_world.proofs.OpenLemmas.{all_after}
 
 -- ---- the nodes of a set as it begins
 
@@ -66,9 +66,9 @@ all_empty state config count disks empty enough number less = begins_on state co
 
 -- ---- disks of which the first nodes were opened
 
--- behind the disks of so many nodes
-stands_behind : {D : Type 0} (state : D → State) (front tail : List D) (m k : ℕ) (node : Node) → length front ≡ 2 * m → StandsAtNumber state k node tail → StandsAtNumber state (m + k) node (front ++ tail)
-stands_behind state front tail m k node long stands = record {
+-- after the disks of so many nodes
+stands_after : {D : Type 0} (state : D → State) (front tail : List D) (m k : ℕ) (node : Node) → length front ≡ 2 * m → StandsAtNumber state k node tail → StandsAtNumber state (m + k) node (front ++ tail)
+stands_after state front tail m k node long stands = record {
   journal = stands.journal;
   checkpoints = stands.checkpoints;
   journal_at = ap (λ n. slice_get (front ++ tail) n) (let same : 2 * (m + k) ≡ length front + 2 * k = omega (arith, long) in same) ∙ get_seam front tail (2 * k) ∙ stands.journal_at;
@@ -105,7 +105,7 @@ module _ {D : Type 0} (state : D → State) (config : Config) (number : ℕ) (en
   failed : StandsAtNumber state number (unopened_node config number) whole
   failed =
       subst (λ n. StandsAtNumber state n (unopened_node config number) whole) (let plain : number + 0 ≡ number = omega arith in plain)
-      (stands_behind state (disks_in so_many) back number 0 (unopened_node config number) long
+      (stands_after state (disks_in so_many) back number 0 (unopened_node config number) long
       (subst (λ l. StandsAtNumber state 0 (unopened_node config number) l) (sym two.back) (record {
         journal = two.journal';
         checkpoints = two.checkpoints';
@@ -114,29 +114,29 @@ module _ {D : Type 0} (state : D → State) (config : Config) (number : ℕ) (en
         stands = two.stands;
       })))
 
-  -- those behind it
+  -- those after it
   unopened : (k : ℕ) → 2 * k + 1 < length two.rest → StandsAtNumber state (number + (1 + k)) (unopened_node config (number + (1 + k))) whole
   unopened k within =
       let node = unopened_node config (number + (1 + k)) in
-      stands_behind state (disks_in so_many) back number (1 + k) node long
+      stands_after state (disks_in so_many) back number (1 + k) node long
       (subst (λ l. StandsAtNumber state (1 + k) node l) (sym two.back)
-      (stands_behind state (two.journal' ∷ two.checkpoints' ∷ []) two.rest 1 k node refl
+      (stands_after state (two.journal' ∷ two.checkpoints' ∷ []) two.rest 1 k node refl
       (begins_on state config (number + (1 + k)) k two.rest
-      (all_behind (λ (disk : D). IsEmpty (state disk).file) disks two.rest two.two.journal two.two.checkpoints two.two.first empty) within)))
+      (all_after (λ (disk : D). IsEmpty (state disk).file) disks two.rest two.two.journal two.two.checkpoints two.two.first empty) within)))
 
   pub all_back : (count : ℕ) (given : List D) → given ≡ whole → 2 * count ≤ length disks + 2 * number → AllBegin state config count given
   all_back count given is enough n less = subst (λ l. StandsAtNumber state n (unopened_node config n) l) (sym is) (elim (cases_order n number) [
     | inl same ↦ subst (λ m. StandsAtNumber state m (unopened_node config m) whole) (sym same) failed
     | inr other ↦ elim other [
       | inl before ↦ opened n before
-      | inr behind ↦ subst (λ m. StandsAtNumber state m (unopened_node config m) whole) (sym (place behind)) (unopened (n - (number + 1)) (room behind))
+      | inr after ↦ subst (λ m. StandsAtNumber state m (unopened_node config m) whole) (sym (place after)) (unopened (n - (number + 1)) (room after))
     ]
   ])
     where
       place : number < n → n ≡ number + (1 + (n - (number + 1)))
-      place behind = omega (arith, behind)
+      place after = omega (arith, after)
 
       room : number < n → 2 * (n - (number + 1)) + 1 < length two.rest
-      room behind =
+      room after =
           let all : length disks ≡ suc (suc (length two.rest)) = ap (λ (l : List D). length l) two.two.first in
-          omega (arith, behind, less, enough, all)
+          omega (arith, after, less, enough, all)

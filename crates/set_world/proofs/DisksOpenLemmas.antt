@@ -85,14 +85,14 @@ served_journal Fault j j' c c' runs = record { faults = runs.fails.journal_fault
 served_checkpoints : (Fault : Type 0) (j j' c c' : State) → RunsWithoutOrders Fault j j' c c' → WasUsed c c'
 served_checkpoints Fault j j' c c' runs = record { faults = runs.fails.checkpoint_faults; steady = runs.fails.checkpoint_steady; armed = runs.checkpoints_armed; orders = runs.checkpoints_orders }
 
--- behind the same disks
-served_behind : {D : Type 0} (state : D → State) (front : List D) (j c j' c' : D) (rest : List D) (place : ℕ) (x y : D) → WasUsed (state j) (state j') → WasUsed (state c) (state c')
+-- after the same disks
+served_after : {D : Type 0} (state : D → State) (front : List D) (j c j' c' : D) (rest : List D) (place : ℕ) (x y : D) → WasUsed (state j) (state j') → WasUsed (state c) (state c')
     → slice_get (front ++ j ∷ c ∷ rest) place ≡ Some x → slice_get (front ++ j' ∷ c' ∷ rest) place ≡ Some y → WasUsed (state x) (state y)
-served_behind state [] j c j' c' rest zero x y one two at at_too = subst (λ a. WasUsed (state a) (state y)) (same_Some j x at) (subst (λ b. WasUsed (state j) (state b)) (same_Some j' y at_too) one)
-served_behind state [] j c j' c' rest (suc zero) x y one two at at_too = subst (λ a. WasUsed (state a) (state y)) (same_Some c x at) (subst (λ b. WasUsed (state c) (state b)) (same_Some c' y at_too) two)
-served_behind state [] j c j' c' rest (suc (suc place)) x y one two at at_too = served_same state x y (same_Some x y (sym at ∙ at_too))
-served_behind state (first ∷ front) j c j' c' rest zero x y one two at at_too = served_same state x y (same_Some x y (sym at ∙ at_too))
-served_behind state (first ∷ front) j c j' c' rest (suc place) x y one two at at_too = served_behind state front j c j' c' rest place x y one two at at_too
+served_after state [] j c j' c' rest zero x y one two at at_too = subst (λ a. WasUsed (state a) (state y)) (same_Some j x at) (subst (λ b. WasUsed (state j) (state b)) (same_Some j' y at_too) one)
+served_after state [] j c j' c' rest (suc zero) x y one two at at_too = subst (λ a. WasUsed (state a) (state y)) (same_Some c x at) (subst (λ b. WasUsed (state c) (state b)) (same_Some c' y at_too) two)
+served_after state [] j c j' c' rest (suc (suc place)) x y one two at at_too = served_same state x y (same_Some x y (sym at ∙ at_too))
+served_after state (first ∷ front) j c j' c' rest zero x y one two at at_too = served_same state x y (same_Some x y (sym at ∙ at_too))
+served_after state (first ∷ front) j c j' c' rest (suc place) x y one two at at_too = served_after state front j c j' c' rest place x y one two at at_too
 
 module _ {D : Type 0} (state : D → State) (number : ℕ) (ended : Result (Unit {0}) FileError) (old : List D) (nodes : List (Node × D × D)) (disks : List D) (journal' checkpoints' : D) (rest : List D)
     (so_far : Opens state number (Ok tt) old (disks_in nodes ++ disks)) (many : length nodes ≡ number) (two : TwoDisksRan state ended disks journal' checkpoints' rest) where
@@ -106,14 +106,14 @@ module _ {D : Type 0} (state : D → State) (number : ℕ) (ended : Result (Unit
   whole = ap (λ l. front ++ l) two.first
 
   -- from this node on the disks are those of the beginning
-  behind : drop (2 * number) old ≡ two.journal ∷ two.checkpoints ∷ rest
-  behind = sym so_far.idle ∙ ap (λ l. drop (2 * number) l) whole ∙ ap (λ n. drop n (front ++ two.journal ∷ two.checkpoints ∷ rest)) (sym long) ∙ drop-append_seam front (two.journal ∷ two.checkpoints ∷ rest)
+  further : drop (2 * number) old ≡ two.journal ∷ two.checkpoints ∷ rest
+  further = sym so_far.idle ∙ ap (λ l. drop (2 * number) l) whole ∙ ap (λ n. drop n (front ++ two.journal ∷ two.checkpoints ∷ rest)) (sym long) ∙ drop-append_seam front (two.journal ∷ two.checkpoints ∷ rest)
 
   old_journal : slice_get old (2 * number) ≡ Some two.journal
-  old_journal = ap (λ n. slice_get old n) (let same : 2 * number ≡ 2 * number + 0 = omega arith in same) ∙ sym (get_drop (2 * number) 0 old) ∙ ap (λ l. slice_get l 0) behind
+  old_journal = ap (λ n. slice_get old n) (let same : 2 * number ≡ 2 * number + 0 = omega arith in same) ∙ sym (get_drop (2 * number) 0 old) ∙ ap (λ l. slice_get l 0) further
 
   old_checkpoints : slice_get old (2 * number + 1) ≡ Some two.checkpoints
-  old_checkpoints = sym (get_drop (2 * number) 1 old) ∙ ap (λ l. slice_get l 1) behind
+  old_checkpoints = sym (get_drop (2 * number) 1 old) ∙ ap (λ l. slice_get l 1) further
 
   new_journal : slice_get (front ++ journal' ∷ checkpoints' ∷ rest) (2 * number) ≡ Some journal'
   new_journal = ap (λ n. slice_get (front ++ journal' ∷ checkpoints' ∷ rest) n) (let same : 2 * number ≡ length front + 0 = omega (arith, long) in same) ∙ get_seam front (journal' ∷ checkpoints' ∷ rest) 0
@@ -127,8 +127,8 @@ module _ {D : Type 0} (state : D → State) (number : ℕ) (ended : Result (Unit
   abbrev now : List D
   now = front ++ journal' ∷ checkpoints' ∷ rest
 
-  behind_both : drop (2 * (number + 1)) now ≡ drop (2 * (number + 1)) old
-  behind_both = dropped journal' checkpoints' ∙ sym (dropped two.journal two.checkpoints) ∙ ap (λ l. drop (2 * (number + 1)) l) (sym whole)
+  after_both : drop (2 * (number + 1)) now ≡ drop (2 * (number + 1)) old
+  after_both = dropped journal' checkpoints' ∙ sym (dropped two.journal two.checkpoints) ∙ ap (λ l. drop (2 * (number + 1)) l) (sym whole)
       ∙ drop_more (2 * number) (2 * (number + 1)) (front ++ disks) old (omega arith) so_far.idle
 
   -- what was opened before is still so
@@ -163,10 +163,10 @@ module _ {D : Type 0} (state : D → State) (number : ℕ) (ended : Result (Unit
     | inl same ↦ subst (λ m. OpenedAt state (Ok tt) m old now) (sym same) here
     | inr other ↦ elim other [
       | inl before ↦ opened_before k before
-      | inr behind ↦ absurd (omega (arith, less, behind))
+      | inr further ↦ absurd (omega (arith, less, further))
     ]
   ]
-  one_more (Err error) here = inr (number, omega arith, opened_before, here, behind_both)
+  one_more (Err error) here = inr (number, omega arith, opened_before, here, after_both)
 
   pub opens_next : Opens state (number + 1) ended old (front ++ journal' ∷ checkpoints' ∷ rest)
   opens_next = record {
@@ -175,12 +175,12 @@ module _ {D : Type 0} (state : D → State) (number : ℕ) (ended : Result (Unit
         let before : length (front ++ two.journal ∷ two.checkpoints ∷ rest) ≡ length front + length (two.journal ∷ two.checkpoints ∷ rest) = length-append front (two.journal ∷ two.checkpoints ∷ rest) in
         let was : length (front ++ two.journal ∷ two.checkpoints ∷ rest) ≡ length old = ap length (sym whole) ∙ so_far.count in
         omega (arith, now, before, was);
-    idle = behind_both;
+    idle = after_both;
     in_turn = one_more ended opened_here;
     each = λ place before after at at_too.
         let mid = there_too old (front ++ disks) place before so_far.count at in
         served_then (state before) (state mid.0) (state after) (so_far.each place before mid.0 at mid.1)
-        (served_behind state front two.journal two.checkpoints journal' checkpoints' rest place mid.0 after
+        (served_after state front two.journal two.checkpoints journal' checkpoints' rest place mid.0 after
         (served_journal (HasFailed ended) (state two.journal) (state journal') (state two.checkpoints) (state checkpoints') two.runs)
         (served_checkpoints (HasFailed ended) (state two.journal) (state journal') (state two.checkpoints) (state checkpoints') two.runs)
         (ap (λ l. slice_get l place) (sym whole) ∙ mid.1) at_too);

@@ -57,7 +57,7 @@ use Rattle.set_model.specs.Fetching.{fetch_from, sources}
 use Rattle.set_model.specs.Holds.{holder}
 use Rattle.set_model.specs.Node.{Node, DryTally}
 use Rattle.set_model.specs.Outcome.{Outcome, replied, sending}
-use Rattle.set_model.specs.Points.{has_entry, if_primary, last_point, log_behind, same_optime}
+use Rattle.set_model.specs.Points.{has_entry, if_primary, last_point, log_after, same_optime}
 use Rattle.set_model.specs.Reads.{read_key, shown_documents, document_reply}
 use Rattle.set_model.specs.Reconfig.{change_refusal, commit_held, committed_refusal, config_held, reconfig_refusal, unless_broken, unless_unknown}
 use Rattle.set_model.specs.Roles.{is_secondary, is_candidate, is_draining, is_primary, is_leading}
@@ -319,7 +319,7 @@ row_quiet nodes next there node (Command.Restart number) =
 -- ---- each message
 
 common_refusal_quiet : (node : Node) (term : ℕ) (body : Body) → IsMild (body_refusal node term body)
-common_refusal_quiet node term (CommonAsk after) = refusal_if (nat_lt 20000 (length (log_behind after (shown_in node term)))) _ _ (mild_of _ refl) (mild_of _ refl)
+common_refusal_quiet node term (CommonAsk after) = refusal_if (nat_lt 20000 (length (log_after after (shown_in node term)))) _ _ (mild_of _ refl) (mild_of _ refl)
 common_refusal_quiet node term (Fetch base) = mild_of _ refl
 common_refusal_quiet node term (Fetched fetched) = mild_of _ refl
 common_refusal_quiet node term (Reported config durable) = mild_of _ refl

@@ -28,14 +28,14 @@ nodes_last config first zero = ap (λ n. opening_node config n ∷ []) (let same
 nodes_last config first (suc count) =
     ap (λ l. opening_node config first ∷ l) (nodes_last config (first + 1) count ∙ ap (λ n. nodes_from config (first + 1) count ++ opening_node config n ∷ []) (let same : first + 1 + count ≡ first + suc count = omega arith in same))
 
-nodes_behind : {D : Type 0} (nodes : List (Node × D × D)) (node : Node × D × D) → nodes_in (nodes ++ node ∷ []) ≡ nodes_in nodes ++ node.0 ∷ []
-nodes_behind [] node = refl
-nodes_behind (first ∷ nodes) node = ap (λ l. first.0 ∷ l) (nodes_behind nodes node)
+nodes_after : {D : Type 0} (nodes : List (Node × D × D)) (node : Node × D × D) → nodes_in (nodes ++ node ∷ []) ≡ nodes_in nodes ++ node.0 ∷ []
+nodes_after [] node = refl
+nodes_after (first ∷ nodes) node = ap (λ l. first.0 ∷ l) (nodes_after nodes node)
 
 pub nodes_more : {D : Type 0} (config : Config) (count : ℕ) (old new : List (Node × D × D)) (node : Node × D × D) → nodes_in old ≡ nodes_from config 0 count → new ≡ old ++ node ∷ []
     → node.0 ≡ opening_node config count → nodes_in new ≡ nodes_from config 0 (count + 1)
 nodes_more config count old new node is more opened =
-    ap nodes_in more ∙ nodes_behind old node ∙ ap (λ l. l ++ node.0 ∷ []) is ∙ ap (λ n. nodes_from config 0 count ++ n ∷ []) opened
+    ap nodes_in more ∙ nodes_after old node ∙ ap (λ l. l ++ node.0 ∷ []) is ∙ ap (λ n. nodes_from config 0 count ++ n ∷ []) opened
     ∙ ap (λ n. nodes_from config 0 count ++ opening_node config n ∷ []) (let same : count ≡ 0 + count = omega arith in same) ∙ sym (nodes_last config 0 count)
     ∙ ap (λ n. nodes_from config 0 n) (let same : suc count ≡ count + 1 = omega arith in same)
 
@@ -63,5 +63,5 @@ first_rule law sizes are = ((law sizes [] are tt).nodes 0 0 (opening_node (first
     there zero none = absurd (omega (arith, none))
     there (suc count) more = refl
 
-pub all_behind : {A : Type 0} (P : A → Type 0) (xs ys : List A) (x y : A) → xs ≡ x ∷ y ∷ ys → All P xs → All P ys
-all_behind P xs ys x y is each k d within = (subst (λ l. All P l) is each) (suc (suc k)) d (omega (arith, within))
+pub all_after : {A : Type 0} (P : A → Type 0) (xs ys : List A) (x y : A) → xs ≡ x ∷ y ∷ ys → All P xs → All P ys
+all_after P xs ys x y is each k d within = (subst (λ l. All P l) is each) (suc (suc k)) d (omega (arith, within))

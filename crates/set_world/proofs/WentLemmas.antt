@@ -32,21 +32,21 @@ undone_more {D} state world [] command first old new same fits one =
 undone_more state world (earlier ∷ before) command first old new (between, for, changed, rest) fits one =
     (between, for, changed, undone_more state world before command between old new rest fits one)
 
--- the same behind events
+-- the same after events
 run_undone : {D : Type 0} (state : D → State) (so_far : Run) (events : List Event) (command : Command) (first old new : List D)
     → DisksRun state so_far.world events first old → is_for (length (fold after so_far events).world.nodes) command ≡ true
     → DisksUndone state (fold after so_far events).world command old new → DisksRun state so_far.world events first new
 run_undone state so_far [] command first old new ran fits one = (ran.0 ++ command ∷ [], undone_more state so_far.world ran.0 command first old new ran.1 fits one)
-run_undone state so_far (event ∷ events) command first old new (undone, before, behind, used, stepped, rest) fits one =
-    (undone, before, behind, used, stepped, run_undone state (after so_far event) events command behind old new rest fits one)
+run_undone state so_far (event ∷ events) command first old new (undone, before, later, used, stepped, rest) fits one =
+    (undone, before, later, used, stepped, run_undone state (after so_far event) events command later old new rest fits one)
 
--- and an event behind all
+-- and an event after all
 run_more : {D : Type 0} (state : D → State) (so_far : Run) (events : List Event) (event : Event) (first old new : List D)
     → DisksRun state so_far.world events first old → DisksStep state (fold after so_far events).world event old new
     → DisksRun state so_far.world (events ++ event ∷ []) first new
 run_more state so_far [] event first old new ran more = (ran.0, old, new, ran.1, more, ([], refl))
-run_more state so_far (earlier ∷ events) event first old new (undone, before, behind, used, stepped, rest) more =
-    (undone, before, behind, used, stepped, run_more state (after so_far earlier) events event behind old new rest more)
+run_more state so_far (earlier ∷ events) event first old new (undone, before, later, used, stepped, rest) more =
+    (undone, before, later, used, stepped, run_more state (after so_far earlier) events event later old new rest more)
 
 -- a set that is opened
 pub went_first : {D : Type 0} (state : D → State) (sizes : Sizes) (history : List Event) (disks opened : List D) (kept : Bool) → history ≡ [] → opened ≡ disks

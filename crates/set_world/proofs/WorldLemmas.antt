@@ -110,9 +110,9 @@ module _ (sizes : Sizes) (history : List Event) (nodes : List Node) (messages : 
 
 -- ---- what the calls of a step owe
 
-at_behind : (front rest : List Message) (k : ℕ) (d : Message) → slice_index_or (front ++ rest) (length front + k) d ≡ slice_index_or rest k d
-at_behind [] rest k d = ap (λ n. slice_index_or rest n d) (let same : length {A = Message} [] + k ≡ k = omega arith in same)
-at_behind (first ∷ front) rest k d = ap (λ n. slice_index_or (first ∷ front ++ rest) n d) (let same : length (first ∷ front) + k ≡ suc (length front + k) = omega arith in same) ∙ at_behind front rest k d
+index_past : (front rest : List Message) (k : ℕ) (d : Message) → slice_index_or (front ++ rest) (length front + k) d ≡ slice_index_or rest k d
+index_past [] rest k d = ap (λ n. slice_index_or rest n d) (let same : length {A = Message} [] + k ≡ k = omega arith in same)
+index_past (first ∷ front) rest k d = ap (λ n. slice_index_or (first ∷ front ++ rest) n d) (let same : length (first ∷ front) + k ≡ suc (length front + k) = omega arith in same) ∙ index_past front rest k d
 
 -- an event sends few messages, between nodes of the set
 module _ (sizes : Sizes) (history : List Event) (nodes new : List Node) (messages sent : List Message) (event : Event) (reached : IsReached sizes history nodes messages)
@@ -131,7 +131,7 @@ module _ (sizes : Sizes) (history : List Event) (nodes new : List Node) (message
       omega (arith, before, now, both, each)
 
   sent_between : All (IsBetweenNodes sizes.nodes) sent
-  sent_between k d within = subst (λ m. IsBetweenNodes sizes.nodes m) (at_behind messages sent k d)
+  sent_between k d within = subst (λ m. IsBetweenNodes sizes.nodes m) (index_past messages sent k d)
       (all_between sizes (history ++ event ∷ []) new (messages ++ sent) more law (length messages + k) d
       (let both : length (messages ++ sent) ≡ length messages + length sent = length-append messages sent in omega (arith, both, within)))
 

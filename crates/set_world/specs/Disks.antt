@@ -156,7 +156,7 @@ abbrev pub AllOpened : {D : Type 0} → (D → State) → ℕ → List D → Lis
 AllOpened state count old new = (number : ℕ) → number < count → OpenedAt state (Ok tt) number old new
 
 -- The nodes were opened in order of number. Where that ended in an error, memory ran out before the first
--- opening, or all nodes below one were opened, and at this one the error came: the disks behind its own are
+-- opening, or all nodes below one were opened, and at this one the error came: the disks after its own are
 -- as they were.
 abbrev pub OpenedInTurn : {D : Type 0} → (D → State) → ℕ → Result (Unit {0}) FileError → List D → List D
     → Type 0

@@ -12,13 +12,13 @@ pub record IsDefined (sizes : Sizes) (events : List Event) : Type 0 where
   pub sizes_are : AreSizes sizes
   pub run : IsRun sizes events
 
--- Events of others came behind those that were known; none, where no one else steps the set.
+-- Events of others came after those that were known; none, where no one else steps the set.
 pub record Learns (alone : Bool) (old new : List Event) : Type 0 where
   pub others : List Event
   pub new_is : new ≡ old ++ others
   pub none : alone ≡ true → others ≡ []
 
--- One event of this line and command comes last, behind those that it met. The reply is that of the event.
+-- One event of this line and command comes last, after those that it met. The reply is that of the event.
 pub record StepsOnce (alone : Bool) (sizes : Sizes) (old new : List Event) (line : ℕ) (command : Command)
     (reply : Reply) : Type 0 where
   pub met : List Event

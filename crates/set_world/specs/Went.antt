@@ -24,7 +24,7 @@ AllUndone {D} state world (command ∷ more) old new =
     × DisksUndone state world command old between
     × AllUndone state world more between new
 
--- events, with such commands before, between and behind them
+-- events, with such commands before, between and after them
 abbrev pub DisksRun : {D : Type 0} → (D → State) → World → List Event → List D → List D → Type 0
 DisksRun state world [] old new = (undone : List Command) × AllUndone state world undone old new
 DisksRun {D} state world (event ∷ later) old new =

@@ -111,7 +111,7 @@ fn open_next<D: Disk>(
     }
 }
 
-/// Puts a node behind others, which have room for it.
+/// Puts a node after others, which have room for it.
 fn keep<D: Disk>(nodes: &mut Vec<Node<D>>, node: Node<D>)
     requires room { vec_len nodes.old < vec_capacity nodes.old }
     ensures items { nodes.new.items ≡ nodes.old.items ++ node ∷ [] }

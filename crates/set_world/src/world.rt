@@ -374,7 +374,7 @@ fn make_room(history: &mut Vec<Event>, pool: &mut Pool) -> Result<(), StepError>
     Ok(())
 }
 
-// Puts what was done behind the messages and the history, in the room that there is.
+// Puts what was done after the messages and the history, in the room that there is.
 fn put(history: &mut Vec<Event>, pool: &mut Pool, line: u32, command: Command, done: Done) -> Reply
     requires room { vec_len history.old < vec_capacity history.old }
     requires spare { length done.sent.items ≤ pool.old.spare }

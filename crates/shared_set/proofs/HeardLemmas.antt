@@ -17,7 +17,7 @@ use Rattle.shared_set.specs.declared.attempt.Attempt.TheVariants.{Done, Undone}
 use Rattle.shared_set.specs.Attempts.{IsInSome, done_calls, done_in, done_turns, undone_calls, undone_in}
 use Rattle.shared_set.specs.Passes.{heard}
 
--- ---- lists behind each other
+-- ---- lists one after the other
 
 pub done_append : (xs ys : List Attempt) → done_in (xs ++ ys) ≡ done_in xs ++ done_in ys
 done_append [] ys = refl

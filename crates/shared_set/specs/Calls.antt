@@ -31,7 +31,7 @@ pub record Meets {F : Type 0} (sizes : Sizes) (v : View Event F) (turns : List (
 abbrev pub saw : {F : Type 0} → View Event F → List (ℕ × Event) → View Event F
 saw v turns = at_stage (in_turn v 0 turns) Free
 
--- One event of this line and command stands in the history, behind the turns that it met. It is a call of
+-- One event of this line and command stands in the history, after the turns that it met. It is a call of
 -- the pass, which has seen the history up to it. The reply is that of the event in the run, and the place
 -- is where the event stands.
 pub record Steps {F : Type 0} (sizes : Sizes) (v w : View Event F) (line : ℕ) (command : Command) (place : ℕ)
@@ -104,7 +104,7 @@ pub record Closes {F : Type 0} (sizes : Sizes) (v : View Event F) (history : Lis
   pub once : (pass : ℕ) → times pass (names v.calls) ≤ 1
   pub no_others : (pass : ℕ) → times pass (names v.calls) ≡ 0 → calls_by pass turns ≡ []
 
--- what a turn came to on the set: one event more, at the place behind the others, or none
+-- what a turn came to on the set: one event more, at the place after the others, or none
 abbrev pub Went : {D : Type 0} → (D → State) → Set D → Set D → ℕ → Command
     → Result (ℕ × Reply) StepError → Type 0
 Went state old new line command (Ok (place, reply)) =

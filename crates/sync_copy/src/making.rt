@@ -79,7 +79,7 @@ fn tell<D: Disk, K: Sink>(
     }
 }
 
-/// Empty disks have no other copy, so a copy onto them ends for a disk's fault or for want of memory.
+/// Empty disks have no other copy, so a copy onto them fails by a disk's fault alone, or as memory runs out.
 fn of_copy(error: CopyError) -> SyncStop
     ensures { result ≡ of_copy error }
 {

@@ -81,10 +81,10 @@ module _ {D : Type 0} (state : D → State) (nodes : ℕ) where
   touched_idle Changed (takes message) failed old new less one = one_idle Changed message.to old new less one
   touched_idle Changed nothing failed old new less same = ap (λ l. drop (2 * nodes) l) same.1
 
--- there is as much room behind them
-pub room_behind : {A : Type 0} (n : ℕ) (old new : List A) → drop n new ≡ drop n old → n + 2 ≤ length old → n + 2 ≤ length new
-room_behind n old new same room =
-    let behind : length new - n ≡ length old - n = sym (length-drop n new) ∙ ap length same ∙ length-drop n old in omega (arith, behind, room)
+-- there is as much room after them
+pub room_after : {A : Type 0} (n : ℕ) (old new : List A) → drop n new ≡ drop n old → n + 2 ≤ length old → n + 2 ≤ length new
+room_after n old new same room =
+    let later : length new - n ≡ length old - n = sym (length-drop n new) ∙ ap length same ∙ length-drop n old in omega (arith, later, room)
 
 -- ---- a run
 
@@ -122,10 +122,10 @@ module _ {D : Type 0} (state : D → State) (sizes : Sizes) (all : List Event) (
       (subst (λ w. DisksPlay state w rest between new) (sym (world_of-append sizes front event)) played)
       ∙ step_idle front (event ∷ rest) event split fit.0.command old between changed
 
--- the events behind others fit the world that these lead to
-fits_behind : (so_far : Run) (front rest : List Event) → AllFit so_far.world (front ++ rest) → AllFit (fold after so_far front).world rest
-fits_behind so_far [] rest fit = fit
-fits_behind so_far (event ∷ front) rest fit = fits_behind (after so_far event) front rest fit.1
+-- the events after others fit the world that these lead to
+fits_after : (so_far : Run) (front rest : List Event) → AllFit so_far.world (front ++ rest) → AllFit (fold after so_far front).world rest
+fits_after so_far [] rest fit = fit
+fits_after so_far (event ∷ front) rest fit = fits_after (after so_far event) front rest fit.1
 
 module _ {D : Type 0} (state : D → State) (sizes : Sizes) where
   -- from the opening on
@@ -137,4 +137,4 @@ module _ {D : Type 0} (state : D → State) (sizes : Sizes) where
   pub went_idle : (old added all : List Event) → all ≡ old ++ added → NumbersStaySmall sizes all → IsRun sizes all → (first last : List D) → DisksPlay state (run sizes old).world added first last
       → drop (2 * sizes.nodes) last ≡ drop (2 * sizes.nodes) first
   went_idle old added all split small fit first last played =
-      goes_idle state sizes all small old added split (fits_behind (opening sizes) old added (subst (λ l. AllFit (opening sizes).world l) split fit)) first last played
+      goes_idle state sizes all small old added split (fits_after (opening sizes) old added (subst (λ l. AllFit (opening sizes).world l) split fit)) first last played

@@ -11,13 +11,13 @@ use Rattle.safety_laws.specs.Laws.{InEveryRun}
 use Rattle.set_world.specs.Went.{DisksPlay, GoesOn, WentOn}
 use Rattle.set_world.specs.World.{Set}
 use Rattle.set_world.proofs.WentLemmas.{went_nowhere}
-use Rattle.sync_member.proofs.IdleLemmas.{room_behind, went_idle}
+use Rattle.sync_member.proofs.IdleLemmas.{room_after, went_idle}
 
 pub went_by : {D : Type 0} (state : D → State) (old new : Set D) → (new ≡ old) ⊎ GoesOn state old new → WentOn state old new
 went_by {D} state old new (inl same) = subst (λ (set : Set D). WentOn state old set) (sym same) (went_nowhere state old)
 went_by state old new (inr goes) = goes old (went_nowhere state old)
 
--- a fault comes of the second of two calls
+-- a fault comes from the second of two calls
 pub cause_then : (before between now : ℕ) (First Second : Type 0) → HasCause before between First → HasCause between now Second → HasCause before now Second
 cause_then before between now First Second first second = record {
   later = omega (arith, first.later, second.later);
@@ -35,4 +35,4 @@ module _ {D : Type 0} (state : D → State) (law : InEveryRun NumbersStaySmall) 
   spare_still spare = subst (All (λ (disk : D). IsEmpty (state disk).file)) (sym idle) spare
 
   pub room_still : 2 * old.sizes.nodes + 2 ≤ length old.disks → 2 * old.sizes.nodes + 2 ≤ length new.disks
-  room_still room = room_behind (2 * old.sizes.nodes) old.disks new.disks idle room
+  room_still room = room_after (2 * old.sizes.nodes) old.disks new.disks idle room

@@ -16,7 +16,7 @@ both_back (x ∷ xs) (suc place) one two room =
 pub first_there : {A : Type 0} (xs : List A) (place : ℕ) (x : A) → place < length xs → x ≡ slice_index_or xs place x → slice_get xs place ≡ Some x
 first_there xs place x within is = slice_get-get_or xs place x within ∙ ap Some (sym is)
 
--- what stood behind the first
+-- what followed the first
 pub second_there : {A : Type 0} (xs : List A) (place : ℕ) (x : A) → place + 2 ≤ length xs → x ≡ slice_index_or (remove xs place) place x → slice_get xs (place + 1) ≡ Some x
 second_there [] place x room is = absurd (omega (arith, room))
 second_there (y ∷ []) zero x room is = absurd (omega (arith, room))

@@ -21,7 +21,7 @@ abbrev pub DisksOfMember : Copy → Result (Unit {0}) SyncStop → State → Sta
 DisksOfMember copy made j j' c c' =
     BecomesMember copy made j j' c c' × RanBoth (made ≡ Err DiskFault) j j' c c'
 
--- A node of the set was asked, and the set was closed behind these events. Of its disks the next two behind
+-- A node of the set was asked, and the set was closed after these events. Of its disks the next two after
 -- those of its nodes became a member's with what the node showed, which was told, and the others are as the
 -- set left them.
 pub record AddsMember {D : Type 0} (state : D → State) (node : ℕ) (old : Set D) (held now : Option (List ℕ))
@@ -42,7 +42,7 @@ pub record AddsMember {D : Type 0} (state : D → State) (node : ℕ) (old : Set
   pub puts : PutsText asked now (pinned_text old.sizes.nodes pinned) made
 
 -- The set is still there: a node was asked, and there is nothing to begin with, or that couldn't be told.
-pub record AsksInVain {D : Type 0} (state : D → State) (node : ℕ) (old left : Set D)
+pub record AddsNoMember {D : Type 0} (state : D → State) (node : ℕ) (old left : Set D)
     (held now : Option (List ℕ)) (ended : Result (Unit {0}) SyncStop)
     : Type 0 where
   pub why : SyncStop

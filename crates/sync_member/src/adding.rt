@@ -2,7 +2,7 @@
 ghost use Rattle.std.specs.Prelude.{◌≡◌, ◌≢◌, ◌<◌, ◌≤◌, ◌+◌, ◌*◌, All, Err, IfErr, IfOk, IsErrOf, drop, length, true};
 ghost use Rattle.rs_disk.specs.File.{IsEmpty};
 ghost use Rattle.rs_io.specs.Fault.{HasCause};
-ghost use Rattle.sync_member.specs.Adding.{AddsMember, AsksInVain};
+ghost use Rattle.sync_member.specs.Adding.{AddsMember, AddsNoMember};
 ghost use Rattle.sync_pin.specs.Asking.{MOST};
 
 use crate::placing::make_at;
@@ -17,7 +17,7 @@ use std::thread::Threads;
 use sync_pin::pin;
 use sync_words::SyncStop;
 
-/// Asks a node of a set what a new member is to begin with, and closes the set. The next two disks behind
+/// Asks a node of a set what a new member is to begin with, and closes the set. The next two disks after
 /// those of its nodes become the member's, and what stands on them is told. Hands back the set's events and
 /// its disks; or the set, where the node wasn't asked to the end or has nothing to begin with.
 ///
@@ -36,7 +36,7 @@ pub fn add_member<K: Sink, D: Disk, R: Threads + Wait + Sync>(
         (drop (2 * world.sizes.nodes) world.disks) }
     ensures adds { IfOk result.1 (λ parts. AddsMember D.state node world (K.held sink.old) (K.held sink.new)
         result.0 parts.0.items parts.1.items) }
-    ensures vain { IfErr result.1 (λ left. AsksInVain D.state node world left (K.held sink.old)
+    ensures no_member { IfErr result.1 (λ left. AddsNoMember D.state node world left (K.held sink.old)
         (K.held sink.new) result.0) }
     ensures cause { HasCause (K.faults sink.old) (K.faults sink.new) (IsErrOf result.0 SyncStop.WriteFault) }
     ensures steady { K.steady sink.old → K.steady sink.new × (result.0 ≢ Err SyncStop.WriteFault) }

@@ -1,4 +1,4 @@
--- The front of a log, and documents with their keys.
+-- A prefix of a log, and documents with their keys.
 use Rattle.std.proofs.Common.{◌≡◌, ◌∙◌, ◌<◌, ◌+◌, ap, ap₂, sym, arith, take, length, ℕ, suc, Some, List, [], ◌∷◌, ◌++◌}
 use Rattle.std.proofs.Math.Seq.{take-append_seam, take-suc}
 use Rattle.std.proofs.lemmas.List.{map-append}

@@ -57,7 +57,7 @@ HaveLeaders sizes events pinned =
     → pinned.term < term → Begins pinned.entries.items leader.log
 
 module _ (sizes : Sizes) (node : ℕ) (old new : List Event) where
-  -- The three events of a node that is asked, one behind the other, and what they show: its term and how far
+  -- The three events of a node that is asked, one after the other, and what they show: its term and how far
   -- its log is committed and applied, the log up to there, and the documents of that.
   pub record Shows (pinned : Pinned) : Type 0 where
     pub first : List Event
@@ -122,7 +122,7 @@ module _ (sizes : Sizes) (node : ℕ) (old new : List Event) where
   Asks (Err WriteFault) = ⊥
   Asks (Err Memory) = IsBrokenOff
 
-  -- the same, and the line of a refusal is put, or a front of it
+  -- the same, and the line of a refusal is put, or a prefix of it
   abbrev pub Pins : Option (List ℕ) → Option (List ℕ) → Result Pinned SyncStop → Type 0
   Pins held now (Ok pinned) = HasRoom sizes node × Shows pinned × Keeps held now
   Pins held now (Err (Refused why)) = IsRefused why × Appends held now (refusal_text why)

@@ -1,9 +1,9 @@
--- What the words behind the program's name ask for.
+-- What the words after the program's name ask for.
 --
 --     run                        the script of the source is run
 --     trace                      the same, and in place of the replies the trace of its run is put
---     linear NODE COLL ID        the same as `run`, and then a linear read is done, and what came of it put
---     watch COLL TOKEN NODE..    the same as `run`, and then changes are put that nodes have behind a token
+--     linear NODE COLL ID        the same as `run`, and then a linear read is done, and its result put
+--     watch COLL TOKEN NODE..    the same as `run`, and then changes are put that nodes have after a token
 --     sync NODE                  the same as `run`, and then a new member is made of what a node committed
 --     chaos SEED EVENTS NODES    a generated script is run, and its summary put
 --     check                      nothing is run: it is put whether the source's bytes are a trace
@@ -46,7 +46,7 @@ wanted_of seed events nodes =
     with_numbers (number_word 0 18446744073709551615 seed) (number_word 0 5000 events)
     (number_word 1 50 nodes)
 
--- ---- each word, by those behind it
+-- ---- each word, by those after it
 
 -- a word that stands alone
 abbrev pub alone : Task → List (List ℕ) → Option Task

@@ -1,4 +1,4 @@
-//! What the words behind a program's name ask for.
+//! What the words after a program's name ask for.
 #![tactic(auto)]
 
 mod words;

@@ -1,4 +1,4 @@
-// What the words behind the program's name ask for.
+// What the words after the program's name ask for.
 ghost use Rattle.std.specs.Prelude.{◌≡◌, IfOk, IfSome, map, string_bytes};
 ghost use Rattle.std.specs.Char.{is_ascii_digit};
 ghost use Rattle.std.specs.List.{list_all};
@@ -34,7 +34,7 @@ pub enum Task {
     Chaos { seed: u64, events: u32, nodes: u32 },
     /// The script of the source is run, and then a document is read linearly.
     Linear(Linear),
-    /// The script of the source is run, and then it is told which changes nodes have behind a token.
+    /// The script of the source is run, and then it is told which changes nodes have after a token.
     Watch(Watch),
     /// The script of the source is run, and then a new member is made of what this node has committed.
     Sync { node: u32 },
@@ -61,7 +61,7 @@ pub fn read_task(alloc: Global, words: &[String]) -> Mem<Option<Task>>
     }
 }
 
-/// The task that one word asks for, by those behind it.
+/// The task that one word asks for, by those after it.
 fn word_task(alloc: Global, name: &str, words: &[String]) -> Mem<Option<Task>>
     ensures asked { IfOk result (λ task. task ≡ word_task name.now (map string_bytes words.now)) }
     ensures bounds { IfOk result (λ task. IfSome task IsBounded) }

@@ -27,7 +27,7 @@ IfRead left rest Holds = IfSome left (λ bytes. (length bytes ≤ limit) × (res
 
 -- ---- what is put
 
--- all of a text is put, or a front of it where the sink fails; out of memory, nothing
+-- all of a text is put, or a prefix of it where the sink fails; out of memory, nothing
 abbrev pub PutsText : Option (List ℕ) → Option (List ℕ) → List ℕ → Result (Unit {0}) CheckStop → Type 0
 PutsText old new text (Ok done) = Appends old new text
 PutsText old new text (Err WriteFault) = (count : ℕ) × Appends old new (take count text)
@@ -37,7 +37,7 @@ PutsText old new text (Err ReadFault) = ⊥
 PutsText old new text (Err TooLong) = ⊥
 
 -- How a check ends, by the bytes that the source had left and has now, and those that the sink held and
--- holds. Where the sink fails, a front of the line is put; else the line or nothing.
+-- holds. Where the sink fails, a prefix of the line is put; else the line or nothing.
 abbrev pub Ends : Option (List ℕ) → Option (List ℕ) → Option (List ℕ) → Option (List ℕ)
     → Result (Unit {0}) CheckStop → Type 0
 Ends left rest old new (Ok done) =

@@ -8,10 +8,10 @@ use Rattle.script_words.specs.declared.verb.NodeVerb.{NodeVerb}
 use Rattle.script_words.specs.declared.verb.NodeVerb.TheVariants as asks
 use Rattle.script_words.specs.declared.verb.Verb.{Verb}
 use Rattle.script_words.specs.declared.verb.Verb.TheVariants as verbs
-use Rattle.script_words.specs.Words.{Left, Read, has_shape, left_behind, pick_at, word_at, word_count}
+use Rattle.script_words.specs.Words.{Left, Read, has_shape, left_after, pick_at, word_at, word_count}
 use Rattle.script_words.specs.Commands.{abort_at, apply_at, clock_at, command_at, commit_at, common_at, crash_at, deliver_latest, deliver_one, dump_at, heartbeat_at, node_shape, of_node, report_at, shape_of, verb_at, verb_of, words_at}
 use Rattle.script_laws.proofs.ChanceLines.{is_inside}
-use Rattle.script_laws.proofs.ChanceWords.{behind_is, last_word, one_more_word, only_word, word_is}
+use Rattle.script_laws.proofs.ChanceWords.{after_is, last_word, one_more_word, only_word, word_is}
 use Rattle.set_model.specs.declared.command.Command.{Command}
 use Rattle.set_model.specs.declared.command.Command.TheVariants as commands
 use Rattle.set_model.specs.declared.command.ReadLevel.{ReadLevel}
@@ -151,22 +151,22 @@ module _ (nodes node : ℕ) (within : node < nodes) (few : nodes ≤ 50) where
 
 -- ---- deliveries
 
--- what is left behind a word
+-- what is left after a word
 abbrev left_of : Read (List ℕ) → Left
 left_of (Ok read) = read.1
 left_of (Err rule) = None
 
--- no other word stands behind a last one
-nothing_behind : (word : List ℕ) → list_all is_inside word ≡ true → left_behind word ≡ None
+-- no other word comes after a last one
+nothing_after : (word : List ℕ) → list_all is_inside word ≡ true → left_after word ≡ None
 unfolding word_at
-nothing_behind word inside = ap left_of (last_word word inside)
+nothing_after word inside = ap left_of (last_word word inside)
 
 pub deliver_again : (nodes message : ℕ) → message < 2 ^ 64 → command_at nodes (command_text (commands.Deliver message)) ≡ Ok (commands.Deliver message)
 unfolding deliver_one
 deliver_again nodes message low =
     let word = message_word message low in
     let alone : word_count (Some (109 ∷ decimal message)) ≡ 1 = only_word (109 ∷ decimal message) word.inside in
-    command_is nodes (codes "deliver") (109 ∷ decimal message) verbs.Deliver (commands.Deliver message) (record { inside = refl; named = refl }) (rw alone refl) (rw (nothing_behind (109 ∷ decimal message) word.inside, word.last) refl)
+    command_is nodes (codes "deliver") (109 ∷ decimal message) verbs.Deliver (commands.Deliver message) (record { inside = refl; named = refl }) (rw alone refl) (rw (nothing_after (109 ∷ decimal message) word.inside, word.last) refl)
 
 pub deliver_latest_again : (nodes from to : ℕ) → from < nodes → to < nodes → nodes ≤ 50 → (to ≡ from → ⊥) → command_at nodes (command_text (commands.DeliverLatest from to)) ≡ Ok (commands.DeliverLatest from to)
 unfolding deliver_latest
@@ -177,4 +177,4 @@ deliver_latest_again nodes from to ours theirs few apart =
     let words : word_count (Some (node_name from ++ 32 ∷ node_name to)) ≡ 2 = omega (arith, one_more_word (node_name from) (node_name to) one.inside, only_word (node_name to) other.inside) in
     ap (command_at nodes) text
     ∙ command_is nodes (codes "deliver") (node_name from ++ 32 ∷ node_name to) verbs.Deliver (commands.DeliverLatest from to) (record { inside = refl; named = refl }) (rw words refl)
-    (rw (behind_is (node_name from) (node_name to) one.inside, one.before (node_name to), other.last) refl)
+    (rw (after_is (node_name from) (node_name to) one.inside, one.before (node_name to), other.last) refl)

@@ -16,8 +16,8 @@ use Rattle.script_words.specs.declared.verb.Verb.TheVariants as verbs
 use Rattle.script_words.specs.declared.verb.WriteKind.{WriteKind}
 use Rattle.script_words.specs.declared.verb.WriteKind.TheVariants.{Insert, Replace, Update, Delete}
 use Rattle.script_words.specs.Configs.{config_of}
-use Rattle.script_words.specs.Values.{behind_space, last_document, last_value, text_at, value_at}
-use Rattle.script_words.specs.Words.{Left, behind_word, collection_at, concern_at, cut_at_slash, disk_at, level_at, message_at, node_at, number_at, number_of, numbered, optime_of, optime_target, optional_at, other_node_at, pick_at, target_at, target_of, word_at, writer_at, writer_target}
+use Rattle.script_words.specs.Values.{after_space, last_document, last_value, text_at, value_at}
+use Rattle.script_words.specs.Words.{Left, after_word, collection_at, concern_at, cut_at_slash, disk_at, level_at, message_at, node_at, number_at, number_of, numbered, optime_of, optime_target, optional_at, other_node_at, pick_at, target_at, target_of, word_at, writer_at, writer_target}
 use Rattle.script_words.specs.Commands.{abort_at, ack_at, apply_at, begin_at, begin_kind, clock_at, command_at, commit_at, common_at, crash_at, deliver_at, deliver_latest, deliver_one, delete_at, disk_fail_at, dump_at, heartbeat_at, insert_at, of_node, or_zero, read_at, reconfig_at, replace_at, report_at, retry_at, retry_kind, update_at, verb_at, words_at, write_at, write_command, write_kind}
 use Rattle.script_words.proofs.CommandsFit.{IsIn, number_within, words_within}
 use Rattle.script_words.proofs.Gets.{bind_any, ended_gets, got, tested}
@@ -100,11 +100,11 @@ write_said Insert left =
     bind_gets (last_document text) _ DocumentSaid CanBeWritten (document_said text) (λ document can. can)))
 write_said Replace left =
     bind_any (collection_at left) _ CanBeWritten (λ ns. bind_any (text_at ns.1) _ CanBeWritten (λ text.
-    bind_gets (value_at text) _ FirstSaid CanBeWritten (value_said text) (λ id can_id. bind_any (behind_space id.1) _ CanBeWritten (λ rest.
+    bind_gets (value_at text) _ FirstSaid CanBeWritten (value_said text) (λ id can_id. bind_any (after_space id.1) _ CanBeWritten (λ rest.
     bind_gets (last_document rest) _ DocumentSaid CanBeWritten (document_said rest) (λ document can. (shown_said id.0 can_id, can))))))
 write_said Update left =
     bind_any (collection_at left) _ CanBeWritten (λ ns. bind_any (text_at ns.1) _ CanBeWritten (λ text.
-    bind_gets (value_at text) _ FirstSaid CanBeWritten (value_said text) (λ id can_id. bind_any (behind_space id.1) _ CanBeWritten (λ rest.
+    bind_gets (value_at text) _ FirstSaid CanBeWritten (value_said text) (λ id can_id. bind_any (after_space id.1) _ CanBeWritten (λ rest.
     bind_gets (last_document rest) _ DocumentSaid CanBeWritten (document_said rest) (λ document can. (shown_said id.0 can_id, can))))))
 write_said Delete left =
     bind_any (collection_at left) _ CanBeWritten (λ ns. bind_any (text_at ns.1) _ CanBeWritten (λ text.
@@ -134,7 +134,7 @@ retry_said node left =
     bind_any (number_at 0 4294967295 left) _ IsSayable (λ id. bind_any (number_at 1 2147483647 id.1) _ IsSayable (λ number.
     bind_any (word_at number.1) _ IsSayable (λ kind. retried_said node (record { id = id.0; number = number.0 }) (write_kind kind.0) kind.1)))
 
--- ---- the words behind a node
+-- ---- the words after a node
 
 commit_said : (node : ℕ) (left : Left) → Gets (commit_at node left) IsSayable
 unfolding commit_at
@@ -200,7 +200,7 @@ one_said : (left : Left) → Gets (deliver_one left) IsSayable
 unfolding deliver_one
 one_said left = bind_gets (message_at left) _ (λ x. x.0 < 2 ^ 64) IsSayable (message_said left) (λ message few. ended_gets message.1 _ IsSayable few)
 
-deliver_said : (nodes : ℕ) (behind left : Left) → Gets (deliver_at nodes behind left) IsSayable
+deliver_said : (nodes : ℕ) (after left : Left) → Gets (deliver_at nodes after left) IsSayable
 deliver_said nodes None left = one_said left
 deliver_said nodes (Some text) left = latest_said nodes left
 
@@ -239,7 +239,7 @@ node_said nodes asks.DiskFail node left = disk_fail_said node left
 node_said nodes asks.Clock node left = clock_said node left
 
 sayable : (nodes : ℕ) (verb : Verb) (left : Left) → Gets (words_at nodes verb left) IsSayable
-sayable nodes verbs.Deliver left = deliver_said nodes (behind_word left) left
+sayable nodes verbs.Deliver left = deliver_said nodes (after_word left) left
 sayable nodes (verbs.Node verb) left = bind_any (node_at nodes left) _ IsSayable (λ node. node_said nodes verb node.0 node.1)
 
 both_hold : (nodes : ℕ) (read : Result Command ScriptRule) → Gets read (λ command. is_for nodes command ≡ true) → Gets read IsSayable → Gets read (CanBeSaid nodes)

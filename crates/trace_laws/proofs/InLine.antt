@@ -11,7 +11,7 @@ use Rattle.doc_text.specs.Bytes.{is_name_byte, is_name_start, is_plain}
 use Rattle.doc_text.specs.Integers.{fits}
 use Rattle.doc_text.specs.Printing.{is_bare, later_fields, later_items, printed, printed_byte, printed_fields, printed_items, printed_name, quoted}
 use Rattle.doc_text.specs.Spelling.{AreAllLawful, AreLawful, IsLawful}
-use Rattle.run_checker.specs.Reading.{behind_line, is_line_feed, line_at}
+use Rattle.run_checker.specs.Reading.{after_line, is_line_feed, line_at}
 use Rattle.script_words.proofs.Gets.{both}
 use Rattle.script_laws.proofs.ChanceLines.{each_true, is_inside, is_text, low_byte}
 use Rattle.trace_laws.proofs.WordsAgain.{is_printed}
@@ -63,15 +63,15 @@ ended_at (c ∷ line) rest all =
     record { place = rw other (omega (arith, later.place)); some = rw other later.some }
 
 -- a line with its end before others
-pub line_is : (line rest : List ℕ) → InLine line → (line_at (line ++ 10 ∷ rest) ≡ line) × (behind_line (line ++ 10 ∷ rest) ≡ Some rest)
+pub line_is : (line rest : List ℕ) → InLine line → (line_at (line ++ 10 ∷ rest) ≡ line) × (after_line (line ++ 10 ∷ rest) ≡ Some rest)
 line_is line rest all =
     let e = ended_at line rest all in
-    let behind : after_first is_line_feed (line ++ 10 ∷ rest) ≡ rest = rw (e.place) (behind_length line rest) in
-    (rw (e.place) (take-append_seam line (10 ∷ rest)), rw (e.some, behind) refl)
+    let after : after_first is_line_feed (line ++ 10 ∷ rest) ≡ rest = rw (e.place) (after_length line rest) in
+    (rw (e.place) (take-append_seam line (10 ∷ rest)), rw (e.some, after) refl)
   where
-    behind_length : (xs ys : List ℕ) → drop (length xs + 1) (xs ++ 10 ∷ ys) ≡ ys
-    behind_length [] ys = refl
-    behind_length (x ∷ xs) ys = let more : length (x ∷ xs) + 1 ≡ suc (length xs + 1) = omega arith in rw more (behind_length xs ys)
+    after_length : (xs ys : List ℕ) → drop (length xs + 1) (xs ++ 10 ∷ ys) ≡ ys
+    after_length [] ys = refl
+    after_length (x ∷ xs) ys = let more : length (x ∷ xs) + 1 ≡ suc (length xs + 1) = omega arith in rw more (after_length xs ys)
 
 -- ---- numbers and digits
 

@@ -162,14 +162,14 @@ event_again nodes event few can =
     let asked = all_again nodes event.command few can.command in
     let own = number_word 0 4294967295 event.line (omega (arith, can.line)) (omega arith) (omega (arith, can.line)) in
     let failed = failed_again event.failed can.failed in
-    let behind_failed = kept_word event.kept ++ 32 ∷ command_text event.command in
-    let behind_line_number = failed_word event.failed ++ 32 ∷ behind_failed in
-    let text : event_words event ≡ codes "event" ++ 32 ∷ (decimal event.line ++ 32 ∷ behind_line_number) = simp append_assoc in
+    let after_failed = kept_word event.kept ++ 32 ∷ command_text event.command in
+    let after_line_number = failed_word event.failed ++ 32 ∷ after_failed in
+    let text : event_words event ≡ codes "event" ++ 32 ∷ (decimal event.line ++ 32 ∷ after_line_number) = simp append_assoc in
     rw (
       text,
-      word_is (codes "event") (decimal event.line ++ 32 ∷ behind_line_number) refl,
-      own.before behind_line_number,
-      failed.before behind_failed,
+      word_is (codes "event") (decimal event.line ++ 32 ∷ after_line_number) refl,
+      own.before after_line_number,
+      failed.before after_failed,
       kept_again event.kept (command_text event.command),
       command_begins nodes (command_text event.command) event.command asked,
       asked,

@@ -120,12 +120,12 @@ cut_is : (digits rest : List ℕ) → list_all is_ascii_digit digits ≡ true �
 cut_is digits rest all =
     let c = cut digits rest all in
     let before : before_first is_slash (digits ++ 47 ∷ rest) ≡ digits = rw (c.place) (take-append_seam digits (47 ∷ rest)) in
-    let behind : after_first is_slash (digits ++ 47 ∷ rest) ≡ rest = rw (c.place) (behind_length digits rest) in
-    rw (c.some, before, behind) refl
+    let after : after_first is_slash (digits ++ 47 ∷ rest) ≡ rest = rw (c.place) (after_length digits rest) in
+    rw (c.some, before, after) refl
   where
-    behind_length : (xs ys : List ℕ) → drop (length xs + 1) (xs ++ 47 ∷ ys) ≡ ys
-    behind_length [] ys = refl
-    behind_length (x ∷ xs) ys = let more : length (x ∷ xs) + 1 ≡ suc (length xs + 1) = omega arith in rw more (behind_length xs ys)
+    after_length : (xs ys : List ℕ) → drop (length xs + 1) (xs ++ 47 ∷ ys) ≡ ys
+    after_length [] ys = refl
+    after_length (x ∷ xs) ys = let more : length (x ∷ xs) + 1 ≡ suc (length xs + 1) = omega arith in rw more (after_length xs ys)
 
 optime_again : (at : OpTime) → at.term < 2 ^ 64 → at.ts < 2 ^ 64 → optime_of (optime_text at) ≡ Ok at
 unfolding optime_of

@@ -52,24 +52,24 @@ last_said nodes (own ∷ []) line all one = said_both nodes (own ++ line ∷ [])
 last_said nodes (own ∷ next ∷ threads) line all one =
     said_both nodes own (joined (in_last (next ∷ threads) line)) (said_first nodes own (joined (next ∷ threads)) all) (last_said nodes (next ∷ threads) line (said_later nodes own (joined (next ∷ threads)) all) one)
 
--- ---- one line, behind the `set` line
+-- ---- one line, after the `set` line
 
 abbrev threads_in : Option (List Thread) → List Thread
 threads_in None = []
 threads_in (Some threads) = threads
 
--- behind the `set` line all commands can be said, and before it there is none
-abbrev SaidBehind : Option SetLine → List Part → Option (List Thread) → Type 0
-SaidBehind None before block = (before ≡ []) × (block ≡ None)
-SaidBehind (Some set) before block = AreSaid set.nodes (lines_in before) × AreSaid set.nodes (joined (threads_in block))
+-- after the `set` line all commands can be said, and before it there is none
+abbrev SaidAfter : Option SetLine → List Part → Option (List Thread) → Type 0
+SaidAfter None before block = (before ≡ []) × (block ≡ None)
+SaidAfter (Some set) before block = AreSaid set.nodes (lines_in before) × AreSaid set.nodes (joined (threads_in block))
 
 abbrev IsSaid : Reading → Type 0
-IsSaid reading = SaidBehind reading.set reading.parts reading.block
+IsSaid reading = SaidAfter reading.set reading.parts reading.block
 
--- what was read behind this `set` line
+-- what was read after this `set` line
 module _ (set : SetLine) (reading : Reading) (known : reading.set ≡ Some set) (all : AreSaid set.nodes (lines_in reading.parts)) where
-  said_as : (ps : List Part) (block : Option (List Thread)) → AreSaid set.nodes (lines_in ps) → AreSaid set.nodes (joined (threads_in block)) → SaidBehind reading.set ps block
-  said_as ps block one two = subst (λ (o : Option SetLine). SaidBehind o ps block) (sym known) (one, two)
+  said_as : (ps : List Part) (block : Option (List Thread)) → AreSaid set.nodes (lines_in ps) → AreSaid set.nodes (joined (threads_in block)) → SaidAfter reading.set ps block
+  said_as ps block one two = subst (λ (o : Option SetLine). SaidAfter o ps block) (sym known) (one, two)
 
   part_said : (part : Part) → AreSaid set.nodes (lines_of part) → IsSaid (with_part reading part)
   part_said part one = said_as (reading.parts ++ part ∷ []) None (part_more set.nodes reading.parts part all one) tt
@@ -107,7 +107,7 @@ module _ (set : SetLine) (reading : Reading) (known : reading.set ≡ Some set) 
 set_said : (reading : Reading) (text : List ℕ) → reading.parts ≡ [] → reading.block ≡ None → Gets (with_set reading text) IsSaid
 set_said reading text none closed = bind_any (set_line text) _ IsSaid (λ set. (rw none tt, rw closed tt))
 
-text_said : (number : ℕ) (reading : Reading) (text : List ℕ) (set : Option SetLine) → reading.set ≡ set → SaidBehind set reading.parts reading.block → Gets (with_text number reading text set) IsSaid
+text_said : (number : ℕ) (reading : Reading) (text : List ℕ) (set : Option SetLine) → reading.set ≡ set → SaidAfter set reading.parts reading.block → Gets (with_text number reading text set) IsSaid
 unfolding with_command
 text_said number reading text None is said = set_said reading text said.0 said.1
 text_said number reading text (Some set) is said = bind_any (keyword_at text) _ IsSaid (λ keyword. keyword_said set reading is said.0 number keyword.0 keyword.1 said.1)
@@ -124,7 +124,7 @@ abbrev Becomes : Result Script ScriptFault → Type 0
 Becomes (Ok read) = AreSaid read.nodes (lines_in read.parts)
 Becomes (Err fault) = Unit {0}
 
-whole_said : (number : ℕ) (reading : Reading) (set : Option SetLine) (block : Option (List Thread)) → SaidBehind set reading.parts block → Becomes (whole number reading set block)
+whole_said : (number : ℕ) (reading : Reading) (set : Option SetLine) (block : Option (List Thread)) → SaidAfter set reading.parts block → Becomes (whole number reading set block)
 whole_said number reading None block said = tt
 whole_said number reading (Some set) (Some threads) said = tt
 whole_said number reading (Some set) None said = said.0

@@ -5,7 +5,7 @@ use Rattle.std.specs.List.{AllByRecursion}
 use Rattle.std.specs.Str.{is_utf8}
 use Rattle.std.proofs.lemmas.List.{append-nil, map-append}
 use Rattle.run_checker.specs.Checking.{IsTrace, Tells, checked, opening_of, set_of}
-use Rattle.run_checker.specs.Reading.{behind_line, event_at, event_in, line_at}
+use Rattle.run_checker.specs.Reading.{after_line, event_at, event_in, line_at}
 use Rattle.run_checker.specs.Trace.{entries_text, event_text, event_words, trace_text}
 use Rattle.run_checker.proofs.CheckedLemmas.{trace_said}
 use Rattle.set_model.specs.declared.command.Event.{Event}
@@ -25,10 +25,10 @@ in_text : (nodes : ℕ) (line : List ℕ) (event : Event) → is_utf8 line ≡ t
 unfolding event_in
 in_text nodes line event utf8 read = rw (utf8, read) refl
 
--- the event, and what stands behind its line
+-- the event, and what follows its line
 record IsRead (nodes : ℕ) (event : Event) (rest : List ℕ) : Type 0 where
   line : event_in nodes (line_at (event_text event ++ rest)) ≡ Ok event
-  behind : behind_line (event_text event ++ rest) ≡ Some rest
+  later : after_line (event_text event ++ rest) ≡ Some rest
 
 said : (nodes : ℕ) (event : Event) → CanBePrinted nodes event → IsEventLine nodes event
 said nodes event can = record { command = can.command; line = can.plain.line; failed = can.plain.failed }
@@ -39,7 +39,7 @@ event_read nodes event rest few can =
     let cut = line_is (event_words event) rest (event_in_line nodes event few (said nodes event can)) in
     record {
       line = ap (λ (xs : List ℕ). event_in nodes (line_at xs)) text ∙ ap (event_in nodes) cut.0 ∙ in_text nodes (event_words event) event can.plain.utf8 (event_again nodes event few (said nodes event can));
-      behind = ap (λ (xs : List ℕ). behind_line xs) text ∙ cut.1;
+      later = ap (λ (xs : List ℕ). after_line xs) text ∙ cut.1;
     }
 
 -- ---- all events
@@ -64,7 +64,7 @@ told_all nodes world (event ∷ events) few fit can =
     let reply = line_text (event.line, (step world event).reply) in
     let whole : entries_text (event ∷ events) (replies_from world (event ∷ events)) ≡ event_text event ++ (reply ++ rest) = append_assoc (event_text event) reply rest in
     let read = event_read nodes event (reply ++ rest) few can.0 in
-    (rest, ap (λ (xs : List ℕ). event_in nodes (line_at xs)) whole ∙ read.line, fit.0, ap (λ (xs : List ℕ). behind_line xs) whole ∙ read.behind, told_all nodes (step world event).world events few fit.1 can.1)
+    (rest, ap (λ (xs : List ℕ). event_in nodes (line_at xs)) whole ∙ read.line, fit.0, ap (λ (xs : List ℕ). after_line xs) whole ∙ read.later, told_all nodes (step world event).world events few fit.1 can.1)
 
 -- ---- the whole
 

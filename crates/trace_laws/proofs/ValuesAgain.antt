@@ -12,7 +12,7 @@ use Rattle.doc_text.proofs.PrintedIsSpelled.{read_again}
 use Rattle.script_words.specs.Values.{last_document, last_value, value_at, value_of}
 use Rattle.trace_laws.specs.Said.{CanBeSpelled}
 
--- ---- what may stand behind
+-- ---- what may follow
 
 pub ends_nothing : (tree : Tree) → EndsThere tree []
 ends_nothing null = tt
@@ -42,15 +42,15 @@ ends_space (timestamp ts) rest = tt
 
 -- ---- reading
 
-behind : (xs ys : List ℕ) → drop (length xs) (xs ++ ys) ≡ ys
-behind [] ys = refl
-behind (x ∷ xs) ys = behind xs ys
+after : (xs ys : List ℕ) → drop (length xs) (xs ++ ys) ≡ ys
+after [] ys = refl
+after (x ∷ xs) ys = after xs ys
 
 value_again : (tree : Tree) (rest : List ℕ) → CanBeSpelled tree → EndsThere tree rest → value_at (printed tree ++ rest) ≡ Ok (tree, rest)
 unfolding value_at
 value_again tree rest can ends =
     let read : answer_at (printed tree ++ rest) 0 ≡ Ok (tree, length (printed tree)) = read_again [] (printed tree) tree can.lawful refl rest can.shallow ends in
-    rw read (ap (λ (left : List ℕ). Ok (tree, left)) (behind (printed tree) rest))
+    rw read (ap (λ (left : List ℕ). Ok (tree, left)) (after (printed tree) rest))
 
 -- before another value
 pub value_before : (tree : Tree) (rest : List ℕ) → CanBeSpelled tree → value_at (printed tree ++ 32 ∷ rest) ≡ Ok (tree, 32 ∷ rest)

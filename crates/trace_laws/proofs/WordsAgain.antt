@@ -35,9 +35,9 @@ number_again form range least most n few low high =
     let below : nat_le n most ≡ true = grind arith in
     rw (some, printed.digits, printed.value, above, below) refl
 
--- ---- a word behind which others stand, and the last one
+-- ---- a word that others follow, and the last one
 
--- what reads a word gives this back of its text, whatever stands behind it
+-- what reads a word gives this back of its text, whatever follows it
 pub record Again {A : Type 0} (read : Left → Read A) (word : List ℕ) (x : A) : Type 0 where
   pub inside : list_all is_inside word ≡ true
   pub before : (rest : List ℕ) → read (Some (word ++ 32 ∷ rest)) ≡ Ok (x, Some rest)

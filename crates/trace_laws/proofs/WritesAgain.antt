@@ -64,14 +64,14 @@ kind_of (ops.Replace ns id doc) = Replace
 kind_of (ops.Update ns id operators) = Update
 kind_of (ops.Delete ns id) = Delete
 
--- what stands behind the collection
+-- what follows the collection
 abbrev pub values_of : WriteOp → List ℕ
 values_of (ops.Insert ns doc) = printed (document doc)
 values_of (ops.Replace ns id doc) = printed (tree_of id) ++ 32 ∷ printed (document doc)
 values_of (ops.Update ns id operators) = printed (tree_of id) ++ 32 ∷ printed (document operators)
 values_of (ops.Delete ns id) = printed (tree_of id)
 
--- the words behind the kind
+-- the words after the kind
 abbrev pub words_of : WriteOp → List ℕ
 words_of op = collection_of op ++ 32 ∷ values_of op
 

@@ -51,7 +51,7 @@ pub fn write_counted(
 }
 
 /// Appends an optime and a number, with words before each.
-pub fn write_counted_behind(
+pub fn write_counted_after(
     words: &str,
     at: OpTime,
     between: &str,

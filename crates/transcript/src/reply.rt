@@ -6,7 +6,7 @@ ghost use Rattle.transcript.specs.Replies.{reply_text, line_text};
 
 use crate::entries::{write_documents, write_entries};
 use crate::lost::write_rolled;
-use crate::pieces::{write_at, write_counted, write_counted_behind, write_number, write_pair};
+use crate::pieces::{write_at, write_counted, write_counted_after, write_number, write_pair};
 use crate::refusal::{ignored_name, vote_refusal_name, write_refusal};
 use crate::state::{write_config, write_points, write_state};
 use bson_doc::Mem;
@@ -137,7 +137,7 @@ fn write_node(reply: &Reply, out: &mut String) -> Mem<()>
             write_points(*last, *durable, *applied, *commit, out)?;
             write_config(*config, *rollback, out)
         }
-        Reply::RolledBack { to, removed } => write_counted_behind(
+        Reply::RolledBack { to, removed } => write_counted_after(
             "rolled back to ",
             *to,
             " removed ",

@@ -7,9 +7,9 @@ use Rattle.rs_optime.specs.declared.optime.OpTime.{OpTime}
 use Rattle.rs_optime.specs.Later.{earlier_of}
 use Rattle.rs_optime.proofs.Optimes.{at_most_before_trans, before_trans}
 use Rattle.version_store.specs.declared.history.Version.{Version}
-use Rattle.version_store.specs.Past.{Past, is_before, IsRising, last_version, latest_of, up_to, behind, shown, back_to, standing, pruned}
+use Rattle.version_store.specs.Past.{Past, is_before, IsRising, last_version, latest_of, up_to, later_than, shown, back_to, standing, pruned}
 
--- ---- one version more, at or before an optime, or behind it
+-- ---- one version more, at or before an optime, or after it
 
 up_to_kept : (at : OpTime) (v : Version) (vs : List Version) → is_before at v.at ≡ false → up_to at (v ∷ vs) ≡ v ∷ up_to at vs
 up_to_kept at v vs is = ap (λ b. cond (not b) (v ∷ up_to at vs) (up_to at vs)) is
@@ -17,11 +17,11 @@ up_to_kept at v vs is = ap (λ b. cond (not b) (v ∷ up_to at vs) (up_to at vs)
 up_to_dropped : (at : OpTime) (v : Version) (vs : List Version) → is_before at v.at ≡ true → up_to at (v ∷ vs) ≡ up_to at vs
 up_to_dropped at v vs is = ap (λ b. cond (not b) (v ∷ up_to at vs) (up_to at vs)) is
 
-behind_kept : (at : OpTime) (v : Version) (vs : List Version) → is_before at v.at ≡ true → behind at (v ∷ vs) ≡ v ∷ behind at vs
-behind_kept at v vs is = ap (λ b. cond b (v ∷ behind at vs) (behind at vs)) is
+after_kept : (at : OpTime) (v : Version) (vs : List Version) → is_before at v.at ≡ true → later_than at (v ∷ vs) ≡ v ∷ later_than at vs
+after_kept at v vs is = ap (λ b. cond b (v ∷ later_than at vs) (later_than at vs)) is
 
-behind_dropped : (at : OpTime) (v : Version) (vs : List Version) → is_before at v.at ≡ false → behind at (v ∷ vs) ≡ behind at vs
-behind_dropped at v vs is = ap (λ b. cond b (v ∷ behind at vs) (behind at vs)) is
+after_dropped : (at : OpTime) (v : Version) (vs : List Version) → is_before at v.at ≡ false → later_than at (v ∷ vs) ≡ later_than at vs
+after_dropped at v vs is = ap (λ b. cond b (v ∷ later_than at vs) (later_than at vs)) is
 
 -- ---- a prune
 
@@ -33,21 +33,21 @@ late_reads at read other late early = go (is_before read other) refl
     go true is = let both : is_before at other ≡ true = at_most_before_trans at read other late is in absurd (cc)
     go false is = is
 
--- where the first is behind an optime, all are
-all_behind : (at : OpTime) (v : Version) (vs : List Version) → IsRising (v ∷ vs) → is_before at v.at ≡ true → (up_to at (v ∷ vs) ≡ []) × (behind at (v ∷ vs) ≡ v ∷ vs)
-all_behind at v [] rising is = (up_to_dropped at v [] is, behind_kept at v [] is)
-all_behind at v (w ∷ vs) rising is =
-    let more = all_behind at w vs (λ i j d less within. rising (suc i) (suc j) d (omega arith) (omega arith))
+-- where the first is after an optime, all are
+all_after : (at : OpTime) (v : Version) (vs : List Version) → IsRising (v ∷ vs) → is_before at v.at ≡ true → (up_to at (v ∷ vs) ≡ []) × (later_than at (v ∷ vs) ≡ v ∷ vs)
+all_after at v [] rising is = (up_to_dropped at v [] is, after_kept at v [] is)
+all_after at v (w ∷ vs) rising is =
+    let more = all_after at w vs (λ i j d less within. rising (suc i) (suc j) d (omega arith) (omega arith))
     (before_trans at v.at w.at is (rising zero (suc zero) v (omega arith) (omega arith))) in
-    (up_to_dropped at v (w ∷ vs) is ∙ more.0, behind_kept at v (w ∷ vs) is ∙ ap (λ rest. v ∷ rest) more.1)
+    (up_to_dropped at v (w ∷ vs) is ∙ more.0, after_kept at v (w ∷ vs) is ∙ ap (λ rest. v ∷ rest) more.1)
 
--- where none is at or before an optime, all are behind it
-none_before : (at : OpTime) (vs : List Version) → up_to at vs ≡ [] → behind at vs ≡ vs
+-- where none is at or before an optime, all are after it
+none_before : (at : OpTime) (vs : List Version) → up_to at vs ≡ [] → later_than at vs ≡ vs
 none_before at [] none = refl
 none_before at (v ∷ vs) none = go (none_before at vs) (is_before at v.at) refl
   where
-    go : (up_to at vs ≡ [] → behind at vs ≡ vs) → (b : Bool) → is_before at v.at ≡ b → behind at (v ∷ vs) ≡ v ∷ vs
-    go more true is = behind_kept at v vs is ∙ ap (λ rest. v ∷ rest) (more (sym (up_to_dropped at v vs is) ∙ none))
+    go : (up_to at vs ≡ [] → later_than at vs ≡ vs) → (b : Bool) → is_before at v.at ≡ b → later_than at (v ∷ vs) ≡ v ∷ vs
+    go more true is = after_kept at v vs is ∙ ap (λ rest. v ∷ rest) (more (sym (up_to_dropped at v vs is) ∙ none))
     go more false is = let some : v ∷ up_to at vs ≡ [] = sym (up_to_kept at v vs is) ∙ none in cc some
 
 -- where one is at or before an optime, one is at or before a later one
@@ -71,7 +71,7 @@ deletion_unread : (v : Version) (vs : List Version) → v.doc ≡ None → lates
 deletion_unread v [] gone = gone
 deletion_unread v (w ∷ ws) gone = refl
 
-shows : (at read : OpTime) → is_before read at ≡ false → (vs : List Version) → IsRising vs → shown read (standing (last_version (up_to at vs)) ++ behind at vs) ≡ shown read vs
+shows : (at read : OpTime) → is_before read at ≡ false → (vs : List Version) → IsRising vs → shown read (standing (last_version (up_to at vs)) ++ later_than at vs) ≡ shown read vs
 shows at read late [] rising = refl
 shows at read late (v ∷ vs) rising = first (is_before at v.at) refl (shows at read late vs (λ i j d less within. rising (suc i) (suc j) d (omega arith) (omega arith)))
   where
@@ -81,25 +81,25 @@ shows at read late (v ∷ vs) rising = first (is_before at v.at) refl (shows at 
         ap (λ (o : Option Fields). shown read (cond (is_some o) (v ∷ []) [] ++ vs)) is
         ∙ sym (ap latest_of (up_to_kept read v vs (late_reads at read v.at late early)) ∙ deletion_unread v (up_to read vs) is)
 
-    front : is_before at v.at ≡ false → shown read (standing (last_version (up_to at vs)) ++ behind at vs) ≡ shown read vs → (us : List Version) → up_to at vs ≡ us
-        → shown read (standing (last_version (up_to at (v ∷ vs))) ++ behind at (v ∷ vs)) ≡ shown read (v ∷ vs)
+    front : is_before at v.at ≡ false → shown read (standing (last_version (up_to at vs)) ++ later_than at vs) ≡ shown read vs → (us : List Version) → up_to at vs ≡ us
+        → shown read (standing (last_version (up_to at (v ∷ vs))) ++ later_than at (v ∷ vs)) ≡ shown read (v ∷ vs)
     front early more [] none =
-        ap (λ l. shown read (standing (last_version l) ++ behind at (v ∷ vs))) (up_to_kept at v vs early ∙ ap (λ rest. v ∷ rest) none)
-        ∙ ap (λ l. shown read (standing (Some v) ++ l)) (behind_dropped at v vs early ∙ none_before at vs none)
+        ap (λ l. shown read (standing (last_version l) ++ later_than at (v ∷ vs))) (up_to_kept at v vs early ∙ ap (λ rest. v ∷ rest) none)
+        ∙ ap (λ l. shown read (standing (Some v) ++ l)) (after_dropped at v vs early ∙ none_before at vs none)
         ∙ alone early none v.doc refl
     front early more (u ∷ us) some =
         let here = some_before at read late vs u us some in
-        ap (λ l. shown read (standing (last_version l) ++ behind at (v ∷ vs))) (up_to_kept at v vs early ∙ ap (λ rest. v ∷ rest) some)
-        ∙ ap (λ l. shown read (standing (last_version l) ++ behind at (v ∷ vs))) (sym some)
-        ∙ ap (λ l. shown read (standing (last_version (up_to at vs)) ++ l)) (behind_dropped at v vs early)
+        ap (λ l. shown read (standing (last_version l) ++ later_than at (v ∷ vs))) (up_to_kept at v vs early ∙ ap (λ rest. v ∷ rest) some)
+        ∙ ap (λ l. shown read (standing (last_version l) ++ later_than at (v ∷ vs))) (sym some)
+        ∙ ap (λ l. shown read (standing (last_version (up_to at vs)) ++ l)) (after_dropped at v vs early)
         ∙ more
         ∙ sym (ap latest_of (up_to_kept read v vs (late_reads at read v.at late early)) ∙ first_unread v (up_to read vs) here.0 here.1 here.2)
 
-    first : (b : Bool) → is_before at v.at ≡ b → shown read (standing (last_version (up_to at vs)) ++ behind at vs) ≡ shown read vs
-        → shown read (standing (last_version (up_to at (v ∷ vs))) ++ behind at (v ∷ vs)) ≡ shown read (v ∷ vs)
+    first : (b : Bool) → is_before at v.at ≡ b → shown read (standing (last_version (up_to at vs)) ++ later_than at vs) ≡ shown read vs
+        → shown read (standing (last_version (up_to at (v ∷ vs))) ++ later_than at (v ∷ vs)) ≡ shown read (v ∷ vs)
     first true is more =
-        let all = all_behind at v vs rising is in
-        ap (λ l. shown read (standing (last_version l) ++ behind at (v ∷ vs))) all.0 ∙ ap (shown read) all.1
+        let all = all_after at v vs rising is in
+        ap (λ l. shown read (standing (last_version l) ++ later_than at (v ∷ vs))) all.0 ∙ ap (shown read) all.1
     first false is more = front is more (up_to at vs) refl
 
 pub pruned_shows : (past : Past) (at read : OpTime) → IsRising past.versions → is_before read at ≡ false → shown read (pruned at past).versions ≡ shown read past.versions

@@ -18,12 +18,12 @@ use Rattle.bson_doc.specs.declared.key.IdKey.{IdKey}
 use Rattle.bson_doc.proofs.KeyLemmas.{key_cmp-total}
 use Rattle.version_store.specs.Past.{Past, no_past, shown}
 use Rattle.version_store.specs.Documents.{Documents, past_in, ChangesIn, ChangesEachIn}
-use Rattle.version_store.specs.Row.{IsInOrder, StandsIn, changed_at, AreApart, GoesBehind, AddsNoKey}
+use Rattle.version_store.specs.Row.{IsInOrder, StandsIn, changed_at, AreApart, GoesAfter, AddsNoKey}
 use Rattle.version_store.specs.Shown.{one_at, shown_here, AddsShown}
 use Rattle.version_store.specs.declared.shown.Shown.{Shown}
 use Rattle.version_store.proofs.DocumentsLemmas.{set_past}
 use Rattle.version_store.proofs.ShownLemmas.{named_at}
-use Rattle.version_store.proofs.RowLemmas.{tie_is, lookup_changed, keys_changed, behind_none}
+use Rattle.version_store.proofs.RowLemmas.{tie_is, lookup_changed, keys_changed, after_none}
 
 -- ---- documents in two parts
 
@@ -45,8 +45,8 @@ or_nothing None n nothing = nothing
 or_nothing (Some past) n nothing = refl
 
 -- a past is that of the others where the key isn't in the row, and that of the row where the others have none
-pub past_behind : (row others : Documents) (id : IdKey) → lookup (eq_by_cmp key_cmp id) row ≡ None → past_in (row ++ others) id ≡ past_in others id
-past_behind row others id is =
+pub past_after : (row others : Documents) (id : IdKey) → lookup (eq_by_cmp key_cmp id) row ≡ None → past_in (row ++ others) id ≡ past_in others id
+past_after row others id is =
     ap (λ (o : Option Past). unwrap_or o no_past)
     (lookup_both (eq_by_cmp key_cmp id) row others ∙ ap (λ (o : Option Past). option_or o (lookup (eq_by_cmp key_cmp id) others)) is)
 
@@ -92,20 +92,20 @@ apart_row row others i change apart id there =
     (is_some-lookup (eq_by_cmp key_cmp id) row ∙ ap (list_any (eq_by_cmp key_cmp id)) (sym (keys_changed row i change))
     ∙ sym (is_some-lookup (eq_by_cmp key_cmp id) (changed_at row i change)) ∙ there)
 
--- ---- a document goes behind the row
+-- ---- a document goes after the row
 
-pub changes_push : (row others : Documents) (id : IdKey) (w : Past) (change : Past → Past) → GoesBehind row others id → w ≡ change no_past
+pub changes_push : (row others : Documents) (id : IdKey) (w : Past) (change : Past → Past) → GoesAfter row others id → w ≡ change no_past
     → ChangesIn (row ++ others) ((row ++ (id, w) ∷ []) ++ others) id (change (past_in (row ++ others) id))
 changes_push row others id w change goes is = record {
   here = past_there (row ++ (id, w) ∷ []) others id w (pushed id ∙ ap (λ (o : Option Past). option_or o (lookup (eq_by_cmp key_cmp id) ((id, w) ∷ []))) absent
       ∙ ap (λ b. cond b (Some w) None) (ap is_eq (tied_itself key_cmp-total id)))
-      ∙ is ∙ ap change (sym (past_behind row others id absent ∙ goes.absent));
+      ∙ is ∙ ap change (sym (past_after row others id absent ∙ goes.absent));
   others = λ q apart. past_same q (pushed q ∙ ap (λ b. option_or (lookup (eq_by_cmp key_cmp q) row) (cond b (Some w) None)) (other q apart (eq_by_cmp key_cmp q id) refl)
       ∙ or_none (lookup (eq_by_cmp key_cmp q) row));
 }
   where
     absent : lookup (eq_by_cmp key_cmp id) row ≡ None
-    absent = behind_none row id goes.behind
+    absent = after_none row id goes.after
 
     pushed : (q : IdKey) → lookup (eq_by_cmp key_cmp q) (row ++ (id, w) ∷ []) ≡ option_or (lookup (eq_by_cmp key_cmp q) row) (lookup (eq_by_cmp key_cmp q) ((id, w) ∷ []))
     pushed q = lookup_both (eq_by_cmp key_cmp q) row ((id, w) ∷ [])
@@ -125,7 +125,7 @@ changes_push row others id w change goes is = record {
         (lookup_both (eq_by_cmp key_cmp q) (row ++ (id, w) ∷ []) others ∙ ap (λ (o : Option Past). option_or o (lookup (eq_by_cmp key_cmp q) others)) same
         ∙ sym (lookup_both (eq_by_cmp key_cmp q) row others))
 
-pub apart_push : (row others : Documents) (id : IdKey) (w : Past) → AreApart row others → GoesBehind row others id → AreApart (row ++ (id, w) ∷ []) others
+pub apart_push : (row others : Documents) (id : IdKey) (w : Past) → AreApart row others → GoesAfter row others id → AreApart (row ++ (id, w) ∷ []) others
 apart_push row others id w apart goes q there = go (lookup (eq_by_cmp key_cmp q) row) refl
   where
     last : (b : Bool) → eq_by_cmp key_cmp q id ≡ b → is_some (cond b (Some w) None) ≡ true → past_in others q ≡ no_past
@@ -143,12 +143,12 @@ apart_push row others id w apart goes q there = go (lookup (eq_by_cmp key_cmp q)
 pub changes_other : (row others new : Documents) (id : IdKey) (change : Past → Past) → lookup (eq_by_cmp key_cmp id) row ≡ None
     → ChangesIn others new id (change (past_in others id)) → ChangesIn (row ++ others) (row ++ new) id (change (past_in (row ++ others) id))
 changes_other row others new id change absent changes = record {
-  here = past_behind row new id absent ∙ changes.here ∙ ap change (sym (past_behind row others id absent));
+  here = past_after row new id absent ∙ changes.here ∙ ap change (sym (past_after row others id absent));
   others = λ q apart. go q apart (lookup (eq_by_cmp key_cmp q) row) refl;
 }
   where
     go : (q : IdKey) → q ≢ id → (o : Option Past) → lookup (eq_by_cmp key_cmp q) row ≡ o → past_in (row ++ new) q ≡ past_in (row ++ others) q
-    go q apart None is = past_behind row new q is ∙ changes.others q apart ∙ sym (past_behind row others q is)
+    go q apart None is = past_after row new q is ∙ changes.others q apart ∙ sym (past_after row others q is)
     go q apart (Some past) is = past_there row new q past is ∙ sym (past_there row others q past is)
 
 pub apart_other : (row others new : Documents) (id : IdKey) (w : Past) → AreApart row others → lookup (eq_by_cmp key_cmp id) row ≡ None → ChangesIn others new id w
@@ -175,7 +175,7 @@ pub changes_cut : (row others row' others' : Documents) (change : Past → Past)
 changes_cut row others row' others' change none apart kept each each' id = go (lookup (eq_by_cmp key_cmp id) row) refl
   where
     go : (o : Option Past) → lookup (eq_by_cmp key_cmp id) row ≡ o → past_in (row' ++ others') id ≡ change (past_in (row ++ others) id)
-    go None is = past_behind row' others' id (kept id is) ∙ each' id ∙ ap change (sym (past_behind row others id is))
+    go None is = past_after row' others' id (kept id is) ∙ each' id ∙ ap change (sym (past_after row others id is))
     go (Some past) is =
         let nothing : past_in others id ≡ no_past = apart id (ap is_some is) in
         past_front row' others' id (each' id ∙ ap change nothing ∙ none) ∙ each id ∙ ap change (sym (past_front row others id nothing))
@@ -191,7 +191,7 @@ shown_both ns at row others place apart = go (eq_by_cmp (slice_cmp nat_cmp) plac
         ≡ one_at place (shown at (past_in (row ++ others) place.1).versions)
     here None is =
         ap (λ (p : Past). one_at place (shown at p.versions) ++ one_at place (shown at (past_in others place.1).versions)) (ap (λ (o : Option Past). unwrap_or o no_past) is)
-        ∙ ap (λ (p : Past). one_at place (shown at p.versions)) (sym (past_behind row others place.1 is))
+        ∙ ap (λ (p : Past). one_at place (shown at p.versions)) (sym (past_after row others place.1 is))
     here (Some past) is =
         let nothing : past_in others place.1 ≡ no_past = apart place.1 (ap is_some is) in
         ap (λ (p : Past). one_at place (shown at (past_in row place.1).versions) ++ one_at place (shown at p.versions)) nothing

@@ -83,7 +83,7 @@ pub missing_past : (row : Documents) (id : IdKey) (i : ℕ) → IsInOrder row �
 missing_past row id i order front past =
     gap row id i order front (λ entry at. let none = slice_get_past row i past in absurd (cc none))
 
--- nor is it where another stands behind them
+-- nor is it where another comes after them
 pub missing_at : (row : Documents) (id : IdKey) (i : ℕ) (entry : IdKey × Past) → IsInOrder row
     → AllWithin (λ e. is_lt (key_cmp e.0 id) ≡ true) row 0 i → AllWithin (λ e. is_lt (key_cmp e.0 id) ≡ false) row i (length row)
     → i < length row → entry ≡ slice_index_or row i entry → key_cmp entry.0 id ≢ Equal → lookup (eq_by_cmp key_cmp id) row ≡ None
@@ -114,12 +114,12 @@ none_last P (e ∷ row) none k d within =
     let place : length (e ∷ row) - 1 ≡ length row = omega arith in
     absurd (cc (none ∙ ap (slice_get (e ∷ row)) place ∙ there))
 
-pub behind_none : (row : Documents) (id : IdKey) → All (λ e. key_cmp e.0 id ≡ Less) row → lookup (eq_by_cmp key_cmp id) row ≡ None
-behind_none [] id all = refl
-behind_none (entry ∷ row) id all =
+pub after_none : (row : Documents) (id : IdKey) → All (λ e. key_cmp e.0 id ≡ Less) row → lookup (eq_by_cmp key_cmp id) row ≡ None
+after_none [] id all = refl
+after_none (entry ∷ row) id all =
     ap (λ b. cond b (Some entry.1) (lookup (eq_by_cmp key_cmp id) row))
     (ap is_eq (key_cmp-total.antisymm id entry.0 ∙ ap ordering_reverse (all 0 entry (omega arith))))
-    ∙ behind_none row id (λ k d within. all (suc k) d (omega arith))
+    ∙ after_none row id (λ k d within. all (suc k) d (omega arith))
 
 -- ---- a document of the row changes
 
@@ -180,7 +180,7 @@ lookup_changed (e ∷ row) (suc i) k p change order at q =
     swap false one true two = refl
     swap false one false two = refl
 
--- ---- a document goes behind the row
+-- ---- a document goes after the row
 
 all_push : (P : IdKey → Type 0) (row : Documents) (id : IdKey) (w : Past) → AllByRecursion P (keys_of row) → P id → AllByRecursion P (keys_of (row ++ (id, w) ∷ []))
 all_push P [] id w all last = (last, tt)

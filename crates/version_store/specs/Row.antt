@@ -28,9 +28,9 @@ abbrev pub AreApart : (row others : Documents) → Type 0
 AreApart row others =
     (id : IdKey) → IsSome (lookup (eq_by_cmp key_cmp id) row) → past_in others id ≡ no_past
 
--- a key comes behind those of the row, and has no past among the others
-pub record GoesBehind (row others : Documents) (id : IdKey) : Type 0 where
-  pub behind : All (λ entry. key_cmp entry.0 id ≡ Less) row
+-- a key comes after those of the row, and has no past among the others
+pub record GoesAfter (row others : Documents) (id : IdKey) : Type 0 where
+  pub after : All (λ entry. key_cmp entry.0 id ≡ Less) row
   pub absent : past_in others id ≡ no_past
 
 -- what isn't in old isn't in new

@@ -4,7 +4,7 @@ ghost use Rattle.rs_optime.specs.declared.optime.OpTime.{OpTime};
 ghost use Rattle.rs_optime.specs.Later.{earlier_of};
 ghost use Rattle.version_store.specs.Past.{Past, is_before, shown, back_to, pruned, IsRising};
 
-/// After `prune`, a read at its optime or behind it shows what it showed before.
+/// After `prune`, a read at or after its optime shows what it showed before.
 #[tactic(auto, using(crate::proofs::LawLemmas::pruned_shows))]
 pub fn a_prune_is_not_seen()
     ensures { (past : Past) (at read : OpTime) → IsRising past.versions → is_before read at ≡ false

@@ -68,7 +68,7 @@ impl Row {
             (StandsIn self.now id.now) }
         ensures order { IsInOrder self.now }
     {
-        if self.comes_behind(id) {
+        if self.comes_after(id) {
             return None;
         }
         let place = self.entries.partition_point(
@@ -85,9 +85,9 @@ impl Row {
         }
     }
 
-    /// Whether a key comes behind all that are there.
-    pub(crate) fn comes_behind(&self, id: &IdKey) -> bool
-        ensures behind { IsTrue result → All (λ entry. key_cmp entry.0 id.now ≡ Less) self.now }
+    /// Whether a key comes after all that are there.
+    pub(crate) fn comes_after(&self, id: &IdKey) -> bool
+        ensures after { IsTrue result → All (λ entry. key_cmp entry.0 id.now ≡ Less) self.now }
         ensures order { IsInOrder self.now }
     {
         let Some(last) = self.entries.last() else {
@@ -127,7 +127,7 @@ impl Row {
         Ok(())
     }
 
-    /// Puts a document behind the others.
+    /// Puts a document after the others.
     pub(crate) fn push(&mut self, id: IdKey, history: History) -> Mem<()>
         requires { All (λ entry. key_cmp entry.0 id ≡ Less) self.old }
         ensures ok { OnOk result (self.new ≡ self.old ++ (id, history) ∷ []) }

@@ -143,7 +143,7 @@ impl Shard {
         Ok(())
     }
 
-    /// Drops every version behind an optime.
+    /// Drops every version after an optime.
     pub fn back_to(&mut self, at: OpTime)
         ensures { ChangesEachOf self.old self.new (back_to at) }
     {

@@ -207,14 +207,14 @@ impl VersionStore {
         }
     }
 
-    /// Drops every version behind an optime.
+    /// Drops every version after an optime.
     pub fn back_to(&mut self, at: OpTime)
         ensures { ChangesEach self.old self.new (back_to at) }
     {
         self.cut(Cut::After(at));
     }
 
-    /// Drops every version at an optime or behind it.
+    /// Drops every version at or after an optime.
     pub fn back_before(&mut self, at: OpTime)
         ensures { ChangesEach self.old self.new (back_before at) }
     {

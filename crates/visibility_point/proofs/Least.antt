@@ -101,7 +101,7 @@ pub least_is_first : (xs : List OpTime) (at : OpTime) → IsTrue (is_listed at x
 least_is_first [] at here = absurd (cc here)
 least_is_first (x ∷ xs) at here = elim (either (eq_by_cmp optime_cmp at x) (is_listed at xs) here) [
   | inl same ↦ first (optime_exact at x ((Equal-is _).0 same)) (least xs)
-  | inr rest ↦ behind (least_is_first xs at rest.1)
+  | inr rest ↦ after (least_is_first xs at rest.1)
 ]
   where
     first : at ≡ x → (r : Option OpTime) → (s : OpTime) × (◌≡◌ {A = Option OpTime} (Some (earlier x r)) (Some s)) × (is_before at s ≡ false)
@@ -112,8 +112,8 @@ least_is_first (x ∷ xs) at here = elim (either (eq_by_cmp optime_cmp at x) (is
         choose true is = (o, ap (λ b. Some (cond b o x)) is, ap (λ (y : OpTime). is_before y o) same ∙ before_at_most o x is)
         choose false is = (x, ap (λ b. Some (cond b o x)) is, ap (λ (y : OpTime). is_before y x) same ∙ itself x)
 
-    behind : ((s : OpTime) × (least xs ≡ Some s) × (is_before at s ≡ false)) → (s : OpTime) × (least (x ∷ xs) ≡ Some s) × (is_before at s ≡ false)
-    behind found = choose (is_before found.0 x) refl
+    after : ((s : OpTime) × (least xs ≡ Some s) × (is_before at s ≡ false)) → (s : OpTime) × (least (x ∷ xs) ≡ Some s) × (is_before at s ≡ false)
+    after found = choose (is_before found.0 x) refl
       where
         choose : (b : Bool) → is_before found.0 x ≡ b → (s : OpTime) × (least (x ∷ xs) ≡ Some s) × (is_before at s ≡ false)
         choose true is = (found.0, ap (λ r. Some (earlier x r)) found.1 ∙ ap (λ b. Some (cond b found.0 x)) is, found.2)

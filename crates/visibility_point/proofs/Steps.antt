@@ -97,11 +97,11 @@ has_within at mark (entry ∷ log) (inl same) marked =
     let times : entry.optime.ts ≡ at.ts = ap (λ (o : OpTime). o.ts) same in let here : entry.optime.ts ≤ mark = marked zero entry (omega arith) in omega arith
 has_within at mark (entry ∷ log) (inr there) marked = has_within at mark log there (All-tail (λ (e : Entry). e.optime.ts ≤ mark) entry log marked)
 
--- an entry with a later timestamp than one of the log is behind it
-behind : (at : OpTime) (log : List Entry) (entry : Entry) → Has at log → All (FitsBeside entry) log → at.ts < entry.optime.ts → is_before at entry.optime ≡ true
-behind at [] entry has fits later = absurd has
-behind at (other ∷ log) entry (inr there) fits later = behind at log entry there (All-tail (FitsBeside entry) other log fits) later
-behind at (other ∷ log) entry (inl same) fits later = go (fits zero other (omega arith))
+-- an entry with a later timestamp than one of the log is after it
+further : (at : OpTime) (log : List Entry) (entry : Entry) → Has at log → All (FitsBeside entry) log → at.ts < entry.optime.ts → is_before at entry.optime ≡ true
+further at [] entry has fits later = absurd has
+further at (other ∷ log) entry (inr there) fits later = further at log entry there (All-tail (FitsBeside entry) other log fits) later
+further at (other ∷ log) entry (inl same) fits later = go (fits zero other (omega arith))
   where
     times : other.optime.ts ≡ at.ts
     times = ap (λ (o : OpTime). o.ts) same
@@ -115,7 +115,7 @@ behind at (other ∷ log) entry (inl same) fits later = go (fits zero other (ome
 
 -- ---- what is kept
 
--- the answered optime is there, and each open slot is behind it, or has a later timestamp
+-- the answered optime is there, and each open slot is after it, or has a later timestamp
 record Hides (at : OpTime) (state : State) : Type 0 where
   pub there : (at ≡ ZERO) ⊎ Has at state.log
   pub slots : (slot : OpTime) → IsOpen state.reserved slot → (is_before at slot ≡ true) ⊎ (at.ts < slot.ts)
@@ -127,21 +127,21 @@ answered_seen at state sound hides = elim hides.there [
   | inr has ↦ has_within at state.reserved.mark state.log has sound.marked
 ]
 
--- an entry that is written with a later timestamp is behind it
-written_behind : (at : OpTime) (state : State) (entry : Entry) → Hides at state → IsOplog (with_entry state.log entry) → at.ts < entry.optime.ts → is_before at entry.optime ≡ true
-written_behind at state entry hides oplog later = elim hides.there [
+-- an entry that is written with a later timestamp is after it
+written_after : (at : OpTime) (state : State) (entry : Entry) → Hides at state → IsOplog (with_entry state.log entry) → at.ts < entry.optime.ts → is_before at entry.optime ≡ true
+written_after at state entry hides oplog later = elim hides.there [
   | inl zero_is ↦ let terms : at.term ≡ 0 = ap (λ (o : OpTime). o.term) zero_is in before_both at entry.optime (omega arith) later
-  | inr has ↦ behind at state.log entry has (fits_beside state.log entry oplog.order) later
+  | inr has ↦ further at state.log entry has (fits_beside state.log entry oplog.order) later
 ]
 
 there_too : (at : OpTime) (log : List Entry) (entry : Entry) → (at ≡ ZERO) ⊎ Has at log → (at ≡ ZERO) ⊎ Has at (with_entry log entry)
 there_too at log entry (inl zero_is) = inl zero_is
 there_too at log entry (inr has) = inr (has_with_entry at log entry has)
 
-slots_behind : (at : OpTime) (state : State) (entry : Entry) → Hides at state → IsOplog (with_entry state.log entry) → IsOpen state.reserved entry.optime → is_before at entry.optime ≡ true
-slots_behind at state entry hides oplog opened_there = elim (hides.slots entry.optime opened_there) [
+slots_after : (at : OpTime) (state : State) (entry : Entry) → Hides at state → IsOplog (with_entry state.log entry) → IsOpen state.reserved entry.optime → is_before at entry.optime ≡ true
+slots_after at state entry hides oplog opened_there = elim (hides.slots entry.optime opened_there) [
   | inl before ↦ before
-  | inr later ↦ written_behind at state entry hides oplog later
+  | inr later ↦ written_after at state entry hides oplog later
 ]
 
 -- ---- one action
@@ -204,10 +204,10 @@ adds_nothing at state (Settle other) sound hides allowed = refl
 adds_nothing at state (Abort other) sound hides allowed = refl
 adds_nothing at state AbortAll sound hides allowed = refl
 adds_nothing at state (WriteAtSlot entry) sound hides allowed =
-    filter-without (λ e. not (is_before at e.optime)) state.log entry (ap not (slots_behind at state entry hides allowed.1 allowed.0))
+    filter-without (λ e. not (is_before at e.optime)) state.log entry (ap not (slots_after at state entry hides allowed.1 allowed.0))
 adds_nothing at state (WritePast entry) sound hides allowed =
     let seen : at.ts ≤ state.reserved.mark = answered_seen at state sound hides in
-    filter-without (λ e. not (is_before at e.optime)) state.log entry (ap not (written_behind at state entry hides allowed.1 (omega (arith, allowed.0))))
+    filter-without (λ e. not (is_before at e.optime)) state.log entry (ap not (written_after at state entry hides allowed.1 (omega (arith, allowed.0))))
 
 -- ---- the answer, and all actions
 
@@ -258,9 +258,9 @@ allowed_back : (state : State) (earlier later : List Action) → AreAllowed stat
 allowed_back state [] later allowed = allowed
 allowed_back state (action ∷ earlier) later allowed = allowed_back (after state action) earlier later allowed.1
 
-pub nothing_behind : (start : State) (earlier later : List Action) → IsSound start → AreAllowed start (earlier ++ later)
+pub nothing_after : (start : State) (earlier later : List Action) → IsSound start → AreAllowed start (earlier ++ later)
     → log_up_to (answer (run start earlier)) (run start (earlier ++ later)).log ≡ log_up_to (answer (run start earlier)) (run start earlier).log
-nothing_behind start earlier later sound allowed =
+nothing_after start earlier later sound allowed =
     let then_sound : IsSound (run start earlier) = sound_run start earlier sound (allowed_front start earlier later allowed) in
     ap (λ (s : State). log_up_to (answer (run start earlier)) s.log) (run_append start earlier later)
     ∙ run_adds_nothing (answer (run start earlier)) (run start earlier) later then_sound (answer_hides (run start earlier) then_sound) (allowed_back start earlier later allowed)

@@ -4,7 +4,7 @@ ghost use Rattle.visibility_point.specs.Holes.{State, Action, IsSound, AreAllowe
 
 /// From a log with no entry past the mark, and after any actions: what was visible then is what the log has
 /// up to there ever after. So no entry appears at or before a visible optime that was answered.
-pub fn nothing_appears_behind()
+pub fn nothing_appears_after()
     ensures { (start : State) (earlier later : List Action) → IsSound start
         → AreAllowed start (earlier ++ later)
         → log_up_to (answer (run start earlier)) (run start (earlier ++ later)).log

@@ -5,5 +5,5 @@
 mod laws;
 mod point;
 
-pub use laws::nothing_appears_behind;
+pub use laws::nothing_appears_after;
 pub use point::{visible, visible_open};

@@ -79,7 +79,7 @@ class Faults(LabTest):
             ("insert\tn0 t {_id: 1}", 7, "a tab"),
             ("insert n0 t {_id: 1.5}", 20, "no doubles"),
             ("retry n0 7 1 replace t 1 {n: 1.5}", 31, "no doubles"),
-            ("insert n0 t {_id: 1, n: 3000000000}", 25, "L behind it"),
+            ("insert n0 t {_id: 1, n: 3000000000}", 25, "L after it"),
             ("insert n0 t {_id: 1, _id: 2}", 22, "twice"),
             ("update n0 t 1 {$set: {a: \"x}}", 30, "ends too soon"),
             ("insert n7 t {_id: 1}", 8, "n0 to n2"),

@@ -100,7 +100,7 @@ class BadInput(LabTest):
         lab = subprocess.Popen([sys.executable, str(LAB), "vary", "long", "-j", "1"], cwd=self.room, env=self.environment,
                                stdout=subprocess.PIPE, stderr=subprocess.PIPE, text=True,
                                preexec_fn=lambda: signal.signal(signal.SIGINT, signal.SIG_DFL))
-        # Behind Python's own start, also on a busy machine.
+        # After Python's own start, also on a busy machine.
         time.sleep(5)
         lab.send_signal(signal.SIGINT)
         out, err = lab.communicate(timeout=60)

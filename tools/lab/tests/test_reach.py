@@ -15,7 +15,7 @@ from lab.telling import names_of
 PARTED = [*COMMITTED, "partition n0 | n1 n2", "update n0 orders 1 {$set: {n: 1}}", "elect n1", "insert n1 orders {_id: 2}"]
 
 
-def behind(words: List[str], lines: List[str]) -> List[str]:
+def asked_after(words: List[str], lines: List[str]) -> List[str]:
     """What a word of the program tells after a script's transcript."""
     def put(words: List[str]) -> str:
         return subprocess.run([find_program(), *words], input="\n".join(lines) + "\n", stdout=subprocess.PIPE, text=True).stdout
@@ -28,7 +28,7 @@ def told(lines: List[str]) -> List[str]:
     return [line[len(TOLD) :] for line in expand(lines).lines[len(expand(lines[:-1]).lines) :] if line.startswith(TOLD)]
 
 
-class AsBehindAScript(unittest.TestCase):
+class AsAfterAScript(unittest.TestCase):
     """At the end of a script the macros tell what the words of the program do."""
 
     def test_scripts_by_chance(self) -> None:
@@ -38,7 +38,7 @@ class AsBehindAScript(unittest.TestCase):
             for words in (["linear", f"n{seed % 3}", "t", str(seed + 4)], ["watch", "t", "start", "n0", "n2"], ["watch", "t", "0" * 31 + "5", "n1"],
                           ["sync", f"n{seed % 3}"], ["watch", "t", "start", "n7"], ["sync", "n4"]):
                 with self.subTest(seed=seed, words=words):
-                    wanted = behind(words, lines)
+                    wanted = asked_after(words, lines)
                     self.assertEqual(told([*lines, " ".join(words)]), wanted)
                     ends.add(" ".join(wanted[-1].split(" ")[:3]) if "refused" in wanted[-1] else wanted[-1].split(" ")[0])
         self.assertLessEqual({"resume", "watch refused 3", "sync refused 1", "linear refused 2"}, ends)
@@ -47,12 +47,12 @@ class AsBehindAScript(unittest.TestCase):
         lines = ["set 1", "campaign n0", "drain n0", 'insert n0 t {_id: "a b", n: 1}', 'update n0 t "a b" {$set: {n: 2}}',
                  'replace n0 t "a b" {m: 1}', 'delete n0 t "a b"', "insert n0 u {_id: 1}", "note n0", "flush n0"]
         for words in (["watch", "t", "start", "n0"], ["linear", "n0", "u", "1"], ["sync", "n0"]):
-            self.assertEqual(told([*lines, " ".join(words)]), behind(words, lines))
+            self.assertEqual(told([*lines, " ".join(words)]), asked_after(words, lines))
 
     def test_an_example(self) -> None:
         lines = expand([*COMMITTED, "crash n1"]).lines
         self.assertEqual(told([*lines, "linear n0 orders 1"]), ["linear found {_id: 1, n: 0}"])
-        self.assertEqual(behind(["linear", "n0", "orders", "1"], lines), ["linear found {_id: 1, n: 0}"])
+        self.assertEqual(asked_after(["linear", "n0", "orders", "1"], lines), ["linear found {_id: 1, n: 0}"])
 
 
 class InAScript(LabTest):

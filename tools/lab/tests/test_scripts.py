@@ -84,7 +84,7 @@ class Expand(LabTest):
     def test_macros_that_cannot_go_on_say_why(self) -> None:
         cases = [
             (["set 3", "crash n1", "crash n2", "elect n0"], "n0 isn't elected: n1 is down; n2 is down"),
-            (["set 3", "partition n0", "elect n0"], "n0 isn't elected: n1 is behind the partition"),
+            (["set 3", "partition n0", "elect n0"], "n0 isn't elected: n1 is cut off by the partition"),
             (["set 4 3", "elect n3"], "n3 isn't elected: its campaign is refused 19 NotElectable 1"),
             ([*COMMITTED, "insert n0 orders {_id: 2}", "pull n1", "crash n0", "elect n2"], "n1 refuses, OlderLog"),
             ([*COMMITTED, "crash n1", "crash n2", "insert n0 orders {_id: 2}", "await n0 last"], "refused 15 Waiting 1 2"),

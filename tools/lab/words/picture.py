@@ -6,7 +6,7 @@ import re
 from pathlib import Path
 from typing import Optional, Tuple
 
-from ..documents import documents_behind
+from ..documents import documents_after
 from ..drawing import svg_file
 from ..errors import FILE, WORDS, LabError
 from ..expand import read_expanded
@@ -63,7 +63,7 @@ def main(arguments: argparse.Namespace) -> int:
     if output.suffix == ".svg":
         text = svg_file(picture, title)
     else:
-        text = page(picture, title, documents_behind(run, first, last), found)
+        text = page(picture, title, documents_after(run, first, last), found)
     try:
         output.write_text(text, encoding="utf-8")
     except OSError as fault:

@@ -27,7 +27,7 @@ SUMMARY = "a prompt that answers each line of a script at once"
 DETAILS = """\
 Every command of a script is answered as it is typed, and so is every macro, whose lines are shown. Besides these:
 
-    status          the nodes as rs.status() has them, with how many entries each lags behind the primary
+    status          the nodes as rs.status() has them, with the entries by which each lags the primary
     undo [N]        takes back what was typed last, or the last N
     script          prints the script so far
     save FILE       keeps it (a plain script)
@@ -84,7 +84,7 @@ class Shell:
         return True
 
     def _play(self, line: str) -> None:
-        """Puts a line of the script, or a macro, behind it, and shows what that came to."""
+        """Puts a line of the script, or a macro, after it, and shows what that came to."""
         before = len(self.player.lines), self._expander.macros.kept()
         try:
             self._expander.take(line)
@@ -136,7 +136,7 @@ class Shell:
             self.player.forget()
             self._expander.macros.restore(kept)
         last = next((line for line in reversed(self.player.lines) if not is_silent(line)), "")
-        self._put(f"  back behind: {printable(last)}")
+        self._put(f"  back after: {printable(last)}")
 
     def _script(self, _: str) -> None:
         self._put("\n".join(printable(line) for line in self.player.lines))

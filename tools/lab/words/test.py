@@ -15,8 +15,8 @@ from ..show import printable
 
 SUMMARY = "plays scripts, and compares the replies with what their comments expect"
 DETAILS = """\
-A comment '# expect: TEXT' behind a command speaks of its reply (behind a macro, of that to its last line): it must be
-TEXT, or go on behind it after a space. '..' in TEXT stands for anything. Several such comments in a row speak of the
+A comment '# expect: TEXT' after a command speaks of its reply (after a macro, of that to its last line): it must be
+TEXT, or begin with it and a space. '..' in TEXT stands for anything. Several such comments in a row speak of the
 reply's lines, one after another:
 
     await n0 last

@@ -26,7 +26,7 @@ fields_of-returns-in_err-name t c =
 pub fields_of-loop-preserved : goal.fields_of-loop-preserved
 fields_of-loop-preserved t c =
     let inner = inner_at c.args.levels in
-    rw (c.in_ok-fields.ensures, c.in_ok-from_str.ensures, c.fields.view_is) (fields-next inner (length c.args.bytes.now) c.loop.counter c.loop.fields c.loop.rest.now (fields_in (length c.args.bytes.now) inner no_fields c.args.bytes.now) ((c.in_ok-name.name.now, tree_of c.in_ok-name.value), c.in_ok-name.behind.now) c.in_ok-is_over.field-0 c.loop-test.true c.loop.invariant c.in_ok-is_over.ensures c.if-branch.false c.in_ok-name.ensures.field)
+    rw (c.in_ok-fields.ensures, c.in_ok-from_str.ensures, c.fields.view_is) (fields-next inner (length c.args.bytes.now) c.loop.counter c.loop.fields c.loop.rest.now (fields_in (length c.args.bytes.now) inner no_fields c.args.bytes.now) ((c.in_ok-name.name.now, tree_of c.in_ok-name.value), c.in_ok-name.after.now) c.in_ok-is_over.field-0 c.loop-test.true c.loop.invariant c.in_ok-is_over.ensures c.if-branch.false c.in_ok-name.ensures.field)
 
 pub fields_of-returns : goal.fields_of-returns
 fields_of-returns t c =
@@ -53,7 +53,7 @@ items_of-returns-in_err-value t c =
 pub items_of-loop-place-preserved : goal.items_of-loop-place-preserved
 items_of-loop-place-preserved t c =
     let inner = inner_at c.args.levels in
-    rw c.in_ok-push.ensures.ok (items-next inner (length c.args.bytes.now) c.loop-place.place c.loop-place.place c.loop-place.items c.loop-place.rest.now (items_in (length c.args.bytes.now) inner 0 no_items c.args.bytes.now) (tree_of c.in_ok-value.value, c.in_ok-value.behind.now) c.in_ok-is_over.field-0 c.loop-place-test.true c.loop-place.invariant c.in_ok-is_over.ensures c.if-branch.false c.in_ok-value.ensures)
+    rw c.in_ok-push.ensures.ok (items-next inner (length c.args.bytes.now) c.loop-place.place c.loop-place.place c.loop-place.items c.loop-place.rest.now (items_in (length c.args.bytes.now) inner 0 no_items c.args.bytes.now) (tree_of c.in_ok-value.value, c.in_ok-value.after.now) c.in_ok-is_over.field-0 c.loop-place-test.true c.loop-place.invariant c.in_ok-is_over.ensures c.if-branch.false c.in_ok-value.ensures)
 
 pub items_of-returns : goal.items_of-returns
 items_of-returns t c =

@@ -1,6 +1,6 @@
 use Rattle.std.proofs.Common.{ap, arith, length, length-append}
 use Rattle.bson_codec.proofs.NumberLemmas.{long, number_read, rest_read}
-use Rattle.record_file.proofs.ListLemmas.{piece_is, behind_is}
+use Rattle.record_file.proofs.ListLemmas.{piece_is, later_is}
 use Rattle.checkpoint_store.proofs.PartLemmas.{sized_parts}
 use Rattle.checkpoint_store.proofs.reading.sized_of.Goals as goal
 
@@ -15,8 +15,8 @@ split_at-requires c =
     omega (arith, size, ap length rest, length-append c.requires.0 c.requires.1)
 
 pub returns : goal.returns
-returns c = λ piece behind short is.
+returns c = λ piece after short is.
     let parts = sized_parts piece _ _ is in
     let size = number_read 4 _ _ _ _ (omega (arith, short)) parts c.u32_of-size.ensures.number in
     let rest = rest_read 4 _ _ _ _ parts c.u32_of-size.ensures.rest in
-    (piece_is piece _ _ _ _ rest size c.split_at.ensures.front, behind_is piece _ _ _ _ rest size c.split_at.ensures.back)
+    (piece_is piece _ _ _ _ rest size c.split_at.ensures.front, later_is piece _ _ _ _ rest size c.split_at.ensures.back)

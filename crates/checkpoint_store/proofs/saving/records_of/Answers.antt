@@ -28,6 +28,6 @@ loop-place-preserved c =
 
 pub returns : goal.returns
 returns c =
-    let behind : length c.args.documents.now ≤ c.loop-place.place = omega arith in
+    let after : length c.args.documents.now ≤ c.loop-place.place = omega arith in
     let pushed : c.push-2.new.self.items ≡ c.loop-place.records.items ++ c.in_ok-end_bytes.field-0 ∷ [] = search rules in
-    all _ _ (goes ends _ [] _ _ c.in_ok-end_bytes.field-0 c.in_ok-end_bytes.ensures pushed (none_left placed c.args.documents.now c.loop-place.place _ (ends ∷ []) _ behind c.loop-place.invariant))
+    all _ _ (goes ends _ [] _ _ c.in_ok-end_bytes.field-0 c.in_ok-end_bytes.ensures pushed (none_left placed c.args.documents.now c.loop-place.place _ (ends ∷ []) _ after c.loop-place.invariant))

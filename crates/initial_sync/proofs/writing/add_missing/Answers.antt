@@ -15,11 +15,11 @@ pub returns-clause-ok : goal.returns-clause-ok
 returns-clause-ok g c =
     subst
     (λ (l : List Entry). OnOk c.add_entries.result ((items : List Record) → IsAtRest (g.D.Disk.state c.args.journal.now.0) items
-    → IsAtRest (g.D.Disk.state c.add_entries.new.journal.0) (items ++ (term_missing c.args.pinned.now.term c.args.kept.now.vote.term ++ batches l)))) c.behind.ensures
+    → IsAtRest (g.D.Disk.state c.add_entries.new.journal.0) (items ++ (term_missing c.args.pinned.now.term c.args.kept.now.vote.term ++ batches l)))) c.entries_left.ensures
     (both_added c.add_entries.result _ _ _ _ _ c.in_ok-add_term.ensures.ok c.add_entries.ensures.ok)
 
 pub returns-clause-any_moment : goal.returns-clause-any_moment
 returns-clause-any_moment g c = λ items rest.
     let term = term_missing c.args.pinned.now.term c.args.kept.now.vote.term in
-    subst (λ (l : List Entry). EachMoment (HasFront items (term ++ batches l)) (g.D.Disk.state c.args.journal.now.0) (g.D.Disk.state c.add_entries.new.journal.0)) c.behind.ensures
+    subst (λ (l : List Entry). EachMoment (HasFront items (term ++ batches l)) (g.D.Disk.state c.args.journal.now.0) (g.D.Disk.state c.add_entries.new.journal.0)) c.entries_left.ensures
     (front_then _ _ _ items term _ (c.in_ok-add_term.ensures.any_moment items rest) (c.add_entries.ensures.any_moment (items ++ term) (c.in_ok-add_term.ensures.ok items rest)))

@@ -1,4 +1,4 @@
-use Rattle.record_file.proofs.ListLemmas.{piece_is, behind_is}
+use Rattle.record_file.proofs.ListLemmas.{piece_is, later_is}
 use Rattle.node_journal.proofs.PartLemmas.{entry_parts, entry_short, no_fault, no_other_shape, spelled_here}
 use Rattle.std.proofs.Common.{ap, arith, length, length-append}
 use Rattle.bson_codec.proofs.NumberLemmas.{number_read, rest_read}
@@ -14,12 +14,12 @@ split_at-requires c =
     omega (arith, size, ap length rest, length-append (entry_bytes e) c.requires.1)
 
 pub returns-in-Ok : goal.returns-in-Ok
-returns-in-Ok c = λ e behind is_entry is.
+returns-in-Ok c = λ e after is_entry is.
     let parts = entry_parts e _ _ is in
     let size = number_read 4 _ _ _ _ (entry_short e is_entry) parts c.u32_of-size.ensures.number in
     let rest = rest_read 4 _ _ _ _ parts c.u32_of-size.ensures.rest in
     let piece = piece_is (entry_bytes e) _ _ _ _ rest size c.split_at.ensures.front in
-    (c.in-Ok.ensures.only e is_entry.lawful is_entry.sound (spelled_here e _ is_entry piece), behind_is (entry_bytes e) _ _ _ _ rest size c.split_at.ensures.back)
+    (c.in-Ok.ensures.only e is_entry.lawful is_entry.sound (spelled_here e _ is_entry piece), later_is (entry_bytes e) _ _ _ _ rest size c.split_at.ensures.back)
 
 pub unreachable-requires : goal.unreachable-requires
 unreachable-requires c =

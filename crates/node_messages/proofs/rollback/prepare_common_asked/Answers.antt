@@ -1,7 +1,7 @@
 use Rattle.std.proofs.Common.{◌≡◌, ◌∙◌, ap, nat_lt, ℕ, List, [], ◌∷◌}
 use Rattle.oplog_entry.specs.Visible.{log_up_to}
 use Rattle.oplog_entry.specs.declared.entry.Entry.{Entry}
-use Rattle.repl_msg.specs.Logs.{log_behind}
+use Rattle.repl_msg.specs.Logs.{log_after}
 use Rattle.repl_msg.specs.declared.message.Body.TheVariants as bodies
 use Rattle.set_model.specs.Node.{Node}
 use Rattle.set_model.specs.Outcome.{message_to}
@@ -13,7 +13,7 @@ use Rattle.node_messages.proofs.CommonLemmas.{common_body}
 use Rattle.node_messages.proofs.ForeseenLemmas.{answered_is}
 use Rattle.node_state.proofs.Inside.{rest_in}
 use Rattle.node_messages.proofs.TakenLemmas.{foretold}
-use Rattle.node_messages.proofs.TellLemmas.{told_behind}
+use Rattle.node_messages.proofs.TellLemmas.{told_after}
 use Rattle.node_messages.proofs.rollback.prepare_common_asked.Goals as goal
 
 pub returns-clause-told : goal.returns-clause-told
@@ -32,7 +32,7 @@ returns-clause-told c =
     ∙ ap (λ (t : ℕ). message_to (record old { term = t }) from body ∷ []) c.requires.own.term_is)
     (common_body raised term old c.args.after c.args.own.visible c.in_ok-optimes_between.field-0
     (c.in_ok-optimes_between.ensures.list
-    ∙ ap (λ (s : StateView). optimes_of (log_behind c.args.after (log_up_to c.args.own.visible s.node.log))) c.state.view_is
-    ∙ ap (λ (list : List Entry). optimes_of list) (told_behind raised term old c.args.own.visible c.args.after c.recall_sound.ensures.sound.oplog c.requires.own.visible_is))
+    ∙ ap (λ (s : StateView). optimes_of (log_after c.args.after (log_up_to c.args.own.visible s.node.log))) c.state.view_is
+    ∙ ap (λ (list : List Entry). optimes_of list) (told_after raised term old c.args.own.visible c.args.after c.recall_sound.ensures.sound.oplog c.requires.own.visible_is))
     c.requires.own.visible_is))
     same

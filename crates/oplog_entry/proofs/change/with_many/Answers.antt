@@ -1,11 +1,11 @@
 use Rattle.std.proofs.Common.{sym, subst, ◌∙◌}
 use Rattle.bson_doc.specs.Tree.{IsDocument}
-use Rattle.oplog_entry.proofs.WalkLemmas.{changed-walk, IsDocument-changed, kept-IsDocument}
+use Rattle.oplog_entry.proofs.WalkLemmas.{changed-walk, IsDocument-changed, staying-IsDocument}
 use Rattle.oplog_entry.proofs.change.with_many.Goals as goal
 
-pub kept-requires : goal.kept-requires
-kept-requires c =
-    rw (c.in_ok-gone.ensures, c.in_ok-new_values.ensures.index) (kept-IsDocument c.args.document.now c.args.sets.now c.args.unsets.now c.in_ok-old_values.ensures.names c.in_ok-new_values.ensures.names)
+pub staying-requires : goal.staying-requires
+staying-requires c =
+    rw (c.in_ok-gone.ensures, c.in_ok-new_values.ensures.index) (staying-IsDocument c.args.document.now c.args.sets.now c.args.unsets.now c.in_ok-old_values.ensures.names c.in_ok-new_values.ensures.names)
 
 pub add_fresh-requires : goal.add_fresh-requires
 add_fresh-requires c =

@@ -2,7 +2,7 @@ use Rattle.std.proofs.Common.{◌≡◌, ℕ, List, [], ◌∷◌, ◌++◌, sym
 use Rattle.std.specs.Prelude.{Vec}
 use Rattle.std.specs.declared.alloc.Global.{Global}
 use Rattle.record_file.specs.Records.{AreOpen, lists}
-use Rattle.record_file.proofs.ParseLemmas.{left_behind, reads_more, reads_all}
+use Rattle.record_file.proofs.ParseLemmas.{left_after, reads_more, reads_all}
 use Rattle.record_file.proofs.parse.parse.Goals as goal
 
 pub loop-piece-preserved : goal.loop-piece-preserved
@@ -12,7 +12,7 @@ loop-piece-preserved c =
     let copied : c.in_ok-to_vec.field-0.items ≡ c.in-Some.piece.now = search rules in record {
       read = subst (λ (l : List (Vec ℕ Global)). (front : List ℕ) × AreOpen (lists l) front × (c.args.bytes.now ≡ front ++ c.in-Some.after.now)) (sym pushed)
           (reads_more _ _ _ _ so_far.read.0 c.loop-piece.records.items c.in_ok-to_vec.field-0 first.0 so_far.read.1 so_far.read.2 first.1 copied);
-      left = left_behind _ so_far.left.0 first.0 _ _ so_far.left.1 first.1;
+      left = left_after _ so_far.left.0 first.0 _ _ so_far.left.1 first.1;
     }
 
 pub returns : goal.returns

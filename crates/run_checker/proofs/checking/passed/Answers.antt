@@ -9,14 +9,14 @@ pub returns-then-not-stands_at : goal.returns-then-not-stands_at
 returns-then-not-stands_at c =
     stops_there c.args.line c.args.reply.now c.args.rest.now c.loop-place.next c.loop-place.place c.loop-place.invariant (omega arith) (sym c.stands_at.ensures ∙ c.if-not-stands_at.true)
 
-pub number_behind-next-requires : goal.number_behind-next-requires
-number_behind-next-requires c =
+pub number_after-next-requires : goal.number_after-next-requires
+number_after-next-requires c =
     let there = is_there _ c.loop-place.place c.args.rest.now (sym c.stands_at.ensures ∙ c.if-not-stands_at.false) in
     omega (arith, there, c.requires, c.loop-place.invariant.numbers)
 
 pub loop-place-preserved : goal.loop-place-preserved
 loop-place-preserved c =
-    passes_there c.args.line c.args.reply.now c.args.rest.now c.loop-place.next c.loop-place.place c.loop-place.invariant (omega arith) _ _ (sym c.stands_at.ensures ∙ c.if-not-stands_at.false) c.number_behind-next.ensures (omega arith)
+    passes_there c.args.line c.args.reply.now c.args.rest.now c.loop-place.next c.loop-place.place c.loop-place.invariant (omega arith) _ _ (sym c.stands_at.ensures ∙ c.if-not-stands_at.false) c.number_after-next.ensures (omega arith)
 
 pub returns : goal.returns
 returns c = passed_all c.args.line c.args.reply.now c.args.rest.now c.loop-place.next c.loop-place.place c.loop-place.invariant (omega arith) (omega arith)

@@ -1,7 +1,7 @@
 use Rattle.std.proofs.Common.{◌≡◌, None, Some, sym, ap, ◌∙◌, arith}
 use Rattle.std.specs.Option.{option_copied}
 use Rattle.std.proofs.lemmas.Result.{err_from_is_err_and}
-use Rattle.run_checker.specs.Reading.{behind_line}
+use Rattle.run_checker.specs.Reading.{after_line}
 use Rattle.run_checker.proofs.CheckedLemmas.{shorter}
 use Rattle.run_checker.proofs.TellingLemmas.{goes, no_line, no_reply, other_reply}
 use Rattle.run_checker.proofs.checking.told_one.Goals as goal
@@ -13,23 +13,23 @@ returns-in_err-done_line-clause-err c =
 
 pub returns-in_default-clause-err : goal.returns-in_default-clause-err
 returns-in_default-clause-err c =
-    let none : behind_line c.args.bytes.now ≡ None = sym c.next_line.ensures.rest ∙ ap option_copied c.in_default.is in
+    let none : after_line c.args.bytes.now ≡ None = sym c.next_line.ensures.rest ∙ ap option_copied c.in_default.is in
     no_reply c.args.nodes c.args.machine.now c.args.line c.args.bytes.now c.next_line.result.0.now c.next_line.ensures.line c.done_line.new.machine _ c.in_ok-done_line.ensures.ok none
 
 pub passed-requires : goal.passed-requires
 passed-requires c =
-    let some : behind_line c.args.bytes.now ≡ Some c.in-Some.behind.now = sym c.next_line.ensures.rest ∙ ap option_copied c.in-Some.is in
-    let short = shorter c.args.bytes.now c.in-Some.behind.now some in
+    let some : after_line c.args.bytes.now ≡ Some c.in-Some.after.now = sym c.next_line.ensures.rest ∙ ap option_copied c.in-Some.is in
+    let short = shorter c.args.bytes.now c.in-Some.after.now some in
     omega (arith, short, c.requires.room)
 
 pub returns-clause-ok : goal.returns-clause-ok
 returns-clause-ok c =
-    let some : behind_line c.args.bytes.now ≡ Some c.in-Some.behind.now = sym c.next_line.ensures.rest ∙ ap option_copied c.in-Some.is in
-    goes c.args.nodes c.args.machine.now c.args.line c.args.bytes.now c.next_line.result.0.now c.next_line.ensures.line c.done_line.new.machine _ c.in_ok-done_line.ensures.ok c.in-Some.behind.now some
+    let some : after_line c.args.bytes.now ≡ Some c.in-Some.after.now = sym c.next_line.ensures.rest ∙ ap option_copied c.in-Some.is in
+    goes c.args.nodes c.args.machine.now c.args.line c.args.bytes.now c.next_line.result.0.now c.next_line.ensures.line c.done_line.new.machine _ c.in_ok-done_line.ensures.ok c.in-Some.after.now some
     (λ x. x.0.now) (λ x. x.1) c.passed.result (rw c.as_bytes.ensures.value at c.passed.ensures)
 
 pub returns-clause-err : goal.returns-clause-err
 returns-clause-err c =
-    let some : behind_line c.args.bytes.now ≡ Some c.in-Some.behind.now = sym c.next_line.ensures.rest ∙ ap option_copied c.in-Some.is in
-    other_reply c.args.nodes c.args.machine.now c.args.line c.args.bytes.now c.next_line.result.0.now c.next_line.ensures.line c.done_line.new.machine _ c.in_ok-done_line.ensures.ok c.in-Some.behind.now some
+    let some : after_line c.args.bytes.now ≡ Some c.in-Some.after.now = sym c.next_line.ensures.rest ∙ ap option_copied c.in-Some.is in
+    other_reply c.args.nodes c.args.machine.now c.args.line c.args.bytes.now c.next_line.result.0.now c.next_line.ensures.line c.done_line.new.machine _ c.in_ok-done_line.ensures.ok c.in-Some.after.now some
     (λ x. x.0.now) (λ x. x.1) c.passed.result (rw c.as_bytes.ensures.value at c.passed.ensures)

@@ -1,5 +1,5 @@
 use Rattle.std.proofs.Common.{arith}
-use Rattle.set_program.proofs.BehindLemmas.{script_disks, script_stops, stopped_disks, work_disks, work_ends}
+use Rattle.set_program.proofs.AfterScriptLemmas.{script_disks, script_stops, stopped_disks, work_disks, work_ends}
 use Rattle.set_program.proofs.LinearLemmas.{only_linear}
 use Rattle.set_program.specs.ReadingLinearly.{ReadsLinearly}
 use Rattle.set_program.proofs.linearly.play_linear.Goals as goal

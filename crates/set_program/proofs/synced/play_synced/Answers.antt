@@ -2,10 +2,10 @@ use Rattle.std.proofs.Common.{◌≡◌, ◌<◌, ◌*◌, arith, drop, length, 
 use Rattle.std.specs.Prelude.{All, IfErr, IfOk}
 use Rattle.rs_disk.specs.File.{IsEmpty}
 use Rattle.set_model.specs.Run.{Sizes}
-use Rattle.sync_member.specs.Adding.{AddsMember, AsksInVain}
-use Rattle.set_program.proofs.SyncedLemmas.{room_still, spare_behind, synced_cause, synced_disks, synced_ends, synced_member, synced_sizes, synced_steady}
-use Rattle.set_program.specs.Syncing.{SyncsInVain}
-use Rattle.set_program.proofs.BehindLemmas.{script_disks, script_stops, stopped_disks}
+use Rattle.sync_member.specs.Adding.{AddsMember, AddsNoMember}
+use Rattle.set_program.proofs.SyncedLemmas.{room_still, spare_after, synced_cause, synced_disks, synced_ends, synced_member, synced_sizes, synced_steady}
+use Rattle.set_program.specs.Syncing.{MakesNoMember}
+use Rattle.set_program.proofs.AfterScriptLemmas.{script_disks, script_stops, stopped_disks}
 use Rattle.set_program.proofs.synced.play_synced.Goals as goal
 
 pub add_member-ended-requires-clause-whole : goal.add_member-ended-requires-clause-whole
@@ -21,18 +21,18 @@ add_member-ended-requires-clause-room g c κs within fewer =
 pub add_member-ended-requires-clause-spare : goal.add_member-ended-requires-clause-spare
 add_member-ended-requires-clause-spare g c κs within =
     let played = script_disks g.D.Disk.state c.args.script.parts c.args.world.disks c.play.result.1 _ (λ out. cc (out, c.in-Ok-default.is-0)) c.play.ensures.disks in
-    spare_behind g.D.Disk.state c.args.world.disks c.play.result.1 (c.numbers_stay_small.ensures _ _ c.recall_run.ensures.sizes c.recall_run.ensures.run) c.recall_run.ensures.run played
+    spare_after g.D.Disk.state c.args.world.disks c.play.result.1 (c.numbers_stay_small.ensures _ _ c.recall_run.ensures.sizes c.recall_run.ensures.run) c.recall_run.ensures.run played
     (subst (λ (s : Sizes). All (λ disk. IsEmpty (g.D.Disk.state disk).file) (drop (2 * s.nodes) c.args.world.disks)) (sym c.play.ensures.sizes) c.requires.spare)
 
 pub returns-in-Ok-default-clause-ends : goal.returns-in-Ok-default-clause-ends
 returns-in-Ok-default-clause-ends g c =
     let ends = rw c.in-Ok-default.is-0 at c.play.ensures.ends in
     let played = script_disks g.D.Disk.state c.args.script.parts c.args.world.disks c.play.result.1 _ (λ out. cc (out, c.in-Ok-default.is-0)) c.play.ensures.disks in
-    let vain : IfErr c.add_member-ended.result.1 (λ left. AsksInVain g.D.Disk.state c.args.node c.play.result.1 left (g.K.Sink.held c.play.new.sink) (g.K.Sink.held c.add_member-ended.new.sink) c.add_member-ended.result.0) =
+    let no_member : IfErr c.add_member-ended.result.1 (λ left. AddsNoMember g.D.Disk.state c.args.node c.play.result.1 left (g.K.Sink.held c.play.new.sink) (g.K.Sink.held c.add_member-ended.new.sink) c.add_member-ended.result.0) =
     search rules in
     rw (c.left_of.ensures, c.stop_of.ensures)
     (synced_ends g.D.Disk.state c.args.node c.args.script.parts (g.K.Sink.held c.args.sink.now) (g.K.Sink.held c.play.new.sink) (g.K.Sink.held c.add_member-ended.new.sink) c.args.world.disks c.args.world.sizes c.play.result.1
-    c.add_member-ended.result.0 c.play.ensures.sizes ends.0 ends.1 played c.add_member-ended.result.1 vain)
+    c.add_member-ended.result.0 c.play.ensures.sizes ends.0 ends.1 played c.add_member-ended.result.1 no_member)
 
 pub returns-in-Ok-default-clause-sizes : goal.returns-in-Ok-default-clause-sizes
 returns-in-Ok-default-clause-sizes g c =
@@ -40,7 +40,7 @@ returns-in-Ok-default-clause-sizes g c =
     let played = script_disks g.D.Disk.state c.args.script.parts c.args.world.disks c.play.result.1 _ (λ out. cc (out, c.in-Ok-default.is-0)) c.play.ensures.disks in
     rw c.left_of.ensures
     (synced_sizes g.D.Disk.state c.args.node c.args.script.parts (g.K.Sink.held c.args.sink.now) (g.K.Sink.held c.play.new.sink) (g.K.Sink.held c.add_member-ended.new.sink) c.args.world.disks c.args.world.sizes c.play.result.1
-    c.add_member-ended.result.0 c.play.ensures.sizes ends.0 ends.1 played c.add_member-ended.result.1 c.add_member-ended.ensures.vain)
+    c.add_member-ended.result.0 c.play.ensures.sizes ends.0 ends.1 played c.add_member-ended.result.1 c.add_member-ended.ensures.no_member)
 
 pub returns-in-Ok-default-clause-disks : goal.returns-in-Ok-default-clause-disks
 returns-in-Ok-default-clause-disks g c =
@@ -48,7 +48,7 @@ returns-in-Ok-default-clause-disks g c =
     let played = script_disks g.D.Disk.state c.args.script.parts c.args.world.disks c.play.result.1 _ (λ out. cc (out, c.in-Ok-default.is-0)) c.play.ensures.disks in
     rw (c.left_of.ensures, c.stop_of.ensures)
     (synced_disks g.D.Disk.state c.args.node c.args.script.parts (g.K.Sink.held c.args.sink.now) (g.K.Sink.held c.play.new.sink) (g.K.Sink.held c.add_member-ended.new.sink) c.args.world.disks c.args.world.sizes c.play.result.1
-    c.add_member-ended.result.0 c.play.ensures.sizes ends.0 ends.1 played c.add_member-ended.result.1 c.add_member-ended.ensures.vain)
+    c.add_member-ended.result.0 c.play.ensures.sizes ends.0 ends.1 played c.add_member-ended.result.1 c.add_member-ended.ensures.no_member)
 
 pub returns-in-Ok-default-clause-member : goal.returns-in-Ok-default-clause-member
 returns-in-Ok-default-clause-member g c =
@@ -70,7 +70,7 @@ returns-in-Ok-default-clause-steady g c steady =
 
 pub returns-in-Err-default-clause-ends : goal.returns-in-Err-default-clause-ends
 returns-in-Err-default-clause-ends g c =
-    script_stops (SyncsInVain c.args.node) c.args.script.parts (g.K.Sink.held c.args.sink.now) (g.K.Sink.held c.play.new.sink) c.play.result.1 c.in-Err-default.stop (rw c.in-Err-default.is-0 at c.play.ensures.ends)
+    script_stops (MakesNoMember c.args.node) c.args.script.parts (g.K.Sink.held c.args.sink.now) (g.K.Sink.held c.play.new.sink) c.play.result.1 c.in-Err-default.stop (rw c.in-Err-default.is-0 at c.play.ensures.ends)
 
 pub returns-in-Err-default-clause-disks : goal.returns-in-Err-default-clause-disks
 returns-in-Err-default-clause-disks g c =

@@ -1,4 +1,4 @@
-use Rattle.set_program.proofs.BehindLemmas.{script_disks, script_stops, stopped_disks, work_disks, work_ends}
+use Rattle.set_program.proofs.AfterScriptLemmas.{script_disks, script_stops, stopped_disks, work_disks, work_ends}
 use Rattle.set_program.proofs.WatchedLemmas.{only_watched}
 use Rattle.set_program.specs.Watching.{Watches}
 use Rattle.set_program.proofs.watched.play_watched.Goals as goal

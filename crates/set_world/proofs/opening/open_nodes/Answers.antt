@@ -10,7 +10,7 @@ use Rattle.set_world.specs.Acting.{EachNodeStands}
 use Rattle.set_world.specs.Disks.{Opens}
 use Rattle.set_world.proofs.BeginLemmas.{all_back, all_empty}
 use Rattle.set_world.proofs.DisksOpenLemmas.{more_stand, none_stand, opens_more, opens_none, opens_nothing, opens_refused}
-use Rattle.set_world.proofs.OpenLemmas.{nodes_more, all_behind}
+use Rattle.set_world.proofs.OpenLemmas.{nodes_more, all_after}
 use Rattle.set_world.proofs.opening.open_nodes.Goals as goal
 
 pub loop-number-init : goal.loop-number-init
@@ -45,7 +45,7 @@ loop-number-preserved g c =
       omega (arith, wide, room),
       omega (arith, left, fewer),
       c.open_next.ensures.capacity ∙ so_far.4,
-      all_behind (λ disk. IsEmpty (g.D.Disk.state disk).file) c.loop-number.disks.items c.open_next.new.disks.items c.in-Ok.ensures.two.journal c.in-Ok.ensures.two.checkpoints c.in-Ok.ensures.two.first so_far.5,
+      all_after (λ disk. IsEmpty (g.D.Disk.state disk).file) c.loop-number.disks.items c.open_next.new.disks.items c.in-Ok.ensures.two.journal c.in-Ok.ensures.two.checkpoints c.in-Ok.ensures.two.first so_far.5,
       more_stand g.D.Disk.state c.loop-number.nodes.items c.keep.new.nodes.items c.in-Ok.node so_far.6 c.in-Ok.ensures.stands c.keep.ensures.items,
       opens_more g.D.Disk.state c.loop-number.number c.args.disks.now.items c.loop-number.nodes.items c.keep.new.nodes.items c.in-Ok.node c.loop-number.disks.items c.open_next.new.disks.items so_far.7
           (many ∙ was) c.in-Ok.ensures.two c.keep.ensures.items,

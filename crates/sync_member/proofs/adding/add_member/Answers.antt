@@ -38,8 +38,8 @@ returns-in-Ok-clause-adds g c = record {
 pub returns-in-Ok-clause-cause : goal.returns-in-Ok-clause-cause
 returns-in-Ok-clause-cause g c = cause_then _ _ _ _ _ c.pin.ensures.cause c.make_at-made.ensures.cause
 
-pub returns-in-Err-clause-vain : goal.returns-in-Err-clause-vain
-returns-in-Err-clause-vain g c = record {
+pub returns-in-Err-clause-no_member : goal.returns-in-Err-clause-no_member
+returns-in-Err-clause-no_member g c = record {
   why = c.in-Err.stop;
   ends = refl;
   pins = c.in-Err.ensures.pins;

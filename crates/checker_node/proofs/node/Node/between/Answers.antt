@@ -5,6 +5,6 @@ use Rattle.oplog_store.specs.Log.{IsOplog}
 use Rattle.oplog_store.proofs.LogLemmas.{oplog_filter}
 use Rattle.checker_node.proofs.node.Node.between.Goals as goal
 
-pub behind-requires : goal.behind-requires
-behind-requires c =
+pub log_after-requires : goal.log_after-requires
+log_after-requires c =
     subst IsOplog (sym c.up_to.ensures.entries) (oplog_filter (λ (e : Entry). not (is_before c.args.to e.optime)) c.log.result.now.entries c.up_to.ensures.oplog)

@@ -1,6 +1,6 @@
 use Rattle.std.proofs.Common.{List, sym, subst}
 use Rattle.oplog_entry.specs.declared.entry.Entry.{Entry}
-use Rattle.checker_tables.proofs.FrontLemmas.{StandBeside, beside_behind}
+use Rattle.checker_tables.proofs.FrontLemmas.{StandBeside, beside_after}
 use Rattle.checker_tables.proofs.doc_log.DocLog.append.Goals as goal
 
 pub invariant_of-self : goal.invariant_of-self
@@ -12,4 +12,4 @@ pub invariant_of-self-2 : goal.invariant_of-self-2
 invariant_of-self-2 c =
     let s = c.self.inside in
     subst (λ (log : List Entry). StandBeside log s.local s.majority s.sessions) (sym c.in_ok-append.ensures.ok)
-    (beside_behind s.log.entries c.args.entries.now s.local s.majority s.sessions c.self.invariant)
+    (beside_after s.log.entries c.args.entries.now s.local s.majority s.sessions c.self.invariant)

@@ -1,7 +1,7 @@
 use Rattle.std.proofs.Common.{◌≡◌, ◌∙◌, ap, false, subst, sym, take}
 use Rattle.bson_doc.proofs.BindLemmas.{on_ok}
 use Rattle.oplog_entry.specs.Visible.{is_before}
-use Rattle.repl_msg.specs.Logs.{log_behind}
+use Rattle.repl_msg.specs.Logs.{log_after}
 use Rattle.node_data.specs.NodeData.{NodeData as Seen, applied_at, applied_with}
 use Rattle.node_data.proofs.BatchLemmas.{stable_applied}
 use Rattle.node_data.proofs.BatchesLemmas.{applied_up_to, count_there}
@@ -29,6 +29,6 @@ returns-else-is_err-clause-ok g c =
     let old = c.args.self.now in
     let count = c.count_unapplied-count.result in
     on_ok c.apply_batches-done.result
-    (λ done. done ∙ ap (λ (l : Seen). applied_with l (take count (log_behind l.node.applied l.node.log))) c.count_unapplied-count.ensures.same
+    (λ done. done ∙ ap (λ (l : Seen). applied_with l (take count (log_after l.node.applied l.node.log))) c.count_unapplied-count.ensures.same
     ∙ ap (λ o. applied_at old o) (applied_up_to old.node.applied c.args.to old.node.log count c.recall_sound.ensures.node.oplog.order c.count_unapplied-count.ensures.count))
     c.apply_batches-done.ensures.ok

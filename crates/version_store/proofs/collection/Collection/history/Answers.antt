@@ -1,5 +1,5 @@
 use Rattle.std.proofs.Common.{◌∙◌, sym}
-use Rattle.version_store.proofs.PartedLemmas.{past_behind, past_placed}
+use Rattle.version_store.proofs.PartedLemmas.{past_after, past_placed}
 use Rattle.version_store.proofs.collection.Collection.history.Goals as goal
 
 pub returns-in-Some : goal.returns-in-Some
@@ -10,4 +10,4 @@ returns-in-Some c =
 
 pub returns-in-None : goal.returns-in-None
 returns-in-None c =
-    rw (← c.self.view_is, past_behind c.self.inside.row c.self.inside.others c.args.id.now c.in-None.ensures.found) c.history.ensures
+    rw (← c.self.view_is, past_after c.self.inside.row c.self.inside.others c.args.id.now c.in-None.ensures.found) c.history.ensures

@@ -2,14 +2,14 @@ use Rattle.std.proofs.Common.{◌∙◌, sym, arith, rules}
 use Rattle.std.specs.Ordering.{is_lt}
 use Rattle.std.proofs.lemmas.List.Sorted.{IsPartitionPoint-from_clause}
 use Rattle.bson_doc.specs.Key.{key_cmp}
-use Rattle.version_store.proofs.RowLemmas.{behind_none, found_at, missing_at, missing_past, parted_keys}
+use Rattle.version_store.proofs.RowLemmas.{after_none, found_at, missing_at, missing_past, parted_keys}
 use Rattle.version_store.proofs.row.Row.place.Goals as goal
 
-pub returns-then-comes_behind-clause-found : goal.returns-then-comes_behind-clause-found
-returns-then-comes_behind-clause-found c = behind_none c.args.self.now c.args.id.now (c.comes_behind.ensures.behind c.if-comes_behind.true)
+pub returns-then-comes_after-clause-found : goal.returns-then-comes_after-clause-found
+returns-then-comes_after-clause-found c = after_none c.args.self.now c.args.id.now (c.comes_after.ensures.after c.if-comes_after.true)
 
-pub returns-then-comes_behind-clause-order : goal.returns-then-comes_behind-clause-order
-returns-then-comes_behind-clause-order c = c.comes_behind.ensures.order
+pub returns-then-comes_after-clause-order : goal.returns-then-comes_after-clause-order
+returns-then-comes_after-clause-order c = c.comes_after.ensures.order
 
 pub returns-then-place-len-clause-found : goal.returns-then-place-len-clause-found
 returns-then-place-len-clause-found c =

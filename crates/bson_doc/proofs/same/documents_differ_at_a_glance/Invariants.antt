@@ -1,7 +1,7 @@
 use Rattle.std.proofs.Common.{◌≡◌, false}
 use Rattle.bson_doc.specs.Tree.{fields_from}
 use Rattle.bson_doc.specs.Same.{same_fields}
-use Rattle.bson_doc.proofs.same.differ_shortly.Given as goal
+use Rattle.bson_doc.proofs.same.documents_differ_at_a_glance.Given as goal
 
 abbrev pub invariant-loop-place : goal.invariant-loop-place
 invariant-loop-place l =

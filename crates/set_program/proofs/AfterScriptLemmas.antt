@@ -1,4 +1,4 @@
--- Work behind a script.
+-- Work after a script.
 use Rattle.std.proofs.Common.{◌≡◌, ◌≢◌, ◌∙◌, ◌++◌, ℕ, true, false, List, Option, Result, Ok, Err, ap, refl, sym, subst, inl, inr}
 use Rattle.std.specs.Prelude.{Bool}
 use Rattle.std.specs.Io.KnownBytes.{Appends}
@@ -14,15 +14,15 @@ use Rattle.set_world.proofs.WentLemmas.{went_nowhere}
 use Rattle.change_watch.specs.Following.{StaysSo}
 use Rattle.set_program.specs.declared.stop.Stop.{Stop}
 use Rattle.set_program.specs.declared.stop.Stop.TheVariants.{Memory, Usage, Script as NoScript, ReadFault, WriteFault, TooLong, DiskFault, CopyFault, Refused}
-use Rattle.set_program.specs.Behind.{EndsBehind}
+use Rattle.set_program.specs.AfterScript.{EndsAfterScript}
 use Rattle.set_program.specs.Disks.{DisksPlayed}
 use Rattle.set_program.specs.Headline.{EndsRun}
 use Rattle.set_program.specs.Orders.{Follows}
-use Rattle.set_program.specs.Parts.{DisksBehind, DisksGo}
+use Rattle.set_program.specs.Parts.{DisksAfterScript, DisksGo}
 use Rattle.set_program.proofs.DisksLemmas.{played_on}
 use Rattle.set_program.proofs.TriedLemmas.{run_tried}
 
--- work behind a script may stop so
+-- work after a script may stop so
 abbrev pub stops_work : Stop → Bool
 stops_work Memory = true
 stops_work WriteFault = true
@@ -49,7 +49,7 @@ Work = Sizes → List Event → Option (List ℕ) → Result (Unit {0}) Stop →
 module _ {D : Type 0} (Works : Work) (only : (stop : Stop) → stops_work stop ≡ false → (sizes : Sizes) (events scripted : List Event) (new told : Option (List ℕ)) → Works sizes events new (Err stop) scripted told → ⊥)
     (parts : List Part) (old told new : Option (List ℕ)) where
   pub work_ends : (mid last : Set D) (ended : Result (Unit {0}) Stop) → last.sizes ≡ mid.sizes → EndsRun parts old told (Ok tt) mid → Works mid.sizes last.history new ended mid.history told
-      → EndsBehind parts old new (Works last.sizes last.history new) ended last
+      → EndsAfterScript parts old new (Works last.sizes last.history new) ended last
   work_ends mid last ended same (follows, put) works = by_end ended works
     where
       transcript : Appends old told (text (run last.sizes mid.history))
@@ -61,7 +61,7 @@ module _ {D : Type 0} (Works : Work) (only : (stop : Stop) → stops_work stop �
       never : (P : Type 0) (stop : Stop) → stops_work stop ≡ false → Works mid.sizes last.history new (Err stop) mid.history told → P
       never P stop other works = absurd (only stop other mid.sizes last.history mid.history new told works)
 
-      by_end : (e : Result (Unit {0}) Stop) → Works mid.sizes last.history new e mid.history told → EndsBehind parts old new (Works last.sizes last.history new) e last
+      by_end : (e : Result (Unit {0}) Stop) → Works mid.sizes last.history new e mid.history told → EndsAfterScript parts old new (Works last.sizes last.history new) e last
       by_end (Ok done) works = record { scripted = mid.history; follows = follows; told = told; transcript = transcript; work = here (Ok done) works }
       by_end (Err Refused) works = record { scripted = mid.history; follows = follows; told = told; transcript = transcript; work = here (Err Refused) works }
       by_end (Err Memory) works = inr (record { scripted = mid.history; follows = follows; told = told; transcript = transcript; work = here (Err Memory) works })
@@ -75,7 +75,7 @@ module _ {D : Type 0} (Works : Work) (only : (stop : Stop) → stops_work stop �
 
 -- it stopped
 pub script_stops : {D : Type 0} (Works : Work) (parts : List Part) (old new : Option (List ℕ)) (set : Set D) (stop : Stop) → EndsRun parts old new (Err stop) set
-    → EndsBehind parts old new (Works set.sizes set.history new) (Err stop) set
+    → EndsAfterScript parts old new (Works set.sizes set.history new) (Err stop) set
 script_stops Works parts old new set Memory ends = inl ends
 script_stops Works parts old new set WriteFault ends = inl ends
 script_stops Works parts old new set Refused never = absurd never
@@ -90,7 +90,7 @@ script_stops Works parts old new set CopyFault never = absurd never
 
 module _ {D : Type 0} (state : D → State) (parts : List Part) (first : List D) where
   -- those of a script that stopped
-  pub stopped_disks : (set : Set D) (Out : Type 0) → DisksGo state parts first set Out → DisksBehind state parts first set Out
+  pub stopped_disks : (set : Set D) (Out : Type 0) → DisksGo state parts first set Out → DisksAfterScript state parts first set Out
   stopped_disks set Out (inl played) = inl played
   stopped_disks set Out (inr (out, inl began)) = inr (out, inl began)
   stopped_disks set Out (inr (out, inr broke)) = inr (
@@ -112,10 +112,10 @@ module _ {D : Type 0} (state : D → State) (parts : List Part) (first : List D)
   script_disks set Out enough (inr (out, more)) = absurd (enough out)
 
   module _ (mid last : Set D) (went : WentOn state mid last) (follows : Follows parts mid.history) (played : DisksPlayed state first mid) where
-    whole_disks : (Out : Type 0) → last.whole ≡ true → DisksBehind state parts first last Out
+    whole_disks : (Out : Type 0) → last.whole ≡ true → DisksAfterScript state parts first last Out
     whole_disks Out whole = inl (played_on state first mid last went.added went.sizes went.history (went.played whole) played)
 
-    broken_disks : (Out : Type 0) → Out → DisksBehind state parts first last Out
+    broken_disks : (Out : Type 0) → Out → DisksAfterScript state parts first last Out
     broken_disks Out out = let tried = run_tried state (run mid.sizes mid.history).world went.added mid.disks last.disks went.ran in inr (
       out,
       inr (record {
@@ -130,7 +130,7 @@ module _ {D : Type 0} (state : D → State) (parts : List Part) (first : List D)
     )
 
     -- those of the work
-    pub work_disks : (ended : Result (Unit {0}) Stop) → (ended ≢ Err Memory → last.whole ≡ true) → DisksBehind state parts first last (ended ≡ Err Memory)
+    pub work_disks : (ended : Result (Unit {0}) Stop) → (ended ≢ Err Memory → last.whole ≡ true) → DisksAfterScript state parts first last (ended ≡ Err Memory)
     work_disks (Ok done) whole = whole_disks _ (whole (λ same. cc same))
     work_disks (Err Memory) whole = broken_disks _ refl
     work_disks (Err WriteFault) whole = whole_disks _ (whole (λ same. cc same))
