@@ -1,4 +1,4 @@
--- The entries of a part, piece by piece, and parts that get one piece more.
+-- The entries of a part, piece by piece, and parts that get one more piece.
 use Rattle.std.proofs.Common.{◌≡◌, ◌≢◌, ◌⊎◌, inl, inr, ◌∙◌, ◌<◌, ◌≤◌, ◌+◌, ap, sym, subst, refl, arith, true, List, [], ◌∷◌, ◌++◌, ℕ, length, take, drop, Some, append-nil, append_assoc, length-append, take-append-drop, zero, suc}
 use Rattle.std.specs.Prelude.{slice_index_or, slice_set}
 use Rattle.std.proofs.Common.{get_or-set_same, get_or-set_other, length-set}

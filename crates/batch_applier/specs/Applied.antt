@@ -12,7 +12,7 @@ use Rattle.version_store.specs.Store.{Store, past_at, versions_at}
 abbrev pub touches : Entry → Place → Bool
 touches entry place = is_at (place_of entry.op) place
 
--- the past of a place after one entry more: what the entry leaves is a version, from the entry's optime on
+-- the past of a place after one more entry: what the entry leaves is a version, from the entry's optime on
 abbrev pub past_with : Place → Past → Entry → Past
 past_with place past entry =
     if touches entry place

@@ -12,8 +12,8 @@ use rs_optime::Mem;
 use std::alloc::Global;
 use std::thread::{Threads, join};
 
-/// Parts a batch over so many shards, by so many threads, each of which parts a piece of it. The caller makes
-/// the room, so that a thread takes no memory of its own for it.
+/// Parts a batch over this many shards, by so many threads, each of which parts a piece of it. The caller
+/// makes the room, so that a thread takes no memory of its own for it.
 #[cycle(parting)]
 pub(crate) fn parted_by<'a, R: Threads + Sync>(
     rt: &R,

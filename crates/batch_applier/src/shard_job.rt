@@ -46,7 +46,7 @@ impl<'p, 'e> Job for ShardJob<'p, 'e> {
     }
 }
 
-/// Applies the parts of all shards, by so many workers that claim them.
+/// Applies the parts of all shards, by this many workers that claim them.
 pub(crate) fn apply_claimed<R: Threads + Sync, G: Gate + Sync>(
     rt: &R,
     gate: &G,

@@ -52,7 +52,7 @@ impl<'a> Touch<'a> {
         Ok(Some(Touch { ns, id, entry }))
     }
 
-    /// The number of the document's shard, counted from 0, among so many.
+    /// The number of the document's shard, counted from 0, among this many.
     pub(crate) fn shard(&self, count: u32) -> u32
         requires { 0 < count }
         ensures { is_in count result (place_of self.now.op) ≡ true }

@@ -30,7 +30,7 @@ impl<'a> Model for Touches<'a> {
 }
 
 impl<'a> Touches<'a> {
-    /// No entry, with room for so many.
+    /// No entry, with room for this many.
     fn with_capacity(alloc: Global, room: usize) -> Mem<Self>
         ensures { IfOk result (λ touches. touches ≡ []) }
     {
@@ -74,8 +74,8 @@ pub(crate) struct Piece<'a> {
 }
 
 impl<'a> Piece<'a> {
-    /// These entries, with room for the parts that they have where they are spread evenly over so many
-    /// shards.
+    /// These entries, with room for the parts that they have where they are spread evenly over
+    /// this many shards.
     pub(crate) fn new(alloc: Global, entries: &'a [Entry], count: u32) -> Mem<Self>
         requires { 0 < count }
         ensures entries { IfOk result (λ piece. piece.entries.now ≡ entries.now) }
@@ -88,7 +88,7 @@ impl<'a> Piece<'a> {
         })
     }
 
-    /// Parts the entries over so many shards.
+    /// Parts the entries over this many shards.
     pub(crate) fn parted(self, count: u32) -> Mem<Vec<Touches<'a>>>
         requires some { 0 < count }
         requires parts { AreParts [] count self.parts.items }
@@ -118,7 +118,7 @@ fn add<'a>(parts: &mut [Touches<'a>], count: u32, entry: &'a Entry) -> Mem<()>
     part.push(touch)
 }
 
-/// Parts without entries, each with room for so many.
+/// Parts without entries, each with room for this many.
 fn empty_parts<'a>(alloc: Global, count: u32, room: usize) -> Mem<Vec<Touches<'a>>>
     ensures { IfOk result (λ parts. AreParts [] count parts.items) }
 {

@@ -1,4 +1,4 @@
--- What is read is spelled so: items, documents inside, and the whole.
+-- What is read is spelled by the bytes read: items, documents inside, and the whole.
 use Rattle.std.proofs.Common.{◌≡◌, ℕ, zero, suc, ◌+◌, ◌-◌, ◌^◌, ◌≤◌, Bool, true, false, cond, ltb, List, [], ◌∷◌, ◌++◌, length, drop, Result, Ok, Err, refl, sym, ap, subst, ◌∙◌, append_assoc, arith, inl, inr}
 use Rattle.std.specs.Prelude.{IfOk, nat_lt, nat_le, ◌||◌, if◌then◌else◌}
 use Rattle.std.specs.Fmt.{decimal}

@@ -1,4 +1,4 @@
--- A number in front of some bytes, and what follows it.
+-- A number at the start of some bytes, and what follows it.
 use Rattle.std.proofs.Common.{◌≡◌, ℕ, ◌^◌, ◌<◌, ◌≤◌, List, ◌++◌, length, drop, ap, sym, ◌∙◌, arith, length-append}
 use Rattle.std.proofs.lemmas.List.{drop_at}
 use Rattle.bson_codec.specs.Numbers.{number_bytes, number_in}

@@ -1,4 +1,4 @@
--- The bytes of a document are as many as its length says.
+-- A document has as many bytes as its length says.
 use Rattle.std.proofs.Common.{ℕ, ◌≡◌, ◌+◌, ◌-◌, List, [], ◌∷◌, ◌++◌, length, take, drop, refl, ap, append_assoc, arith}
 use Rattle.std.specs.Fmt.{decimal}
 use Rattle.std.proofs.lemmas.List.{length-append, take_at, drop_at}

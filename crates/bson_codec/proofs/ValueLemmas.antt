@@ -1,4 +1,4 @@
--- What is read is spelled so: values, fields, items and documents.
+-- What is read is spelled by the bytes read: values, fields, items and documents.
 use Rattle.std.proofs.Common.{◌≡◌, ℕ, zero, suc, ◌≤◌, Bool, true, false, cond, ltb, List, [], ◌∷◌, ◌++◌, Contains, None, Result, Ok, Err, refl, sym, ap, subst, ◌∙◌, append_assoc, arith, inl, inr}
 use Rattle.std.specs.Prelude.{is_some, nat_lt, ◌==◌, if◌then◌else◌}
 use Rattle.std.specs.Int.{w32, w64, cast_signed}

@@ -1,5 +1,5 @@
--- Reading bytes from front to back. Each word gives what it reads and the bytes after that, or the rule
--- that it meets first. The bytes are those up to the end of the document that is read.
+-- Reading bytes from start to end. Each definition gives what it reads and the bytes after that, or the first
+-- rule that is broken. The bytes are those up to the end of the document that is read.
 use Rattle.std.specs.Prelude.{ℕ, zero, suc, ◌+◌, ◌-◌, ◌^◌, Bool, true, false, List, [], ◌∷◌, ◌++◌, length, take, drop, slice_index, Option, Some, None, Result, Ok, Err, nat_lt, nat_le, ◌==◌, ◌||◌, ◌&&◌, is_some, position, if◌then◌else◌}
 use Rattle.std.specs.Int.{w32, w64, cast_signed}
 use Rattle.std.specs.Fmt.{decimal}
@@ -28,7 +28,7 @@ abbrev pub byte_at : List ℕ → Read ℕ
 byte_at [] = Err rules.Length
 byte_at (b ∷ rest) = Ok (b, rest)
 
--- a length, which isn't negative, nor too small for its kind
+-- a length that is neither negative nor too small for its kind
 unfoldable pub length_at : ℕ → List ℕ → Read ℕ
 length_at least bytes = do
   n ← number_at 4 bytes
@@ -58,7 +58,7 @@ boolean_at bytes = do
   byte ← byte_at bytes
   if nat_lt byte.0 2 then Ok (tree.boolean (byte.0 == 1), byte.1) else Err rules.Bool
 
--- a name, up to its zero. Without one it is Length, unless a byte before the end is no UTF-8.
+-- a name, up to its zero. Without a zero it is Length, unless a byte before the end isn't UTF-8.
 abbrev pub name_up_to : Option ℕ → List ℕ → Read (List ℕ)
 name_up_to (Some n) bytes = do
   letters ← utf8 (take n bytes)
@@ -70,8 +70,8 @@ name_up_to None bytes =
 unfoldable pub name_at : List ℕ → Read (List ℕ)
 name_at bytes = name_up_to (position (λ b. b == 0) bytes) bytes
 
--- a name that is known in advance, byte by byte, with its zero: where another byte stands it is ArrayName,
--- but Utf8 where no character begins with that byte
+-- a name that is known in advance, byte by byte, with its zero: any other byte is ArrayName, but Utf8 where
+-- no character begins with that byte
 unfoldable pub known_name_at : List ℕ → List ℕ → Result (List ℕ) DecodeError
 known_name_at [] bytes = Ok bytes
 known_name_at (b ∷ name) [] = Err rules.Length
@@ -115,7 +115,7 @@ value_at inner kinds.Int64 bytes = number_at 8 bytes >>= λ n. Ok (tree.int64 (c
 abbrev pub new_name : Fields → List ℕ → Result (List ℕ) DecodeError
 new_name seen name = if is_some (found name seen) then Err rules.DuplicateName else Ok name
 
--- a field after those that were seen: kind, name, which isn't one of theirs, and value
+-- a field after those already seen: its kind, its name, which must be new, and its value
 unfoldable pub field_at : Inner → Fields → List ℕ → Read (List ℕ × Tree)
 field_at inner seen bytes = do
   byte ← byte_at bytes
@@ -125,15 +125,15 @@ field_at inner seen bytes = do
   value ← value_at inner kind name.1
   Ok ((new, value.0), value.1)
 
--- whether the closing zero stands here, which is the last byte
+-- whether the closing zero is here, as the last byte
 abbrev pub ends_at : List ℕ → Result Bool DecodeError
 ends_at [] = Err rules.Length
 ends_at (zero ∷ []) = Ok true
 ends_at (zero ∷ b ∷ rest) = Err rules.Length
 ends_at (suc b ∷ rest) = Ok false
 
--- the fields after those that were seen, up to the closing zero. Each takes a byte, so there are as many
--- turns as bytes.
+-- the fields after those already seen, up to the closing zero. Each takes at least a byte, so there are at
+-- most as many turns as bytes.
 unfoldable pub fields_in : ℕ → Inner → Fields → List ℕ → Result Fields DecodeError
 fields_in zero inner seen bytes = Err rules.Length
 fields_in (suc turns) inner seen bytes =
@@ -149,7 +149,7 @@ item_at inner place bytes = do
   after ← known_name_at (decimal place ++ 0 ∷ []) byte.1
   value_at inner kind after
 
--- the items after those that were seen, up to the closing zero
+-- the items after those already seen, up to the closing zero
 unfoldable pub items_in : ℕ → Inner → ℕ → Trees → List ℕ → Result Trees DecodeError
 items_in zero inner place seen bytes = Err rules.Length
 items_in (suc turns) inner place seen bytes =
@@ -169,7 +169,7 @@ members_in inner false content =
 members_in inner true content =
     items_in (length content) inner 0 no_items content >>= λ items. Ok (tree.array items)
 
--- a document or an array inside, where so many levels are left
+-- a document or an array inside, where this many levels are left
 unfoldable pub inner_at : ℕ → Inner
 inner_at zero is_array bytes = Err rules.TooDeep
 inner_at (suc levels) is_array bytes = do

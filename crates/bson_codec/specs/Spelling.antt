@@ -41,7 +41,7 @@ abbrev mutual
 abbrev pub document_bytes : Fields → List ℕ
 document_bytes fields = value_bytes (document fields)
 
--- the bytes are the document's, and within the bounds of bytes and levels
+-- the bytes are the document's, and the document is within the bounds of bytes and levels
 pub record IsSpelling (bytes_bound levels_bound : ℕ) (fields : Fields) (bytes : List ℕ) : Type 0 where
   pub spelled : bytes ≡ document_bytes fields
   pub in_bytes : length bytes ≤ bytes_bound

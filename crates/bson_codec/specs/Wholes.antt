@@ -1,4 +1,4 @@
--- All of the bytes as one document: the outer length first, and then what is inside.
+-- All of the bytes as one document: first the outer length, then what is inside.
 use Rattle.std.specs.Prelude.{ℕ, zero, suc, ◌^◌, List, length, drop, Result, Ok, Err, nat_lt, nat_le, ◌||◌, if◌then◌else◌}
 use Rattle.bson_doc.specs.Tree.{Fields, no_fields}
 use Rattle.bson_codec.specs.declared.error.DecodeError.{DecodeError}
@@ -16,7 +16,7 @@ outer_length bound bytes =
     if nat_lt (length bytes) n then Err rules.Short else
     if nat_lt n (length bytes) then Err rules.Trailing else Ok n
 
--- the fields of a document whose length is known, where so many levels are left
+-- the fields of a document whose length is known, where this many levels are left
 abbrev pub fields_within : ℕ → List ℕ → Result Fields DecodeError
 fields_within zero content = Err rules.TooDeep
 fields_within (suc levels) content = fields_in (length content) (inner_at levels) no_fields content

@@ -8,8 +8,8 @@ use crate::{Bounds, EncodeError};
 use bson_doc::{Doc, levels};
 use std::alloc::Global;
 
-/// The bytes of a document (BSON 1.1), its one spelling. It is `TooDeep` with more levels than the
-/// bounds have, and else `TooLarge` with more bytes.
+/// The bytes of a document (BSON 1.1), its only spelling. `TooDeep` where it has more levels than the bounds
+/// allow, otherwise `TooLarge` where it has more bytes.
 pub fn encode(alloc: Global, doc: &Doc, bounds: Bounds) -> Result<Vec<u8>, EncodeError>
     requires { bounds.bytes < 2 ^ 31 }
     ensures ok { IfOk result (λ bytes. IsSpelling bounds.bytes bounds.levels doc.now bytes.items) }

@@ -25,16 +25,15 @@ impl From<AllocError> for EncodeError {
     }
 }
 
-/// The rule that a reading from left to right meets first. Each word is read in this order: an element's
-/// kind, its name, whether the name is new, and its value; and of a string its length, its letters, and
-/// its closing zero.
+/// The first rule that is broken, reading from left to right. An element is checked in this order: its kind,
+/// its name, whether the name is new, and its value. A string: its length, its letters, and its closing zero.
 #[derive(Clone, Copy, Debug, PartialEq, Eq, Error)]
 pub enum DecodeError {
     /// The input ends before the document does.
     #[error("the input is too short")]
     Short,
-    /// A length is negative, too small, or passes the end of the document that it stands in; or a
-    /// field passes that end, or a closing zero is missing or comes early.
+    /// A length is negative, too small, or goes past the end of the document that it is in; or a field goes
+    /// past that end, or a closing zero is missing or comes early.
     #[error("a length does not fit")]
     Length,
     /// A byte that names no kind of value that is read here.

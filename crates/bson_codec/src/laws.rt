@@ -4,7 +4,7 @@ ghost use Rattle.bson_doc.specs.Tree.{Fields};
 ghost use Rattle.bson_codec.specs.Sound.{IsSound};
 ghost use Rattle.bson_codec.specs.Spelling.{IsSpelling};
 
-/// Bytes are the spelling of one document at most.
+/// Bytes spell at most one document.
 pub fn bytes_spell_one_document()
     ensures { (bound levels : ℕ) (bytes : List ℕ) (one two : Fields) → bound < 2 ^ 31
         → IsSound one → IsSound two

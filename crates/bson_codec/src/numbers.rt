@@ -9,8 +9,8 @@ use crate::DecodeError;
 use bson_doc::Mem;
 use byteorder::{ByteOrder, LittleEndian};
 
-/// Appends a number in four bytes. Out of memory is the one error, and nothing is said of `out` then; so it
-/// is of the next three.
+/// Appends a number in four bytes. The only error is out of memory, and then nothing is promised about `out`;
+/// the same holds for the next three.
 #[tactic(auto, unfolding(crate::specs::Numbers::number_bytes))]
 pub fn put_u32(out: &mut Vec<u8>, number: u32) -> Mem<()>
     ensures laid { OnOk result (out.new.items ≡ out.old.items ++ number_bytes 4 number) }
@@ -54,7 +54,7 @@ pub fn put_i64(out: &mut Vec<u8>, number: i64) -> Mem<()>
     out.extend_from_slice(&bytes)
 }
 
-/// Writes a number over the four bytes at a place.
+/// Overwrites the four bytes at a place with a number.
 #[tactic(auto, unfolding(crate::specs::Numbers::number_bytes))]
 pub fn set_u32(bytes: &mut [u8], place: usize, number: u32)
     requires { place + 4 ≤ length bytes.old }

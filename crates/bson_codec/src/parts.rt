@@ -42,9 +42,9 @@ fn letters_of(bytes: &[u8]) -> Result<&str, DecodeError>
     }
 }
 
-/// A string, and the bytes after it: a length in four bytes, which counts the closing zero, the letters, and
-/// that zero. `Length` where the length is 0 or doesn't fit, else `Utf8` where the letters are no UTF-8, else
-/// `Length` where the last byte is no zero.
+/// A string, and the bytes after it: a length in four bytes that counts the closing zero, the letters, and
+/// that zero. `Length` where the length is 0 or doesn't fit, else `Utf8` where the letters aren't UTF-8, else
+/// `Length` where the last byte isn't zero.
 #[tactic(auto, unfolding(crate::specs::Reading::text_at))]
 pub fn text_of(alloc: Global, bytes: &[u8]) -> Result<(Text, &[u8]), DecodeError>
     ensures { Gives (λ x. (x.0, x.1.now)) result (text_at bytes.now) }
@@ -58,8 +58,8 @@ pub fn text_of(alloc: Global, bytes: &[u8]) -> Result<(Text, &[u8]), DecodeError
     Ok((Text::from_str(alloc, letters)?, rest))
 }
 
-/// A binary, and the bytes after it: a length in four bytes, the subtype, and so many bytes. `Length` where
-/// fewer are left.
+/// A binary, and the bytes after it: a length in four bytes, the subtype, and as many bytes as the length
+/// says. `Length` where fewer are left.
 #[tactic(auto, unfolding(crate::specs::Reading::binary_at))]
 pub fn binary_of(alloc: Global, bytes: &[u8]) -> Result<(Value, &[u8]), DecodeError>
     ensures { Gives (λ x. (tree_of x.0, x.1.now)) result (binary_at bytes.now) }
@@ -100,7 +100,7 @@ fn breaks_utf8(bytes: &[u8]) -> bool
     }
 }
 
-/// A name, and the bytes after the zero that closes it. `Utf8` where it is no UTF-8, and `Length` where no
+/// A name, and the bytes after the zero that closes it. `Utf8` where it isn't UTF-8, and `Length` where no
 /// zero closes it.
 #[tactic(auto, unfolding(crate::specs::Reading::name_at))]
 pub fn name_of(bytes: &[u8]) -> Result<(&str, &[u8]), DecodeError>
@@ -117,9 +117,9 @@ pub fn name_of(bytes: &[u8]) -> Result<(&str, &[u8]), DecodeError>
     }
 }
 
-/// The bytes after a name that is known beforehand, with its zero, as that of an array's item is.
-/// `ArrayName` where another name stands there, `Utf8` where the other byte begins no UTF-8, and `Length`
-/// where the bytes end.
+/// The bytes after a name that is known beforehand, as an array item's is, and after its zero. `ArrayName`
+/// where another name is there, `Utf8` where the first wrong byte can't begin a character, and `Length` where
+/// the bytes end.
 #[tactic(auto, unfolding(crate::specs::Reading::known_name_at))]
 pub fn known_name_of<'a>(name: &[u8], bytes: &'a [u8]) -> Result<&'a [u8], DecodeError>
     ensures { Gives (λ rest. rest.now) result (known_name_at name.now bytes.now) }

@@ -1,4 +1,4 @@
-// Documents and arrays, read field by field. The recursion goes down with the levels that are left.
+// Documents and arrays, read field by field. The recursion is on the number of levels left.
 ghost use Rattle.std.specs.Prelude.{◌≡◌, length, IfOk, Contains, None};
 ghost use Rattle.bson_doc.specs.Tree.{no_fields, no_items, found};
 ghost use Rattle.bson_doc.specs.View.{tree_of};
@@ -82,7 +82,7 @@ fn inner_of(
     Ok((Value::Document(fields), rest))
 }
 
-/// Whether the closing zero stands here, as the last byte.
+/// Whether the closing zero is here, as the last byte.
 fn is_over(bytes: &[u8]) -> Result<bool, DecodeError>
     ensures { Gives (λ b. b) result (ends_at bytes.now) }
 {
@@ -116,7 +116,8 @@ fn field_of<'a>(
     Ok(((name, value), rest))
 }
 
-/// The fields of a document after its length. Each takes a byte, so there are as many turns as bytes.
+/// The fields of a document after its length. Each takes at least a byte, so there are at most as many
+/// turns as bytes.
 #[cycle(read)]
 pub fn fields_of(alloc: Global, bytes: &[u8], levels: u32) -> Result<Doc, DecodeError>
     ensures { Gives (λ d. d) result (fields_in (length bytes.now) (inner_at levels) no_fields bytes.now) }
@@ -152,7 +153,7 @@ fn item_of(
     value_of(alloc, kind, rest, levels)
 }
 
-/// The items of an array after its length, as `fields_of`.
+/// The items of an array after its length, like `fields_of`.
 #[cycle(read)]
 fn items_of(alloc: Global, bytes: &[u8], levels: u32) -> Result<Items, DecodeError>
     ensures { Gives (λ i. i) result (items_in (length bytes.now) (inner_at levels) 0 no_items bytes.now) }

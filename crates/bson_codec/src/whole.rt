@@ -11,7 +11,7 @@ use bson_doc::Doc;
 use byteorder::{ByteOrder, LittleEndian};
 use std::alloc::Global;
 
-/// The outer length, which is that of all the bytes.
+/// The outer length, which must be that of all the bytes.
 #[tactic(auto, unfolding(crate::specs::Numbers::number_in))]
 fn whole_length(bytes: &[u8], bound: u32) -> Result<usize, DecodeError>
     ensures { Gives (λ n. n) result (outer_length bound bytes.now) }
@@ -54,17 +54,17 @@ fn read(alloc: Global, bytes: &[u8], bounds: Bounds) -> Result<Doc, DecodeError>
     fields_within_levels(alloc, &bytes[4..], bounds.levels)
 }
 
-/// The document that the bytes spell (BSON 1.1) within the bounds; else the rule that a reading from
-/// left to right meets first. The outer length is tested before all else: `Short`, `Length`,
+/// The document that the bytes spell (BSON 1.1) within the bounds; otherwise the first rule that is
+/// broken, reading from left to right. The outer length is tested first of all: `Short`, `Length`,
 /// `TooLarge`, `Short`, `Trailing`.
 pub fn decode(alloc: Global, bytes: &[u8], bounds: Bounds) -> Result<Doc, DecodeError>
     requires { bounds.bytes < 2 ^ 31 }
-    // What is read is spelled so, within the bounds.
+    // What is read is spelled by these bytes, within the bounds.
     ensures ok { IfOk result (λ d. IsSound d × IsSpelling bounds.bytes bounds.levels d bytes.now) }
-    // What is spelled so within the bounds is read, unless memory runs out.
+    // A document that these bytes spell within the bounds is read, unless memory runs out.
     ensures only { (d : Fields) → IsSound d → IsSpelling bounds.bytes bounds.levels d bytes.now
         → Gives (λ x. x) result (Ok d) }
-    // Else it is the rule that a reading from left to right meets first.
+    // Otherwise the error is the first rule that is broken, reading from left to right.
     ensures exact { Gives (λ d. d) result (read_document bounds.bytes bounds.levels bytes.now) }
 {
     read(alloc, bytes, bounds)

@@ -1,4 +1,4 @@
-// The bytes of a document, appended to others. A length is filled in once its document is written.
+// The bytes of a document, appended to a buffer. A length is filled in once its document is written.
 ghost use Rattle.std.specs.Prelude.{◌≡◌, ◌++◌, ◌∷◌, [], ◌<◌, ◌≤◌, ◌+◌, ◌-◌, ◌^◌, OnOk, length, take, drop, true, vec_capacity};
 ghost use Rattle.std.specs.Fmt.{decimal};
 ghost use Rattle.std.specs.Int.{w32, cast_unsigned};
@@ -14,10 +14,10 @@ use crate::numbers::{put_i32, put_i64, put_u32, put_u64, set_u32};
 use bson_doc::{Doc, Items, Mem, Value};
 use std::alloc::Global;
 
-/// So few bytes are put one by one, which is faster than a copy by a call.
+/// At most this many bytes are put one by one, which is faster than a call that copies them.
 pub const FEW_LETTERS: usize = 8;
 
-/// Most names are a few letters, and find room: they are put in their places one by one.
+/// Most names are a few letters and there is room for them: their bytes are put one by one.
 fn put_name(out: &mut Vec<u8>, kind: u8, name: &str) -> Mem<()>
     ensures laid { OnOk result (out.new.items ≡ out.old.items ++ kind ∷ (name.now ++ 0 ∷ [])) }
     ensures longer { OnOk result (vec_capacity out.old ≤ vec_capacity out.new) }
@@ -35,7 +35,7 @@ fn put_name(out: &mut Vec<u8>, kind: u8, name: &str) -> Mem<()>
     Ok(())
 }
 
-/// A name that is copied by a call. It is never written into its callers, so that `put_name` stays short.
+/// A name that is copied by a call. It is never inlined, so that `put_name` stays short.
 #[inline(never)]
 fn put_long_name(out: &mut Vec<u8>, kind: u8, letters: &[u8]) -> Mem<()>
     ensures laid { OnOk result (out.new.items ≡ out.old.items ++ kind ∷ (letters.now ++ 0 ∷ [])) }
@@ -87,8 +87,8 @@ fn put_binary(out: &mut Vec<u8>, subtype: u8, bytes: &[u8]) -> Mem<()>
     out.extend_from_slice(bytes)
 }
 
-/// Ends the document that begins at `start` with four bytes of room for its length. Out of memory is the one
-/// error.
+/// Ends the document that begins at `start` with four bytes of room for its length. The only error is
+/// out of memory.
 pub fn close(out: &mut Vec<u8>, start: usize) -> Mem<()>
     requires room { start + 4 ≤ length out.old.items }
     requires short { length out.old.items + 1 < start + 2 ^ 31 }
@@ -123,8 +123,8 @@ fn write_value(alloc: Global, value: &Value, out: &mut Vec<u8>) -> Mem<()>
     }
 }
 
-/// Appends a field: its kind, its name and its value. Out of memory is the one error, and nothing is said of
-/// `out` then; so it is of `put_string` and `put_document`.
+/// Appends a field: its kind, its name and its value. The only error is out of memory, and then nothing is
+/// promised about `out`; the same holds for `put_string` and `put_document`.
 #[cycle(write)]
 pub fn put_field(alloc: Global, out: &mut Vec<u8>, name: &str, value: &Value) -> Mem<()>
     requires { value_length (tree_of value.now) < 2 ^ 31 }
@@ -198,7 +198,7 @@ pub fn put_document(alloc: Global, out: &mut Vec<u8>, name: &str, document: &Doc
     write(alloc, document, out)
 }
 
-/// Writes over the four bytes at a place how many bytes come after them.
+/// Overwrites the four bytes at a place with the number of bytes that come after them.
 pub fn put_size(out: &mut Vec<u8>, start: usize)
     requires room { start + 4 ≤ length out.old.items }
     requires short { length out.old.items < start + 4 + 2 ^ 32 }

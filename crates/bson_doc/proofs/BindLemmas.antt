@@ -1,4 +1,4 @@
--- What holds of what is read, step by step.
+-- What holds of a value that is read, step by step.
 use Rattle.std.proofs.Common.{◌≡◌, Bool, true, false, cond, Result, Ok, Err, refl}
 use Rattle.std.specs.Prelude.{OnOk}
 use Rattle.bson_doc.specs.Bind.{◌>>=◌}

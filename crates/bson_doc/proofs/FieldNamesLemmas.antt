@@ -1,4 +1,4 @@
--- A set of names with one name more.
+-- A set of names with one more name.
 use Rattle.std.proofs.Common.{ℕ, ◌++◌, ◌≡◌, ◌≤◌, ◌<◌, true, false, List, length, take, drop, get_or, arith, refl, ap, sym, ◌∙◌, inl, inr}
 use Rattle.std.specs.Prelude.{cond, nat_le}
 use Rattle.std.proofs.Math.Seq.{take-append_seam}

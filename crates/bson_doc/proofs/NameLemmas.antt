@@ -1,4 +1,4 @@
--- The field of a name: where it is, and what the fields are once it is set or taken out.
+-- The field with a name: where it is, and what the fields are once it is set or removed.
 use Rattle.std.proofs.Common.{zero, suc, ◌<◌, ◌≤◌, get_or, ℕ, ◌≡◌, Bool, true, false, List, [], ◌∷◌, Contains, None, Some, IsSome, length, arith, refl, ap, sym, ◌∙◌}
 use Rattle.std.proofs.Math.ListN.{set}
 use Rattle.std.specs.List.{position_or_len, remove}

@@ -1,4 +1,5 @@
--- Reading from left to right: what one reader gives goes to the next, and the first fault ends it.
+-- Reading from left to right: each reader passes its result to the next, and the first fault
+-- ends the reading.
 use Rattle.std.specs.Prelude.{Result, Ok, Err}
 
 infixl 10 ◌>>=◌

@@ -1,4 +1,4 @@
--- How many bytes and levels a document has.
+-- The size of a document in bytes and in levels.
 use Rattle.std.specs.Prelude.{ℕ, ◌+◌, max, length}
 use Rattle.std.specs.Fmt.{decimal}
 use Rattle.bson_doc.specs.Tree.{Tree, null, int32, int64, text, document, array, binary, object_id, boolean, date, timestamp, Fields, no_fields, field, Trees, no_items, item}

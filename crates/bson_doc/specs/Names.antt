@@ -1,4 +1,4 @@
--- The names of a document's fields as a set, which is kept only where they are many.
+-- The names of a document's fields as a set, which exists only where there are many.
 use Rattle.std.specs.Prelude.{ℕ, ◌≡◌, ◌≤◌, Bool, List, [], ◌∷◌, ◌++◌, Option, None, Some, is_some, length, drop, nat_le, if◌then◌else◌}
 use Rattle.std.specs.Ordering.{nat_cmp}
 use Rattle.std.specs.Cmp.Lexicographic.{slice_cmp}
@@ -9,7 +9,7 @@ use Rattle.bson_doc.specs.Tree.{Fields, count, found}
 abbrev pub zeros : List ℕ
 zeros = 0 ∷ 0 ∷ 0 ∷ 0 ∷ 0 ∷ 0 ∷ 0 ∷ 0 ∷ 0 ∷ 0 ∷ 0 ∷ 0 ∷ 0 ∷ 0 ∷ 0 ∷ []
 
--- a name of at most 15 bytes, after its length, and filled up with zeros
+-- the length of a name of at most 15 bytes, the name, and zeros to fill
 abbrev pub short_form : List ℕ → List ℕ
 short_form name = length name ∷ (name ++ drop (length name) zeros)
 

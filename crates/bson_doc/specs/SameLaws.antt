@@ -1,4 +1,4 @@
--- The test whether two values are the same answers true for equal ones, and for no others: so it
+-- The test whether two values are the same is true for equal values and for no others. So it
 -- is an equivalence.
 use Rattle.std.proofs.Common.{◌≡◌, ◌&&◌, ◌==◌, ℕ, List, Bool, true, false, refl, sym, subst, ap}
 use Rattle.std.proofs.lemmas.Bool.{and_from, and_parts, false≢true}

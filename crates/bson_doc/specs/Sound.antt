@@ -1,5 +1,5 @@
--- What a document may hold: names that are apart, without a zero byte, and UTF-8; strings that are UTF-8;
--- ObjectIds of 12 bytes; and numbers that fit their kind. Every `Doc` is such.
+-- What a document may hold: distinct names in UTF-8 without a zero byte; strings in UTF-8; ObjectIds of 12
+-- bytes; and numbers that fit their kind. Every `Doc` is sound in this sense.
 use Rattle.std.specs.Prelude.{◌≡◌, ◌<◌, ◌^◌, ℕ, true, List, Contains, length, ⊤, FitsSigned}
 use Rattle.std.specs.Int.{w32, w64}
 use Rattle.std.specs.Str.{is_utf8}

@@ -1,4 +1,4 @@
-// A document that is made field by field, with its names at hand.
+// A document that is built field by field, with its names at hand.
 ghost use Rattle.std.specs.Prelude.{◌≡◌, ◌<◌, Contains, IfOk, None, is_some};
 ghost use Rattle.bson_doc.specs.Tree.{no_fields, Tree, found, with_field};
 ghost use Rattle.bson_doc.specs.Names.{AreNames, AreAllNames};
@@ -9,12 +9,12 @@ use crate::{Doc, Mem, Text, Value};
 use std::alloc::Global;
 use std::marker::Model;
 
-/// A document with at most so many fields is looked through for a name. Names are kept in order only of
-/// one with more.
+/// A document with at most this many fields is searched for a name field by field. Only a larger one keeps
+/// its names in order.
 pub const FEW_FIELDS: usize = 16;
 
-/// A document in the making, seen as the fields so far. A name is looked up in O(log n), and a small document
-/// takes no memory but its own.
+/// A document that is being built, seen as the fields so far. A name is looked up in O(log n). A small
+/// document takes no memory but its own.
 #[derive(Drop)]
 pub struct DocBuilder {
     alloc: Global,
@@ -59,8 +59,8 @@ impl DocBuilder {
         }
     }
 
-    /// The document with one field more, under a name that is new and has no zero byte. Room for two is made
-    /// at first, since the last one is for `finish_with`.
+    /// The document with one more field, under a name that is new and has no zero byte. Room for two is made
+    /// at first, since `finish_with` adds the last one.
     pub fn with(self, name: Text, value: Value) -> Mem<Self>
         requires clean { ¬ Contains name 0 }
         requires new { found name self ≡ None }
@@ -70,7 +70,7 @@ impl DocBuilder {
         self.with_in(more, name, value)
     }
 
-    /// The document with one field more. Where there is no room, room for so many fields is made.
+    /// The document with one more field. Where there is no room, room for `more` fields is made.
     #[tactic(auto, using(crate::proofs::DocLemmas::doc_lemmas))]
     fn with_in(self, more: usize, name: Text, value: Value) -> Mem<Self>
         requires more { 0 < more }
@@ -97,8 +97,8 @@ impl DocBuilder {
         doc
     }
 
-    /// The document whose last field this is, under a name that is new and has no zero byte. It is inlined,
-    /// so that the document is moved once less.
+    /// The document with this as its last field, under a name that is new and has no zero byte. It is
+    /// inlined, which saves one move of the document.
     #[inline(always)]
     pub fn finish_with(self, name: Text, value: Value) -> Mem<Doc>
         requires clean { ¬ Contains name 0 }
@@ -112,7 +112,7 @@ impl DocBuilder {
     }
 }
 
-/// The names of a document that gets one more, where it then has more than a few.
+/// The names of a document that gets one more field, where it then has more than a few.
 fn with_name(
     alloc: Global,
     names: Option<FieldNames>,

@@ -1,4 +1,4 @@
-// The levels of a document, counted up to a limit, so that no recursion is deeper.
+// The levels of a document, counted up to a limit, so that the recursion goes no deeper.
 ghost use Rattle.std.specs.Prelude.{◌≡◌, ◌+◌, min};
 ghost use Rattle.bson_doc.specs.View.{tree_of};
 ghost use Rattle.bson_doc.specs.Length.{value_levels, document_levels, items_levels};

@@ -6,7 +6,7 @@ use crate::sizes::size_up_to;
 use crate::{Bounds, Doc};
 
 impl Doc {
-    /// Whether the document, in BSON, is within the bounds. It is counted no further than they go.
+    /// Whether the document, in BSON, is within the bounds. Counting stops where a bound is passed.
     pub fn fits(&self, bounds: Bounds) -> bool
         ensures { IsTrue result ↔ ((document_length self.now ≤ bounds.bytes)
             × (document_levels self.now ≤ bounds.levels)) }

@@ -7,11 +7,11 @@ use crate::Mem;
 use std::alloc::Global;
 use std::collections::BTreeSet;
 
-/// How many bytes a short name has at most.
+/// The most bytes that a short name has.
 const SHORT: usize = 15;
 
-/// Names in two sets. A short name lies in an array, so that to compare two is to compare their bytes where
-/// they lie; most names are short.
+/// Names in two sets. A short name is an array, so that two are compared byte by byte in place. Most
+/// names are short.
 #[derive(Drop)]
 pub(crate) struct FieldNames {
     short: BTreeSet<[u8; 16]>,
@@ -51,7 +51,7 @@ impl FieldNames {
         }
     }
 
-    /// One name more.
+    /// One more name.
     pub(crate) fn insert(&mut self, alloc: Global, name: &str) -> Mem<()>
         ensures { OnOk result ((other : List ℕ) → has_name self.new other
             ≡ cond (bytes_eq name.now other) true (has_name self.old other)) }

@@ -63,7 +63,7 @@ fn same_document(one: &Doc, two: &Doc) -> bool
     true
 }
 
-/// Texts of at most so many bytes are compared at a glance.
+/// Texts of at most this many bytes are compared at a glance.
 const SHORT: usize = 64;
 
 /// Whether two values differ in what is cheap to compare: numbers and short texts.
@@ -99,7 +99,7 @@ fn documents_differ_at_a_glance(one: &Doc, two: &Doc) -> bool
     false
 }
 
-/// Two values are equal where they have one kind and the same content, so where they have the same bytes.
+/// Two values are equal where they have the same kind and the same content, that is, the same bytes.
 impl PartialEq for Value {
     ghost use Rattle.std.specs.Ordering.{on};
     ghost use Rattle.bson_doc.specs.View.{tree_of};
@@ -121,8 +121,8 @@ impl Eq for Value {
     ghost laws = { same_value-laws.0 };
 }
 
-/// Two documents are equal where they have the same fields in the same order, so where they have
-/// the same bytes. What is cheap to compare is compared first.
+/// Two documents are equal where they have the same fields in the same order, that is, the same bytes. What
+/// is cheap to compare is compared first.
 impl PartialEq for Doc {
     ghost use Rattle.bson_doc.specs.Same.{same_fields};
     ghost use Rattle.bson_doc.specs.SameLaws.{same_fields-laws};

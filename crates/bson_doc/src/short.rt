@@ -1,14 +1,14 @@
-// A short text, which lies in the value itself.
+// A short text, stored in the value itself.
 ghost use Rattle.std.specs.Prelude.{◌≡◌, IfSome};
 
 use crate::ascii::are_ascii;
 use percent_encoding::ascii_str;
 use std::marker::Model;
 
-/// How many bytes fit, which is as many as most names have. They are the second and third word of a text.
+/// How many bytes fit. Most names have no more. They are the second and third word of a text.
 const ROOM: usize = 16;
 
-/// ASCII in at most 16 bytes. Only of ASCII there is a `&str` again without a test of its bytes.
+/// ASCII in at most 16 bytes. Only ASCII becomes a `&str` again without a test of its bytes.
 #[derive(Drop)]
 pub struct ShortText {
     length: u32,
@@ -55,7 +55,7 @@ impl ShortText {
         ascii_str(&self.bytes[..self.length as usize])
     }
 
-    /// The same text once more. It takes no memory.
+    /// A copy of the text. It takes no memory.
     pub fn copy(&self) -> Self
         ensures { result ≡ self.now }
     {

@@ -56,7 +56,7 @@ fn items_size(items: &Items, most: u64) -> u64
     most.min(total)
 }
 
-/// How many bytes the document takes in BSON, or `most` where it is more.
+/// How many bytes the document takes in BSON, or `most` where it takes more.
 #[cycle(size)]
 pub fn size_up_to(document: &Doc, most: u64) -> u64
     ensures { result ≡ min (document_length document.now) most }
@@ -77,7 +77,7 @@ pub fn size_up_to(document: &Doc, most: u64) -> u64
     most.min(total)
 }
 
-/// How many bytes the document takes in BSON, or `u64::MAX` where it is more.
+/// How many bytes the document takes in BSON, or `u64::MAX` where it takes more.
 pub fn size(document: &Doc) -> u64
     ensures { result ≡ min (document_length document.now) (2 ^ 64 - 1) }
 {

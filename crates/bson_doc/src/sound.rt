@@ -1,4 +1,4 @@
-// What each kind of part is by its type: facts for proofs, which cost nothing.
+// What the type of each kind of part implies: facts for proofs, which cost nothing.
 ghost use Rattle.std.specs.Prelude.{◌≡◌, ◌<◌, ◌^◌, FitsSigned, length};
 ghost use Rattle.std.specs.Int.{w32, w64};
 

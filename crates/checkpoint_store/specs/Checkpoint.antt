@@ -29,7 +29,7 @@ abbrev pub with_more : Option Stable → List Saved → Option Stable
 with_more begun more =
     option_map (λ stable. record { at = stable.at; documents = with_documents stable.documents more }) begun
 
--- with one record more. Only an end makes a checkpoint count
+-- with one more record. Only an end makes a checkpoint count
 abbrev pub with_record : SoFar → Record → SoFar
 with_record so_far (begins at) =
     record { whole = so_far.whole; begun = Some (record { at = at; documents = empty }) }

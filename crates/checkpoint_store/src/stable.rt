@@ -74,7 +74,7 @@ impl DocumentMap {
         Ok(())
     }
 
-    /// The same documents once more.
+    /// A copy of the documents.
     pub fn copy(&self) -> Mem<DocumentMap>
         ensures { IfOk result (λ m. m ≡ self.now) }
     {

@@ -29,7 +29,7 @@ stood_at documents (Some place) = Some (place, maps.get documents place)
 abbrev pub stood_before : Documents → Entry → Before
 stood_before documents entry = stood_at documents (place_of entry.op)
 
--- with one entry more
+-- with one more entry
 abbrev pub with_applied : Shelf → Entry → Shelf
 with_applied shelf entry =
     record {

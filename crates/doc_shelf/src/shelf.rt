@@ -197,7 +197,7 @@ impl Shelf {
         Ok(())
     }
 
-    /// Applies one entry more.
+    /// Applies one more entry.
     fn forth(&mut self, entry: &Entry) -> Mem<()>
         requires { IsLawful entry.now }
         ensures { OnOk result (self.new ≡ with_applied self.old entry.now) }

@@ -1,4 +1,5 @@
--- How far a reader looks: up to the first byte that can't go on, nothing after that byte counts.
+-- How far a reader looks: only up to the first byte that can't continue a value. Nothing after
+-- that byte counts.
 use Rattle.std.proofs.Common.{◌≡◌, ℕ, zero, suc, ◌+◌, ◌<◌, ◌≤◌, Bool, true, false, cond, List, [], ◌∷◌, ◌++◌, length, take, drop, Result, Ok, Err, refl, sym, ap, subst, ◌∙◌, inl, inr, arith}
 use Rattle.std.specs.List.{prefix_len}
 use Rattle.std.proofs.lemmas.Bool.{cases_lt}

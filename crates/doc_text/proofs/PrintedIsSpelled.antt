@@ -1,4 +1,4 @@
--- What is printed of a value spells it.
+-- The text that is printed for a value spells it.
 use Rattle.std.proofs.Common.{◌≡◌, ◌≢◌, ℕ, ℤ, suc, ◌+◌, ◌/◌, ◌%◌, ◌^◌, ◌<◌, ◌≤◌, lit<, Bool, true, false, cond, List, [], ◌∷◌, ◌++◌, ◌==◌, ◌&&◌, length, drop, Some, refl, sym, ap, subst, ◌∙◌, append_assoc, arith, inl, inr, pos, neg_ℤ, nat_lt}
 use Rattle.std.specs.Prelude.{codes, negsuc, Contains, slice_index}
 use Rattle.std.specs.List.{flat_map}

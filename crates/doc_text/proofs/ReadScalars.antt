@@ -1,4 +1,4 @@
--- What is read is a spelling of what is given: values that hold no others.
+-- The text read is a spelling of the result: values that hold no others.
 use Rattle.std.proofs.Common.{◌≡◌, ℕ, ◌^◌, ◌≤◌, true, false, List, [], ◌∷◌, ◌++◌, ◌==◌, length, refl, sym, ap, ◌∙◌, append_assoc, arith}
 use Rattle.std.specs.Prelude.{codes}
 use Rattle.bson_doc.specs.Length.{value_levels}

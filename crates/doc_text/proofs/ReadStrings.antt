@@ -1,4 +1,4 @@
--- What is read is a spelling of what is given: strings and names.
+-- The text read is a spelling of the result: strings and names.
 use Rattle.std.proofs.Common.{◌≡◌, ℕ, zero, suc, ◌+◌, ◌*◌, Bool, true, false, cond, List, [], ◌∷◌, ◌++◌, ◌==◌, ◌&&◌, length, take, Option, Some, None, Result, Ok, Err, refl, sym, ap, subst, ◌∙◌, append_assoc, arith, inl, inr}
 use Rattle.std.specs.Prelude.{encode_utf8, Contains, nat_le}
 use Rattle.std.specs.List.{prefix_len, list_all}

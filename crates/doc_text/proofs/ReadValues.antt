@@ -1,4 +1,4 @@
--- What is read is a spelling of what is given: documents, arrays and whole values.
+-- The text read is a spelling of the result: documents, arrays and whole values.
 use Rattle.std.proofs.Common.{◌≡◌, ℕ, zero, suc, ◌-◌, ◌≤◌, true, List, [], ◌∷◌, ◌++◌, ◌||◌, length, drop, None, Ok, refl, sym, ap, subst, ◌∙◌, append_assoc, arith}
 use Rattle.std.specs.Prelude.{is_some, Contains}
 use Rattle.std.proofs.lemmas.List.{length-drop, length-append}

@@ -1,4 +1,4 @@
--- No text that goes on otherwise after the place of a refusal has a value either.
+-- No text that continues differently after the place of a refusal has a value either.
 use Rattle.std.proofs.Common.{◌≡◌, ℕ, ◌+◌, ◌-◌, ◌<◌, ◌≤◌, List, ◌++◌, length, take, drop, Err, refl, sym, ap, ◌∙◌, arith}
 use Rattle.std.proofs.lemmas.List.{length-drop, length-take, take-append-drop, drop-take}
 use Rattle.bson_doc.specs.Tree.{Tree}

@@ -9,7 +9,7 @@ is_space c = c == 32
 abbrev pub is_name_start : ℕ → Bool
 is_name_start c = (nat_le 65 c && nat_le c 90) || (nat_le 97 c && nat_le c 122) || c == 95 || c == 36
 
--- what a bare name goes on with
+-- what a bare name may continue with
 abbrev pub is_name_byte : ℕ → Bool
 is_name_byte c = is_name_start c || is_ascii_digit c
 

@@ -1,4 +1,4 @@
--- Reading from left to right, with the first fault that is met.
+-- Reading from left to right, up to the first fault.
 use Rattle.std.specs.Prelude.{◌≡◌, ℕ, ◌-◌, List, length, Result, Ok, Err}
 use Rattle.doc_text.specs.declared.errors.TextError.{TextError}
 use Rattle.doc_text.specs.declared.errors.TextError.TheVariants as errors
@@ -8,7 +8,7 @@ use Rattle.doc_text.specs.declared.fault.Fault.{Fault}
 use Rattle.doc_text.specs.declared.fault.ReadError.{ReadError}
 use Rattle.doc_text.specs.declared.fault.ReadError.TheVariants as stops
 
--- what is read from the front of a text with what follows it, or the first fault
+-- what is read from the start of a text and what follows it, or the first fault
 abbrev pub Read : Type 0 → Type 0
 Read A = Result (A × List ℕ) Fault
 
@@ -19,7 +19,7 @@ fault_at rule text = record { rule = rule; left = length text }
 abbrev pub fails : {A : Type 0} → Rule → List ℕ → Result A Fault
 fails rule text = Err (fault_at rule text)
 
--- a broken rule with its place in a text of so many bytes
+-- a broken rule with its place in a text of this many bytes
 abbrev pub error_of : Rule → ℕ → TextError
 error_of Unexpected place = errors.Unexpected place
 error_of Number place = errors.Number place
@@ -32,7 +32,7 @@ error_of NameZero place = errors.NameZero place
 abbrev pub placed : ℕ → Fault → TextError
 placed len fault = error_of fault.rule (len - fault.left)
 
--- What a function returned, seen by view, is what reading gives, unless memory ran out.
+-- What a function returned, as view shows it, is what reading gives, unless memory ran out.
 abbrev pub Fails : {Y : Type 0} → ReadError → Result Y Fault → Type 0
 Fails stops.Memory read = Unit {0}
 Fails (stops.Fault fault) read = read ≡ Err fault

@@ -11,12 +11,12 @@ use Rattle.doc_text.specs.Fault.{Read, fault_at}
 abbrev pub bytes_of : List ℕ → List ℕ
 bytes_of digits = result_unwrap_or (decode_of digits) []
 
--- what stands where no digit and no closing quotation mark can
+-- the fault of a byte that is neither a digit nor the closing quotation mark in its place
 abbrev pub hex_fault : List ℕ → Fault
 hex_fault [] = fault_at Unexpected []
 hex_fault (c ∷ rest) = fault_at Hex (c ∷ rest)
 
--- After the digits, of which there is a right number or not, stands the closing quotation mark.
+-- The closing quotation mark follows the digits, whose number is right or not.
 abbrev pub closed_at : Bool → List ℕ → List ℕ → Read (List ℕ)
 closed_at right digits [] = Err (hex_fault [])
 closed_at right digits (c ∷ rest) =

@@ -8,7 +8,7 @@ use Rattle.bson_doc.specs.Tree.{Tree, int32, int64}
 use Rattle.doc_text.specs.declared.fault.Rule.TheVariants.{Unexpected, Number}
 use Rattle.doc_text.specs.Fault.{Read, fails}
 
--- whether a number is one of a signed type, whose greatest number is below the limit
+-- whether a number fits a signed type whose greatest number is below the limit
 abbrev pub fits : ℕ → ℤ → Bool
 fits limit (pos n) = nat_lt n limit
 fits limit (negsuc n) = nat_lt n limit
@@ -33,7 +33,7 @@ natural_at most text = do
   if nat_le (digits_value 10 digits.0) most then Ok (digits_value 10 digits.0, digits.1)
       else fails Number text
 
--- the number that a numeral writes, where it is in range; the fault is at the numeral's first byte
+-- the number of a numeral, where it is in range; otherwise a fault at the numeral's first byte
 abbrev pub ranged : ℕ → List ℕ → List ℕ → List ℕ → Read ℤ
 ranged limit text numeral rest =
     if fits limit (signed_digits_value 10 numeral) then Ok (signed_digits_value 10 numeral, rest)

@@ -1,4 +1,4 @@
--- Single marks and words, and the spaces round them.
+-- Single marks and words, and the spaces around them.
 use Rattle.std.specs.Prelude.{ℕ, Bool, false, List, [], ◌∷◌, Result, Ok, ◌==◌, if◌then◌else◌}
 use Rattle.bson_doc.specs.Bind.{◌>>=◌}
 use Rattle.doc_text.specs.declared.fault.Rule.TheVariants.{Unexpected}
@@ -15,7 +15,7 @@ unfoldable pub mark_at : ℕ → List ℕ → Result (List ℕ) Fault
 mark_at mark [] = fails Unexpected []
 mark_at mark (c ∷ rest) = if c == mark then Ok rest else fails Unexpected (c ∷ rest)
 
--- what follows a mark with spaces round it
+-- what follows a mark with spaces around it
 unfoldable pub spaced_at : ℕ → List ℕ → Result (List ℕ) Fault
 spaced_at mark text = do
   rest ← mark_at mark (after_spaces text)
@@ -32,7 +32,7 @@ word_at (letter ∷ letters) text = do
   rest ← mark_at letter text
   word_at letters rest
 
--- what follows a word and an opening parenthesis with spaces round it
+-- what follows a word and an opening parenthesis with spaces around it
 unfoldable pub opened_at : List ℕ → List ℕ → Result (List ℕ) Fault
 opened_at word text = do
   name ← word_at word text

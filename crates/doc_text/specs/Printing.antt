@@ -28,12 +28,12 @@ is_bare (c ∷ rest) = is_name_start c && list_all is_name_byte rest
 abbrev pub printed_name : List ℕ → List ℕ
 printed_name name = if is_bare name then name else quoted name
 
--- what stands before the member at a place
+-- what comes before the member at a place
 abbrev pub separator : ℕ → List ℕ
 separator zero = []
 separator (suc place) = codes ", "
 
--- a value; the members of a document or an array; and those after a first one, each with `, ` before it
+-- a value; the members of a document or an array; and those after the first, each with `, ` before it
 unfoldable mutual
   pub printed : Tree → List ℕ
   printed null = codes "null"

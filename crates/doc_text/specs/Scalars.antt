@@ -1,4 +1,4 @@
--- Values that hold no others, told apart by their first byte.
+-- Values that hold no others, distinguished by their first byte.
 use Rattle.std.specs.Prelude.{ℕ, ◌+◌, ◌*◌, ◌^◌, true, false, List, [], ◌∷◌, length, codes, Ok, ◌==◌, if◌then◌else◌}
 use Rattle.bson_doc.specs.Bind.{◌>>=◌}
 use Rattle.bson_doc.specs.Tree.{Tree, null, text, binary, object_id, boolean, date, timestamp}

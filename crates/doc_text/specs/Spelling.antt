@@ -16,7 +16,7 @@ use Rattle.doc_text.specs.Printing.{is_bare}
 abbrev pub IsSpaces : List ℕ → Type 0
 IsSpaces s = AllByRecursion (λ c. c ≡ 32) s
 
--- a mark with spaces round it
+-- a mark with spaces around it
 pub record IsSpaced (mark : ℕ) (s : List ℕ) : Type 0 where
   pub before : List ℕ
   pub after : List ℕ
@@ -32,7 +32,7 @@ pub record IsClosing (mark : ℕ) (s : List ℕ) : Type 0 where
 
 -- ---- strings and names
 
--- a character of a string as it is written: for itself, by a letter after a backslash, or by its code
+-- a character of a string as it is written: as itself, by a letter after a backslash, or by its code
 pub data Letter : Type 0 where
   itself : (byte : ℕ) → Letter
   named : (letter : ℕ) → Letter
@@ -57,7 +57,7 @@ pub record IsCode (in_name : Bool) (a b c d code : ℕ) : Type 0 where
   pub no_surrogate : (first == 13 && nat_le 8 second) ≡ false
   pub no_zero : (in_name && code == 0) ≡ false
 
--- what a written character stands for
+-- what a written character means
 abbrev pub Means : Bool → Letter → List ℕ → Type 0
 Means in_name (itself byte) bytes = (is_plain byte ≡ true) × (bytes ≡ byte ∷ [])
 Means in_name (named letter) bytes =
@@ -165,7 +165,7 @@ abbrev mutual
       (comma one later : List ℕ) × IsSpaced 44 comma × Spells value one × SpellsLaterItems others later
       × (s ≡ comma ++ (one ++ later))
 
--- what a value is: numbers in their kinds' ranges, bytes, and documents with names apart and without
+-- what a value is: numbers in their kinds' ranges, bytes, and documents with distinct names without
 -- a zero byte
 abbrev mutual
   pub IsLawful : Tree → Type 0
@@ -187,7 +187,7 @@ abbrev mutual
   AreAllLawful no_items = Unit {0}
   AreAllLawful (item value others) = IsLawful value × AreAllLawful others
 
--- whether a text begins with what a number would go on with
+-- whether a text begins with something that would continue a number
 abbrev pub continues_number : List ℕ → Bool
 continues_number [] = false
 continues_number (c ∷ rest) = is_ascii_digit c || c == 76
@@ -197,8 +197,8 @@ abbrev pub EndsThere : Tree → List ℕ → Type 0
 EndsThere (int32 number) rest = continues_number rest ≡ false
 EndsThere _ rest = Unit {0}
 
--- a spelling of a value of at most 100 levels stands at a place of a text as far as it goes, up
--- to another place
+-- a spelling of a value of at most 100 levels, as long as it can be, begins at one place of a text and
+-- ends at another
 pub record Stands (bytes : List ℕ) (at : ℕ) (tree : Tree) (end : ℕ) : Type 0 where
   pub spelling : List ℕ
   pub rest : List ℕ

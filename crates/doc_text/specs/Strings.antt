@@ -6,7 +6,7 @@ use Rattle.doc_text.specs.declared.fault.Rule.TheVariants.{Unexpected, Escape, N
 use Rattle.doc_text.specs.Bytes.{is_plain}
 use Rattle.doc_text.specs.Fault.{Read, fails}
 
--- what is found at the first byte of a text, or an Escape there
+-- what is found at the first byte of a text, or an Escape fault there
 abbrev pub or_escape : Option ℕ → List ℕ → List ℕ → Read ℕ
 or_escape None text rest = fails Escape text
 or_escape (Some found) text rest = Ok (found, rest)
@@ -15,8 +15,8 @@ unfoldable pub hex_digit_at : List ℕ → Read ℕ
 hex_digit_at [] = fails Unexpected []
 hex_digit_at (c ∷ rest) = or_escape (hex_digit_value c) (c ∷ rest) rest
 
--- The character of four digits. D800 to DFFF are the surrogates, and a name holds no zero: the
--- first digit that makes one of these can't stand there.
+-- The character of four digits. D800 to DFFF are the surrogates, and a name holds no zero: the first digit
+-- that would make one of these is a fault.
 unfoldable pub unicode_at : Bool → List ℕ → Read ℕ
 unicode_at in_name text = do
   first ← hex_digit_at text
@@ -44,7 +44,7 @@ escape_at in_name [] = fails Unexpected []
 escape_at in_name (c ∷ rest) =
     if c == 117 then unicode_at in_name rest else or_escape (named_character c) (c ∷ rest) rest
 
--- a string up to its closing quotation mark, of at most so many characters
+-- a string up to its closing quotation mark, of at most this many characters
 unfoldable pub letters_at : Bool → ℕ → List ℕ → Read (List ℕ)
 letters_at in_name most [] = fails Unexpected []
 letters_at in_name zero (c ∷ rest) = fails Unexpected (c ∷ rest)

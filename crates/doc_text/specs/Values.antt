@@ -13,8 +13,8 @@ use Rattle.doc_text.specs.Marks.{begins_with, mark_at, spaced_at}
 use Rattle.doc_text.specs.Names.{name_at}
 use Rattle.doc_text.specs.Scalars.{scalar_at}
 
--- The name of a field after those that were read, up to what its colon stands before. A name that
--- they have is refused where it begins, once it is whole.
+-- The name of a field after those that were read, through its colon. A name that one of them has is refused
+-- at its first byte, once it is read whole.
 unfoldable pub key_at : Fields → List ℕ → Read (List ℕ)
 key_at so_far text = do
   name ← name_at text
@@ -22,20 +22,20 @@ key_at so_far text = do
     inside ← spaced_at 58 name.1
     Ok (name.0, inside))
 
--- one field more, whose value `member` reads
+-- one more field, whose value `member` reads
 unfoldable pub field_at : (List ℕ → Read Tree) → Fields → List ℕ → Read Fields
 field_at member so_far text = do
   name ← key_at so_far text
   value ← member name.1
   Ok (with_field so_far name.0 value.0, value.1)
 
--- one item more
+-- one more item
 unfoldable pub item_at : (List ℕ → Read Tree) → Trees → List ℕ → Read Trees
 item_at member so_far text = do
   value ← member text
   Ok (with_item so_far value.0, value.1)
 
--- one or more members up to the closing mark, after those that were read, and at most so many
+-- one or more members up to the closing mark, after those that were read, and at most this many
 unfoldable pub members_at : {A : Type 0} → (A → List ℕ → Read A) → ℕ → ℕ → A → List ℕ → Read A
 members_at more close zero so_far text = fails Unexpected text
 members_at more close (suc most) so_far text = do
@@ -64,7 +64,7 @@ document_at member = listed_at (field_at member) 123 125 no_fields
 abbrev pub array_at : (List ℕ → Read Tree) → List ℕ → Read Trees
 array_at member = listed_at (item_at member) 91 93 no_items
 
--- a value of at most so many levels of documents and arrays
+-- a value of at most this many levels of documents and arrays
 unfoldable pub value_at : ℕ → List ℕ → Read Tree
 value_at zero text =
     if begins_with 123 text || begins_with 91 text then fails TooDeep text else scalar_at text
@@ -75,12 +75,12 @@ value_at (suc levels) text =
     Ok (array items.0, items.1))
     else scalar_at text
 
--- the value with the place after it, or the error with its place, in a text of so many bytes
+-- the value with the place after it, or the error with its place, in a text of this many bytes
 abbrev pub in_text : ℕ → Read Tree → Result (Tree × ℕ) TextError
 in_text len (Ok value) = Ok (value.0, len - length value.1)
 in_text len (Err fault) = Err (placed len fault)
 
--- what stands at a place of a text: a value of at most 100 levels, or an error
+-- what is at a place of a text: a value of at most 100 levels, or an error
 abbrev pub answer_at : List ℕ → ℕ → Result (Tree × ℕ) TextError
 answer_at text at = in_text (length text) (value_at 100 (drop at text))
 

@@ -12,7 +12,7 @@ pub enum Class {
     Digit,
     /// A hexadecimal digit.
     HexDigit,
-    /// What a bare name goes on with.
+    /// What a bare name may continue with.
     Name,
     /// What stands for itself in a string.
     Plain,

@@ -1,7 +1,7 @@
 use thiserror::Error;
 
-/// Why no value can be read at a place. A number is the place, in bytes of the whole text, of the
-/// first byte that can't go on, or the text's length where the text ends too early.
+/// Why no value can be read at a place. The number is an offset in bytes into the whole text: that of the
+/// first byte that can't continue a value, or the text's length where the text ends too early.
 #[derive(Clone, Copy, Debug, PartialEq, Eq, Error)]
 pub enum TextError {
     #[error("nothing goes on so at byte {0}")]
@@ -11,10 +11,10 @@ pub enum TextError {
     Number(usize),
     #[error("no escape at byte {0}")]
     Escape(usize),
-    /// What is no hexadecimal digit, or a closing quotation mark after a wrong number of digits.
+    /// A byte that isn't a hexadecimal digit, or a closing quotation mark after a wrong number of digits.
     #[error("no hexadecimal digits at byte {0}")]
     Hex(usize),
-    /// A name that stands in its document already, at the second one's first byte.
+    /// A name that its document already has, at the first byte of the second one.
     #[error("a name twice at byte {0}")]
     DuplicateName(usize),
     /// A bracket that opens level 101.

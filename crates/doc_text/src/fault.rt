@@ -5,7 +5,7 @@ ghost use Rattle.doc_text.specs.declared.fault.ReadError.TheVariants.{Memory};
 use crate::TextError;
 use std::alloc::{AllocError, AllocFailed};
 
-/// What a text breaks.
+/// The rule that a text breaks.
 #[derive(Clone, Copy)]
 pub enum Rule {
     Unexpected,
@@ -17,7 +17,7 @@ pub enum Rule {
     NameZero,
 }
 
-/// A broken rule, and how many bytes are left from the first byte that can't go on.
+/// A broken rule, and how many bytes are left from the first byte that can't continue a value.
 #[derive(Clone, Copy)]
 pub struct Fault {
     pub rule: Rule,
@@ -31,7 +31,7 @@ pub enum ReadError {
     Fault(Fault),
 }
 
-/// What a reader took from the front, and the text after it.
+/// What a reader took from the start, and the text after it.
 pub type Read<'a, T> = Result<(T, &'a str), ReadError>;
 
 impl From<AllocError> for ReadError {
@@ -63,7 +63,7 @@ impl Fault {
         }
     }
 
-    /// The error that is answered, with the place of the fault in the whole text, which has `len` bytes.
+    /// The error to return, with the place of the fault in the whole text, which has `len` bytes.
     pub fn placed(self, len: usize) -> TextError
         ensures { result ≡ placed len self }
     {

@@ -10,7 +10,7 @@ use bson_doc::Bytes;
 use hex::FromHex;
 use std::alloc::Global;
 
-/// What stands where no digit and no closing quotation mark can.
+/// The fault of a byte that is neither a digit nor the closing quotation mark in its place.
 fn wrong(stop: &str) -> ReadError
     ensures { result ≡ ReadError.Fault (hex_fault stop.now) }
 {

@@ -1,4 +1,4 @@
-// Single marks and words, and the spaces round them.
+// Single marks and words, and the spaces around them.
 ghost use Rattle.std.specs.Prelude.{◌≡◌, ◌≢◌, false, ◌<◌, ◌≤◌, ◌+◌, ◌∷◌, List, ℕ, MatchOption, IfOk, IfSome, length, slice_index, drop, IsAscii};
 ghost use Rattle.doc_text.specs.Fault.{Gives};
 ghost use Rattle.doc_text.specs.Class.{after_spaces};
@@ -28,7 +28,7 @@ pub fn strip(text: &str, byte: u8) -> Option<&str>
     }
 }
 
-/// The text after an ASCII byte that has to stand there.
+/// The text after an ASCII byte that has to be there.
 #[tactic(auto, unfolding(crate::specs::Marks::mark_at))]
 pub fn mark(text: &str, byte: u8) -> Result<&str, ReadError>
     requires { byte < 128 }
@@ -47,7 +47,7 @@ pub fn spaces(text: &str) -> &str
     rest
 }
 
-/// The text after a closing mark with spaces before it, where one stands there.
+/// The text after a closing mark with spaces before it, if there is one.
 #[tactic(auto, using(crate::proofs::Members::not_begun))]
 pub fn end(text: &str, byte: u8) -> Option<&str>
     requires { byte < 128 }
@@ -58,7 +58,7 @@ pub fn end(text: &str, byte: u8) -> Option<&str>
     strip(spaces(text), byte)
 }
 
-/// The text after a mark that has to stand there, with spaces round it.
+/// The text after a mark that has to be there, with spaces around it.
 #[tactic(auto, unfolding(crate::specs::Marks::spaced_at))]
 pub fn spaced(text: &str, byte: u8) -> Result<&str, ReadError>
     requires { byte < 128 }
@@ -68,7 +68,7 @@ pub fn spaced(text: &str, byte: u8) -> Result<&str, ReadError>
     Ok(spaces(mark(spaces(text), byte)?))
 }
 
-/// The text after a mark that has to stand there, with spaces before it.
+/// The text after a mark that has to be there, with spaces before it.
 #[tactic(auto, unfolding(crate::specs::Marks::closing_at))]
 pub fn closing(text: &str, byte: u8) -> Result<&str, ReadError>
     requires { byte < 128 }
@@ -78,7 +78,7 @@ pub fn closing(text: &str, byte: u8) -> Result<&str, ReadError>
     mark(spaces(text), byte)
 }
 
-/// The text after a word that has to stand there.
+/// The text after a word that has to be there.
 #[tactic(auto, unfolding(crate::specs::Marks::word_at))]
 pub fn word<'a>(text: &'a str, letters: &[u8]) -> Result<&'a str, ReadError>
     requires { IsAscii letters.now }
@@ -92,7 +92,7 @@ pub fn word<'a>(text: &'a str, letters: &[u8]) -> Result<&'a str, ReadError>
     Ok(rest)
 }
 
-/// The text after a word and an opening parenthesis with spaces round it.
+/// The text after a word and an opening parenthesis with spaces around it.
 #[tactic(auto, unfolding(crate::specs::Marks::opened_at))]
 pub fn opened<'a>(text: &'a str, letters: &[u8]) -> Result<&'a str, ReadError>
     requires { IsAscii letters.now }

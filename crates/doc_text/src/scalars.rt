@@ -100,7 +100,7 @@ fn boolean<'a>(text: &'a str, letters: &[u8], truth: bool) -> Read<'a, Value>
     Ok((Value::Boolean(truth), rest))
 }
 
-/// A value that is no document and no array.
+/// A value that is neither a document nor an array.
 #[tactic(auto, unfolding(crate::specs::Scalars::scalar_at))]
 pub fn scalar<'a>(alloc: Global, text: &'a str) -> Read<'a, Value>
     ensures gives { Gives (λ x. (tree_of x.0, x.1.now)) result (scalar_at text.now) }

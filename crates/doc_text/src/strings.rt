@@ -26,8 +26,8 @@ fn hex_digit(text: &str) -> Read<'_, u8>
     }
 }
 
-/// The character of four hex digits. No digits from 8 on come after a `d`: they would make a
-/// surrogate. In a name the digits don't make a zero.
+/// The character of four hex digits. No digit from 8 on comes after a leading `d`: it would make a surrogate.
+/// In a name the digits don't make a zero.
 #[tactic(auto, unfolding(crate::specs::Strings::unicode_at))]
 fn unicode(text: &str, in_name: bool) -> Read<'_, char>
     ensures gives { Gives (λ x. (x.0, x.1.now)) result (unicode_at in_name text.now) }

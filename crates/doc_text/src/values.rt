@@ -34,7 +34,7 @@ fn key<'a>(alloc: Global, fields: &DocBuilder, text: &'a str) -> Read<'a, Text>
     Ok((name, rest))
 }
 
-/// The fields of a document whose values have at most so many levels.
+/// The fields of a document whose values have at most this many levels.
 #[cycle(value)]
 #[tactic(auto, unfolding(crate::specs::Values::listed_at))]
 fn document<'a>(alloc: Global, text: &'a str, levels: u32) -> Read<'a, Doc>
@@ -58,7 +58,7 @@ fn document<'a>(alloc: Global, text: &'a str, levels: u32) -> Read<'a, Doc>
     }
 }
 
-/// The items of an array whose values have at most so many levels.
+/// The items of an array whose values have at most this many levels.
 #[cycle(value)]
 #[tactic(auto, unfolding(crate::specs::Values::listed_at))]
 fn array<'a>(alloc: Global, text: &'a str, levels: u32) -> Read<'a, Items>
@@ -81,7 +81,7 @@ fn array<'a>(alloc: Global, text: &'a str, levels: u32) -> Read<'a, Items>
     }
 }
 
-/// A value of at most so many levels.
+/// A value of at most this many levels.
 #[cycle(value)]
 #[tactic(auto, unfolding(crate::specs::Values::value_at))]
 fn value<'a>(alloc: Global, text: &'a str, levels: u32) -> Read<'a, Value>
@@ -107,12 +107,12 @@ fn value<'a>(alloc: Global, text: &'a str, levels: u32) -> Read<'a, Value>
 /// Reads the value at a place, and gives the place after it.
 pub fn read_value(alloc: Global, text: &str, at: usize) -> Result<(Value, usize), TextError>
     requires { IsCharBoundary text.now at }
-    // A value is read where a spelling of one stands, as far as it goes.
+    // What is read is a value whose spelling, as long as it can be, is at this place.
     ensures found { IfOk result (λ x. Stands text.now at (tree_of x.0) x.1) }
     ensures only { (tree : Tree) (end : ℕ) → Stands text.now at tree end → Answers result (Ok (tree, end)) }
-    // Which error it is else.
+    // Which error it is otherwise.
     ensures exact { Answers result (answer_at text.now at) }
-    // Whatever comes after the byte that an error names, there is no value.
+    // Whatever follows the byte that an error names, there is no value.
     ensures no_further { IfErr result (λ error. RulesOut text.now at error) }
 {
     match value(alloc, &text[at..], LEVELS) {

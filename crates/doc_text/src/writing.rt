@@ -71,7 +71,7 @@ fn write_name(name: &str, out: &mut String) -> Mem<()>
     }
 }
 
-// Each writer also tells what its type says of a value: a number is in its kind's range, and so on.
+// Each writer also states what its type implies about a value: a number is in its kind's range, and so on.
 #[tactic(auto, unfolding(crate::specs::Printing::printed))]
 fn write_int32(number: i32, out: &mut String) -> Mem<()>
     ensures written { OnOk result (string_bytes out.new ≡ string_bytes out.old ++ printed (int32 number)) }
@@ -127,7 +127,7 @@ fn write_timestamp(timestamp: u64, out: &mut String) -> Mem<()>
     write!(out, "Time({seconds}, {increment})")
 }
 
-/// What stands before the member at a place.
+/// What comes before the member at a place.
 fn write_separator(place: usize, out: &mut String) -> Mem<()>
     ensures { OnOk result (string_bytes out.new ≡ string_bytes out.old ++ separator place) }
 {
@@ -205,14 +205,14 @@ fn write(value: &Value, out: &mut String) -> Mem<()>
     }
 }
 
-/// Appends the text of a value in the notation, which is always the same one. Out of memory leaves `out`
+/// Appends the text of a value in the notation. A value always has the same text. Out of memory leaves `out`
 /// as it was.
 pub fn write_value(value: &Value, out: &mut String) -> Mem<()>
     ensures ok { OnOk result (string_bytes out.new ≡ string_bytes out.old ++ printed (tree_of value.now)) }
     ensures err { OnErr result (string_bytes out.new ≡ string_bytes out.old) }
     ensures lawful { OnOk result (IsLawful (tree_of value.now)) }
-    // What was written is a spelling of the value, and is read again, whatever follows it that
-    // doesn't go on with a number.
+    // What was written is a spelling of the value, and is read back, whatever follows, unless that
+    // continues a number.
     ensures spelled { OnOk result (Spells (tree_of value.now) (printed (tree_of value.now))) }
     ensures again { OnOk result
         (IsReadAgain (string_bytes out.old) (string_bytes out.new) (tree_of value.now)) }
@@ -223,8 +223,8 @@ pub fn write_value(value: &Value, out: &mut String) -> Mem<()>
     Ok(())
 }
 
-/// Appends the text of a document in the notation, which is always the same one. Out of memory leaves `out`
-/// as it was.
+/// Appends the text of a document in the notation. A document always has the same text. Out of memory leaves
+/// `out` as it was.
 pub fn write_document(document: &Doc, out: &mut String) -> Mem<()>
     ensures ok { OnOk result
         (string_bytes out.new ≡ string_bytes out.old ++ printed (tree.document document.now)) }

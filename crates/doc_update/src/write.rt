@@ -29,7 +29,7 @@ impl WriteOp {
         self.borrowed().recall_sound();
     }
 
-    /// The same write once more.
+    /// A copy of the write.
     pub fn copy(&self) -> Mem<WriteOp>
         ensures { IfOk result (λ op. op ≡ self.now) }
     {
@@ -68,7 +68,7 @@ pub enum Prepared {
 }
 
 impl Prepared {
-    /// The same effect once more.
+    /// A copy of the effect.
     pub fn copy(&self) -> Mem<Prepared>
         ensures { IfOk result (λ p. p ≡ self.now) }
     {
@@ -83,7 +83,7 @@ impl Prepared {
     }
 }
 
-/// The same document once more, if there is one.
+/// A copy of the document, if there is one.
 fn copied(document: &Option<Doc>) -> Mem<Option<Doc>>
     ensures { IfOk result (λ copy. copy ≡ document.now) }
 {

@@ -1,4 +1,4 @@
--- What the readers of ops and entries answer.
+-- What the readers of ops and entries return.
 use Rattle.std.proofs.Common.{◌≡◌, ℕ, List, Some, Result, Ok, Err, IsErrAnd, Option, codes, refl, sym, ap, subst, ◌∙◌}
 use Rattle.std.specs.Prelude.{IfSome, IsSome}
 use Rattle.rs_optime.specs.declared.optime.OpTime.{OpTime}

@@ -1,4 +1,4 @@
--- The length and the levels of an entry without a target, and that what is spelled so is read so.
+-- The length and the levels of an entry without a target, and that its spelling is read back.
 use Rattle.std.proofs.Common.{ℕ, pos, ◌≡◌, ◌+◌, ◌<◌, ◌≤◌, ◌^◌, true, List, [], ◌∷◌, ◌++◌, Option, None, Some, Ok, codes, length, arith, ap, refl, sym, ◌∙◌, subst, append_assoc, length-append}
 use Rattle.std.specs.Prelude.{IfSome}
 use Rattle.std.specs.Str.{is_utf8}

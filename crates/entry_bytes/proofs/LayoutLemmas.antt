@@ -1,4 +1,4 @@
--- The members of an entry tell its op.
+-- The members of an entry determine its op.
 use Rattle.std.proofs.Common.{◌≡◌, ◌≢◌, ℕ, List, [], ◌∷◌, Option, None, Some, codes, length, refl, sym, ap, ◌∙◌, subst, arith}
 use Rattle.rs_optime.specs.declared.optime.OpTime.{OpTime}
 use Rattle.bson_doc.specs.Tree.{Tree, null, int32, int64, text, document, array, binary, object_id, boolean, date, timestamp, Fields, no_fields, field, Trees, found}

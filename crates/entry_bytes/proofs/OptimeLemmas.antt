@@ -1,4 +1,4 @@
--- The bytes of an optime tell it.
+-- The bytes of an optime determine it.
 use Rattle.std.proofs.Common.{◌≡◌, ◌∙◌, ap, arith, List, [], ◌++◌, ℕ, append_assoc}
 use Rattle.rs_optime.specs.Order.{IsOptime}
 use Rattle.rs_optime.specs.declared.optime.OpTime.{OpTime}

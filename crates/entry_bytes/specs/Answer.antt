@@ -1,4 +1,4 @@
--- What a reader answers.
+-- What a reader returns.
 use Rattle.std.specs.Prelude.{◌≡◌, ◌≢◌, ⊤, Result, Ok, Err}
 use Rattle.bson_doc.specs.Tree.{Fields}
 use Rattle.bson_doc.specs.declared.key.KeyError.{KeyError}
@@ -11,14 +11,14 @@ use Rattle.entry_bytes.specs.Layout.{document_of}
 use Rattle.entry_bytes.specs.declared.error.EntryError.{EntryError}
 use Rattle.entry_bytes.specs.declared.error.EntryError.TheVariants.{Codec, Shape, Memory}
 
--- a value that is such, or Shape where there is none, unless memory ran out
+-- a value of this kind, or Shape where there is none, unless memory ran out
 abbrev pub Reads : {X : Type 0} → (X → Type 0) → Type 0 → Result X EntryError → Type 0
 Reads IsSuch ThereIsNone (Ok x) = IsSuch x
 Reads IsSuch ThereIsNone (Err Shape) = ThereIsNone
 Reads IsSuch ThereIsNone (Err Memory) = ⊤
 Reads IsSuch ThereIsNone (Err (Codec rule)) = ⊥
 
--- the entry of a document that was decoded, or why there is none, unless memory ran out
+-- the entry of a decoded document, or why there is none, unless memory ran out
 abbrev pub Answers : Result Fields DecodeError → Result Entry EntryError → Type 0
 Answers decoded (Ok entry) = IsLawful entry × (decoded ≡ Ok (document_of entry))
 Answers decoded (Err (Codec rule)) = (rule ≢ NoDecodeMemory) × (decoded ≡ Err rule)

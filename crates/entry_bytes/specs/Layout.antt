@@ -8,7 +8,7 @@ use Rattle.oplog_entry.specs.declared.entry.Op.TheVariants.{Insert, Replace, Fie
 use Rattle.oplog_entry.specs.declared.entry.Entry.{Entry}
 use Rattle.oplog_entry.specs.declared.entry.Session.{Session}
 
--- what an op does: to insert, update or delete, or nothing
+-- what an op does: insert, update, delete, or nothing
 abbrev pub letter_of : Op → List ℕ
 letter_of (Insert ns o) = codes "i"
 letter_of (Replace ns id o) = codes "u"
@@ -35,7 +35,7 @@ marks no_items = no_fields
 marks (item (text name) rest) = field name (boolean true) (marks rest)
 marks (item _ rest) = marks rest
 
--- a part and what follows; a part without names is left out
+-- a part and what follows it; a part without names is left out
 abbrev pub part : List ℕ → Fields → Fields → Fields
 part name no_fields rest = rest
 part name (field first value others) rest = field name (document (field first value others)) rest
@@ -49,7 +49,7 @@ changes sets unsets =
 abbrev pub only_message : List ℕ → Fields
 only_message message = field (codes "msg") (text message) no_fields
 
--- what a no-op says, and what a note does
+-- the message of a no-op, and that of a note
 abbrev pub new_primary : Fields
 new_primary = only_message (codes "new primary")
 
@@ -74,7 +74,7 @@ target_of (Delete ns id) = None
 target_of Noop = None
 target_of Note = None
 
--- an update's target, in front of the members that follow it
+-- an update's target, before the members that follow it
 abbrev pub targeted : Option Fields → Fields → Fields
 targeted None rest = rest
 targeted (Some target) rest = field (codes "o2") (document target) rest

@@ -21,25 +21,25 @@ with_part before name no_fields = before
 with_part before name (field first value others) =
     with_field before name (document (field first value others))
 
--- the target of an update more, where there is one
+-- with the target of an update, where there is one
 abbrev pub with_target : Fields → Option Fields → Fields
 with_target before None = before
 with_target before (Some target) = with_field before (codes "o2") (document target)
 
--- the members of a session's write more, where the entry is one
+-- with the members of a session's write, where the entry is one
 abbrev pub with_session : Fields → Option Session → Fields
 with_session before None = before
 with_session before (Some session) =
     with_field (with_field before (codes "lsid") (int64 (pos session.id))) (codes "txnNumber")
     (int64 (pos session.number))
 
--- an optime and the version, in front of the other members
+-- an optime and the version, before the other members
 abbrev pub stamped : OpTime → Fields → Fields
 stamped optime rest =
     field (codes "ts") (timestamp optime.ts)
     (field (codes "t") (int64 (pos optime.term)) (field (codes "v") (int32 (pos 2)) rest))
 
--- the members in front of `o`
+-- the members before `o`
 abbrev pub members_in_front : OpTime → Op → Fields
 members_in_front optime op =
     stamped optime
@@ -57,7 +57,7 @@ pub record AreMembersOf (op : Op) (letter collection : List ℕ) (body : Fields)
   pub body_is : body_of op ≡ body
   pub target_is : target_of op ≡ target
 
--- a lawful op that has these members is read, or there is none
+-- a lawful op with these members is read, or there is none
 abbrev pub ReadsOp : List ℕ → List ℕ → Fields → Option Fields → Result Op EntryError → Type 0
 ReadsOp letter collection body target result =
     Reads (λ op. IsLawfulOp op × AreMembersOf op letter collection body target)
@@ -67,26 +67,26 @@ ReadsOp letter collection body target result =
 abbrev pub ReadsIfLawful : Op → Result Op EntryError → Type 0
 ReadsIfLawful op result = Reads (λ read. (read ≡ op) × IsLawfulOp op) (¬ IsLawfulOp op) result
 
--- the lawful op that sets these fields and takes out the names of these marks, or there is none
+-- the lawful op that sets these fields and removes the names of these marks, or there is none
 abbrev pub ReadsFields : List ℕ → Value → Fields → Fields → Result Op EntryError → Type 0
 ReadsFields ns id sets wanted result =
     Reads (λ op.
     (unsets : Trees) × (op ≡ SetFields ns id sets unsets) × (marks unsets ≡ wanted) × IsLawfulOp op)
     ((unsets : Trees) → marks unsets ≡ wanted → ¬ IsLawfulOp (SetFields ns id sets unsets)) result
 
--- the lawful op that changes fields of the document of this `_id`, as the body says, or there is none
+-- the lawful op that changes fields of the document with this `_id`, as the body says, or there is none
 abbrev pub ReadsChange : List ℕ → Value → Fields → Result Op EntryError → Type 0
 ReadsChange ns id body result =
     Reads (λ op. IsLawfulOp op × AreMembersOf op (codes "u") ns body (Some (only_id (tree_of id))))
     ((sets : Fields) (unsets : Trees) → body ≡ changes sets (marks unsets)
     → ¬ IsLawfulOp (SetFields ns id sets unsets)) result
 
--- the fields of a part that may be there
+-- the fields of an optional part
 abbrev pub given : Option Fields → Fields
 given None = no_fields
 given (Some fields) = fields
 
--- the two parts after a document's first field, or there are none
+-- the two parts after a document's first field, or there are no such parts
 abbrev pub ReadsParts : Fields → Option (Option Fields × Option Fields) → Type 0
 ReadsParts o result =
     MatchOption result

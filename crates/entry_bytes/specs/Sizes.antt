@@ -1,4 +1,4 @@
--- How large an entry may be, so that it fits into a record.
+-- How large an entry may be to fit into a record.
 use Rattle.std.specs.Prelude.{◌≤◌}
 use Rattle.bson_doc.specs.Length.{document_length, document_levels}
 use Rattle.oplog_entry.specs.declared.entry.Entry.{Entry}

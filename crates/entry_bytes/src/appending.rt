@@ -1,5 +1,5 @@
-// The bytes of an entry, appended to others. No document is made of it, but of an update's target and
-// of short bodies.
+// The bytes of an entry, appended to a buffer. No document is built, except for an update's target and
+// for short bodies.
 ghost use Rattle.std.specs.Prelude.{◌≡◌, ◌+◌, ◌<◌, ◌≤◌, ◌^◌, ◌++◌, codes, length, IfSome, OnOk, Some, pos, vec_capacity};
 ghost use Rattle.bson_doc.specs.Length.{document_length, fields_length};
 ghost use Rattle.bson_doc.specs.Sound.{AreSoundFields, IsSound};
@@ -41,7 +41,7 @@ fn put_stamp(alloc: Global, optime: OpTime, out: &mut Vec<u8>) -> Mem<()>
     put_field(alloc, out, "v", &Value::Int32(2))
 }
 
-// Appends the members in front of `o`.
+// Appends the members before `o`.
 fn put_head(alloc: Global, optime: OpTime, op: &Op, out: &mut Vec<u8>) -> Mem<()>
     requires term { optime.term < 2 ^ 63 }
     requires short { length (collection_of op.now) + 1 < 2 ^ 31 }
@@ -126,7 +126,7 @@ fn put_session(alloc: Global, session: Option<Session>, out: &mut Vec<u8>) -> Me
     }
 }
 
-/// Appends the bytes of a lawful entry, the one spelling of its document.
+/// Appends the bytes of a lawful entry, the only spelling of its document.
 pub fn put_bytes(alloc: Global, entry: &Entry, out: &mut Vec<u8>) -> Mem<()>
     requires lawful { IsLawful entry.now }
     requires short { document_length (document_of entry.now) < 2 ^ 31 }

@@ -1,5 +1,5 @@
-// Entries without a target, read without a document of their members. In the layout in which entries are
-// written each part has its place, and between the parts stand bytes that are the same in every entry.
+// Entries without a target, read without building a document of their members. In the layout of entries each
+// part has its place, and the bytes between the parts are the same in every entry.
 ghost use Rattle.std.specs.Prelude.{◌≡◌, ◌<◌, ◌^◌, ◌↔◌, ◌∷◌, ◌++◌, [], codes, length, None, Some, true, IfOk, IfSome, IsTrue};
 ghost use Rattle.std.specs.Str.{is_utf8};
 ghost use Rattle.bson_doc.specs.Tree.{no_fields, text};
@@ -25,7 +25,7 @@ const BODY: Bounds = Bounds {
     levels: 102,
 };
 
-/// What stands at the places of an entry's parts, where there is no target.
+/// What is at the places of an entry's parts, where there is no target.
 #[derive(Drop)]
 struct Parts<'a> {
     optime: OpTime,
@@ -165,7 +165,7 @@ fn stamp_of(bytes: &[u8]) -> Option<(OpTime, &[u8])>
     Some((OpTime { term, ts }, rest))
 }
 
-/// The first so many bytes as letters, and what follows the zero that closes them.
+/// The first `count` bytes as letters, and what follows the zero that closes them.
 fn letters_of(count: usize, bytes: &[u8]) -> Option<(&str, &[u8])>
     ensures count { IfSome result (λ x. length x.0.now ≡ count) }
     ensures spelled { IfSome result (λ x. bytes.now ≡ x.0.now ++ 0 ∷ x.1.now) }
@@ -217,7 +217,7 @@ fn body_in(bytes: &[u8]) -> Option<(&[u8], &[u8])>
     Some(rest.split_at(size as usize))
 }
 
-/// The number in the first eight bytes, where four are enough for it, and what follows them.
+/// The number in the first eight bytes, if it fits in four, and what follows them.
 fn narrow_of(bytes: &[u8]) -> Option<(u32, &[u8])>
     ensures { IfSome result (λ x. bytes.now ≡ number_bytes 8 x.0 ++ x.1.now) }
 {
@@ -235,7 +235,7 @@ fn is_end(bytes: &[u8]) -> bool
     bytes.len() == 1 && bytes[0] == 0
 }
 
-/// The members of a session's write, after which the entry's document ends.
+/// The members of a session's write, if the entry's document ends after them.
 fn numbers_in(bytes: &[u8]) -> Option<Session>
     ensures session { IfSome result IsSession }
     ensures spelled { IfSome result (λ s. bytes.now ≡ fields_bytes (session_members (Some s)) ++ 0 ∷ []) }
@@ -266,7 +266,7 @@ fn recall_utf8(letters: &str)
     let _ = letters;
 }
 
-/// The parts, each where the bytes before it end.
+/// The parts, each at the end of the bytes before it.
 fn parts_in(bytes: &[u8]) -> Option<Parts<'_>>
     ensures ts { IfSome result (λ p. p.optime.ts < 2 ^ 64) }
     ensures term { IfSome result (λ p. p.optime.term < 2 ^ 63) }
@@ -319,8 +319,8 @@ fn entry_at(alloc: Global, parts: &Parts<'_>) -> Result<Entry, EntryError>
     })
 }
 
-/// The entry that the bytes spell, where its parts are at their places and it has no target. Nothing says
-/// only that it isn't found so.
+/// The entry that the bytes spell, where its parts are at their places and it has no target. None only says
+/// that no entry was found this way.
 pub(crate) fn direct(alloc: Global, bytes: &[u8]) -> Mem<Option<Entry>>
     ensures { IfOk result (λ found. IfSome found (λ e. IsLawful e × IsSound (document_of e)
         × IsSpelling ENTRY.bytes ENTRY.levels (document_of e) bytes.now)) }

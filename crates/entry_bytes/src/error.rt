@@ -1,4 +1,4 @@
-// Why bytes are no entry.
+// Why bytes aren't an entry.
 ghost use Rattle.std.specs.Prelude.{◌≡◌};
 
 use bson_codec::DecodeError;
@@ -6,13 +6,13 @@ use bson_doc::KeyError;
 use std::alloc::AllocError;
 use thiserror::Error;
 
-/// Why bytes give no entry.
+/// Why bytes can't be read as an entry.
 #[derive(Clone, Copy, Debug, PartialEq, Eq, Error)]
 pub enum EntryError {
-    /// The bytes are no document within the bounds of an entry: the rule that they break.
+    /// The bytes aren't a document within the bounds of an entry: the rule that they break.
     #[error("no document: {0}")]
     Codec(DecodeError),
-    /// The bytes are a document, and no lawful entry has that document.
+    /// The bytes are a document, but not that of any lawful entry.
     #[error("the document is no entry's")]
     Shape,
     #[error("out of memory")]

@@ -1,5 +1,5 @@
-//! Entries of an oplog as bytes. Each is one BSON document (BSON 1.1), whose members `specs/Layout.antt`
-//! lists: the bytes of a lawful entry are read as that entry, and no others are read.
+//! Entries of an oplog as bytes. Each is one BSON document (BSON 1.1); `specs/Layout.antt` lists its members.
+//! The bytes of a lawful entry are read as that entry, and no other bytes are accepted.
 #![tactic(auto)]
 
 mod appending;

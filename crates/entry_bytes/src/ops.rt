@@ -95,14 +95,14 @@ fn names_in(alloc: Global, unsets: &Doc) -> Mem<Items>
     Ok(names)
 }
 
-/// The fields that a change sets and the names that it takes out, each where there are some.
+/// The fields that a change sets and the names that it removes, each where there are some.
 #[derive(Drop)]
 struct Changes<'a> {
     sets: Option<&'a Doc>,
     unsets: Option<&'a Doc>,
 }
 
-/// The changes of a part alone.
+/// The changes of a body with only one part.
 fn one_part(o: &Doc) -> Option<Changes<'_>>
     requires { count o.now ≡ 2 }
     ensures { ReadsParts o.now (option_map (λ c. (option_copied c.sets, option_copied c.unsets)) result) }
@@ -144,7 +144,7 @@ fn parts_in(o: &Doc) -> Option<Changes<'_>>
     }
 }
 
-/// The fields of a part, which may be left out.
+/// The fields of a part that may be left out.
 fn given(alloc: Global, part: Option<&Doc>) -> Mem<Doc>
     ensures { IfOk result (λ d. d ≡ given (option_copied part.entry)) }
 {
@@ -154,7 +154,7 @@ fn given(alloc: Global, part: Option<&Doc>) -> Mem<Doc>
     }
 }
 
-/// The names to take out.
+/// The names to remove.
 fn unsets_of(alloc: Global, unsets: &Doc) -> Result<Items, EntryError>
     ensures { Reads (λ names. AreUnsets names × (marks names ≡ unsets.now))
         ((names : Trees) → AreUnsets names → marks names ≢ unsets.now) result }
@@ -286,7 +286,7 @@ pub(crate) fn op_of(
     update_of(alloc, ns, o, target)
 }
 
-/// Whether the op may be a write of a session, where there is one: a no-op and a note are none.
+/// Whether the op may be a write of a session, if there is one: a no-op or a note may not.
 pub(crate) fn may_have(op: &Op, session: Option<Session>) -> bool
     requires { IsLawfulOp op.now }
     ensures { IsTrue result ↔ IfSome session (λ _. IsSome (place_of op.now)) }

@@ -6,7 +6,7 @@ ghost use Rattle.entry_bytes.specs.Layout.{only_id, part};
 
 use bson_doc::{Doc, Text, Value};
 
-/// The value at a place, where its name is this one.
+/// The value at a place, if it has this name.
 pub(crate) fn member<'a>(doc: &'a Doc, place: usize, name: &str) -> Option<&'a Value>
     ensures { MatchOption result
         ((value : Tree) (rest : Fields) → fields_from place doc.now ≢ field name.now value rest)
@@ -30,7 +30,7 @@ pub(crate) fn timestamp_at(doc: &Doc, place: usize, name: &str) -> Option<u64>
     }
 }
 
-/// The number of an int64 that is not negative.
+/// The number of an int64 that isn't negative.
 pub(crate) fn count_at(doc: &Doc, place: usize, name: &str) -> Option<u64>
     ensures value { MatchOption result
         ((n : ℕ) (rest : Fields) → fields_from place doc.now ≢ field name.now (int64 (pos n)) rest)

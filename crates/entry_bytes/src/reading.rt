@@ -77,7 +77,7 @@ fn last_in(document: &Doc) -> Option<Last<'_>>
     }
 }
 
-/// The optime, after which the version stands.
+/// The optime, if the version follows it.
 fn optime_in(document: &Doc) -> Option<OpTime>
     ensures { MatchOption result
         ((optime : OpTime) (rest : Fields) → optime.term < 2 ^ 63 → document.now ≢ stamped optime rest)
@@ -130,13 +130,13 @@ fn entry_of(alloc: Global, document: &Doc) -> Result<Entry, EntryError>
     })
 }
 
-/// The lawful entry that the bytes spell. `Codec` is the rule by which they are no document within the bounds
-/// of an entry, and `Shape` a document that no lawful entry has.
+/// The lawful entry that the bytes spell. `Codec` is the rule that they break where they aren't a document
+/// within the bounds of an entry, and `Shape` a document that no lawful entry has.
 pub fn of_bytes(alloc: Global, bytes: &[u8]) -> Result<Entry, EntryError>
-    // What is read is lawful, and spelled so.
+    // What is read is lawful, and these bytes spell it.
     ensures ok { IfOk result (λ e. IsLawful e × IsSound (document_of e)
         × IsSpelling ENTRY.bytes ENTRY.levels (document_of e) bytes.now) }
-    // What a lawful entry is spelled as is read as that entry, unless memory runs out.
+    // The bytes of a lawful entry are read as that entry, unless memory runs out.
     ensures only { (e : Entry) → IsLawful e → IsSound (document_of e)
         → IsSpelling ENTRY.bytes ENTRY.levels (document_of e) bytes.now → IsReadAs e result }
     // And so each answer is the only one for its bytes.

@@ -80,9 +80,9 @@ fn only(alloc: Global, name: &str, value: Value) -> Mem<Doc>
     Ok(document)
 }
 
-/// What an op says of its document, the member `o` of its entry: the document that an insert or a
-/// replacement stores, `{$v: 1, $set: {..}, $unset: {..}}` for fields, `{_id: ..}` for a delete, and a
-/// message for a no-op and a note.
+/// The member `o` of an op's entry: the document that an insert or a replacement stores,
+/// `{$v: 1, $set: {..}, $unset: {..}}` for changed fields, `{_id: ..}` for a delete, and a message for a
+/// no-op and a note.
 pub fn body(alloc: Global, op: &Op) -> Mem<Doc>
     requires { IsLawfulOp op.now }
     ensures { IfOk result (λ d. d ≡ body_of op.now) }
@@ -113,7 +113,7 @@ pub(crate) fn target(alloc: Global, op: &Op) -> Mem<Option<Doc>>
 }
 
 /// The member `op` of an entry: `i`, `u` or `d` where it inserts, updates or deletes a document,
-/// and else `n`.
+/// and otherwise `n`.
 pub fn letter(op: &Op) -> &'static str
     ensures { result.now ≡ letter_of op.now }
 {
@@ -168,7 +168,7 @@ fn put_session(alloc: Global, document: &mut Doc, session: Option<Session>) -> M
     }
 }
 
-/// The members in front of `o`, with the entry's op.
+/// The members before `o`, with the entry's op.
 fn head(alloc: Global, entry: &Entry, op: &Op) -> Mem<Doc>
     requires term { entry.now.optime.term < 2 ^ 63 }
     requires op { op.now ≡ entry.now.op }
@@ -212,14 +212,14 @@ fn document_with(alloc: Global, entry: &Entry, op: &Op) -> Mem<Doc>
     Ok(document)
 }
 
-/// The bytes of a lawful entry, the one spelling of its document. It is `TooDeep` with more levels than the
-/// bounds of an entry have, and else `TooLarge` with more bytes.
+/// The bytes of a lawful entry, the only spelling of its document. `TooDeep` where it has more levels than
+/// the bounds of an entry allow, otherwise `TooLarge` where it has more bytes.
 pub fn to_bytes(alloc: Global, entry: &Entry) -> Result<Vec<u8>, EncodeError>
     requires { IsLawful entry.now }
     ensures ok { IfOk result (λ bytes.
         IsSpelling ENTRY.bytes ENTRY.levels (document_of entry.now) bytes.items) }
     ensures sound { OnOk result (IsSound (document_of entry.now)) }
-    // A bound that is passed is told, unless memory runs out before.
+    // A bound that is passed is reported, unless memory runs out first.
     ensures too_deep { IsErrOf result EncodeError.TooDeep
         → ENTRY.levels < document_levels (document_of entry.now) }
     ensures too_large { IsErrOf result EncodeError.TooLarge

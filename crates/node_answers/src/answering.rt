@@ -56,8 +56,8 @@ fn is_show(command: &Command) -> bool
     )
 }
 
-/// Does what a command asks that is answered at once. Out of memory is the one error, and leaves the node as
-/// it was.
+/// Does what a command asks that is answered at once. The only error is out of memory, which leaves the node
+/// as it was.
 pub fn answer(state: &mut State, command: &Command) -> Mem<Reply>
     requires bounds { IsBounded state.old.node }
     requires plain { is_plain command.now ≡ true }

@@ -56,7 +56,7 @@ fn copies_at(alloc: Global, node_data: &NodeData, optimes: &[OpTime]) -> Mem<Ent
     Ok(EntryList::new(copies))
 }
 
-/// Applies the next batch, by so many workers.
+/// Applies the next batch, by this many workers.
 pub(crate) fn apply<R: Threads + Sync>(state: &mut State, rt: &R, workers: u32) -> Mem<Turn>
     requires some { 0 < workers }
     requires most { workers ≤ 16 }

@@ -159,7 +159,7 @@ impl<D: Disk> Disks<D> {
         self.checkpoints.power_cut(pick);
     }
 
-    /// Takes the memory for two short records.
+    /// Reserves memory for two short records.
     pub(crate) fn reserve(&mut self) -> Mem<()>
         ensures rests { (node : Node)
             → UpOnDisks node self.old.count (D.state self.old.journal.0) (D.state self.old.checkpoints)

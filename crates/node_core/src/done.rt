@@ -17,7 +17,7 @@ pub struct Done {
 }
 
 impl Done {
-    /// The same outcome once more.
+    /// A copy of the outcome.
     pub fn copy(&self) -> Mem<Done>
         ensures reply { IfOk result (λ d. d.reply ≡ self.now.reply) }
         ensures sent { IfOk result (λ d. d.sent.items ≡ self.now.sent.items) }

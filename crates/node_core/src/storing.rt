@@ -124,7 +124,7 @@ fn said(turn: Turn) -> Ended
     }
 }
 
-/// Does what a command asks, in memory and on the disks. Out of memory is the one error, and then all is
+/// Does what a command asks, in memory and on the disks. The only error is out of memory, and then all is
 /// as it was.
 pub(crate) fn act_own<D: Disk, R: Threads + Sync>(
     state: &mut State,
@@ -161,7 +161,7 @@ pub(crate) fn act_own<D: Disk, R: Threads + Sync>(
     carry_out(state, disks, turn)
 }
 
-/// Takes a message, in memory and on the disks. Out of memory is the one error, and then all is as it was.
+/// Takes a message, in memory and on the disks. The only error is out of memory, and then all is as it was.
 pub(crate) fn take_in<D: Disk, R: Threads + Sync>(
     state: &mut State,
     disks: &mut Disks<D>,

@@ -1,4 +1,4 @@
--- The last write of a session in a log with one entry more, and a table of them.
+-- The last write of a session in a log with one more entry, and a table of them.
 use Rattle.std.proofs.Common.{◌≡◌, inl, inr, ◌<◌, ℕ, Bool, true, false, cond, ◌&&◌, nat_lt, eq-eqb, filter, fold, List, [], ◌∷◌, ◌++◌, Option, None, Some, IfSome, IsSome, refl, sym, ap, subst, ◌∙◌, rules}
 use Rattle.std.proofs.lemmas.Bool.{ne_eqb}
 use Rattle.std.proofs.lemmas.List.Sums.{fold-append}

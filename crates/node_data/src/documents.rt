@@ -33,7 +33,7 @@ impl NodeData {
     }
 
     /// The optime as of which a read at `local` shows documents: one later than every entry where the log is
-    /// writable, and else how far it is applied.
+    /// writable, and otherwise how far it is applied.
     pub fn local_point(&self) -> OpTime
         ensures readable { IsReadable self.now.node result }
         ensures shown { log_up_to result self.now.node.log ≡ shown_log self.now.node Local }

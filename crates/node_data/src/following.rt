@@ -59,7 +59,7 @@ impl NodeData {
         insert_all(&mut self.log, &mut self.slots, entries);
     }
 
-    /// Applies the next batch, of at most 5,000 entries, by so many workers. The result is how many entries
+    /// Applies the next batch, of at most 5,000 entries, by this many workers. The result is how many entries
     /// there were. Out of memory leaves all as it was.
     pub fn apply<R: Threads + Sync>(&mut self, rt: &R, workers: u32) -> Mem<usize>
         requires role { is_primary self.old.node.role ≡ false }
@@ -119,7 +119,7 @@ impl NodeData {
         Ok(())
     }
 
-    /// Applies the next entries, at most so many, by so many workers. The result is how many there were.
+    /// Applies the next entries, at most so many, by this many workers. The result is how many there were.
     fn apply_next<R: Threads + Sync>(&mut self, rt: &R, workers: u32, most: usize) -> Mem<usize>
         requires role { is_primary self.old.node.role ≡ false }
         requires workers { (0 < workers) × (workers ≤ 16) }

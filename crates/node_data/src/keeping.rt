@@ -25,10 +25,10 @@ use visibility_point::visible_open;
 pub(crate) const SHARDS: u32 = 64;
 
 /// The log of a node, the open slots with their writers, and the documents. It is writable on a primary, and
-/// else follows what other nodes wrote.
+/// otherwise follows what other nodes wrote.
 ///
-/// The documents are those of the whole log where that is writable. Else they are those of the log as far as
-/// it is applied, and no slot is open.
+/// The documents are those of the whole log where that is writable. Otherwise they are those of the log as
+/// far as it is applied, and no slot is open.
 #[derive(Drop)]
 pub struct NodeData {
     pub(crate) alloc: Global,
@@ -83,7 +83,7 @@ impl Model for NodeData {
 }
 
 impl NodeData {
-    /// The data of a node that has written nothing yet, and follows. Out of memory is the one error.
+    /// The data of a node that has written nothing yet, and follows. The only error is out of memory.
     pub fn new(alloc: Global) -> Mem<Self>
         ensures { IfOk result (λ made. made.node ≡ opening_node nobody 0) }
     {

@@ -42,7 +42,7 @@ fn stored(alloc: Global, documents: BTreeMap<(Text, IdKey), Doc>, at: OpTime) ->
 
 impl NodeData {
     /// The data of a node that comes up, and follows: the log is these entries, all applied, and `documents`
-    /// are those that the checkpoint has, as of the optime `at`. Out of memory is the one error.
+    /// are those that the checkpoint has, as of the optime `at`. The only error is out of memory.
     pub fn restore<R: Threads + Sync>(
         rt: &R,
         alloc: Global,

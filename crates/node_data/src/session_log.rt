@@ -93,7 +93,7 @@ impl SessionTable {
         self.writes.get(&id).copied()
     }
 
-    /// One entry more.
+    /// One more entry.
     fn add(&mut self, at: OpTime, session: Option<Session>) -> Mem<()>
         ensures { OnOk result ((id : ℕ)
             → maps.get self.new id ≡ later_write id (maps.get self.old id) at session) }
@@ -124,7 +124,7 @@ fn search(entries: &[Entry], id: u32) -> Option<LastWrite>
     last
 }
 
-/// The last write of a session with one entry more.
+/// The last write of a session with one more entry.
 fn later(id: u32, last: Option<LastWrite>, entry: &Entry) -> Option<LastWrite>
     ensures { result ≡ later_write id last entry.now.optime entry.now.session }
 {
@@ -195,7 +195,7 @@ impl SessionLog {
         }
     }
 
-    /// Makes room for so many entries, so that the log takes no memory for them.
+    /// Makes room for this many entries, so that the log takes no memory for them.
     pub(crate) fn reserve(&mut self, more: usize) -> Mem<()>
         ensures entries { self.new.entries ≡ self.old.entries }
         ensures ok { OnOk result (more ≤ self.new.spare) }

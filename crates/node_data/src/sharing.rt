@@ -52,7 +52,7 @@ impl NodeData {
         self.log.written().get_near(likely, at)
     }
 
-    /// Copies of all entries, in their order. Out of memory is the one error.
+    /// Copies of all entries, in their order. The only error is out of memory.
     pub fn entries(&self) -> Mem<EntryList>
         ensures { IfOk result (λ list. list ≡ self.now.node.log) }
     {
@@ -60,7 +60,7 @@ impl NodeData {
     }
 
     /// The answer to a node whose last optime is `base`, where the log is visible up to `visible`, as
-    /// `oplog_fetcher` gives it. Out of memory is the one error.
+    /// `oplog_fetcher` gives it. The only error is out of memory.
     pub fn fetched(
         &mut self,
         visible: OpTime,
@@ -148,7 +148,7 @@ impl NodeData {
     }
 
     /// The documents that the entries after an optime touched, each once, as a read at `local` shows them:
-    /// what a rollback to that optime takes. Out of memory is the one error.
+    /// what a rollback to that optime takes. The only error is out of memory.
     pub fn lost_after(&mut self, at: OpTime) -> Mem<Vec<LostDocument>>
         ensures lost { IfOk result (λ lost. map lost_of lost.items
             ≡ touched_documents (λ place. maps.get (local_documents self.old.node) place)

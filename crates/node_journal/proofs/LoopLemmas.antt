@@ -1,4 +1,4 @@
--- One record more, and what is known of its bytes.
+-- One more record, and what is known of its bytes.
 use Rattle.std.proofs.Common.{◌≡◌, ◌<◌, inl, ℕ, zero, suc, ◌+◌, List, [], ◌∷◌, ◌++◌, length, take, refl, sym, ap, arith, subst, ◌∙◌}
 use Rattle.std.specs.Prelude.{Vec, slice_index_or}
 use Rattle.std.specs.declared.alloc.Global.{Global}

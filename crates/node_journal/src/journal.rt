@@ -192,7 +192,7 @@ impl<D: Disk> Journal<D> {
         let _len = self.file.len();
     }
 
-    /// Takes the memory for records without entries, of so many bytes together with 5 more for each of them.
+    /// Reserves memory for records without entries, of so many bytes together with 5 more for each of them.
     pub fn reserve(&mut self, more: u64) -> Mem<()>
         ensures same { SameButRoom (D.state self.old.0) (D.state self.new.0) }
         ensures open { IsOpen (D.state self.old.0) → IsOpen (D.state self.new.0) }

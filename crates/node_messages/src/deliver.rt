@@ -32,8 +32,8 @@ fn brings_term(body: &Body) -> bool
     }
 }
 
-/// Begins what the node does with a message that arrives; `next` is the number that the next message
-/// gets. Out of memory is the one error, and leaves the node as it was.
+/// Begins what the node does with a message that arrives; `next` is the number that the next message gets.
+/// The only error is out of memory, which leaves the node as it was.
 pub fn take<R: Threads + Sync>(state: &mut State, rt: &R, next: u64, message: &Message) -> Mem<Turn>
     requires bounds { IsBounded state.old.node }
     requires next { IsNumbered next }

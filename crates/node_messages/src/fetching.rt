@@ -61,7 +61,7 @@ pub(crate) fn prepare_entries(
     })
 }
 
-/// Makes room for so many entries, and for what is heard of their sender.
+/// Makes room for this many entries, and for what is heard of their sender.
 fn make_room(state: &mut State, count: usize) -> Mem<()>
     ensures node { state.new.node ≡ state.old.node }
     ensures room { OnOk result (count ≤ state.new.spare) }

@@ -1,4 +1,4 @@
--- The entries of the records with those of one record more: a part of the log, in its order.
+-- The entries of the records with those of one more record: a part of the log, in its order.
 use Rattle.std.proofs.Common.{◌≡◌, ◌≢◌, ◌∙◌, ◌⊎◌, ◌<◌, take, drop, filter, inl, inr, ap, ap₂, sym, subst, refl, arith, ℕ, zero, suc, Bool, true, false, not, List, [], ◌∷◌}
 use Rattle.std.proofs.lemmas.List.Kept.{AllPairs-cons}
 use Rattle.std.specs.List.{All, AllPairs}

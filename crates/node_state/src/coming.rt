@@ -43,7 +43,7 @@ pub struct Coming<'a> {
 impl State {
     /// A node that comes up with what was read of its journal (`found`), and with the documents that its
     /// checkpoint has, as of the optime `stable`. Entries after the journal's point are left out, since the
-    /// node cuts its log there as it comes up. Out of memory is the one error.
+    /// node cuts its log there as it comes up. The only error is out of memory.
     pub fn restored<R: Threads + Sync>(
         rt: &R,
         alloc: Global,

@@ -48,7 +48,7 @@ impl State {
         Ok(())
     }
 
-    /// Makes room for so many entries.
+    /// Makes room for this many entries.
     pub fn reserve(&mut self, more: usize) -> Mem<()>
         ensures node { self.new.node ≡ self.old.node }
         ensures ok { OnOk result (more ≤ self.new.spare) }

@@ -151,8 +151,8 @@ impl Model for State {
 }
 
 impl State {
-    /// A node as the set begins, with this number and this first configuration. Out of memory is
-    /// the one error.
+    /// A node as the set begins, with this number and this first configuration. The only error is
+    /// out of memory.
     pub fn open(alloc: Global, number: u32, config: &Config) -> Mem<State>
         requires number { number < 50 }
         requires config { rule config.now ≡ None }

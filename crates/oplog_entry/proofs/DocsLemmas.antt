@@ -1,4 +1,4 @@
--- How the documents of a log follow one entry more.
+-- How the documents of a log follow one more entry.
 use Rattle.std.proofs.Common.{◌≡◌, false, cond, List, [], ◌∷◌, ◌++◌, Option, None, Some, refl, sym, ap, ◌∙◌}
 use Rattle.std.proofs.lemmas.List.Sums.{fold-append}
 use Rattle.std.specs.Ordering.{eq_by_cmp, is_eq}

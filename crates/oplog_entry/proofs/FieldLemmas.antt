@@ -1,4 +1,4 @@
--- How setting fields and removing them go together.
+-- How setting fields and removing them interact.
 use Rattle.std.proofs.Common.{zero, suc, ◌<◌, ◌+◌, add-one, fold, ◌||◌, ◌≡◌, ℕ, Bool, true, false, if◌then◌else◌, List, [], ◌∷◌, None, Some, refl, sym, ap, ◌∙◌, arith}
 use Rattle.std.specs.Str.{bytes_eq}
 use Rattle.std.proofs.lemmas.Slice.Eq.{bytes_eq-Decides}

@@ -1,4 +1,4 @@
--- A log with one entry more, its last entry, and entries that stand before others.
+-- A log with one more entry, its last entry, and entries that stand before others.
 use Rattle.std.proofs.Common.{◌≡◌, ◌⊎◌, inl, inr, ap, refl, Bool, true, false, cond, filter, List, [], ◌∷◌}
 use Rattle.std.specs.Prelude.{nat_lt}
 use Rattle.rs_optime.specs.Membership.{In}

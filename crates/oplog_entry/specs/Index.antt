@@ -16,7 +16,7 @@ abbrev pub AreAllPlaces : Fields → BTreeMap (List ℕ) ℕ → Type 0
 AreAllPlaces document places = (name : List ℕ)
     → option_and_then (value_at document) (get (slice_cmp nat_cmp) places name) ≡ found name document
 
--- the places that are kept, if any, are those of all names
+-- the stored places, if any, are those of all names
 abbrev pub ArePlaces : Fields → Option (BTreeMap (List ℕ) ℕ) → Type 0
 ArePlaces document None = ⊤
 ArePlaces document (Some places) = AreAllPlaces document places

@@ -1,4 +1,4 @@
--- What an entry owes.
+-- What an entry has to satisfy.
 use Rattle.std.specs.Prelude.{◌≡◌, ◌<◌, ◌^◌, ℕ, Bool, false, List, Contains, None, IsSome, IfSome, ⊤, codes}
 use Rattle.std.specs.List.{list_any}
 use Rattle.std.specs.Str.{bytes_eq}
@@ -28,7 +28,7 @@ AreUnsets (item (text name) rest) =
     × (is_among name (strings_of rest) ≡ false) × AreUnsets rest
 AreUnsets (item _ rest) = ⊥
 
--- A document begins with an `_id` that has a key, an `id` has a key, and fields leave the `_id` alone.
+-- A document begins with an `_id` that is a key, an `id` is a key, and changed fields leave the `_id` alone.
 abbrev pub IsLawfulOp : Op → Type 0
 IsLawfulOp (Insert ns o) = BeginsWithId o × IsSome (id_key o)
 IsLawfulOp (Replace ns id o) = BeginsWithId o × IsSome (id_key o) × (key_of (tree_of id) ≡ id_key o)
@@ -43,7 +43,7 @@ pub record IsSession (session : Session) : Type 0 where
   pub id : session.id < 2 ^ 32
   pub number : session.number < 2 ^ 32
 
--- A term below 2^63, and a lawful op. What is a write of a session touches a document: a no-op and a note
+-- A term below 2^63, and a lawful op. A write of a session touches a document: a no-op and a note
 -- have no session.
 pub record IsLawful (entry : Entry) : Type 0 where
   pub term : entry.optime.term < 2 ^ 63

@@ -14,7 +14,7 @@ pub record IsOplog (log : List Entry) : Type 0 where
   pub order : AllPairs StandsBefore log
   pub lawful : All IsLawful log
 
--- a log with one entry more, before the first whose timestamp is no earlier
+-- a log with one more entry, inserted before the first one whose timestamp is no earlier
 abbrev pub with_entry : List Entry → Entry → List Entry
 with_entry [] entry = entry ∷ []
 with_entry (other ∷ log) entry =

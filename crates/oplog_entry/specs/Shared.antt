@@ -5,7 +5,7 @@ use Rattle.std.specs.declared.sync.Arc.{Arc}
 use Rattle.oplog_entry.specs.declared.entry.Op.{Op}
 use Rattle.oplog_entry.specs.declared.entry.Op.TheVariants.{Noop}
 
--- where there is none, it is a no-op
+-- the shared op; none means a no-op
 abbrev pub op_of : Option (Arc Op Global) → Op
 op_of None = Noop
 op_of (Some shared) = shared.value

@@ -26,12 +26,12 @@ place_of (Delete ns id) = place_in ns (key_of (tree_of id))
 place_of Noop = None
 place_of Note = None
 
--- what an op touches is the document at a place
+-- whether what an op touches is the document at a place
 abbrev pub is_at : Option Place → Place → Bool
 is_at None place = false
 is_at (Some own) place = eq_by_cmp place_cmp own place
 
--- with each of these fields set, in their order: a present name keeps its place, and a new one goes
+-- with each of these fields set, in their order: an existing name keeps its place, and a new one goes
 -- to the end
 abbrev pub with_sets : Fields → Fields → Fields
 with_sets document no_fields = document
@@ -43,11 +43,11 @@ strings_of no_items = []
 strings_of (item (text bytes) rest) = bytes ∷ strings_of rest
 strings_of (item _ rest) = strings_of rest
 
--- the document with some fields set, and then the fields of some names gone
+-- the document with some fields set, and then the fields of some names removed
 abbrev pub changed : Fields → Fields → Trees → Fields
 changed document sets unsets = fold without (with_sets document sets) (strings_of unsets)
 
--- what an op leaves of the document at its place. Where there is none, no field is there to change
+-- the document at an op's place after the op. Without a document there is no field to change
 abbrev pub document_after : Op → Option Fields → Option Fields
 document_after (Insert ns o) before = Some o
 document_after (Replace ns id o) before = Some o

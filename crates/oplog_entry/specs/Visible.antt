@@ -14,7 +14,7 @@ last_of [] = ZERO
 last_of (entry ∷ []) = entry.optime
 last_of (entry ∷ next ∷ log) = last_of (next ∷ log)
 
--- the earlier of an optime and one that may be there
+-- the earlier of an optime and another one, if there is another
 abbrev pub earlier : OpTime → Option OpTime → OpTime
 earlier slot None = slot
 earlier slot (Some other) = if is_before other slot then other else slot
@@ -24,7 +24,7 @@ abbrev pub least : List OpTime → Option OpTime
 least [] = None
 least (slot ∷ slots) = Some (earlier slot (least slots))
 
--- the entries before an optime; all, where there is none
+-- the entries before an optime; all entries, if there is none
 abbrev pub entries_before : Option OpTime → List Entry → List Entry
 entries_before None log = log
 entries_before (Some slot) log = filter (λ entry. is_before entry.optime slot) log

@@ -1,4 +1,4 @@
--- A changed document, field by field: what stays, each with its new value, and then what is new.
+-- A changed document, field by field: first the fields that stay, each with its new value, then the new ones.
 use Rattle.std.specs.Prelude.{ℕ, List, is_some, unwrap_or, if◌then◌else◌}
 use Rattle.bson_doc.specs.Tree.{Fields, no_fields, field, found}
 use Rattle.oplog_entry.specs.Lawful.{is_among}
@@ -8,14 +8,14 @@ abbrev pub join : Fields → Fields → Fields
 join no_fields later = later
 join (field name value rest) later = field name value (join rest later)
 
--- what stays of a document, each field with its new value where there is one
+-- the fields of a document that stay, each with its new value where there is one
 abbrev pub staying : List (List ℕ) → Fields → Fields → Fields
 staying gone sets no_fields = no_fields
 staying gone sets (field name value rest) =
     if is_among name gone then staying gone sets rest
     else field name (unwrap_or (found name sets) value) (staying gone sets rest)
 
--- what is new to a document
+-- the fields that are new to a document
 abbrev pub fresh : List (List ℕ) → Fields → Fields → Fields
 fresh gone d no_fields = no_fields
 fresh gone d (field name value rest) =

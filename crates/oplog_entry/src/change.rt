@@ -10,10 +10,11 @@ use crate::names::NameSet;
 use bson_doc::{Doc, FEW_FIELDS, Items, Mem, Text, Value};
 use std::alloc::Global;
 
-/// A document in which so many names are compared for all changes is looked through for each of them.
+/// Where all changes together take at most this many comparisons of names, the document is searched
+/// for each change.
 const FEW_COMPARISONS: usize = 16_384;
 
-/// Writes one field that stays, with its new value where there is one. Otherwise both documents have it.
+/// Writes one field that stays, with its new value where there is one. Otherwise both documents share it.
 fn keep(
     out: &mut Doc,
     document: &Doc,
@@ -40,7 +41,7 @@ fn keep(
     }
 }
 
-/// What stays of a document, each field with its new value where there is one.
+/// The fields of a document that stay, each with its new value where there is one.
 fn staying(alloc: Global, document: &Doc, sets: &FieldIndex<'_>, gone: &NameSet<'_>) -> Mem<Doc>
     requires { IsDocument (staying gone.now sets.now document.now) }
     ensures { IfOk result (λ d. d ≡ staying gone.now sets.now document.now) }
@@ -84,7 +85,7 @@ fn add(
     out.append(name, value.copy()?)
 }
 
-/// Writes what is new to a document.
+/// Writes the fields that are new to a document.
 fn add_fresh(
     alloc: Global,
     out: &mut Doc,
@@ -104,7 +105,7 @@ fn add_fresh(
     Ok(())
 }
 
-/// The document with many changes, by O(n log n) comparisons of names.
+/// The document with many changes, in O(n log n) comparisons of names.
 fn with_many(alloc: Global, document: &Doc, sets: &Doc, unsets: &Items) -> Mem<Doc>
     ensures { IfOk result (λ d. d ≡ changed document.now sets.now unsets.now) }
 {
@@ -116,7 +117,7 @@ fn with_many(alloc: Global, document: &Doc, sets: &Doc, unsets: &Items) -> Mem<D
     Ok(changed)
 }
 
-/// Sets each of these fields, in their order. Both documents have it then.
+/// Sets each of these fields, in their order. Both documents then share it.
 fn put_all(out: &mut Doc, sets: &Doc) -> Mem<()>
     ensures { OnOk result (out.new ≡ with_sets out.old sets.now) }
 {
@@ -126,7 +127,7 @@ fn put_all(out: &mut Doc, sets: &Doc) -> Mem<()>
     Ok(())
 }
 
-/// Takes the fields of these names out, one after another.
+/// Removes the fields with these names, one after another.
 fn take_out(out: &mut Doc, names: &Items)
     ensures { out.new ≡ fold without out.old (strings_of names.now) }
 {
@@ -137,7 +138,7 @@ fn take_out(out: &mut Doc, names: &Items)
     }
 }
 
-/// The document with a few changes, each made in a copy, which has the same other fields.
+/// The document with a few changes, each made in a copy that shares the other fields.
 fn with_few(document: &Doc, sets: &Doc, unsets: &Items) -> Mem<Doc>
     ensures { IfOk result (λ d. d ≡ changed document.now sets.now unsets.now) }
 {
@@ -147,14 +148,14 @@ fn with_few(document: &Doc, sets: &Doc, unsets: &Items) -> Mem<Doc>
     Ok(changed)
 }
 
-/// Whether to look through the document for each change costs less than to put its names in order.
+/// Whether searching the document for each change costs less than putting its names in order.
 fn are_few(document: &Doc, sets: &Doc, unsets: &Items) -> bool {
     let changes = sets.len().saturating_add(unsets.len());
     let fields = document.len().saturating_add(sets.len());
     changes <= FEW_FIELDS || changes.saturating_mul(fields) <= FEW_COMPARISONS
 }
 
-/// The document with all changes, in the way that costs less.
+/// The document with all changes, made in the cheaper way.
 fn with_all(alloc: Global, document: &Doc, sets: &Doc, unsets: &Items) -> Mem<Doc>
     ensures { IfOk result (λ d. d ≡ changed document.now sets.now unsets.now) }
 {
@@ -165,8 +166,8 @@ fn with_all(alloc: Global, document: &Doc, sets: &Doc, unsets: &Items) -> Mem<Do
     }
 }
 
-/// The document once each field of `sets` is set, a present name in its place and a new one at the end, and
-/// then the names in `unsets` are gone. Both documents have the fields that stay. Takes O(n log n)
+/// The document with each field of `sets` set, an existing name in its place and a new one at the end, and
+/// then the names in `unsets` removed. Both documents share the fields that stay. Takes O(n log n)
 /// comparisons of names.
 pub fn with_changes(alloc: Global, document: &Doc, sets: &Doc, unsets: &Items) -> Mem<Doc>
     ensures changed { IfOk result (λ d. d ≡ changed document.now sets.now unsets.now) }

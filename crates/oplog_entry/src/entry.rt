@@ -12,55 +12,54 @@ use std::sync::Arc;
 /// What an entry of the oplog does to one document. `ns` is the collection, and `id` the document's `_id`.
 #[derive(Drop)]
 pub enum Op {
-    /// The document `o`, with its `_id` first, is there.
+    /// Inserts the document `o`, with its `_id` first.
     Insert {
         ns: Text,
         o: Doc,
     },
-    /// The document `o`, with its `_id` first, stands in place of the one before.
+    /// Replaces the document by `o`, with its `_id` first.
     Replace {
         ns: Text,
         id: Value,
         o: Doc,
     },
-    /// Each field of `sets` has its value, and then the names in `unsets` are gone.
+    /// Sets each field of `sets`, and then removes the names in `unsets`.
     Fields {
         ns: Text,
         id: Value,
         sets: Doc,
         unsets: Items,
     },
-    /// The document is gone.
+    /// Deletes the document.
     Delete {
         ns: Text,
         id: Value,
     },
-    /// Nothing happens to any document. A new primary writes it.
+    /// Changes no document. A new primary writes it.
     Noop,
-    /// Nothing happens to any document. A client has it written.
+    /// Changes no document. A client has it written.
     Note,
 }
 
-/// Which of a client's writes an entry is, so that the client may ask for it again: the number of the
-/// client's session, and the number of the write in it.
+/// Which of a client's writes an entry is, so that the client may retry it: the number of the client's
+/// session, and the number of the write within the session.
 #[derive(Clone, Copy, Debug, PartialEq, Eq)]
 pub struct Session {
     pub id: u32,
     pub number: u32,
 }
 
-/// One entry of an oplog. An entry is lawful (`IsLawful`) where its term is below 2^63, its `_id` is one that
-/// tells documents apart, its fields leave that `_id` alone, and it has no session where it is a no-op or a
-/// note.
+/// One entry of an oplog. An entry is lawful (`IsLawful`) where its term is below 2^63, its `_id` is a key,
+/// its fields leave that `_id` alone, and a no-op or a note has no session.
 #[derive(Drop)]
 pub struct Entry {
     pub optime: OpTime,
     pub op: SharedOp,
-    /// The write of a session that the entry is, where a client may ask for it again.
+    /// The write of a session that the entry is, if a client may retry it.
     pub session: Option<Session>,
 }
 
-/// An op with as many owners as there are copies. A no-op takes no memory.
+/// A shared op, with one owner for each copy. A no-op takes no memory.
 #[derive(Drop)]
 pub struct SharedOp {
     op: Option<Arc<Op, Global>>,
@@ -86,7 +85,7 @@ impl SharedOp {
         SharedOp { op: None }
     }
 
-    /// An op with one owner. Out of memory is the one error.
+    /// An op with one owner. The only error is out of memory.
     pub fn new(alloc: Global, op: Op) -> Mem<Self>
         ensures { IfOk result (λ shared. shared ≡ op) }
     {
@@ -95,7 +94,7 @@ impl SharedOp {
         })
     }
 
-    /// The op itself; of a no-op, which isn't kept anywhere, the one that is given.
+    /// The op itself. A no-op isn't stored, so for one it is the argument.
     pub fn or<'a>(&'a self, no_op: &'a Op) -> &'a Op
         requires { no_op.now ≡ Noop }
         ensures { result.now ≡ self.now }
@@ -106,7 +105,7 @@ impl SharedOp {
         }
     }
 
-    /// The same op with one owner more. So many owners that none can be counted more is out of memory.
+    /// The same op with one more owner. It is out of memory where the owners are too many to count.
     pub fn copy(&self) -> Mem<Self>
         ensures { IfOk result (λ shared. shared ≡ self.now) }
     {
@@ -120,7 +119,7 @@ impl SharedOp {
 }
 
 impl Op {
-    /// The same op once more.
+    /// A copy of the op.
     pub fn copy(&self) -> Mem<Op>
         ensures { IfOk result (λ op. op ≡ self.now) }
     {
@@ -190,7 +189,7 @@ impl Op {
 }
 
 impl Entry {
-    /// The same entry once more.
+    /// A copy of the entry.
     pub fn copy(&self) -> Mem<Entry>
         ensures { IfOk result (λ entry. entry ≡ self.now) }
     {

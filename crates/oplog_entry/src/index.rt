@@ -1,4 +1,4 @@
-// Looking names of one document up, many times.
+// Looking up names of one document many times.
 ghost use Rattle.std.specs.Prelude.{◌≡◌, IfOk, option_map};
 ghost use Rattle.bson_doc.specs.Tree.{found, IsDocument};
 ghost use Rattle.bson_doc.specs.View.{tree_of};
@@ -10,7 +10,7 @@ use std::collections::BTreeMap;
 use std::marker::Model;
 
 /// A document with its names in order, seen as its fields. A look-up takes O(log n) comparisons. Where few
-/// names are looked up, or the document is small, it is looked through as it is.
+/// names are looked up, or the document is small, the document itself is searched.
 #[derive(Drop)]
 pub struct FieldIndex<'a> {
     document: &'a Doc,
@@ -33,8 +33,8 @@ impl<'a> Model for FieldIndex<'a> {
 }
 
 impl<'a> FieldIndex<'a> {
-    /// The index of a document in which so many names are looked up. Few are looked up in the document as it
-    /// is. Out of memory is the one error.
+    /// The index of a document in which `look_ups` names are looked up. If they are few, they are looked up
+    /// in the document itself. The only error is out of memory.
     pub fn new(alloc: Global, document: &'a Doc, look_ups: usize) -> Mem<Self>
         ensures index { IfOk result (λ index. index ≡ document.now) }
         ensures names { IsDocument document.now }

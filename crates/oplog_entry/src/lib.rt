@@ -1,8 +1,8 @@
 //! Entries of an oplog: what each does to which document, and the documents that a log of them leaves.
 //!
-//! The definitions stand in `specs/`: what an entry owes (`Lawful`), which document it touches and
-//! what it makes of it (`Step`), the order of a log (`Log`), its documents (`Docs`), and how far it
-//! can be read (`Visible`).
+//! The definitions are in `specs/`: what an entry has to satisfy (`Lawful`), which document it touches and
+//! what becomes of that (`Step`), the order of a log (`Log`), its documents (`Docs`), and how far it can
+//! be read (`Visible`).
 #![tactic(auto)]
 
 mod change;

@@ -1,4 +1,4 @@
-// Strings among which names are looked up, many times.
+// Strings among which names are looked up many times.
 ghost use Rattle.std.specs.Prelude.{◌≡◌, IfOk};
 ghost use Rattle.oplog_entry.specs.Lawful.{is_among};
 ghost use Rattle.oplog_entry.specs.Step.{strings_of};
@@ -32,8 +32,7 @@ impl<'a> Model for NameSet<'a> {
 }
 
 impl<'a> NameSet<'a> {
-    /// The set of the strings among some values; other values are passed over. Out of memory is
-    /// the one error.
+    /// The set of the strings among some values; other values are skipped. The only error is out of memory.
     pub fn new(alloc: Global, values: &'a Items) -> Mem<Self>
         ensures { IfOk result (λ names. names ≡ strings_of values.now) }
     {

@@ -18,7 +18,7 @@ pub const MOST_ENTRIES: usize = 5_000;
 
 /// Answers a fetch by a node whose last optime is `base`, from a log that is visible up to `visible`: the
 /// next visible entries after `base`, at most 5,000. Where `base` is neither ZERO nor a visible entry's
-/// optime, there are none, and `holds` is false. Out of memory is the one error.
+/// optime, there are none, and `holds` is false. The only error is out of memory.
 pub fn reply_to(
     alloc: Global,
     log: &Oplog,

@@ -13,7 +13,7 @@ use thiserror::Error;
 #[error("the entries don't go on where the log ends")]
 pub struct OtherPlace;
 
-/// The entries of an answer, if they continue a log that ends at `last`; else `OtherPlace`.
+/// The entries of an answer, if they continue a log that ends at `last`; otherwise `OtherPlace`.
 pub fn accept(last: OpTime, reply: &FetchReply) -> Result<&[Entry], OtherPlace>
     ensures ok { IfOk result (λ entries.
         (continues last reply.now ≡ true) × (entries.now ≡ reply.now.entries)) }

@@ -45,7 +45,7 @@ impl Model for OpenLog {
     ghost invariant = { λ o. IsLogWithHoles o.settled o.beyond.items o.last o.spare };
 }
 
-/// Makes room for so many entries beside those that the places take.
+/// Makes room for this many entries beside those that the places take.
 fn hold(settled: &mut Oplog, places: usize, more: usize) -> Mem<()>
     ensures entries { settled.new.entries ≡ settled.old.entries }
     ensures ok { OnOk result (more + places ≤ settled.new.spare) }
@@ -88,7 +88,7 @@ impl OpenLog {
         }
     }
 
-    /// Makes room for so many entries, so that `insert` takes no memory for them.
+    /// Makes room for this many entries, so that `insert` takes no memory for them.
     pub fn reserve(&mut self, more: usize) -> Mem<()>
         ensures entries { self.new.entries ≡ self.old.entries }
         ensures ok { OnOk result (more ≤ self.new.spare) }

@@ -3,7 +3,8 @@ ghost use Rattle.part_laws.specs.Elections.{TalliesAgree, VotesAgree};
 ghost use Rattle.part_laws.specs.Logs.{AcceptsAgree, CommonPointsAreLast, FetchesAgree, RollbacksAgree, SourcesAgree};
 ghost use Rattle.part_laws.specs.Points.{PointsAgree, ReconfigsAgree};
 
-/// `decide` refuses with the reason with which a node answers, and else gives the vote for the one who asks.
+/// `decide` refuses with the reason with which a node answers, and otherwise gives the vote for the
+/// one who asks.
 pub fn votes_are_decided_as_a_node_does()
     ensures { VotesAgree }
 {}

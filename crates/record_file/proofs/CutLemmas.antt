@@ -1,4 +1,4 @@
--- What the power leaves where it goes.
+-- What a power cut leaves.
 use Rattle.std.proofs.Common.{ℕ, List, sym, subst}
 use Rattle.rs_disk.specs.File.{LeavesOnly, contents}
 use Rattle.rs_disk.specs.Images.{only_image}

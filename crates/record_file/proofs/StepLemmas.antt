@@ -1,4 +1,4 @@
--- How far the calls of an opening came, by how each of them ends.
+-- How far the calls of an opening get, by how each of them ends.
 use Rattle.std.proofs.Common.{◌≡◌, ◌-◌, inl, inr, List, [], ◌∷◌, ◌++◌, ℕ, refl, sym, ap, subst, ◌∙◌, append_assoc}
 use Rattle.std.specs.Prelude.{Result, Ok, Err}
 use Rattle.rs_disk.specs.File.{write}

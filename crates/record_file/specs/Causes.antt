@@ -4,7 +4,7 @@ use Rattle.rs_disk.specs.declared.disk.DiskError.TheVariants.{Failed, Memory}
 use Rattle.record_file.specs.declared.error.FileError.{FileError}
 use Rattle.record_file.specs.declared.error.FileError.TheVariants.{Disk, Memory as NoMemory}
 
--- what a record file answers where its disk answers so
+-- what a record file answers for this error of its disk
 abbrev pub file_error : DiskError → FileError
 file_error Failed = Disk
 file_error Memory = NoMemory

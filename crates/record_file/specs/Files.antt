@@ -29,8 +29,8 @@ MayHave state records = MayLeave HasRecords state records
 abbrev pub IsOneOf : State → List ℕ → Type 0
 IsOneOf state image = IsOneLeft HasRecords state image
 
--- A disk that is empty or that a record file left: whatever a crash leaves of it has a list. It reads as
--- one of these.
+-- A disk that is empty or that a record file left: whatever a crash leaves of it has a list of records. What
+-- it reads as has one too.
 pub record IsRecordDisk (state : State) : Type 0 where
   pub leaves : LeavesOnly (λ image. (records : List (List ℕ)) × HasRecords image records) state.file
 
@@ -49,11 +49,11 @@ HasFirst records added image =
     (first : List (List ℕ)) × (rest : List (List ℕ)) × (added ≡ first ++ rest)
     × HasRecords image (records ++ first)
 
--- how many bytes records may take, with 5 for each, before memory is needed
+-- how many bytes records may take, each with 5 more, before memory is needed
 abbrev pub spare : State → ℕ → ℕ
 spare state buffer = min (state.room - length (contents state.file)) buffer
 
--- the disk after an opening, which gave something beside a file on that disk
+-- the disk after an opening that gave something beside a file on that disk
 abbrev pub disk_after : {D A : Type 0} → Result ((D × ℕ) × A) (D × FileError) → D
 disk_after (Ok opened) = opened.0.0
 disk_after (Err refused) = refused.0
@@ -69,17 +69,17 @@ abbrev pub StopsBy : FileError → List Step → State → State → Type 0
 StopsBy Disk steps old new = FailsWithin steps old new
 StopsBy Memory steps old new = MakesFirst steps old new
 
--- all of these calls were made and done, or with an error the first ones
+-- all of these calls were made and done, or after an error the first ones
 abbrev pub EndsBy : {T : Type 0} → Result T FileError → List Step → State → State → Type 0
 EndsBy (Ok value) steps old new = Makes steps old new
 EndsBy (Err error) steps old new = StopsBy error steps old new
 
--- the calls of an append: after the last gate the record with the next gate, a sync, the last gate
--- itself, a sync
+-- the calls of an append: write the record and the next gate after the last gate, sync, write the last
+-- gate itself, sync
 abbrev pub append_steps : ℕ → List ℕ → List Step
 append_steps at tail = changes (write at tail) ∷ syncs ∷ changes (write (at - 1) (1 ∷ [])) ∷ syncs ∷ []
 
--- the calls that add these records, one after the other, to a file of so many bytes
+-- the calls that add these records, one after the other, to a file of this many bytes
 abbrev pub adding_steps : ℕ → List (List ℕ) → List Step
 adding_steps at [] = []
 adding_steps at (piece ∷ pieces) =
@@ -92,7 +92,7 @@ first_steps = syncs ∷ changes (write 0 (0 ∷ [])) ∷ syncs ∷ []
 abbrev pub repair_steps : ℕ → List Step
 repair_steps end = syncs ∷ reads ∷ changes (cut end) ∷ syncs ∷ []
 
--- The calls of an opening, by what its first sync keeps: a file with records is cut after the
+-- The calls of an opening, by what its first sync leaves: a file with records is cut after the
 -- first closed gate.
 abbrev pub AreOpeningSteps : List ℕ → List Step → Type 0
 AreOpeningSteps bytes steps = ((length bytes ≤ 1) × (steps ≡ first_steps))

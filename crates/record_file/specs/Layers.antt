@@ -1,5 +1,5 @@
--- What stands on a disk, as a layer above record files sees it: `Has image value` says that bytes have such a
--- value. The file itself is the lowest layer, whose values are its records.
+-- What is on a disk, as a layer above record files sees it: `Has image value` says that the bytes have that
+-- value. The file itself is the lowest layer; its values are its records.
 use Rattle.std.specs.Prelude.{ℕ, List}
 use Rattle.rs_disk.specs.File.{IsImage}
 use Rattle.rs_disk.specs.State.{State}

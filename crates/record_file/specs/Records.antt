@@ -1,7 +1,7 @@
--- Which list of records the bytes of a file stand for.
+-- Which list of records the bytes of a file represent.
 --
--- A record is a gate byte, its length in 4 bytes with the lowest first, and its bytes. A gate is closed where
--- it is 0 and else open. The records that count come before the first closed gate; what follows
+-- A record is a gate byte, its length in 4 bytes with the lowest first, and its bytes. A gate is closed
+-- where it is 0, and otherwise open. The records that count come before the first closed gate; what follows
 -- it means nothing.
 use Rattle.std.specs.Prelude.{◌≡◌, ◌≢◌, ◌⊎◌, ℕ, ◌^◌, ◌<◌, ◌≤◌, List, [], ◌∷◌, ◌++◌, length, map, Vec}
 use Rattle.std.specs.Int.{to_le_bytes, w32}

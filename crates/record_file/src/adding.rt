@@ -10,7 +10,7 @@ use crate::store::store;
 use rs_disk::Disk;
 use std::alloc::AllocError;
 
-// What goes after a record's gate takes 5 bytes more than the record: its length, and the next gate.
+// What is written after a record's gate takes 5 bytes more than the record: its length, and the next gate.
 const AROUND: usize = 5;
 
 // Lays out a record in the buffer, and stores it.
@@ -53,7 +53,7 @@ fn lay(buffer: &mut Vec<u8>, piece: &[u8]) -> Result<(), AllocError>
     Ok(())
 }
 
-// Takes the memory for these records, and then adds them one after the other.
+// Reserves memory for these records, and then adds them one after the other.
 pub(crate) fn add_all<D: Disk>(
     disk: &mut D,
     buffer: &mut Vec<u8>,
@@ -72,7 +72,7 @@ pub(crate) fn add_all<D: Disk>(
     add_each(disk, buffer, pieces)
 }
 
-// Takes the memory for all of these records on the disk, and in the buffer for the longest of them.
+// Reserves memory for all of these records on the disk, and in the buffer for the longest of them.
 fn reserve_for<D: Disk>(
     disk: &mut D,
     buffer: &mut Vec<u8>,

@@ -1,7 +1,7 @@
 // An append-only list of byte records on one disk.
 //
-// The gate of a new record stands closed and synced before anything after it is written, and it is opened
-// only after the record is synced. So no checksum is needed: what a crash tears comes after a closed gate.
+// The gate of a new record is closed and synced before anything after it is written, and it is opened only
+// after the record is synced. So no checksum is needed: what a crash tears comes after a closed gate.
 ghost use Rattle.std.specs.Prelude.{◌≡◌, ◌≢◌, ◌+◌, ◌^◌, ◌<◌, ◌≤◌, List, ℕ, [], ◌∷◌, ◌++◌, All, length, Err, IfErr, IfOk, OnOk, IsErrOf};
 ghost use Rattle.rs_disk.specs.File.{contents};
 ghost use Rattle.rs_disk.specs.Moments.{EachMoment};
@@ -16,7 +16,7 @@ use rs_disk::Disk;
 use std::alloc::{AllocError, Global};
 use std::marker::Model;
 
-/// A record file. Contracts see it as its disk, and how many bytes its buffer can take.
+/// A record file. Contracts see it as its disk and the number of bytes that its buffer can take.
 #[derive(Drop)]
 pub struct RecordFile<D: Disk> {
     disk: D,
@@ -45,8 +45,7 @@ impl<D: Disk> RecordFile<D> {
     /// Reads the records of a disk that is empty or that a record file left, and repairs its end.
     ///
     /// # Errors
-    /// `Disk` where the disk failed. Either error hands the disk back, and an opening may be tried
-    /// again on it.
+    /// `Disk` where the disk failed. Either error hands the disk back, and opening it may be tried again.
     pub fn open(alloc: Global, disk: D) -> Result<(RecordFile<D>, Vec<Vec<u8>>), (D, FileError)>
         requires { IsRecordDisk (D.state disk) }
 
@@ -73,7 +72,7 @@ impl<D: Disk> RecordFile<D> {
         }
     }
 
-    /// Reads the records of its disk anew, also where the file has failed, and repairs its end.
+    /// Reads the records of its disk again, even where the file has failed, and repairs its end.
     ///
     /// # Errors
     /// `Disk` where the disk failed. After either error it may be tried again.
@@ -126,12 +125,12 @@ impl<D: Disk> RecordFile<D> {
             (append_steps (length (contents (D.state self.old.0).file)) (body piece.now ++ 0 ∷ []))
             (D.state self.old.0) (D.state self.new.0) }
 
-        // A crash at any moment of the call leaves the records from before it, with the new one or without.
+        // A crash at any moment of the call leaves the records from before it, with or without the new one.
         ensures any_moment { (records : List (List ℕ)) → IsAtRest (D.state self.old.0) records
             → EachMoment (IsBeforeOrAfter records piece.now) (D.state self.old.0) (D.state self.new.0) }
         ensures keeps { Keeps (IsErrOf result FileError.Disk) (D.state self.old.0) (D.state self.new.0) }
 
-        // A record takes 5 bytes more than it has.
+        // A record takes 5 bytes more than its length.
         ensures room { length piece.now + 5 ≤ spare (D.state self.old.0) self.old.1
             → result ≢ Err FileError.Memory }
         ensures spare { OnOk result (spare (D.state self.old.0) self.old.1
@@ -143,8 +142,8 @@ impl<D: Disk> RecordFile<D> {
     /// Adds records one after the other. After `Ok` every crash leaves all of them.
     ///
     /// # Errors
-    /// `Memory` leaves the file as it was: what they take is taken before the first of them is added. After
-    /// `Disk` the file has failed, and only `close` is left.
+    /// `Memory` leaves the file as it was: memory for all of them is reserved before the first is added.
+    /// After `Disk` the file has failed, and only `close` is left.
     pub fn append_all(&mut self, pieces: &[Vec<u8>]) -> Result<(), FileError>
         requires open { IsOpen (D.state self.old.0) }
         requires short { All (λ piece. length piece.items < 2 ^ 32) pieces.now }
@@ -160,7 +159,8 @@ impl<D: Disk> RecordFile<D> {
             (adding_steps (length (contents (D.state self.old.0).file)) (lists pieces.now))
             (D.state self.old.0) (D.state self.new.0) }
 
-        // A crash at any moment of it leaves the records from before it, with the first of the new ones.
+        // A crash at any moment of the call leaves the records from before it, followed by the first few of
+        // the new ones or none.
         ensures any_moment { (records : List (List ℕ)) → IsAtRest (D.state self.old.0) records
             → EachMoment (HasFirst records (lists pieces.now)) (D.state self.old.0) (D.state self.new.0) }
         ensures keeps { Keeps (IsErrOf result FileError.Disk) (D.state self.old.0) (D.state self.new.0) }
@@ -168,8 +168,8 @@ impl<D: Disk> RecordFile<D> {
         add_all(&mut self.disk, &mut self.buffer, pieces)
     }
 
-    /// Takes the memory for records of so many bytes together, where each counts 5 more than it has. Out of
-    /// memory leaves the file as it was.
+    /// Reserves memory for records of `more` bytes together, where each counts as 5 more than its length. Out
+    /// of memory leaves the file as it was.
     pub fn reserve(&mut self, more: u64) -> Result<(), AllocError>
         ensures same { SameButRoom (D.state self.old.0) (D.state self.new.0) }
         ensures open { IsOpen (D.state self.old.0) → IsOpen (D.state self.new.0) }
@@ -181,7 +181,7 @@ impl<D: Disk> RecordFile<D> {
         self.buffer.reserve(more as usize)
     }
 
-    /// Asks the disk to fail at its `call`-th call from now on, with a power cut where there is a pick.
+    /// Makes the disk fail at its `call`-th call from now on, with a power cut where there is a pick.
     pub fn arm(&mut self, call: u32, pick: Option<u64>)
         ensures disk { IsArmed call pick (D.state self.old.0) (D.state self.new.0) }
         ensures buffer { self.new.1 ≡ self.old.1 }
@@ -190,7 +190,7 @@ impl<D: Disk> RecordFile<D> {
         self.disk.arm(call, pick);
     }
 
-    /// Cuts the power of the disk. The pick chooses among what may be left of what was not synced.
+    /// Cuts the power of the disk. The pick chooses what is left of what was not synced.
     pub fn power_cut(&mut self, pick: u64)
         ensures disk { IsCut pick (D.state self.old.0) (D.state self.new.0) }
         ensures buffer { self.new.1 ≡ self.old.1 }

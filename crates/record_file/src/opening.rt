@@ -28,7 +28,7 @@ pub(crate) fn prepare<D: Disk>(alloc: Global, disk: &mut D) -> Result<Vec<Vec<u8
     repair(alloc, disk)
 }
 
-// Syncs, so that what is read from here on is what every crash leaves, and says how long the file is.
+// Syncs, so that every crash leaves what is read from here on, and says how long the file is.
 fn settle<D: Disk>(disk: &mut D) -> Result<u64, FileError>
     ensures length { IfOk result (λ len. len ≡ length (contents (D.state disk.new).file)) }
     ensures calls { EndsBy result (syncs ∷ []) (D.state disk.old) (D.state disk.new) }

@@ -1,4 +1,4 @@
-// The records that stand in some bytes.
+// The records in some bytes.
 ghost use Rattle.std.specs.Prelude.{List, ℕ, IfOk, MatchOption};
 ghost use Rattle.record_file.specs.Records.{AreInFront, lists};
 ghost use Rattle.record_file.specs.Parsed.{IsFirst, IsParsed};
@@ -19,7 +19,7 @@ pub(crate) fn parse(alloc: Global, bytes: &[u8]) -> Result<(Vec<Vec<u8>>, usize)
     Ok((records, bytes.len() - rest.len() + 1))
 }
 
-// The record after an open gate at the front, and what follows it.
+// The record after an open gate at the start, and what follows it.
 fn first_record(bytes: &[u8]) -> Option<(&[u8], &[u8])>
     ensures { MatchOption result ((gate : ℕ) (piece rest : List ℕ) → IsFirst bytes.now gate piece rest → ⊥)
         (λ parts. (gate : ℕ) × IsFirst bytes.now gate parts.0.now parts.1.now) }

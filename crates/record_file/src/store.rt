@@ -8,8 +8,8 @@ ghost use Rattle.record_file.specs.Files.{IsOpen, EndsBy, append_steps};
 use crate::FileError;
 use rs_disk::Disk;
 
-// Puts a record after the last gate, with a closed gate of its own after it, and opens that last gate once
-// the record is synced.
+// Puts a record after the last gate, followed by a closed gate, and opens that last gate once the
+// record is synced.
 #[tactic(auto, using(crate::proofs::StepLemmas::append_stops))]
 pub(crate) fn store<D: Disk>(disk: &mut D, tail: &[u8]) -> Result<(), FileError>
     requires { IsOpen (D.state disk.old) }

@@ -16,7 +16,7 @@ counted None = None
 counted (Some arm) =
     if nat_le arm.calls 1 then None else Some (record { calls = arm.calls - 1; pick = arm.pick })
 
--- the file after a call that failed: as before it, or what a power cut within it left
+-- the file after a failed call: as before the call, or what a power cut within it left
 abbrev pub file_after_fault : Option Arm → File → File → File
 file_after_fault None old during = old
 file_after_fault (Some arm) old during = left arm.pick
@@ -25,8 +25,7 @@ file_after_fault (Some arm) old during = left arm.pick
     left None = old
     left (Some pick) = settled (picked pick during)
 
--- A call failed exactly where the arm named it, without a pick it was left undone, and the arm
--- was counted down.
+-- A call failed exactly where the arm named it. Without a pick it did nothing. The arm was counted down.
 pub record FailsAsArmed (during : File) (Fault : Type 0) (arm counted_arm : Option Arm)
     (old new : State) : Type 0 where
   pub fails : Fault ↔ IsTrue (fails_next arm)

@@ -1,9 +1,9 @@
 -- A file between two syncs, and what a crash may leave of it.
 --
--- The model is that of a disk with a volatile cache. Between two syncs each range that was written, and
--- everything after the least end that the file has had, may hold any bytes after a crash: old, new or
--- neither. The file may then end anywhere from the least to the greatest end that it has had. All other bytes
--- stay. A sync that succeeds leaves one outcome. Bytes are numbers below 256, and a file is a list of them.
+-- The model is a disk with a volatile cache. After a crash between two syncs, each range that was written,
+-- and everything after the least end that the file has had, may hold any bytes: old, new or neither. The file
+-- may then end anywhere from the least to the greatest end that it has had. All other bytes stay. A sync that
+-- succeeds leaves one outcome. Bytes are numbers below 256, and a file is a list of them.
 use Rattle.std.specs.Prelude.{◌≡◌, ℕ, ◌+◌, ◌<◌, ◌≤◌, min, max, Bool, false, ◌&&◌, ◌||◌, nat_le, nat_lt, List, [], ◌∷◌, ◌++◌, length, take, drop, slice_index, ⊤}
 
 -- a change since the last sync
@@ -23,7 +23,7 @@ settled bytes = record { synced = bytes; changes = [] }
 abbrev pub changed : Change → File → File
 changed change file = record { synced = file.synced; changes = change ∷ file.changes }
 
--- the old bytes with these at that place, also past the end
+-- the old bytes, overwritten with these from that place on, possibly past the end
 abbrev pub overwritten : {A : Type 0} → ℕ → List A → List A → List A
 overwritten at bytes old = take at old ++ bytes ++ drop (at + length bytes) old
 
@@ -84,7 +84,7 @@ pub record IsImage (file : File) (image : List ℕ) : Type 0 where
 abbrev pub LeavesOnly : (List ℕ → Type 0) → File → Type 0
 LeavesOnly P file = (image : List ℕ) → IsImage file image → P image
 
--- it reads as no bytes, and a crash leaves none
+-- it reads as empty, and a crash leaves it empty
 pub record IsEmpty (file : File) : Type 0 where
   pub reads : contents file ≡ []
   pub leaves : LeavesOnly (λ image. image ≡ []) file

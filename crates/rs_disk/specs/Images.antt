@@ -104,7 +104,7 @@ read_bytes synced (write at bytes ∷ changes) are written =
 read_bytes synced (cut to ∷ changes) are written =
     bytes_take to (read_of synced changes) (read_bytes synced changes are written)
 
--- what is read of bytes is bytes
+-- what is read from a file of bytes is bytes
 pub contents_bytes : (file : File) → IsOfBytes file → AreBytes (contents file)
 contents_bytes file of = read_bytes file.synced file.changes of.synced of.written
 

@@ -1,4 +1,4 @@
--- What a crash at some moment since a given one may have left.
+-- What a crash at some moment since an earlier one may have left.
 use Rattle.std.specs.Prelude.{◌≡◌, ℕ, List, [], ◌∷◌, ◌++◌}
 use Rattle.std.specs.List.{AllByRecursion}
 use Rattle.std.proofs.Common.{refl, sym, ◌∙◌, ap}
@@ -6,7 +6,7 @@ use Rattle.std.proofs.lemmas.List.{append_assoc}
 use Rattle.rs_disk.specs.File.{File, LeavesOnly}
 use Rattle.rs_disk.specs.State.{State, Passed}
 
--- At each moment since old, also within a call, a crash left bytes that have P.
+-- At each moment since old, also within a call, a crash left bytes that satisfy P.
 pub record EachMoment (P : List ℕ → Type 0) (old new : State) : Type 0 where
   -- what the file was at the moments since, the newest first
   pub since : List File
@@ -17,7 +17,7 @@ pub record EachMoment (P : List ℕ → Type 0) (old new : State) : Type 0 where
 pub starts : (P : List ℕ → Type 0) (state : State) → LeavesOnly P state.file → EachMoment P state state
 starts P state here = record { since = []; passed = refl; left = tt; now = here }
 
--- one call more
+-- one more call
 pub goes_on : (P : List ℕ → Type 0) (old mid new : State) (during : File) → EachMoment P old mid
     → Passed during mid new → LeavesOnly P during → LeavesOnly P new.file
     → EachMoment P old new

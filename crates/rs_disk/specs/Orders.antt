@@ -5,7 +5,7 @@ pub data Order : Type 0 where
   arm : (call : ℕ) (pick : Option ℕ) → Order
   power_cut : (pick : ℕ) → Order
 
--- how many there were, up to the last value of the count, and the last of them
+-- how many there were, where the count stops at its last value, and the last of them
 pub record Orders : Type 0 where
   pub count : ℕ
   pub last : Option Order

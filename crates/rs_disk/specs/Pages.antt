@@ -1,4 +1,4 @@
--- How the bytes in memory stand for a file.
+-- How the bytes in memory represent a file.
 use Rattle.std.specs.Prelude.{◌≡◌, ℕ, ◌+◌, ◌-◌, ◌<◌, ◌≤◌, List, ◌++◌, false, length, take, slice_index_or, slice_range, vec_capacity}
 use Rattle.rs_disk.specs.File.{File, contents, least_of, is_written}
 use Rattle.rs_disk.specs.declared.pages.Pages.{Pages}
@@ -7,11 +7,11 @@ use Rattle.rs_disk.specs.declared.pages.Pages.{Pages}
 abbrev pub room_of : Pages → ℕ
 room_of pages = pages.room
 
--- what was synced is kept from the first place on up to this one
+-- the synced bytes are kept from the first place up to this one
 abbrev pub last_of : Pages → ℕ
 last_of pages = pages.first + length pages.kept.items
 
--- The ends are within the memory that there is, and there is room for what may be written, and to keep all
+-- The ends are within the memory at hand. There is room for what may be written, and to keep all
 -- that was synced.
 pub record IsWithin (pages : Pages) : Type 0 where
   pub end : pages.end ≤ length pages.now.items

@@ -53,7 +53,7 @@ called call end past = record {
 abbrev pub done_past : Call → Past → Past
 done_past call past = called call Done past
 
--- the past after a call that failed: without a pick nothing was done
+-- the past after a failed call: without a pick nothing was done
 abbrev pub failed_past : Call → Option ℕ → Past → Past
 failed_past call None past = called call Undone past
 failed_past call (Some pick) past =

@@ -1,4 +1,4 @@
--- Which of the images a power cut leaves of a file in memory, by its pick.
+-- Which image of a file in memory a power cut leaves, by its pick.
 use Rattle.std.specs.Prelude.{ℕ, zero, suc, ◌+◌, ◌%◌, Bool, ◌||◌, nat_le, if◌then◌else◌, List, [], ◌∷◌}
 use Rattle.rs_disk.specs.File.{File, contents, least_of, is_written}
 
@@ -6,7 +6,7 @@ use Rattle.rs_disk.specs.File.{File, contents, least_of, is_written}
 abbrev pub is_open : File → ℕ → Bool
 is_open file place = is_written place file.changes || nat_le (least_of file.synced file.changes) place
 
--- these bytes, from that place on, with the pick and the place for each byte that may be any
+-- these bytes from that place on, where the pick and the place determine each byte that may be any
 abbrev pub filled : ℕ → File → ℕ → List ℕ → List ℕ
 filled pick file place [] = []
 filled pick file place (byte ∷ bytes) =

@@ -1,4 +1,4 @@
--- What there is to know of a disk, and what its calls do to it.
+-- What there is to know about a disk, and what its calls do to it.
 use Rattle.std.specs.Prelude.{◌≡◌, ℕ, ◌≤◌, Bool, IsTrue, List, ◌∷◌, Result, Ok, Err, Option}
 use Rattle.rs_io.specs.Fault.{CountRose}
 use Rattle.rs_disk.specs.File.{File, write, changed, contents, settled, IsImage, LeavesOnly}
@@ -10,13 +10,13 @@ pub record State : Type 0 where
   pub file : File
   -- what the file was at each earlier moment, within a call too, the newest first
   pub past : List File
-  -- how often the disk has failed, up to the last value of the count
+  -- how often the disk has failed; the count stops at its last value
   pub faults : ℕ
   pub orders : Orders
   pub is_armed : Bool
   -- it fails only where it is armed, now and later
   pub is_steady : Bool
-  -- a write that ends at or before this place finds its memory
+  -- a write that ends at or before this place doesn't run out of memory
   pub room : ℕ
 
 -- the same but for the room
@@ -32,8 +32,8 @@ pub record IsDone (during done : File) (old new : State) : Type 0 where
   pub file : new.file ≡ done
   pub past : Passed during old new
 
--- The file is as a crash within the call may have left it: what is read now and what a crash now may leave
--- are among what such a crash may have left.
+-- The file is as a crash within the call may have left it: what is read now, and whatever a crash may leave
+-- now, is something that such a crash may have left.
 pub record IsCrashed (during : File) (old new : State) : Type 0 where
   pub reads : IsImage during (contents new.file)
   pub leaves : LeavesOnly (IsImage during) new.file
@@ -51,8 +51,8 @@ Writes at bytes (Ok _) old new =
 Writes at bytes (Err Failed) old new = IsCrashed (changed (write at bytes) old.file) old new
 Writes at bytes (Err Memory) old new = SameButRoom old new
 
--- What each of `read_at`, `write_at`, `cut` and `sync` keeps. A fault comes only where the count rose, and on
--- a steady disk only where it was armed.
+-- What holds of each call of `read_at`, `write_at`, `cut` and `sync`. A fault comes only where the count
+-- rose, and on a steady disk only where it was armed.
 pub record Keeps (Fault : Type 0) (old new : State) : Type 0 where
   pub faults : old.faults ≤ new.faults
   pub cause : Fault → CountRose old.faults new.faults
@@ -67,7 +67,7 @@ abbrev pub IsArmed : ℕ → Option ℕ → State → State → Type 0
 IsArmed call pick old new =
     new ≡ record old { orders = ordered (arm call pick) old.orders; is_armed = new.is_armed }
 
--- the power was cut: one of the images is left, and stands as synced
+-- the power was cut: one of the images is left, and counts as synced
 pub record IsCut (pick : ℕ) (old new : State) : Type 0 where
   pub image : IsImage old.file (contents new.file)
   pub synced : new.file ≡ settled (contents new.file)

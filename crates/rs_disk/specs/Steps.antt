@@ -35,15 +35,14 @@ pub record Makes (steps : List Step) (old new : State) : Type 0 where
   pub file : new.file ≡ after_steps steps old.file
   pub past : new.past ≡ past_of steps old.file old.past
 
--- Of these calls the first ones were made, in this order. The last that was made failed, and those before
--- it were done.
+-- The first of these calls were made, in this order. The last one made failed, and those before it were done.
 abbrev pub FailsWithin : List Step → State → State → Type 0
 FailsWithin [] old new = ⊥
 FailsWithin (step ∷ steps) old new = IsCrashed (in_step step old.file) old new
     ⊎ ((mid : State) × IsDone (in_step step old.file) (after_step step old.file) old mid
     × FailsWithin steps mid new)
 
--- Of these calls the first ones were made, in this order, and done.
+-- The first of these calls were made, in this order, and done.
 abbrev pub MakesFirst : List Step → State → State → Type 0
 MakesFirst steps old new =
     (made : List Step) × (rest : List Step) × (steps ≡ made ++ rest) × Makes made old new

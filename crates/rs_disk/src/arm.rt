@@ -5,7 +5,7 @@ ghost use Rattle.std.specs.Prelude.{◌≡◌, Some, MatchOption, false, true};
 pub(crate) struct Arm {
     // Which of the calls from now on, counted from 1.
     pub(crate) calls: u32,
-    // Which image a power cut within it leaves, where it is one.
+    // Which image a power cut within the call leaves, where the fault is a power cut.
     pub(crate) pick: Option<u64>,
 }
 

@@ -4,7 +4,8 @@ ghost use Rattle.rs_disk.specs.File.{overwritten};
 
 use std::alloc::AllocError;
 
-// Puts bytes over others from a place on, and the rest of them after the others. There is room for them.
+// Overwrites the list with bytes from a place on, and appends those that go past its end. There is
+// room for them.
 pub(crate) fn overwrite(list: &mut Vec<u8>, at: usize, bytes: &[u8])
     requires place { at ≤ vec_len list.old }
     requires room { at + length bytes.now ≤ vec_capacity list.old }
@@ -40,7 +41,7 @@ pub(crate) fn append_unset(marks: &mut Vec<bool>, count: usize)
     };
 }
 
-// Makes room for so many, without making the list longer.
+// Makes room for this many, without making the list longer.
 pub(crate) fn extend_room(list: &mut Vec<u8>, room: usize) -> Result<(), AllocError>
     ensures ok { OnOk result (room ≤ vec_capacity list.new) }
     ensures items { list.new.items ≡ list.old.items }
@@ -52,7 +53,7 @@ pub(crate) fn extend_room(list: &mut Vec<u8>, room: usize) -> Result<(), AllocEr
     list.reserve(room - list.len())
 }
 
-// Makes room for so many, without making the list longer. What is in the list moves, and none of its room: so
+// Makes room for this many, without making the list longer. Only what is in the list moves, not its room: so
 // room that was never used takes no memory.
 pub(crate) fn widen<T: Copy + Drop>(list: &mut Vec<T>, room: usize) -> Result<(), AllocError>
     ensures ok { OnOk result (room ≤ vec_capacity list.new) }
@@ -99,8 +100,8 @@ pub(crate) fn mark_part(marks: &mut Vec<bool>, start: usize, end: usize, mark: b
     marks[start..end].fill(mark);
 }
 
-// Puts other bytes at the places between two that are marked, or at or after the least end. The marks begin
-// at the first of the two.
+// Puts other bytes at those places between two that are marked, or lie at or after the least end. The marks
+// begin at the first of the two.
 pub(crate) fn fill_open(
     bytes: &mut Vec<u8>,
     marks: &[bool],
@@ -125,7 +126,7 @@ pub(crate) fn fill_open(
     }
 }
 
-// Whether the mark at a place is set. After the marks there is none.
+// Whether the mark at a place is set. Past the last mark none is.
 fn is_set(marks: &[bool], place: usize) -> bool
     ensures { result ≡ slice_index_or marks.now place false }
 {

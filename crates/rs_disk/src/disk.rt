@@ -43,7 +43,8 @@ impl From<Failed> for DiskError {
 pub trait Disk {
     ghost use Rattle.rs_disk.specs.State.{State, Ends, Writes, Keeps, IsArmed, IsCut, SameButRoom};
 
-    /// What a read gives, what a crash may leave and might have left, the faults, the orders, and the room.
+    /// What a read gives, what a crash may leave now or might have left earlier, the faults, the orders,
+    /// and the room.
     ghost state: { Self → State };
 
     /// The file's length in bytes, below 2^63.
@@ -60,11 +61,11 @@ pub trait Disk {
             (state self.new) }
         ensures keeps { Keeps (IsErr result) (state self.old) (state self.new) };
 
-    /// Writes over what is there, and past the end.
+    /// Overwrites what is there, and may extend the file past its end.
     ///
     /// # Errors
-    /// `Memory` comes for a write that would pass 2^63 bytes, and else only for one that ends past the file's
-    /// end and past the reserved room. It leaves the disk as it was.
+    /// `Memory` comes for a write that would pass 2^63 bytes, and otherwise only for one that ends past both
+    /// the file's end and the reserved room. It leaves the disk as it was.
     fn write_at(&mut self, at: u64, bytes: &[u8]) -> Result<(), DiskError>
         requires { at ≤ length (contents (state self.old).file) }
         ensures outcome { Writes at bytes.now result (state self.old) (state self.new) }
@@ -87,17 +88,17 @@ pub trait Disk {
             (state self.old) (state self.new) }
         ensures keeps { Keeps (IsErr result) (state self.old) (state self.new) };
 
-    /// Takes the memory for writes of up to so many bytes past the end, which then can't run out of it. An
-    /// error, also where 2^63 bytes would be reached, leaves the file as it was.
+    /// Reserves memory for writes of up to `more` bytes past the end, which then can't run out of it. An
+    /// error, which also comes where 2^63 bytes would be reached, leaves the file as it was.
     fn reserve(&mut self, more: u64) -> Result<(), AllocError>
         ensures same { SameButRoom (state self.old) (state self.new) }
         ensures kept { (state self.old).room ≤ (state self.new).room }
         ensures room { OnOk result (length (contents (state self.old).file) + more ≤ (state self.new).room) }
         ensures too_long { 2 ^ 63 ≤ length (contents (state self.old).file) + more → IsErr result };
 
-    /// Asks that the `call`-th call after this one fail, counted from 1 over `read_at`, `write_at`, `cut` and
-    /// `sync`; 0 asks it of the next. With a pick, a power cut strikes within that call. It takes the place
-    /// of an earlier `arm` that hasn't struck.
+    /// Makes the `call`-th call after this one fail, counted from 1 over `read_at`, `write_at`, `cut` and
+    /// `sync`; 0 means the next. With a pick, a power cut strikes within that call. It replaces an earlier
+    /// `arm` that hasn't struck.
     fn arm(&mut self, call: u32, pick: Option<u64>)
         ensures { IsArmed call pick (state self.old) (state self.new) };
 

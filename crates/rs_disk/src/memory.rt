@@ -7,7 +7,7 @@ use crate::pages::Pages;
 use crate::past::{Call, End, Event, Past};
 use std::alloc::{AllocError, Global};
 
-/// No file is longer than one byte less.
+/// Each file is shorter than this.
 const LIMIT: u64 = 1 << 63;
 
 /// A disk in memory. It fails in exactly the calls that it is armed for, and its picks name what a power cut

@@ -1,4 +1,4 @@
-// The bytes of a file in memory: as they are, and what of those that were synced isn't there any more.
+// The bytes of a file in memory: as they are now, and those synced bytes that were overwritten since.
 ghost use Rattle.std.specs.Prelude.{◌≡◌, ◌+◌, ◌≤◌, IsOk, OnOk, [], length, max, min, take};
 ghost use Rattle.rs_disk.specs.File.{File, changed, write, cut, settled};
 
@@ -9,13 +9,13 @@ use crate::bytes::{
 use crate::past::Call;
 use std::alloc::{AllocError, Global};
 
-// What was synced is there but for one part, from the first place that was written since to the last, and
-// that part is kept. So a sync copies nothing, and a write no more than what it covers. For all of these
-// bytes there is always room, since neither a write, a cut nor a power cut may take memory.
+// The synced bytes are in place but for one part, from the first place written since to the last, and that
+// part is kept. So a sync copies nothing, and a write no more than what it covers. There is always room for
+// all of these bytes, since a write, a cut and a power cut may not take memory.
 #[derive(Drop)]
 pub(crate) struct Pages {
-    // What a read gives up to the end. What lies after the end is what was synced there, where it isn't
-    // kept, and else means nothing.
+    // What a read gives, up to the end. What lies after the end is what was synced there, unless that is
+    // kept; then it means nothing.
     pub(crate) now: Vec<u8>,
     // How long a file may get before memory is needed.
     pub(crate) room: usize,
@@ -24,8 +24,8 @@ pub(crate) struct Pages {
     pub(crate) synced: usize,
     // No place before this one was written or cut since the last sync.
     pub(crate) first: usize,
-    // What the last sync left from there on, as far as that was written since, and which of these places
-    // were.
+    // What the last sync left from there on, as far as it was overwritten since, and which of
+    // these places were.
     pub(crate) kept: Vec<u8>,
     pub(crate) marks: Vec<bool>,
     // The least end since.
@@ -54,7 +54,7 @@ impl Pages {
         }
     }
 
-    // Makes room for files of so many bytes.
+    // Makes room for files of this many bytes.
     pub(crate) fn grow(&mut self, room: usize) -> Result<(), AllocError>
         requires { IsWithin self.old }
         ensures ok { OnOk result (room ≤ room_of self.new) }
@@ -73,7 +73,7 @@ impl Pages {
         Ok(())
     }
 
-    // Keeps what was synced from a place on, up to where it is kept already.
+    // Keeps what was synced from a place on, up to what is already kept.
     fn keep_from(&mut self, at: usize)
         requires within { IsWithin self.old }
         ensures room { room_of self.new ≡ room_of self.old }
@@ -94,7 +94,7 @@ impl Pages {
         self.first = at;
     }
 
-    // Keeps what was synced up to a place, from where it is kept already.
+    // Keeps what was synced up to a place, from what is already kept on.
     fn keep_to(&mut self, to: usize)
         requires within { IsWithin self.old }
         ensures room { room_of self.new ≡ room_of self.old }
@@ -126,7 +126,7 @@ impl Pages {
         self.put(at, bytes);
     }
 
-    // Writes where what was synced is kept.
+    // Writes where the synced bytes are already kept.
     fn put(&mut self, at: usize, bytes: &[u8])
         requires within { IsWithin self.old }
         requires after { self.old.first ≤ at }
@@ -161,7 +161,7 @@ impl Pages {
         self.least = self.least.min(to);
     }
 
-    // What a call does before it is known how it ends.
+    // What a call does before its outcome is known.
     pub(crate) fn begin(&mut self, call: &Call<'_>)
         requires { CanCall call.now self.old }
         ensures room { room_of self.new ≡ room_of self.old }
@@ -174,7 +174,7 @@ impl Pages {
         }
     }
 
-    // From now on what is there stands as synced.
+    // From now on what is there counts as synced.
     pub(crate) fn settle(&mut self)
         requires { IsWithin self.old }
         ensures room { room_of self.new ≡ room_of self.old }
@@ -187,7 +187,7 @@ impl Pages {
         self.synced = self.end;
     }
 
-    // The power goes. The pick chooses what is left.
+    // The power is cut. The pick chooses what is left.
     pub(crate) fn lose(&mut self, pick: u64)
         requires { (file : File) × Holds self.old file }
         ensures room { room_of self.new ≡ room_of self.old }

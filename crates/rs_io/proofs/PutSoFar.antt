@@ -1,4 +1,4 @@
--- Pieces that are put one after another, and where a putting of one piece stands.
+-- Pieces that are put one after another, and how far the putting of one piece has come.
 use Rattle.std.proofs.Common.{ℕ, ◌≡◌, ◌+◌, List, ◌++◌, take, drop, append_assoc, ap, ◌∙◌}
 use Rattle.std.specs.Prelude.{Option, None, Some}
 use Rattle.std.proofs.Math.Seq.{take-add}

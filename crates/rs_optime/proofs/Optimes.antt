@@ -1,4 +1,4 @@
--- What it is for an optime to be before another, or at most as late.
+-- What it means that an optime is before another, or at most as late.
 use Rattle.std.proofs.Common.{◌≡◌, ◌<◌, ◌≤◌, ◌⊎◌, inl, inr, ap₂, sym, refl, ap, arith, Bool, true, false, cond, ℕ}
 use Rattle.std.proofs.lemmas.Bool.{cases_order, cases_Bool}
 use Rattle.rs_optime.specs.Order.{is_before, Before, AtMost}

@@ -136,7 +136,7 @@ pub record IsCutOff (number : ℕ) (start new whole : Node) : Type 0 where
   pub stable : whole.stable ≡ (with_stores start (earlier ++ failing ∷ later)).stable
 
 -- Of a restart the opening of the disks counts as its first store: where it fails, the node stays as it was,
--- with what is in doubt; and else that was settled.
+-- with what is in doubt; otherwise that was settled.
 abbrev pub IsStopped : (restart : Bool) (number : ℕ) (there : Bool) (old new whole : Node) → Type 0
 IsStopped false number there old new whole = IsCutOff number old new whole
 IsStopped true zero there old new whole = new ≡ old

@@ -13,7 +13,7 @@ abbrev pub is_past : Option LastWrite → ℕ → Bool
 is_past None number = true
 is_past (Some last) number = nat_lt last.number number
 
--- with one entry more, of a session or of none
+-- with one more entry, of a session or of none
 abbrev pub later_write : (id : ℕ) → Option LastWrite → OpTime → Option Session → Option LastWrite
 later_write id last at None = last
 later_write id last at (Some session) =

@@ -38,7 +38,7 @@ impl Records {
         Records {}
     }
 
-    /// The same records once more.
+    /// A copy of the records.
     pub fn same(&self) -> Records
         ensures { result ≡ self.now }
     {

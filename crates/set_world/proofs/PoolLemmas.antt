@@ -1,4 +1,4 @@
--- The newest message from one node to another, with one message more.
+-- The newest message from one node to another, with one more message.
 use Rattle.std.proofs.Common.{◌≡◌, ◌∙◌, ◌<◌, ◌≤◌, ◌+◌, ◌&&◌, ap, sym, subst, refl, arith, append_assoc, ℕ, zero, suc, Bool, true, false, cond, filter, length, Option, None, Some, List, [], ◌∷◌, ◌++◌, slice_get}
 use Rattle.std.specs.Map.{lookup}
 use Rattle.repl_msg.specs.declared.message.Message.{Message}

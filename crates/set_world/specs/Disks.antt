@@ -70,7 +70,7 @@ DisksStep state world event old new =
     AtTouchedNode (task world event.command) event.failed old new
     (λ number. OneChanged state (DisksTouched world event) number old new)
 
--- One event more stands in the history, of this line and command. It is answered as the model says, and the
+-- One more event stands in the history, of this line and command. It is answered as the model says, and the
 -- disks are as it leaves them.
 pub record IsStep {D : Type 0} (state : D → State) (old new : Set D) (line : ℕ) (command : Command)
     (reply : Reply) : Type 0 where

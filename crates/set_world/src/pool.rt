@@ -58,7 +58,7 @@ impl Pool {
         self.messages.len()
     }
 
-    /// Makes room for so many messages, so that `add` takes no memory for them.
+    /// Makes room for this many messages, so that `add` takes no memory for them.
     pub(crate) fn reserve(&mut self, more: usize) -> Mem<()>
         ensures nodes { self.new.nodes ≡ self.old.nodes }
         ensures messages { self.new.messages ≡ self.old.messages }

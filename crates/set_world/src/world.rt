@@ -27,7 +27,7 @@ use std::marker::Model;
 use std::snapshot::Snapshot;
 use std::thread::Threads;
 
-/// A history has at most so many events.
+/// A history has at most this many events.
 const MOST_EVENTS: usize = 4_294_967_295;
 
 /// No event sends more messages.
@@ -355,7 +355,7 @@ impl<D: Disk> World<D> {
     }
 }
 
-// Takes the memory for one event more, and for the messages that it may send.
+// Reserves memory for one more event, and for the messages that it may send.
 fn make_room(history: &mut Vec<Event>, pool: &mut Pool) -> Result<(), StepError>
     requires { length history.old.items ≤ HISTORY_LIMIT }
     ensures items { history.new.items ≡ history.old.items }

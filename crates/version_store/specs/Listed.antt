@@ -26,7 +26,8 @@ ListsBoth shard recent earlier = ListsIn shard recent × ListsIn shard earlier
 abbrev pub HasPlaces : BTreeSet Place → List Place → Type 0
 HasPlaces set places = (q : Place) → contains place_cmp set q ≡ list_any (eq_by_cmp place_cmp q) places
 
--- a version at an optime was noted: later ones aren't listed, and else the place is where the version stands
+-- a version at an optime was noted: later ones aren't listed, and otherwise the place is where
+-- the version stands
 pub record Notes (old new : Listing) (place : Place) (at : OpTime) (stands : Bool) : Type 0 where
   pub same : new.at ≡ old.at
   pub places : (q : Place) → contains place_cmp new.places q

@@ -45,7 +45,7 @@ impl Model for Shard {
 }
 
 impl Shard {
-    /// A shard without documents, with its number among so many.
+    /// A shard without documents, with its number among this many.
     pub fn new(alloc: Global, number: u32, count: u32) -> Self
         ensures { result ≡ record { number = number; count = count; collections = [] } }
     {

@@ -47,7 +47,7 @@ impl Model for ShardDocuments {
 }
 
 impl ShardDocuments {
-    /// A shard without documents, with its number among so many.
+    /// A shard without documents, with its number among this many.
     pub(crate) fn new(alloc: Global, number: u32, count: u32) -> Self
         ensures { result ≡ record { number = number; count = count; collections = [] } }
     {

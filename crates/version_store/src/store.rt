@@ -73,7 +73,7 @@ impl Model for VersionStore {
 }
 
 impl VersionStore {
-    /// A store without documents, of so many shards. Out of memory is the one error.
+    /// A store without documents, of this many shards. The only error is out of memory.
     pub fn new(alloc: Global, shards: u32) -> Mem<Self>
         requires { 0 < shards }
         ensures count { IfOk result (λ store. store.count ≡ shards) }

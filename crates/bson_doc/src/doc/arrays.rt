@@ -18,7 +18,7 @@ impl Items {
         }
     }
 
-    /// How many values the array itself has, those of inner arrays aside.
+    /// How many values the array itself has, not counting those of inner arrays.
     #[tactic(auto, using(crate::proofs::DocLemmas::doc_lemmas))]
     pub fn len(&self) -> usize
         ensures { result ≡ items_count self.now }
@@ -42,7 +42,7 @@ impl Items {
         self.items.get(place)
     }
 
-    /// Appends a value. Out of memory is the one error, and leaves the array as it was.
+    /// Appends a value. The only error is out of memory, which leaves the array as it was.
     #[tactic(auto, using(crate::proofs::DocLemmas::doc_lemmas, crate::proofs::SoundLemmas::keeps_sound))]
     pub fn push(&mut self, value: Value) -> Mem<()>
         ensures ok { OnOk result (self.new ≡ with_item self.old (tree_of value)) }
@@ -55,7 +55,7 @@ impl Items {
         Ok(())
     }
 
-    /// The same array once more. Out of memory is the one error.
+    /// A copy of the array. The only error is out of memory.
     #[cycle(copy)]
     pub fn copy(&self) -> Mem<Items>
         ensures { IfOk result (λ i. i ≡ self.now) }

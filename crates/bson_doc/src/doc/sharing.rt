@@ -1,4 +1,4 @@
-// Fields that several documents have.
+// Fields that several documents share.
 ghost use Rattle.std.specs.Prelude.{◌≡◌, ◌<◌, ◌+◌, IfOk, OnOk, OnErr, None};
 ghost use Rattle.bson_doc.specs.Tree.{count, field, fields_from, found, with_field, with_first, with_first_set, with_set, IsNewTo};
 ghost use Rattle.bson_doc.specs.Sound.{IsSoundField};
@@ -10,7 +10,8 @@ use std::alloc::Global;
 use std::sync::Arc;
 
 impl Doc {
-    /// Appends the field that another document has at a place: both have it then. No field here has its name.
+    /// Appends the field that another document has at a place, so that both share it. No field here may
+    /// have its name.
     pub fn append_from(&mut self, other: &Doc, place: usize) -> Mem<()>
         requires there { place < count other.now }
         requires new { IsNewTo self.old (fields_from place other.now) }
@@ -22,8 +23,8 @@ impl Doc {
         Ok(())
     }
 
-    /// Puts the field that another document has at a place under its name: both have it then. A name that is
-    /// there keeps its place, and a new one comes last.
+    /// Puts the field that another document has at a place under its name, so that both share it. An existing
+    /// name keeps its place, and a new one comes last.
     pub fn set_from(&mut self, other: &Doc, place: usize) -> Mem<()>
         requires { place < count other.now }
         ensures ok { OnOk result (self.new ≡ with_first_set self.old (fields_from place other.now)) }
@@ -34,7 +35,7 @@ impl Doc {
         Ok(())
     }
 
-    /// The field at a place, with one owner more.
+    /// The field at a place, with one more owner.
     #[tactic(auto, using(crate::proofs::DocLemmas::doc_lemmas))]
     fn shared_at(&self, place: usize) -> Mem<Arc<Field, Global>>
         requires { place < count self.now }
@@ -46,7 +47,7 @@ impl Doc {
         Ok(field)
     }
 
-    /// Appends a field that others have too.
+    /// Appends a field that other documents share.
     #[tactic(auto, using(crate::proofs::DocLemmas::doc_lemmas, crate::proofs::SoundLemmas::keeps_sound))]
     fn append_shared(&mut self, field: Arc<Field, Global>) -> Mem<()>
         requires sound { IsSoundField field.value.name (tree_of field.value.value) }
@@ -61,7 +62,7 @@ impl Doc {
         Ok(())
     }
 
-    /// Puts a field that others have too under its name.
+    /// Puts a field that other documents share under its name.
     #[tactic(auto, using(crate::proofs::DocLemmas::doc_lemmas))]
     fn put_shared(&mut self, field: Arc<Field, Global>) -> Mem<()>
         requires { IsSoundField field.value.name (tree_of field.value.value) }
