@@ -1,5 +1,5 @@
--- A shard may go to another thread, and a part of a batch may be seen from one, so a job may go. One type after another: a
--- `search` through all of them runs out of steps.
+-- A shard may go to another thread, and a part of a batch may be seen from one, so a job may go too. One type
+-- after another: a `search` through all of them runs out of steps.
 use denote.Param.Send.{IsSend, IsSync, sendable}
 use Rattle.std.proofs.Crossing as heap
 use Rattle.std.proofs.MapsCrossing as maps

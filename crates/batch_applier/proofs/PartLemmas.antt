@@ -1,4 +1,4 @@
--- Entries applied to a shard, and a batch parted over shards.
+-- Entries applied to a shard, and a batch split over shards.
 use Rattle.std.proofs.Common.{◌≡◌, inl, inr, ◌∙◌, ◌<◌, ◌+◌, ap, sym, subst, arith, true, List, [], ◌∷◌, ◌++◌, ℕ, length, take, Option, Some}
 use Rattle.std.specs.Prelude.{slice_index_or}
 use Rattle.std.specs.List.{All}

@@ -1,4 +1,4 @@
--- What entries of an oplog, applied one after another, leave of the documents of a store.
+-- What becomes of the documents of a store when entries of an oplog are applied one after another.
 use Rattle.std.specs.Prelude.{◌≡◌, Bool, true, List, fold, if◌then◌else◌}
 use Rattle.std.specs.List.{All, AllPairs}
 use Rattle.bson_doc.specs.Place.{Place}
@@ -24,7 +24,7 @@ past_with place past entry =
 abbrev pub past_after : Place → Past → List Entry → Past
 past_after place past entries = fold (past_with place) past entries
 
--- the entries are lawful, with rising optimes past every version
+-- the entries are lawful, with rising optimes later than every version
 pub record IsBatch (store : Store) (entries : List Entry) : Type 0 where
   pub lawful : All IsLawful entries
   pub rising : AllPairs (λ one two. is_before one.optime two.optime ≡ true) entries

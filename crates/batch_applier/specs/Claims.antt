@@ -7,7 +7,7 @@ use Rattle.turn_board.specs.History.{times, below, total}
 use Rattle.batch_applier.specs.declared.view.View.{View}
 
 module _ {T : Type 0} where
-  -- it may end all 16 parts of the right to claim
+  -- it holds all 16 parts of the right to claim
   abbrev pub opened : View T
   opened = record { live = 16; ended = 0; drawn = []; taken = None }
 
@@ -48,7 +48,7 @@ module _ {T : Type 0} where
   abbrev pub HasEnded : Me (Option T) (View T) → Me (Option T) (View T) → Type 0
   HasEnded m n = IsFree n × (n.0.live + n.0.ended ≡ m.0.live + m.0.ended) × (0 < n.0.ended)
 
-  -- what is true of a seat after so many claims: a job is out only with a seat that drew its number
+  -- what holds of a seat after this many claims: a job is out only with a seat that drew its number
   pub record Fits (jobs : List (Option T)) (claims : ℕ) (v : View T) : Type 0 where
     pub drew : (k : ℕ) (x : T) → v.taken ≡ Some (k, x)
         → (k < claims) × (get_elem? jobs k ≡ some (Some x)) × (0 < times k v.drawn)
@@ -60,7 +60,7 @@ module _ {T : Type 0} where
   IsOut k x views = (j : ℕ) × (v : View T) × (get_elem? views j ≡ some v) × (v.taken ≡ Some (k, x))
 
 module _ {T : Type 0} (done : T → T → Type 0) where
-  -- it has done a job that it has
+  -- it has done the job that it has
   abbrev pub HasDone : Me (Option T) (View T) → Type 0
   HasDone m = (k : ℕ) × (x : T) × (y : T) × (m.0.taken ≡ Some (k, x)) × (m.1 ≡ (k, Some y) ∷ []) × done x y
 
@@ -82,7 +82,7 @@ module _ {T : Type 0} (ready : T → Type 0) where
   abbrev pub HasClaimed : Me (Option T) (View T) → ℕ → Me (Option T) (View T) → Type 0
   HasClaimed m n after = (x : T) × (after ≡ (holding m.0 n x, (n, Some x) ∷ [])) × ready x
 
-  -- what a claim tells: the job of the number drawn, where there is one
+  -- what a claim reports: the job of the number drawn, where there is one
   abbrev pub claimed : Step (Option T) → Me (Option T) (View T) → ℕ → Me (Option T) (View T) → Type 0
   claimed st m n after = (n < st.slots → HasClaimed m n after) × (st.slots ≤ n → after ≡ (ending m.0 n, []))
       × ((k : ℕ) (x : T) → m.0.taken ≡ Some (k, x) → k < n)

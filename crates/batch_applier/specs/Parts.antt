@@ -1,4 +1,4 @@
--- How a batch is parted over shards, and what is done to each shard.
+-- How a batch is split over shards, and what is done to each shard.
 use Rattle.std.specs.Prelude.{◌≡◌, ◌<◌, ◌%◌, ℕ, Bool, true, false, List, [], ◌∷◌, ◌++◌, Option, None, Some, length, take, filter, nat_eq, slice_index_or, OnOk, Result}
 use Rattle.std.specs.List.{All, AllPairs, flat_map}
 use Rattle.bson_doc.specs.Place.{Place}
@@ -18,7 +18,7 @@ is_in count number (Some place) = nat_eq (place_hash place % count) number
 abbrev pub part_of : List Entry → (count number : ℕ) → List Entry
 part_of entries count number = filter (λ entry. is_in count number (place_of entry.op)) entries
 
--- for each shard its entries
+-- for each shard, its entries
 pub record AreParts (entries : List Entry) (count : ℕ) (parts : List (List Entry)) : Type 0 where
   pub long : length parts ≡ count
   pub each : (k : ℕ) (d : List Entry) → k < count → slice_index_or parts k d ≡ part_of entries count k
@@ -28,17 +28,17 @@ abbrev pub IsAdded : (old new : List (List Entry)) → ℕ → Entry → Type 0
 IsAdded old new count entry = (k : ℕ) (d : List Entry) → k < length old
     → slice_index_or new k d ≡ slice_index_or old k d ++ part_of (entry ∷ []) count k
 
--- the entries of a batch's pieces, one piece after the other
+-- the entries of a batch's pieces, piece after piece
 abbrev pub joined : List (List Entry) → List Entry
 joined pieces = flat_map (λ piece. piece) pieces
 
--- each part has those of the next piece after its own
+-- each part is followed by that of the next piece
 pub record AreJoined (parts piece joined : List (List Entry)) : Type 0 where
   pub long : length joined ≡ length parts
   pub each : (k : ℕ) (d : List Entry) → k < length parts
       → slice_index_or joined k d ≡ slice_index_or parts k d ++ slice_index_or piece k d
 
--- the entries touch documents of the shard, with rising optimes past every version of these
+-- the entries touch documents of the shard, with rising optimes later than every version of these
 pub record IsReady (shard : Shard) (entries : List Entry) : Type 0 where
   pub own : All (λ entry.
       (place : Place) → place_of entry.op ≡ Some place → BelongsTo shard.number shard.count place) entries
@@ -62,7 +62,7 @@ abbrev pub IsEachReady : List Shard → List Entry → Type 0
 IsEachReady shards entries = (k : ℕ) (s : Shard) → k < length shards
     → IsReady (slice_index_or shards k s) (part_of entries (length shards) k)
 
--- the shard of the document that an entry touches can have a version of it at the entry's optime
+-- the shard of the document that an entry touches can take a version at the entry's optime
 pub record IsReadyFor (shards : List Shard) (entry : Entry) : Type 0 where
   pub own : (k : ℕ) (s : Shard) (place : Place) → k < length shards → place_of entry.op ≡ Some place
       → place_hash place % length shards ≡ k
@@ -92,6 +92,6 @@ pub record Each (So : Shard → Shard → List Entry → Type 0) (old new : List
   pub each : (k : ℕ) (s : Shard) (p : List Entry) → k < length old
       → So (slice_index_or old k s) (slice_index_or new k s) (slice_index_or parts k p)
 
--- all parts are applied to their shards; where memory runs out, of each part the first entries
+-- all parts are applied to their shards; where memory runs out, the first entries of each part
 abbrev pub AreApplied : {A E : Type 0} → Result A E → (old new : List Shard) → List (List Entry) → Type 0
 AreApplied result old new parts = OnOk result (Each IsApplied old new parts) × Each IsBegun old new parts

@@ -16,15 +16,15 @@ use std::alloc::{AllocError, Global};
 use std::thread::Threads;
 use version_store::{Shard, VersionStore};
 
-/// How many entries pay for a thread.
+/// How many entries make a thread worthwhile.
 const SHARE: usize = 1000;
 
-/// Applies a batch of at most 5,000 entries to a store, in 1 to 16 workers. A worker claims one shard after
-/// another and applies the entries on its documents, in order, so entries on one document stay in order.
-/// Each document then has the versions that the entries leave, one after another. Out of memory leaves each
-/// as it was.
+/// Applies a batch of at most 5,000 entries to a store, with 1 to 16 workers. A worker claims one shard after
+/// another and applies the entries on its documents, in order, so entries on one document stay in order. Each
+/// document then has the versions that the entries leave, one after another. Out of memory leaves each
+/// document as it was.
 ///
-/// The entries are lawful, with rising optimes past every version in the store.
+/// The entries are lawful, with rising optimes later than every version in the store.
 pub fn apply_batch<R: Threads + Sync, G: Gate + Sync>(
     rt: &R,
     store: &mut VersionStore,
@@ -51,7 +51,7 @@ pub fn apply_batch<R: Threads + Sync, G: Gate + Sync>(
     put_back(store, shards, first.optime, done)
 }
 
-/// Puts the shards back. Where the batch failed, without what its entries left, which begin at `first`.
+/// Puts the shards back. Where the batch failed, they lose what its entries left; those begin at `first`.
 fn put_back(store: &mut VersionStore, shards: Vec<Shard>, first: OpTime, done: Mem<()>) -> Mem<()>
     requires { AreShards store.old.count shards.items }
     ensures same { result ≡ done }
@@ -67,8 +67,8 @@ fn put_back(store: &mut VersionStore, shards: Vec<Shard>, first: OpTime, done: M
     done
 }
 
-/// Applies the entries. Where threads may pay, these part them over the shards for the workers. Where memory
-/// runs out, each shard has had some of its entries applied, from the first on.
+/// Applies the entries. Where threads may pay off, they split the entries over the shards for the workers.
+/// Where memory runs out, each shard has had some of its entries applied, from the first on.
 fn apply_to<R: Threads + Sync, G: Gate + Sync>(
     rt: &R,
     shards: &mut [Shard],
@@ -93,12 +93,12 @@ fn apply_to<R: Threads + Sync, G: Gate + Sync>(
     apply_parts(rt, gate, alloc, workers, &parts, shards)
 }
 
-/// How many of the workers are worth their threads, where they share so many entries.
+/// How many of the workers are worth their threads, where they share this many entries.
 fn paying(workers: u32, entries: usize) -> u32 {
     (entries / SHARE).min(workers as usize) as u32
 }
 
-/// Has all workers pass the gate, the first as the last.
+/// Makes all workers pass the gate, the first one last.
 fn pass_all<G: Gate>(gate: &G, workers: u32) {
     for other in 2..=workers {
         gate.pass(other);
@@ -106,8 +106,8 @@ fn pass_all<G: Gate>(gate: &G, workers: u32) {
     gate.pass(1);
 }
 
-/// How many of the workers save more than their threads cost: each has a thousand entries to do, and as many
-/// as the largest part, which one worker does alone.
+/// How many of the workers save more than their threads cost: each has at least a thousand entries to do, and
+/// at least as many as the largest part, which one worker does alone.
 fn worthwhile(workers: u32, parts: &[Part<'_>]) -> u32
     requires { 0 < workers }
     ensures { (0 < result) × (result ≤ workers) }
@@ -121,8 +121,8 @@ fn worthwhile(workers: u32, parts: &[Part<'_>]) -> u32
     (all / largest.max(SHARE)).min(workers as usize).max(1) as u32
 }
 
-/// Applies the parts in workers that claim the shards. Those for which no thread pays pass the gate in the
-/// caller, before the others begin.
+/// Applies the parts with workers that claim the shards. Workers that aren't worth a thread pass the gate in
+/// the caller, before the others begin.
 fn apply_parts<R: Threads + Sync, G: Gate + Sync>(
     rt: &R,
     gate: &G,

@@ -96,7 +96,7 @@ impl<T: Job> Claims<T> {
         self.table.shared.split_seat::<Parts>(claimer)
     }
 
-    /// Takes in the parts of another claimer.
+    /// Joins the parts of another claimer into this one.
     pub(crate) fn join(&self, claimer: &mut Claimer<T>, other: Claimer<T>)
         requires claimer { (claimer.old.table_id ≡ self.now.table.shared.table_id) × IsFree claimer.old.me }
         requires other { (other.table_id ≡ self.now.table.shared.table_id) × IsFree other.me }
@@ -106,8 +106,8 @@ impl<T: Job> Claims<T> {
         self.table.shared.join_seat::<Absorbs>(claimer, other);
     }
 
-    // Puts back the job that was done, and takes the one of the next number, which it tells. None where no
-    // job is left.
+    // Puts back the job that was done, takes the one with the next number, and returns that number. None
+    // where no job is left.
     #[tactic(auto, using(crate::proofs::ClaimSteps::claims))]
     fn claim(&self, claimer: &mut Claimer<T>) -> Option<usize>
         requires claimer { claimer.old.table_id ≡ self.now.table.shared.table_id }

@@ -9,8 +9,8 @@ use rs_optime::Mem;
 use std::alloc::Global;
 use version_store::Shard;
 
-/// Applies entries one after another, each to the shard of its document, and parts nothing. Where memory runs
-/// out, some of the entries have been applied.
+/// Applies entries one after another, each to the shard of its document, without splitting the batch. Where
+/// memory runs out, some of the entries have been applied.
 pub(crate) fn apply_each(
     alloc: Global,
     count: u32,

@@ -38,7 +38,7 @@ impl<'a> Part<'a> {
         }
     }
 
-    /// Puts those of the next piece after the others.
+    /// Appends those of the next piece.
     pub(crate) fn append(&mut self, touches: Touches<'a>) -> Mem<()>
         ensures ok { OnOk result (self.new ≡ self.old ++ touches.entry) }
         ensures err { OnErr result (self.new ≡ self.old) }
@@ -46,7 +46,7 @@ impl<'a> Part<'a> {
         Ok(self.pieces.push(touches)?)
     }
 
-    /// How many entries there are, or the greatest number, should there be more.
+    /// How many entries there are, or the greatest number if there are more.
     pub(crate) fn len(&self) -> usize {
         let mut len: usize = 0;
         for touches in &self.pieces {

@@ -1,5 +1,5 @@
-// A batch parted over shards by threads side by side. Most of that time goes by waiting for memory, since
-// what an entry touches is looked at here first.
+// A batch split over shards by parallel threads. Most of that time is spent waiting for memory, since what an
+// entry touches is first looked at here.
 ghost use Rattle.std.specs.Prelude.{◌≡◌, ◌<◌, [], All, length, IfOk};
 ghost use Rattle.std.specs.Thread.{IsSync};
 ghost use Rattle.oplog_entry.specs.Lawful.{IsLawful};
@@ -12,8 +12,8 @@ use rs_optime::Mem;
 use std::alloc::Global;
 use std::thread::{Threads, join};
 
-/// Parts a batch over this many shards, by so many threads, each of which parts a piece of it. The caller
-/// makes the room, so that a thread takes no memory of its own for it.
+/// Splits a batch over this many shards, with this many threads, each of which splits a piece of it. The
+/// caller makes the room, so that a thread takes no memory of its own for it.
 #[cycle(parting)]
 pub(crate) fn parted_by<'a, R: Threads + Sync>(
     rt: &R,
@@ -56,7 +56,7 @@ fn empty_parts<'a>(alloc: Global, count: u32) -> Mem<Vec<Part<'a>>>
     Ok(parts)
 }
 
-/// Puts what belongs to each part of the next piece of a batch after it.
+/// Appends to each part what belongs to it of the next piece of a batch.
 fn appended<'a>(mut parts: Vec<Part<'a>>, piece: Vec<Touches<'a>>) -> Mem<Vec<Part<'a>>>
     requires { length parts.items ≡ length piece.items }
     ensures { IfOk result (λ all. AreJoined parts.entry.items piece.entry.items all.items) }

@@ -46,7 +46,7 @@ impl<'p, 'e> Job for ShardJob<'p, 'e> {
     }
 }
 
-/// Applies the parts of all shards, by this many workers that claim them.
+/// Applies the parts of all shards, with this many workers that claim them.
 pub(crate) fn apply_claimed<R: Threads + Sync, G: Gate + Sync>(
     rt: &R,
     gate: &G,
@@ -97,7 +97,7 @@ fn jobs_of<'p, 'e>(
     Ok(jobs)
 }
 
-// Moves each shard out of its slot. Its error is that of some job.
+// Moves each shard out of its slot. An error is that of some job.
 fn take_back(mut closed: Closed<Option<ShardJob<'_, '_>>, Global>, shards: &mut [Shard]) -> Mem<()>
     requires full { IsFull closed.slots × (slots_len closed.slots ≡ length shards.old)
         × (length (slots_items closed.slots) ≡ length shards.old) }

@@ -52,7 +52,7 @@ impl<'a> Touch<'a> {
         Ok(Some(Touch { ns, id, entry }))
     }
 
-    /// The number of the document's shard, counted from 0, among this many.
+    /// The number of the document's shard among `count` shards, counted from 0.
     pub(crate) fn shard(&self, count: u32) -> u32
         requires { 0 < count }
         ensures { is_in count result (place_of self.now.op) ≡ true }
@@ -75,8 +75,8 @@ impl<'a> Touch<'a> {
         shard.put_in(ns, self.id.copy()?, self.entry.optime, after)
     }
 
-    /// The document that the op changes fields of. Other ops leave the same whatever stood there, so for
-    /// these nothing is looked up.
+    /// The document whose fields the op changes. Other ops leave the same whatever was there, so for these
+    /// nothing is looked up.
     fn base<'s>(&self, shard: &'s Shard) -> Option<&'s Doc>
         ensures { (place : Place) → place_of self.now.op ≡ Some place
             → document_after self.now.op (option_copied result)

@@ -74,8 +74,7 @@ pub(crate) struct Piece<'a> {
 }
 
 impl<'a> Piece<'a> {
-    /// These entries, with room for the parts that they have where they are spread evenly over
-    /// this many shards.
+    /// These entries, with room for their parts if they are spread evenly over this many shards.
     pub(crate) fn new(alloc: Global, entries: &'a [Entry], count: u32) -> Mem<Self>
         requires { 0 < count }
         ensures entries { IfOk result (λ piece. piece.entries.now ≡ entries.now) }
@@ -88,7 +87,7 @@ impl<'a> Piece<'a> {
         })
     }
 
-    /// Parts the entries over this many shards.
+    /// Splits the entries over this many shards.
     pub(crate) fn parted(self, count: u32) -> Mem<Vec<Touches<'a>>>
         requires some { 0 < count }
         requires parts { AreParts [] count self.parts.items }

@@ -2,7 +2,7 @@
 use std::collections::LinkedList;
 
 pub struct View<T> {
-    /// Of the 16 parts of the right to claim: those that have not ended.
+    /// How many of the 16 parts of the right to claim it has that have not ended.
     pub live: u64,
     /// Those that drew a number past the last job.
     pub ended: u64,

@@ -1,4 +1,4 @@
--- How the documents of a map follow its changes.
+-- How the documents of a map follow the map's changes.
 use Rattle.std.proofs.Common.{◌≡◌, cond, List, [], ◌∷◌, Option, Some, refl, sym, ap, ◌∙◌}
 use Rattle.std.specs.Ordering.{eq_by_cmp}
 use Rattle.std.specs.Cmp.{eq_by_cmp_equiv}

@@ -1,4 +1,4 @@
--- The documents that a map's entries make.
+-- The documents that a map's entries represent.
 use Rattle.std.specs.Prelude.{List}
 use Rattle.std.specs.FinMap.{from_entries}
 use Rattle.bson_doc.specs.Tree.{Fields}

@@ -10,12 +10,12 @@ use oplog_entry::{Entry, Op, with_changes};
 use std::alloc::Global;
 use std::collections::BTreeMap;
 
-/// What an op leaves of the document that it touches, where `before` is what stood there. None where the
-/// document is gone, or where there was none to change fields of. A no-op and a note leave what stood there.
+/// The document that an op touches, after the op, where `before` is what was there. None where the document
+/// is deleted, or where there was none whose fields could change. A no-op and a note leave what was there.
 pub fn document_after(alloc: Global, op: &Op, before: Option<&Doc>) -> Mem<Option<Doc>>
     ensures after { IfOk result (λ after. after ≡ document_after op.now (option_copied before.entry)) }
 
-    // Done twice, it is done once.
+    // Applying it twice is applying it once.
     ensures twice { IfOk result (λ after. document_after op.now after ≡ after) }
 {
     Ok(match (op, before) {
@@ -34,7 +34,7 @@ pub fn apply_entry(alloc: Global, docs: &mut BTreeMap<(Text, IdKey), Doc>, entry
     ensures ok { OnOk result
         (documents_of docs.new.entries ≡ applied (documents_of docs.old.entries) entry.now) }
 
-    // Done twice, it is done once.
+    // Applying it twice is applying it once.
     ensures twice { OnOk result
         (applied (documents_of docs.new.entries) entry.now ≡ documents_of docs.new.entries) }
     ensures err { OnErr result (docs.new.entries ≡ docs.old.entries) }

@@ -1,4 +1,5 @@
--- An entry in the middle of a log leaves what it leaves after all entries that touch other documents.
+-- An entry in the middle of a log has the effect that it has after all later entries that
+-- touch other documents.
 use Rattle.std.proofs.Common.{◌≡◌, ℕ, suc, ◌+◌, ◌≤◌, cond, Bool, true, false, List, [], ◌∷◌, ◌++◌, length, take, drop, insert, fold, subst, ◌-◌, Option, None, Some, refl, sym, ap, ◌∙◌, append_assoc, arith}
 use Rattle.std.specs.Cmp.{Equal-is, eq_by_cmp_equiv}
 use Rattle.std.specs.Ordering.{eq_by_cmp}

@@ -1,4 +1,4 @@
--- The documents that a prefix of a log leaves, with what stood before each of its entries.
+-- The documents that result from a prefix of a log, with what was there before each of its entries.
 use Rattle.std.specs.Prelude.{◌≡◌, ◌≤◌, Bool, false, List, [], ◌∷◌, ◌++◌, Option, None, Some, fold, length, take}
 use Rattle.std.specs.FinMap as maps
 use Rattle.std.specs.List.{list_any}
@@ -9,7 +9,7 @@ use Rattle.oplog_entry.specs.Docs.{Documents, applied}
 use Rattle.oplog_entry.specs.Step.{place_of}
 use Rattle.oplog_entry.specs.declared.entry.Entry.{Entry}
 
--- the place that an entry touches, with what stood there; none, where it touches no document
+-- the place that an entry touches, with what was there before; none, where the entry touches no document
 abbrev pub Before : Type 0
 Before = Option (Place × Option Fields)
 
@@ -25,7 +25,7 @@ abbrev pub stood_at : Documents → Option Place → Before
 stood_at documents None = None
 stood_at documents (Some place) = Some (place, maps.get documents place)
 
--- what stood at an entry's place
+-- what was at an entry's place
 abbrev pub stood_before : Documents → Entry → Before
 stood_before documents entry = stood_at documents (place_of entry.op)
 
@@ -48,7 +48,7 @@ pub record IsOfFront (log : List Entry) (shelf : Shelf) : Type 0 where
 
 -- ---- an entry in the middle
 
--- an entry before which this stood touches the document at a place
+-- an entry with this state before it touches the document at a place
 abbrev pub touches : Before → Place → Bool
 touches None place = false
 touches (Some (other, document)) place = eq_by_cmp place_cmp other place

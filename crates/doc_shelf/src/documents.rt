@@ -28,7 +28,7 @@ pub fn copy_at(documents: &BTreeMap<(Text, IdKey), Doc>, place: &(Text, IdKey)) 
     }
 }
 
-/// Puts a document at a place, or none, and gives what stood there.
+/// Puts a document at a place, or none, and returns what was there.
 pub fn put_at(
     documents: &mut BTreeMap<(Text, IdKey), Doc>,
     place: (Text, IdKey),

@@ -1,4 +1,4 @@
-//! The documents that a prefix of a log leaves, which goes on by single entries, and back by single entries.
+//! The documents that result from a prefix of a log. The prefix grows and shrinks by single entries.
 #![tactic(auto)]
 
 mod documents;

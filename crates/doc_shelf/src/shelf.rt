@@ -17,11 +17,11 @@ use std::alloc::Global;
 use std::collections::BTreeMap;
 use std::marker::Model;
 
-/// The place that an entry touches, with what stood there; none where it touches no document.
+/// The place that an entry touches, with what was there before; none where the entry touches no document.
 type Before = Option<((Text, IdKey), Option<Doc>)>;
 
-/// The documents that the first entries of a log leave, with what is needed to take each entry back: what
-/// stood at its place, and none where it touches no document.
+/// The documents that result from the first entries of a log, with what is needed to undo each entry: what
+/// was at its place, and none where it touches no document.
 #[derive(Drop)]
 pub struct Shelf {
     alloc: Global,
@@ -41,7 +41,7 @@ impl Model for Shelf {
     ghost view = { λ s. record { documents = documents_of s.documents.entries; before = s.before.items } };
 }
 
-/// Whether an entry before which this stood touches the document at a place.
+/// Whether an entry with this state before it touches the document at a place.
 fn touches(before: &Before, place: &(Text, IdKey)) -> bool
     ensures { result ≡ touches before.now place.now }
 {
@@ -51,7 +51,7 @@ fn touches(before: &Before, place: &(Text, IdKey)) -> bool
     }
 }
 
-/// Whether one of the entries before which this stood touches the document at a place.
+/// Whether one of the entries with these states before them touches the document at a place.
 fn is_among(stood: &[Before], place: &(Text, IdKey)) -> bool
     ensures { result ≡ list_any (λ before. touches before place.now) stood.now }
 {
@@ -77,8 +77,8 @@ impl Shelf {
         self.before.len()
     }
 
-    /// Goes to the documents of the first `count` entries of a log. Each entry between the two counts costs
-    /// a look-up or two. After out of memory no entry is applied.
+    /// Goes to the documents of the first `count` entries of a log. Each entry between the two counts costs a
+    /// look-up or two. Where memory runs out, no entry is applied.
     pub fn go_to(&mut self, entries: &[Entry], count: usize) -> Mem<()>
         requires front { IsOfFront entries.now self.old }
         requires lawful { All IsLawful entries.now }
@@ -110,8 +110,8 @@ impl Shelf {
         }
     }
 
-    /// An entry is put into the log at a place. Where no applied entry after it touches the same document,
-    /// none of these is taken back. Where memory runs out, no entry is applied.
+    /// Follows an insertion of an entry into the log at a place. Where no applied entry after it touches the
+    /// same document, none of these is undone. Where memory runs out, no entry is applied.
     pub fn insert(&mut self, entries: &[Entry], place: usize, entry: &Entry)
         requires front { IsOfFront entries.now self.old }
         requires within { place ≤ length entries.now }
@@ -126,7 +126,7 @@ impl Shelf {
         }
     }
 
-    /// An entry is put into the log at a place in front of applied ones.
+    /// Follows an insertion of an entry into the log at a place before applied ones.
     fn insert_applied(&mut self, entries: &[Entry], place: usize, entry: &Entry) -> Mem<()>
         requires front { IsOfFront entries.now self.old }
         requires applied { place ≤ length self.old.before }
@@ -160,7 +160,7 @@ impl Shelf {
         }
     }
 
-    /// What stood before the applied entries from a place on.
+    /// What was there before each of the applied entries from a place on.
     fn stood_from(&self, place: usize) -> &[Before]
         requires { place ≤ length self.now.before }
         ensures { result.now ≡ drop place self.now.before }
@@ -168,7 +168,7 @@ impl Shelf {
         &self.before[place..]
     }
 
-    /// Applies an entry before which this stands as the one at a place.
+    /// Applies an entry with this state before it as the one at a place.
     fn put_in(&mut self, place: usize, entry: &Entry, stood: Before) -> Mem<()>
         requires within { place ≤ length self.old.before }
         requires lawful { IsLawful entry.now }
@@ -213,7 +213,7 @@ impl Shelf {
         Ok(())
     }
 
-    /// What an entry leaves at its place. Only an op that changes fields asks what stands there.
+    /// What an entry leaves at its place. Only an op that changes fields looks at what is there.
     fn left_at(&self, place: &(Text, IdKey), entry: &Entry) -> Mem<Option<Doc>>
         ensures { IfOk result (λ after. after
             ≡ op_left entry.now.op (maps.get self.now.documents place.now)) }
@@ -229,7 +229,7 @@ impl Shelf {
         }
     }
 
-    /// What stands at the place of an entry.
+    /// What is at the place of an entry.
     fn standing(&self, entry: &Entry) -> Mem<Before>
         requires { IsLawful entry.now }
         ensures { IfOk result (λ stood. stood ≡ stood_before self.now.documents entry.now) }
@@ -241,7 +241,7 @@ impl Shelf {
         Ok(Some((place, document)))
     }
 
-    /// Takes the last entry back. Where memory runs out, no entry is applied.
+    /// Undoes the last entry. Where memory runs out, no entry is applied.
     fn back(&mut self)
         requires { 0 < length self.old.before }
         ensures { (log : List Entry) → IsOfFront log self.old
@@ -252,7 +252,7 @@ impl Shelf {
         }
     }
 
-    /// Takes the last entry back.
+    /// Undoes the last entry.
     fn take_back(&mut self) -> Mem<()>
         ensures { (shelf : Shown) (entry : Entry) → self.old ≡ with_applied shelf entry
             → OnOk result (self.new ≡ shelf) }

@@ -1,4 +1,4 @@
--- What different operators of an update are given is apart.
+-- Different operators of an update are given distinct names.
 use Rattle.std.proofs.Common.{◌≡◌, ◌∙◌, ℕ, Bool, true, false, ◌||◌, List, [], ◌∷◌, ◌++◌, Some, is_some, refl, sym, ap}
 use Rattle.std.specs.Prelude.{cond}
 use Rattle.std.specs.Str.{bytes_eq}

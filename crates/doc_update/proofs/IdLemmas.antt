@@ -1,4 +1,4 @@
--- A document with an `_id` in front.
+-- A document with its `_id` first.
 use Rattle.std.proofs.Common.{◌≡◌, ℕ, true, List, [], ◌∷◌, Contains, codes, ap, sym, subst, ◌∙◌, arith}
 use Rattle.std.proofs.lemmas.Grind.{common_steps}
 use Rattle.bson_doc.specs.Tree.{Tree, Fields, no_fields, field, found, fields_from, without, IsDocument}

@@ -1,4 +1,4 @@
--- What is logged of a write stands at its place.
+-- What is logged for a write puts the document at its place.
 use Rattle.std.proofs.Common.{Option, Result, Ok, Err, IfOk, sym, ap, ◌∙◌}
 use Rattle.std.specs.FinMap as maps
 use Rattle.bson_doc.specs.Tree.{Fields}

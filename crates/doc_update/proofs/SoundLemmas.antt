@@ -1,4 +1,4 @@
--- What is logged of a write is lawful.
+-- What is logged for a write is lawful.
 use Rattle.std.proofs.Common.{◌≡◌, ◌<◌, ℕ, Bool, true, false, ◌||◌, if◌then◌else◌, List, [], ◌∷◌, ◌++◌, Option, None, Some, IsSome, is_some, option_and_then, Result, Ok, Err, IfOk, codes, refl, sym, ap, ◌∙◌, arith, rules, subst}
 use Rattle.std.specs.Str.{bytes_eq}
 use Rattle.std.proofs.lemmas.List.{append-nil}

@@ -4,7 +4,7 @@ use Rattle.doc_update.specs.declared.borrowed.BorrowedWrite.TheVariants as borro
 use Rattle.doc_update.specs.declared.write.WriteOp.{WriteOp}
 use Rattle.doc_update.specs.declared.write.WriteOp.TheVariants.{Insert, Replace, Update, Delete}
 
--- the write that a reference stands for
+-- the write that a reference refers to
 abbrev pub shown : BorrowedWrite → WriteOp
 shown (borrowed.Insert ns doc) = Insert ns.now doc.now
 shown (borrowed.Replace ns id doc) = Replace ns.now id.now doc.now

@@ -1,4 +1,4 @@
--- What a write owes, whatever document is there.
+-- What a write has to satisfy, whatever document exists.
 use Rattle.std.specs.Prelude.{ℕ, Bool, true, false, not, ◌&&◌, ◌||◌, ◌==◌, List, [], ◌∷◌, ◌++◌, Option, None, Some, Result, Ok, Err, codes, if◌then◌else◌}
 use Rattle.std.specs.List.{list_any}
 use Rattle.std.specs.Str.{bytes_eq}
@@ -46,7 +46,7 @@ abbrev pub all_names : Fields → List (List ℕ)
 all_names no_fields = []
 all_names (field name value rest) = names_of (given value) ++ all_names rest
 
--- not empty, no dollar sign in front, no dot
+-- not empty, no leading dollar sign, no dot
 abbrev pub is_good : List ℕ → Bool
 is_good [] = false
 is_good (c ∷ cs) = not (c == 36) && not (list_any (λ b. b == 46) (c ∷ cs))
@@ -55,13 +55,13 @@ abbrev pub all_good : List (List ℕ) → Bool
 all_good [] = true
 all_good (name ∷ names) = is_good name && all_good names
 
--- some name stands twice
+-- some name occurs twice
 abbrev pub has_twice : List (List ℕ) → Bool
 has_twice [] = false
 has_twice (name ∷ names) = is_among name names || has_twice names
 
--- the first rule that an update breaks: 1 an unknown operator, 2 no operator or one that isn't given a
--- document, 3 a bad name, 4 a name twice
+-- the first rule that an update breaks: 1 an unknown operator, 2 no operator or one whose value isn't a
+-- document, 3 a bad name, 4 a duplicate name
 abbrev pub broken_rule : Fields → Option ℕ
 broken_rule operators =
     if not (all_known operators) then Some 1 else
@@ -82,7 +82,7 @@ abbrev pub insert_checked : List ℕ → Option Tree → Result Place Reason
 insert_checked ns None = Err NoId
 insert_checked ns (Some id) = with_key ns (key_of id)
 
--- a replacement may have an `_id`, of the same key
+-- a replacement may have an `_id`, with the same key
 abbrev pub same_id : List ℕ → IdKey → Option IdKey → Result Place Reason
 same_id ns key None = Err BadIdKind
 same_id ns key (Some own) = if same_key own key then Ok (ns, key) else Err ImmutableId

@@ -1,4 +1,4 @@
--- What a write comes to, given the document that is there.
+-- The effect of a write on the existing document, if there is one.
 use Rattle.std.specs.Prelude.{ℕ, Bool, ◌||◌, nat_lt, List, Option, None, Some, Result, Ok, Err, codes, is_some, if◌then◌else◌}
 use Rattle.bson_doc.specs.Tree.{Tree, null, Fields, no_fields, field, found, without, Trees}
 use Rattle.bson_doc.specs.declared.doc.Value.{Value}
@@ -17,7 +17,7 @@ use Rattle.doc_update.specs.declared.write.Prepared.{Prepared}
 use Rattle.doc_update.specs.declared.write.Prepared.TheVariants.{Entry, NoMatch, Unchanged}
 use Rattle.doc_update.specs.Refusal.{Reason, DuplicateKey, IncType, IncOverflow, DocTooLarge}
 
--- a document with an `_id` in front of the other fields
+-- a document with an `_id` before the other fields
 abbrev pub id_first : Option Tree → Fields → Fields
 id_first None doc = doc
 id_first (Some id) doc = field (codes "_id") id (without doc (codes "_id"))
@@ -34,7 +34,7 @@ stored op after = if is_too_large after then Err DocTooLarge else Ok (Entry op (
 abbrev pub written : Op → Fields → Fields → Result Prepared Reason
 written op before after = if same_fields after before then Ok Unchanged else stored op after
 
--- what an operator is given, nothing where it isn't there
+-- the fields given to an operator; none where it is absent
 abbrev pub fields_under : Option Tree → Fields
 fields_under None = no_fields
 fields_under (Some value) = given value
@@ -42,7 +42,7 @@ fields_under (Some value) = given value
 abbrev pub under : List ℕ → Fields → Fields
 under operator operators = fields_under (found operator operators)
 
--- the fields of these whose name is in a document
+-- those of these fields whose name is in a document
 abbrev pub present : Fields → Fields → Fields
 present doc no_fields = no_fields
 present doc (field name value rest) =
@@ -53,7 +53,7 @@ abbrev pub sets_of : Fields → Fields → Fields
 sets_of operators doc =
     in_byte_order (join (under (codes "$set") operators) (sums doc (under (codes "$inc") operators)))
 
--- the names of `$unset` that are there, in byte order
+-- the existing names of `$unset`, in byte order
 abbrev pub unsets_of : Fields → Fields → Trees
 unsets_of operators doc =
     as_strings (names_of (in_byte_order (present doc (under (codes "$unset") operators))))
@@ -73,7 +73,7 @@ abbrev pub insert_prepared : List ℕ → Fields → Result Prepared Reason
 insert_prepared ns doc =
     stored (ops.Insert ns (id_first (found (codes "_id") doc) doc)) (id_first (found (codes "_id") doc) doc)
 
--- and a replacement keeps the `_id` that is there
+-- and a replacement keeps the existing `_id`
 abbrev pub replace_prepared : List ℕ → Value → Fields → Fields → Result Prepared Reason
 replace_prepared ns id doc before =
     written (ops.Replace ns id (id_first (found (codes "_id") before) doc)) before
@@ -82,7 +82,7 @@ replace_prepared ns id doc before =
 abbrev pub delete_prepared : List ℕ → Value → Result Prepared Reason
 delete_prepared ns id = Ok (Entry (ops.Delete ns id) None)
 
--- what a write that was checked comes to
+-- the effect of a write that passed the check
 abbrev pub prepared : WriteOp → Option Fields → Result Prepared Reason
 prepared (Insert ns doc) None = insert_prepared ns doc
 prepared (Insert ns doc) (Some before) = Err DuplicateKey
@@ -97,6 +97,6 @@ abbrev pub unless_refused : {P : Type 0} → Result P Reason → Result Prepared
 unless_refused (Err why) outcome = Err why
 unless_refused (Ok place) outcome = outcome
 
--- what a write comes to: the first refusal that holds, or what is logged and stored, or nothing
+-- the effect of a write: the first refusal that holds, or what is logged and stored, or nothing
 abbrev pub effect : WriteOp → Option Fields → Result Prepared Reason
 effect op before = unless_refused (checked op) (prepared op before)

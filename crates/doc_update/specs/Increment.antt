@@ -14,7 +14,7 @@ integer_of (int32 n) = Some n
 integer_of (int64 n) = Some n
 integer_of _ = None
 
--- both sides are integers; an absent field has no side
+-- both operands are integers; an absent field is no operand
 abbrev pub can_add : Option Tree → Tree → Bool
 can_add None operand = is_some (integer_of operand)
 can_add (Some old) operand = is_some (integer_of old) && is_some (integer_of operand)
@@ -22,28 +22,28 @@ can_add (Some old) operand = is_some (integer_of old) && is_some (integer_of ope
 abbrev pub sum_of : Tree → Tree → ℤ
 sum_of old operand = unwrap_or (integer_of old) (pos 0) +ℤ unwrap_or (integer_of operand) (pos 0)
 
--- a number of so many bits, and a sign
+-- a number fits in this many bits and a sign
 abbrev pub fits : ℕ → ℤ → Bool
 fits bits n = int_le (neg_ℤ (pos (2 ^ bits))) n && int_le n (pos (2 ^ bits - 1))
 
--- the sum has no room in 64 bits
+-- the sum doesn't fit in 64 bits
 abbrev pub overflows : Option Tree → Tree → Bool
 overflows None operand = false
 overflows (Some old) operand = not (fits 63 (sum_of old operand))
 
--- an int32 where both are and it fits, else an int64
+-- an int32 where both are int32 and the sum fits, else an int64
 abbrev pub added : Option Tree → Tree → Tree
 added None operand = operand
 added (Some (int32 m)) (int32 n) = if fits 31 (m +ℤ n) then int32 (m +ℤ n) else int64 (m +ℤ n)
 added (Some old) operand = int64 (sum_of old operand)
 
--- some side isn't an integer
+-- some operand isn't an integer
 abbrev pub has_wrong_side : Fields → Fields → Bool
 has_wrong_side document no_fields = false
 has_wrong_side document (field name operand rest) =
     not (can_add (found name document) operand) || has_wrong_side document rest
 
--- some sum has no room in 64 bits
+-- some sum doesn't fit in 64 bits
 abbrev pub has_overflow : Fields → Fields → Bool
 has_overflow document no_fields = false
 has_overflow document (field name operand rest) =
@@ -55,14 +55,14 @@ sums document no_fields = no_fields
 sums document (field name operand rest) =
     field name (added (found name document) operand) (sums document rest)
 
--- what adding to one field answers
+-- the result of adding to one field
 abbrev pub IsSum : Option Tree → Tree → Sum → Type 0
 IsSum old operand (Whole v) =
     (can_add old operand ≡ true) × (overflows old operand ≡ false) × (tree_of v ≡ added old operand)
 IsSum old operand WrongSide = can_add old operand ≡ false
 IsSum old operand NoRoom = (can_add old operand ≡ true) × (overflows old operand ≡ true)
 
--- what adding the sums of all fields answers, and what then stands with the others
+-- the result of adding the sums of all fields, and the fields that are then with the others
 abbrev pub AddsSums : Fields → Fields → Fields → Fields → Result (Unit {0}) WriteRefusal → Type 0
 AddsSums doc operands before after (Ok done) =
     (has_wrong_side doc operands ≡ false) × (has_overflow doc operands ≡ false)

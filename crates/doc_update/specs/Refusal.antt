@@ -20,7 +20,7 @@ abbrev pub refusal_of_key : KeyError → WriteRefusal
 refusal_of_key (Kind byte) = code.BadIdKind
 refusal_of_key NoMemory = code.Memory
 
--- the reason that a refusal has; out of memory is none
+-- the reason of a refusal; out of memory is no reason
 abbrev pub reason_of : WriteRefusal → Option Reason
 reason_of code.DuplicateKey = Some DuplicateKey
 reason_of code.NoId = Some NoId
@@ -32,11 +32,11 @@ reason_of code.DocTooLarge = Some DocTooLarge
 reason_of (code.BadUpdate rule) = Some (BadUpdate rule)
 reason_of code.Memory = None
 
--- a write is refused for the reason that is wanted, unless memory ran out
+-- a write is refused for the expected reason, unless memory ran out
 abbrev pub Refuses : {X : Type 0} → WriteRefusal → Result X Reason → Type 0
 Refuses refusal wanted = IfSome (reason_of refusal) (λ reason. wanted ≡ Err reason)
 
--- a call answers what is wanted, unless memory ran out
+-- a call returns what is expected, unless memory ran out
 abbrev pub Answers : {X : Type 0} → Result X WriteRefusal → Result X Reason → Type 0
 Answers (Ok x) wanted = wanted ≡ Ok x
 Answers (Err e) wanted = Refuses e wanted

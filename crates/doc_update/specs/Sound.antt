@@ -1,4 +1,4 @@
--- What a write needs of the document that is there, and what its op owes.
+-- What a write needs of the existing document, and what its op has to satisfy.
 use Rattle.std.specs.Prelude.{◌≡◌, ⊤, [], ◌∷◌, ◌++◌, true, false, List, Option, None, Some, Result, Ok, Err, codes}
 use Rattle.std.specs.FinMap as maps
 use Rattle.bson_doc.specs.Tree.{Fields}
@@ -17,7 +17,7 @@ use Rattle.doc_update.specs.Refusal.{Reason}
 use Rattle.doc_update.specs.declared.write.WriteRefusal.{WriteRefusal}
 use Rattle.doc_update.specs.declared.write.WriteRefusal.TheVariants.{IncType, IncOverflow, Memory}
 
--- the document begins with an `_id` of the key that the write names
+-- the document begins with an `_id` whose key the write names
 abbrev pub IsNamed : Result Place Reason → Fields → Type 0
 IsNamed (Ok place) doc = BeginsWithId doc × (id_key doc ≡ Some place.1)
 IsNamed (Err why) doc = ⊥
@@ -26,16 +26,14 @@ abbrev pub named_place : Result Place Reason → Option Place
 named_place (Ok place) = Some place
 named_place (Err why) = None
 
--- a logged op is lawful, touches the document that the write names, and leaves the document that is
--- given with it
+-- a logged op is lawful, touches the document that the write names, and leaves the document given with it
 abbrev pub IsSound : Result Place Reason → Option Fields → Prepared → Type 0
 IsSound place before (Entry op after) =
     IsLawfulOp op × (place_of op ≡ named_place place) × (after ≡ document_after op before)
 IsSound place before NoMatch = ⊤
 IsSound place before Unchanged = ⊤
 
--- once it is logged after entries that leave this document at the place, the document that is given with
--- it is there
+-- once it is logged after entries that leave this document at the place, the document given with it is there
 abbrev pub IsStored : Result Place Reason → Option Fields → Prepared → Type 0
 IsStored (Ok place) before (Entry op after) =
     (log : List entries.Entry) (entry : entries.Entry) → entry.op ≡ op → maps.get (docs log) place ≡ before

@@ -84,7 +84,7 @@ fn all_good(operators: &Doc) -> bool
     true
 }
 
-/// Whether some name stands twice under the operators.
+/// Whether some name occurs twice under the operators.
 #[tactic(auto, using(crate::proofs::NameRules::names))]
 fn has_twice(alloc: Global, operators: &Doc) -> Mem<bool>
     ensures { IfOk result (λ twice. twice ≡ has_twice (all_names operators.now)) }
@@ -106,7 +106,7 @@ fn has_twice(alloc: Global, operators: &Doc) -> Mem<bool>
     Ok(false)
 }
 
-/// The same, without a look at the names of one operator alone, which are apart.
+/// The same, without comparing the names within one operator, which are distinct.
 #[tactic(auto, using(crate::proofs::SoundLemmas::alone))]
 fn names_twice(alloc: Global, operators: &Doc) -> Mem<bool>
     ensures { IfOk result (λ twice. twice ≡ has_twice (all_names operators.now)) }
@@ -203,7 +203,7 @@ fn check_update(
     Ok((ns.copy()?, key))
 }
 
-/// The collection and the key that a write names, or the first refusal that holds whatever document is there:
+/// The collection and the key that a write names, or the first refusal that holds whatever document exists:
 /// `NoId`, `BadIdKind`, `BadUpdate` with the lowest rule that is broken, and `ImmutableId`, in this order.
 pub fn check(alloc: Global, op: &WriteOp) -> Result<(Text, IdKey), WriteRefusal>
     ensures { Answers result (checked op.now) }

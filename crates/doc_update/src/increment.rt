@@ -27,7 +27,7 @@ enum Sum {
     NoRoom,
 }
 
-/// What adding makes of one field. The sum of two int32 is one where it fits.
+/// The result of adding to one field. The sum of two int32 is an int32 where it fits.
 fn incremented(old: Option<&Value>, operand: &Value) -> Sum
     ensures { IsSum (option_map (λ v. tree_of v.now) old.entry) (tree_of operand.now) result }
 {
@@ -52,7 +52,7 @@ fn incremented(old: Option<&Value>, operand: &Value) -> Sum
     }
 }
 
-/// Puts each name with its sum. A wrong kind at any name is answered before an overflow at another.
+/// Puts each name with its sum. A wrong kind at any name is reported before an overflow at another.
 #[tactic(auto, using(crate::proofs::NameRules::sides))]
 pub(crate) fn add_sums(
     alloc: Global,

@@ -1,5 +1,5 @@
-//! Writes to one document: what each makes of the document that stands there, what is logged of it, and why
-//! it is refused (MongoDB manual, update operators).
+//! Writes to one document: how each changes the existing document, what is logged for it, and why it is
+//! refused (MongoDB manual, update operators).
 #![tactic(auto)]
 
 mod borrowed;

@@ -1,4 +1,4 @@
-// What a write that was checked comes to.
+// The effect of a write that passed the check.
 ghost use Rattle.std.specs.Prelude.{◌≡◌, [], ◌∷◌, false, Contains, if◌then◌else◌, IfOk, IfSome, IsOk, IsSome, IsTrue, OnOk, None, codes, unwrap_or};
 ghost use Rattle.std.specs.Option.{option_copied};
 ghost use Rattle.bson_doc.specs.Tree.{found, field, without, with_field, no_fields};
@@ -32,7 +32,7 @@ fn append_other(whole: &mut Doc, name: Text, value: &Value) -> Mem<()>
     whole.append(name, value.copy()?)
 }
 
-/// A document with an `_id` in front of its other fields.
+/// A document with an `_id` before its other fields.
 fn with_id_first(alloc: Global, id: &Value, doc: &Doc) -> Mem<Doc>
     ensures { IfOk result (λ d. d ≡ field (codes "_id") (tree_of id.now) (without doc.now (codes "_id"))) }
 {
@@ -48,7 +48,7 @@ fn with_id_first(alloc: Global, id: &Value, doc: &Doc) -> Mem<Doc>
     Ok(whole)
 }
 
-/// Whether the `_id` is the first field already.
+/// Whether the `_id` is already the first field.
 #[tactic(auto, using(crate::proofs::IdLemmas::first_id))]
 fn begins_with_id(doc: &Doc) -> bool
     ensures { IsTrue result → id_first (found (codes "_id") doc.now) doc.now ≡ doc.now }
@@ -59,7 +59,7 @@ fn begins_with_id(doc: &Doc) -> bool
     }
 }
 
-/// A document with its own `_id` in front.
+/// A document with its own `_id` first.
 fn with_own_id_first(alloc: Global, doc: &Doc) -> Mem<Doc>
     requires { IsSome (found (codes "_id") doc.now) }
     ensures { IfOk result (λ d. d ≡ id_first (found (codes "_id") doc.now) doc.now) }
@@ -73,7 +73,7 @@ fn with_own_id_first(alloc: Global, doc: &Doc) -> Mem<Doc>
     with_id_first(alloc, id, doc)
 }
 
-/// Whether a document is longer or deeper than one that is stored may be.
+/// Whether a document is longer or deeper than a stored one may be.
 fn is_too_large(doc: &Doc) -> bool
     ensures { result ≡ is_too_large doc.now }
 {
@@ -103,7 +103,7 @@ fn written(op: Op, before: &Doc, after: Doc) -> Result<Prepared, WriteRefusal>
     stored(op, after)
 }
 
-/// The fields that an operator is given.
+/// The fields given to an operator.
 fn under<'a>(operators: &'a Doc, name: &str) -> Option<&'a Doc>
     ensures { unwrap_or (option_copied result) no_fields ≡ under name.now operators.now }
 {
@@ -113,7 +113,7 @@ fn under<'a>(operators: &'a Doc, name: &str) -> Option<&'a Doc>
     }
 }
 
-/// How many fields an operator is given.
+/// How many fields are given to an operator.
 fn fields_under(operators: &Doc, name: &str) -> usize {
     match under(operators, name) {
         Some(fields) => fields.len(),
@@ -178,7 +178,7 @@ fn sets_of(
     Ok(sets)
 }
 
-/// Puts each of these names that is there in its place.
+/// Puts each of these names that exists in its place.
 #[tactic(auto, using(crate::proofs::NameRules::places))]
 fn put_present(
     alloc: Global,
@@ -200,7 +200,7 @@ fn put_present(
     Ok(())
 }
 
-/// The names of `$unset` that are there, in byte order.
+/// The existing names of `$unset`, in byte order.
 fn unsets_of(alloc: Global, operators: &Doc, document: &FieldIndex<'_>) -> Mem<Ordered>
     ensures { IfOk result (λ unsets.
         unsets ≡ in_byte_order (present document.now (under (codes "$unset") operators.now))) }
@@ -311,9 +311,9 @@ fn prepare_checked(
     }
 }
 
-/// What a write comes to that `check` let through, where `before` is the document of its key. It is refused
-/// as `DuplicateKey`, `IncType`, `IncOverflow` or `DocTooLarge`, in this order. The op of an entry is lawful,
-/// and applied to `before` it leaves `after`: once it is logged, `after` stands at its place.
+/// The effect of a write that passed `check`, where `before` is the document with its key. It is refused as
+/// `DuplicateKey`, `IncType`, `IncOverflow` or `DocTooLarge`, in this order. The op of an entry is lawful,
+/// and applied to `before` it leaves `after`: once it is logged, `after` is the document at its place.
 pub fn prepare(alloc: Global, op: &WriteOp, before: Option<&Doc>) -> Result<Prepared, WriteRefusal>
     requires checked { IsOk (checked op.now) }
     requires own { IfSome (option_copied before) (λ d. IsNamed (checked op.now) d) }

@@ -6,17 +6,17 @@ use oplog_entry::Op;
 use std::alloc::{AllocError, AllocFailed};
 use thiserror::Error;
 
-/// A write to one document of the collection `ns`. `id` is the value that its `_id` is compared with,
-/// as a key.
+/// A write to one document of the collection `ns`. `id` is the value that the document's `_id` is compared
+/// with, as a key.
 #[derive(Drop)]
 pub enum WriteOp {
-    /// `doc` is stored, unless a document with its `_id` is there.
+    /// Inserts `doc`, unless a document with its `_id` exists.
     Insert { ns: Text, doc: Doc },
-    /// `doc` stands in place of the document that is there, whose `_id` stays.
+    /// Replaces the existing document by `doc`. The `_id` stays.
     Replace { ns: Text, id: Value, doc: Doc },
-    /// The document is changed by `$set`, `$unset` and `$inc`.
+    /// Changes the document by `$set`, `$unset` and `$inc`.
     Update { ns: Text, id: Value, operators: Doc },
-    /// The document is gone.
+    /// Deletes the document.
     Delete { ns: Text, id: Value },
 }
 
@@ -56,7 +56,7 @@ impl WriteOp {
     }
 }
 
-/// What a write comes to, given the document that is there.
+/// The effect of a write on the existing document, if there is one.
 #[derive(Drop)]
 pub enum Prepared {
     /// This op is logged, and it leaves this document.
@@ -110,8 +110,8 @@ pub enum WriteRefusal {
     IncOverflow,
     #[error("the document is too large")]
     DocTooLarge,
-    /// 1: an operator is unknown. 2: there is no operator, or one isn't given a document. 3: a name is empty,
-    /// begins with a dollar sign or has a dot. 4: a name stands twice.
+    /// 1: an operator is unknown. 2: there is no operator, or the value of one isn't a document. 3: a name is
+    /// empty, begins with a dollar sign or has a dot. 4: a name occurs twice.
     #[error("the update breaks rule {0}")]
     BadUpdate(u32),
     #[error("out of memory")]

@@ -1,4 +1,4 @@
--- Numbers put in order are as many.
+-- Putting numbers in order keeps their count.
 use Rattle.std.proofs.Common.{◌≡◌, refl, arith, Bool, true, false, cond, List, [], ◌∷◌, ℕ, suc, length}
 use Rattle.std.specs.Prelude.{nat_lt}
 use Rattle.member_config.specs.Numbers.{put, in_order}

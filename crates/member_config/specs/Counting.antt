@@ -14,12 +14,12 @@ count test (voter ∷ voters) = bit (test voter) + count test voters
 abbrev pub Most : List ℕ → (ℕ → Bool) → Type 0
 Most voters test = length voters / 2 + 1 ≤ count test voters
 
--- no voter stands twice
+-- no voter is listed twice
 abbrev pub NoneTwice : List ℕ → Type 0
 NoneTwice [] = ⊤
 NoneTwice (voter ∷ voters) = (is_among voter voters ≡ false) × NoneTwice voters
 
--- how many of the one are not among the other
+-- how many of the one list are not in the other
 abbrev pub outside : List ℕ → List ℕ → ℕ
 outside one two = count (λ voter. not (is_among voter two)) one
 

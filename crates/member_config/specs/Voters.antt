@@ -27,28 +27,28 @@ is_voter config number = is_among number (voters config)
 abbrev pub is_electable_in : Config → ℕ → Bool
 is_electable_in config number = list_any (λ m. m.number == number && nat_lt 0 m.priority) config.members
 
--- the first member that is no node of a set of so many nodes
+-- the first member that isn't a node of a set with this many nodes
 abbrev pub unknown_member : (nodes : ℕ) → Config → Option ℕ
 unknown_member nodes config = first_of (filter (λ number. not (nat_lt number nodes)) (numbers config))
 
--- half of so many voters, rounded down, and one more
+-- half of this many voters, rounded down, plus one
 abbrev pub most_of : ℕ → ℕ
 most_of count = count / 2 + 1
 
 abbrev pub majority : Config → ℕ
 majority config = most_of (length (voters config))
 
--- those who voted, with one more where it is a voter that hasn't voted yet
+-- those who voted, plus one more if it is a voter that hasn't voted yet
 abbrev pub with_vote : List ℕ → List ℕ → ℕ → List ℕ
 with_vote voters voted from =
     if is_among from voters && not (is_among from voted) then from ∷ voted else voted
 
--- at most one number votes in just one of the two: then any two of their majorities meet
+-- at most one number votes in just one of the two: then any two of their majorities intersect
 abbrev pub is_one_voter_apart : Config → Config → Bool
 is_one_voter_apart one other =
     nat_le (length (outside (voters one) (voters other)) + length (outside (voters other) (voters one))) 1
 
--- no two members have one number
+-- no two members have the same number
 abbrev pub HasDistinctNumbers : Config → Type 0
 HasDistinctNumbers config = has_twice (numbers config) ≡ false
 

@@ -1,5 +1,5 @@
-//! Configurations of a set: their members, who votes, and what a configuration owes (MongoDB manual, replica
-//! set configuration; MongoRaftReconfig).
+//! Configurations of a set: their members, who votes, and the rules for a configuration (MongoDB manual,
+//! replica set configuration; MongoRaftReconfig).
 #![tactic(auto)]
 
 mod config;

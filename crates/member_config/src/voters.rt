@@ -7,14 +7,14 @@ use crate::{Config, Mem, Member};
 use std::alloc::Global;
 
 impl Config {
-    /// Whether this configuration is newer: by term, and then by version.
+    /// Whether this configuration is newer: by term, then by version.
     pub fn is_newer(&self, than: &Config) -> bool
         ensures { result ≡ ids.is_newer self.now than.now }
     {
         self.term > than.term || (self.term == than.term && self.version > than.version)
     }
 
-    /// How many votes decide: half of the voters, rounded down, and one more.
+    /// How many votes decide: half of the voters, rounded down, plus one.
     pub fn majority(&self) -> u32
         requires { length self.now.members ≤ 50 }
         ensures { result ≡ votes.majority self.now }

@@ -9,7 +9,7 @@ use Rattle.oplog_store.specs.Log.{Log}
 use Rattle.oplog_store.specs.declared.places.Place.{Place}
 use Rattle.oplog_store.specs.declared.places.Place.TheVariants.{Open, Written, Closed}
 
--- the entries, how many of them stand before the first hole, and how many more there is room for
+-- the entries, how many of them come before the first hole, and for how many more there is room
 pub record LogWithHoles : Type 0 where
   pub entries : List Entry
   pub settled : List Entry
@@ -20,7 +20,7 @@ optime_of (Open at) = at
 optime_of (Written entry) = entry.optime
 optime_of (Closed at) = at
 
--- the entries that are written at some places
+-- the entries written at some places
 abbrev pub written : List Place → List Entry
 written [] = []
 written (Open at ∷ places) = written places
@@ -46,7 +46,7 @@ pub record IsHeld (settled : List Entry) (places : List Place) : Type 0 where
   pub rise : AllPairs StandsFirst places
   pub after : All (FollowsAll settled) places
 
--- all that stands comes before an optime
+-- everything in the log comes before an optime
 pub record AllPrecede (settled : List Entry) (places : List Place) (at : OpTime) : Type 0 where
   pub entries : All (λ (entry : Entry). Precedes entry.optime at) settled
   pub places_too : All (λ place. Precedes (optime_of place) at) places
@@ -69,7 +69,7 @@ pub record Moved (settled : List Entry) (places : List Place) (spare : ℕ) (set
   pub entries : settled_new ++ written places_new ≡ settled ++ written places
   pub room : spare + length places_new ≤ spare_new + length places
 
--- a log in two parts, with its last optime and the room that there is beside what the places take
+-- a log in two parts, with its last optime and the room beyond what the places take
 pub record IsLogWithHoles (log : Log) (places : List Place) (at : OpTime) (spare : ℕ) : Type 0 where
   pub held : IsHeld log.entries places
   pub last : at ≡ last_of (log.entries ++ written places)

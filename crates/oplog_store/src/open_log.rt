@@ -14,9 +14,9 @@ use std::alloc::{AllocError, Global};
 use std::collections::VecDeque;
 use std::marker::Model;
 
-/// The oplog of a node whose slots may be open (MongoDB's "oplog holes"). A place is kept for the entry of
-/// each, so that it comes there without moving those after it. An entry that has no place is put where it
-/// belongs all the same.
+/// The oplog of a node whose slots may be open (MongoDB's "oplog holes"). A place is reserved for the entry
+/// of each, so that it goes there without moving those after it. An entry without a place is still put
+/// where it belongs.
 #[derive(Drop)]
 pub struct OpenLog {
     settled: Oplog,
@@ -45,7 +45,7 @@ impl Model for OpenLog {
     ghost invariant = { λ o. IsLogWithHoles o.settled o.beyond.items o.last o.spare };
 }
 
-/// Makes room for this many entries beside those that the places take.
+/// Makes room for this many entries beyond those that the places take.
 fn hold(settled: &mut Oplog, places: usize, more: usize) -> Mem<()>
     ensures entries { settled.new.entries ≡ settled.old.entries }
     ensures ok { OnOk result (more + places ≤ settled.new.spare) }
@@ -121,8 +121,8 @@ impl OpenLog {
         }
     }
 
-    /// Keeps a place for the entry of a slot that opens after all others. Out of memory, none is kept, and
-    /// the log is the same.
+    /// Reserves a place for the entry of a slot that opens after all others. Where memory runs out, none is
+    /// reserved, and the log is the same.
     pub fn open(&mut self, at: OpTime)
         ensures { self.new ≡ self.old }
     {
@@ -134,7 +134,7 @@ impl OpenLog {
         }
     }
 
-    /// Keeps no place any more for the entry of a slot that closes.
+    /// Gives up the place for the entry of a slot that closes.
     pub fn close(&mut self, at: OpTime)
         ensures entries { self.new.entries ≡ self.old.entries }
         ensures spare { self.new.spare ≡ self.old.spare }
@@ -143,7 +143,7 @@ impl OpenLog {
         settle(&mut self.settled, &mut self.beyond);
     }
 
-    /// Brings all entries into one piece, which `settled` then lends. No place is kept any more.
+    /// Brings all entries into one piece, which `settled` then lends. No place is reserved any more.
     pub fn gather(&mut self)
         ensures { self.new
             ≡ record { entries = self.old.entries; settled = self.old.entries; spare = self.old.spare } }
@@ -162,7 +162,7 @@ impl OpenLog {
         }
     }
 
-    /// The entries that are in one piece: those before the first place that is kept.
+    /// The entries that are in one piece: those before the first reserved place.
     pub fn settled(&self) -> &Oplog
         ensures { result.now.entries ≡ self.now.settled }
     {
@@ -180,7 +180,7 @@ impl OpenLog {
         }
     }
 
-    /// `get`, which looks at a likely place first, and leaves there the place after the entry.
+    /// Like `get`, but looks at a likely place first, and sets `likely` to the place after the entry.
     pub fn get_near(&self, likely: &mut usize, at: OpTime) -> Option<&Entry>
         ensures found { IfSome (option_copied result) (λ entry. IsEntryAt self.now.entries at entry) }
         ensures none { IfNone result (All (λ entry. entry.optime ≢ at) self.now.entries) }

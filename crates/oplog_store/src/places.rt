@@ -1,4 +1,4 @@
-// What stands in a log from the first hole on.
+// What is in a log from the first hole on.
 ghost use Rattle.std.specs.Prelude.{◌≡◌, ◌≢◌, ◌<◌, ◌≤◌, ◌∷◌, ◌++◌, ℕ, List, [], All, Some, length, take, slice_get, slice_set, nat_lt, IsTrue, MatchOption, IfSome, IfNone, OnOk, false, not};
 ghost use Rattle.std.specs.List.{AllPairs, AllWithin};
 ghost use Rattle.std.specs.Option.{option_copied};
@@ -14,7 +14,7 @@ use oplog_entry::Entry;
 use rs_optime::{Mem, OpTime};
 use std::collections::VecDeque;
 
-/// What stands at an optime.
+/// What is at an optime.
 #[derive(Drop)]
 pub(crate) enum Place {
     /// A slot whose entry may still come.
@@ -62,8 +62,8 @@ pub(crate) fn precedes(one: OpTime, two: OpTime) -> bool
     one.ts < two.ts && one.term <= two.term
 }
 
-/// Keeps a place for the entry of a slot that opens. None is kept where something comes after it, or when
-/// memory runs out. `last` is the optime of the last entry.
+/// Reserves a place for the entry of a slot that opens. None is reserved where something comes after it, or
+/// where memory runs out. `last` is the optime of the last entry.
 pub(crate) fn open(beyond: &mut VecDeque<Place>, last: OpTime, at: OpTime)
     ensures { (settled : List Entry) → IsHeld settled beyond.old.items
         → last ≡ last_of (settled ++ written beyond.old.items)
@@ -86,8 +86,8 @@ fn end_of(beyond: &VecDeque<Place>, last: OpTime) -> OpTime
     }
 }
 
-/// Puts an entry at the place that is kept for it, or after all places. It comes back where there is no
-/// place, or when memory runs out.
+/// Puts an entry at the place reserved for it, or after all places. It comes back where there is no place, or
+/// where memory runs out.
 pub(crate) fn put(beyond: &mut VecDeque<Place>, entry: Entry) -> Option<Entry>
     ensures placed { IfNone result ((settled : List Entry) → IsHeld settled beyond.old.items
         → IsOplog (with_entry (settled ++ written beyond.old.items) entry)
@@ -128,7 +128,7 @@ fn fill(beyond: &mut VecDeque<Place>, entry: Entry) -> Option<Entry>
     None
 }
 
-/// Closes the slot at an optime, where a place is kept for it.
+/// Closes the slot at an optime, if a place is reserved for it.
 pub(crate) fn close(beyond: &mut VecDeque<Place>, at: OpTime)
     ensures { (settled : List Entry) → IsHeld settled beyond.old.items
         → Moved settled beyond.old.items 0 settled beyond.new.items 0 }
@@ -156,7 +156,7 @@ fn is_up_to(one: OpTime, at: OpTime) -> bool
     one <= at
 }
 
-/// Copies all entries after those that are copied.
+/// Copies all entries, after those already copied.
 pub(crate) fn copy_written(beyond: &VecDeque<Place>, copies: &mut Vec<Entry>) -> Mem<()>
     ensures { OnOk result (copies.new.items ≡ copies.old.items ++ written beyond.now.items) }
 {
@@ -228,7 +228,7 @@ pub(crate) fn settle(settled: &mut Oplog, beyond: &mut VecDeque<Place>)
     }
 }
 
-/// Moves all entries. No place is kept for an open slot.
+/// Moves all entries. No place is reserved for an open slot any more.
 pub(crate) fn gather(settled: &mut Oplog, beyond: &mut VecDeque<Place>)
     requires held { IsHeld settled.old.entries beyond.old.items }
     requires room { length beyond.old.items ≤ settled.old.spare }
@@ -250,7 +250,7 @@ fn begins_settled(beyond: &VecDeque<Place>) -> bool
     }
 }
 
-/// The first place goes. Its entry, where it has one, is settled.
+/// Removes the first place. Its entry, where it has one, is settled.
 fn move_first(settled: &mut Oplog, beyond: &mut VecDeque<Place>)
     requires held { IsHeld settled.old.entries beyond.old.items }
     requires some { 0 < length beyond.old.items }

@@ -36,7 +36,7 @@ none_reserved = record { slots = empty; mark = 0 }
 abbrev pub next_slot : Reserved → (term clock : ℕ) → OpTime
 next_slot reserved term clock = record { term = term; ts = timestamp_after clock reserved.mark }
 
--- with a slot open at an optime past all others
+-- with a slot open at an optime later than all others
 abbrev pub opened : Reserved → OpTime → Reserved
 opened reserved at = record { slots = insert reserved.slots at; mark = at.ts }
 

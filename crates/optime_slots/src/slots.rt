@@ -44,7 +44,7 @@ impl Slots {
         }
     }
 
-    /// The greatest timestamp seen. No slot is past it, and none has the timestamp of ZERO.
+    /// The greatest timestamp seen. No slot is later, and none has the timestamp of ZERO.
     pub fn mark(&self) -> u64
         ensures mark { result ≡ self.now.mark }
         ensures seen { AreSeen self.now.slots self.now.mark }
@@ -52,7 +52,7 @@ impl Slots {
         self.mark
     }
 
-    /// Opens a slot at the next timestamp, which is past every one that was seen.
+    /// Opens a slot at the next timestamp, which is later than every one seen.
     pub fn reserve(&mut self, term: u64, clock: u32) -> Mem<OpTime>
         requires { self.old.mark < 2 ^ 64 - 1 }
         ensures next { IfOk result (λ at. at ≡ next_slot self.old term clock) }
@@ -67,7 +67,7 @@ impl Slots {
         Ok(at)
     }
 
-    /// Opens a slot at an optime past every timestamp that was seen.
+    /// Opens a slot at an optime later than every timestamp seen.
     pub fn open(&mut self, at: OpTime) -> Mem<()>
         requires { self.old.mark < at.ts }
         ensures ok { OnOk result (self.new ≡ opened self.old at) }

@@ -1,4 +1,4 @@
--- What some records keep, with one more.
+-- The state that some records add up to, with one more record.
 use Rattle.std.proofs.Common.{◌≡◌, List, [], ◌∷◌, ◌++◌}
 use Rattle.std.proofs.lemmas.List.Sums.{fold-append}
 use Rattle.repl_msg.specs.Kept.{kept, nothing_kept, with_record}

@@ -1,4 +1,4 @@
--- Which voters have a configuration, as a primary knows (MongoRaftReconfig).
+-- Which voters have a configuration, as far as a primary knows (MongoRaftReconfig).
 use Rattle.std.specs.Prelude.{ℕ, ◌==◌, Bool, false, ◌||◌, filter, length, Option, None, Some}
 use Rattle.std.specs.FinMap as maps
 use Rattle.member_config.specs.declared.config.Config.{Config}
@@ -12,7 +12,7 @@ abbrev pub reports_config : Config → Option Report → Bool
 reports_config config None = false
 reports_config config (Some report) = same_id report.config (id_of config)
 
--- a member has this configuration: the primary itself has, and another by its report
+-- a member has this configuration: the primary itself does, and another one does by its report
 abbrev pub has_config : Reports → Config → (own member : ℕ) → Bool
 has_config reports config own member = member == own || reports_config config (maps.get reports member)
 

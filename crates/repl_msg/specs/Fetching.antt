@@ -10,11 +10,11 @@ use Rattle.repl_msg.specs.Logs.{same_optime, has_entry, log_after}
 abbrev pub holds : List Entry → OpTime → Bool
 holds shown base = same_optime base ZERO || has_entry shown base
 
--- the next visible entries after a place, at most 5,000; none, where the place isn't there
+-- the next visible entries after a place, at most 5,000; none, where the log doesn't have the place
 abbrev pub entries_after : List Entry → OpTime → List Entry
 entries_after shown base = if holds shown base then take 5000 (log_after base shown) else []
 
--- what a source answers whose visible log this is, with its visible optime, its commit point and whether
+-- the answer of a source with this visible log, its visible optime, its commit point and whether
 -- it is primary
 abbrev pub reply_of : List Entry → (visible base commit : OpTime) → Bool → FetchReply
 reply_of shown visible base commit primary =
@@ -27,6 +27,6 @@ reply_of shown visible base commit primary =
       primary = primary;
     }
 
--- the answer goes on after a log's last optime
+-- the answer continues a log from its last optime
 abbrev pub continues : OpTime → FetchReply → Bool
 continues last reply = reply.holds && same_optime reply.base last

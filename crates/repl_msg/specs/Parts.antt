@@ -1,4 +1,4 @@
--- What records and messages have: configurations, entries, a term for which a vote is asked.
+-- The parts of records and messages: configurations, entries, a term for which a vote is asked.
 use Rattle.std.specs.Prelude.{ℕ, List, [], Option, None, Some}
 use Rattle.oplog_entry.specs.declared.entry.Entry.{Entry}
 use Rattle.member_config.specs.declared.config.Config.{Config}
@@ -47,7 +47,7 @@ entries_carried (bodies.HeartbeatReply beat) = []
 entries_carried (bodies.CommonAsk commit) = []
 entries_carried (bodies.CommonReply after optimes visible) = []
 
--- the term for which a message asks a vote
+-- the term for which a message asks for a vote
 abbrev pub term_asked : Body → Option ℕ
 term_asked (bodies.Fetch base) = None
 term_asked (bodies.FetchReply reply) = None

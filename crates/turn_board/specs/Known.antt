@@ -16,7 +16,7 @@ pub record Known (E F : Type 0) : Type 0 where
   pub board : TableId
   pub view : View E F
 
--- in its turn a seat has the slot, from which the value was taken
+-- during its turn a seat has the slot, from which the value was taken
 abbrev pub carried : {T : Type 0} → Stage → List (ℕ × Option T)
 carried New = []
 carried Free = []

@@ -1,5 +1,5 @@
-//! Turns: threads take turns on one value that keeps a history, in the order of their tickets.
-//! What was seen of the history, and which calls are whose, is known without a lock.
+//! Turns: threads take turns on one value that keeps a history, in the order of their tickets. Which part of
+//! the history was seen, and which calls are whose, is known without a lock.
 #![tactic(auto)]
 
 mod board;

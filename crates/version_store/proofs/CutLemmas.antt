@@ -1,4 +1,4 @@
--- A document that never was stays so.
+-- A document that never existed still never existed after a cut.
 use Rattle.std.proofs.Common.{◌≡◌, refl}
 use Rattle.version_store.specs.declared.cut.Cut.{Cut}
 use Rattle.version_store.specs.declared.cut.Cut.TheVariants.{After, From, Unseen}

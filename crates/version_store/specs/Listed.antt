@@ -1,4 +1,4 @@
--- What a shard keeps of the documents that a read at one optime shows.
+-- What a shard remembers of the documents that a read at one optime shows.
 use Rattle.std.specs.Prelude.{◌≡◌, Bool, true, cond, List, Option, IfSome, IsSome}
 use Rattle.std.specs.BTreeSet.{BTreeSet, contains}
 use Rattle.std.specs.List.{list_any}
@@ -15,7 +15,7 @@ Lists shard listing =
     (place : Place) → IsSome (shown listing.at (past_of shard place).versions)
     → contains place_cmp listing.places place ≡ true
 
--- so it is where there is a listing
+-- the same for a listing, if there is one
 abbrev pub ListsIn : Shard → Option Listing → Type 0
 ListsIn shard listing = IfSome listing (Lists shard)
 
@@ -26,8 +26,8 @@ ListsBoth shard recent earlier = ListsIn shard recent × ListsIn shard earlier
 abbrev pub HasPlaces : BTreeSet Place → List Place → Type 0
 HasPlaces set places = (q : Place) → contains place_cmp set q ≡ list_any (eq_by_cmp place_cmp q) places
 
--- a version at an optime was noted: later ones aren't listed, and otherwise the place is where
--- the version stands
+-- a version at an optime was noted: a later one isn't listed; otherwise the place is listed where the version
+-- is no deletion
 pub record Notes (old new : Listing) (place : Place) (at : OpTime) (stands : Bool) : Type 0 where
   pub same : new.at ≡ old.at
   pub places : (q : Place) → contains place_cmp new.places q

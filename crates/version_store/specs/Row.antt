@@ -13,7 +13,7 @@ use Rattle.version_store.specs.Past.{Past, no_past}
 abbrev pub IsInOrder : Documents → Type 0
 IsInOrder row = IsStrictlySortedBy key_cmp (keys_of row)
 
--- the document under a key stands at a place
+-- the document under a key is at a place
 abbrev pub StandsIn : Documents → IdKey → ℕ → Type 0
 StandsIn row id place = (past : Past) × (slice_get row place ≡ Some (id, past))
 
@@ -33,7 +33,7 @@ pub record GoesAfter (row others : Documents) (id : IdKey) : Type 0 where
   pub after : All (λ entry. key_cmp entry.0 id ≡ Less) row
   pub absent : past_in others id ≡ no_past
 
--- what isn't in old isn't in new
+-- a key that isn't in old isn't in new
 abbrev pub AddsNoKey : (old new : Documents) → Type 0
 AddsNoKey old new =
     (id : IdKey) → lookup (eq_by_cmp key_cmp id) old ≡ None → lookup (eq_by_cmp key_cmp id) new ≡ None

@@ -1,4 +1,4 @@
--- The versions of a document as they are kept: one that is no deletion takes no list.
+-- The versions of a document as they are stored: a single version that is no deletion needs no list.
 use Rattle.std.specs.Prelude.{List, [], ◌∷◌, Some}
 use Rattle.rs_optime.specs.declared.optime.OpTime.{OpTime}
 use Rattle.bson_doc.specs.Tree.{Fields}

@@ -7,6 +7,6 @@ pub(crate) enum Cut {
     After(OpTime),
     /// Those at an optime, and those after it.
     From(OpTime),
-    /// Those that no read at or after an optime tells from none.
+    /// Those that make no difference to a read at or after an optime.
     Unseen(OpTime),
 }

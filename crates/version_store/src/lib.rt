@@ -1,5 +1,5 @@
-//! Documents with their versions: what each document was from each optime on, so that a read can be made as
-//! of any optime that is kept. The documents are spread over shards by a hash of their place.
+//! Documents with their versions: what each document was from each optime on. So a read can be made as of any
+//! optime whose versions are kept. The documents are spread over shards by a hash of their place.
 #![tactic(auto)]
 
 mod collection;

@@ -1,5 +1,5 @@
-// Which documents a read at one optime shows, so that the next one there goes over no others: neither the
-// deleted ones nor those that come later.
+// Which documents a read at one optime shows, so that the next read there visits no others: neither deleted
+// ones nor later ones.
 ghost use Rattle.std.specs.Prelude.{◌≡◌, Some, IfOk, IfSome, OnOk, map};
 ghost use Rattle.version_store.specs.Listed.{HasPlaces, Lists, Notes};
 ghost use Rattle.version_store.specs.Past.{shown};
@@ -15,7 +15,7 @@ use rs_optime::{Mem, OpTime};
 use std::alloc::Global;
 use std::collections::BTreeSet;
 
-/// The places of the documents that a read at an optime shows. Others may be among them.
+/// The places of the documents that a read at an optime shows, and possibly of others.
 #[derive(Drop)]
 pub(crate) struct Listing {
     pub(crate) at: OpTime,
@@ -27,7 +27,7 @@ impl Listing {
         self.places.len()
     }
 
-    /// Takes note of a new version of a document, which is a deletion or stands.
+    /// Takes note of a new version of a document. `stands` is false for a deletion.
     fn note(&mut self, place: &(Text, IdKey), at: OpTime, stands: bool) -> Mem<()>
         ensures { OnOk result (Notes self.old self.new place.now at stands) }
     {
@@ -59,7 +59,7 @@ pub(crate) fn listed(listing: &Option<Listing>, at: OpTime) -> Option<&Listing>
     Some(found)
 }
 
-/// A listing that has taken note of a new version. None where memory runs out for that.
+/// A listing that has taken note of a new version. None where memory runs out.
 pub(crate) fn noted(
     listing: Option<Listing>,
     place: &(Text, IdKey),
@@ -100,7 +100,7 @@ fn places_of(alloc: Global, documents: &[Shown<'_>]) -> Mem<BTreeSet<(Text, IdKe
     Ok(places)
 }
 
-/// Adds the listed documents that are shown, in one run, and how long that is.
+/// Adds the listed documents that are shown, in one run, and the run's length.
 pub(crate) fn add_listed<'a>(
     documents: &'a ShardDocuments,
     listing: &'a Listing,

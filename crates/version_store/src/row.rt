@@ -1,5 +1,5 @@
-// Documents by key in a row, in order of their keys. Most come in that order, and in a row they take half the
-// memory that they take in a tree, whose nodes are half full then.
+// Documents by key in a row, in order of their keys. Most arrive in that order. In a row they take half the
+// memory that they would take in a tree, whose nodes would then be half full.
 ghost use Rattle.std.specs.Prelude.{◌≡◌, ◌<◌, ◌++◌, ◌∷◌, [], ◌↔◌, All, Some, None, IsTrue, MatchOption, OnOk, OnErr, true, false, length, slice_get, if◌then◌else◌};
 ghost use Rattle.std.specs.Map.{lookup};
 ghost use Rattle.std.specs.Ordering.{eq_by_cmp, is_lt, nat_cmp};
@@ -62,7 +62,7 @@ impl Row {
         self.entries.len()
     }
 
-    /// The place of a document, found by halves.
+    /// The place of a document, found by binary search.
     pub(crate) fn place(&self, id: &IdKey) -> Option<usize>
         ensures found { MatchOption result (lookup (eq_by_cmp key_cmp id.now) self.now ≡ None)
             (StandsIn self.now id.now) }
@@ -85,7 +85,7 @@ impl Row {
         }
     }
 
-    /// Whether a key comes after all that are there.
+    /// Whether a key comes after all existing ones.
     pub(crate) fn comes_after(&self, id: &IdKey) -> bool
         ensures after { IsTrue result → All (λ entry. key_cmp entry.0 id.now ≡ Less) self.now }
         ensures order { IsInOrder self.now }
@@ -137,8 +137,8 @@ impl Row {
         Ok(self.entries.push((id, history))?)
     }
 
-    /// Makes room for one more document. Where there is none, it makes room for a quarter more and four: of
-    /// twice as much, half would stand empty.
+    /// Makes room for one more document. A full row grows by a quarter and four more: if it doubled, half of
+    /// it would be empty.
     fn make_room(&mut self) -> Mem<()>
         ensures { self.new ≡ self.old }
     {

@@ -1,4 +1,4 @@
-// The part of the documents whose places have one number by their hash.
+// The documents whose places hash to one number.
 ghost use Rattle.std.specs.Prelude.{◌≡◌, [], All, Some, None, MatchOption, IfSome, OnOk, OnErr, true};
 ghost use Rattle.std.specs.Option.{option_copied};
 ghost use Rattle.version_store.specs.Past.{no_past, is_before, latest_of, shown, with_version, held_by, back_to, IsRising};
@@ -24,8 +24,8 @@ use std::mem::{replace, swap};
 pub struct Shard {
     alloc: Global,
     documents: ShardDocuments,
-    /// What is shown at the optime that was listed last, and at the one before: so reads at two optimes may
-    /// take turns.
+    /// What is shown at the optime that was listed last, and at the one listed before it: so reads at two
+    /// optimes may alternate.
     recent: Option<Listing>,
     earlier: Option<Listing>,
 }
@@ -45,7 +45,7 @@ impl Model for Shard {
 }
 
 impl Shard {
-    /// A shard without documents, with its number among this many.
+    /// A shard without documents: shard `number` of `count`.
     pub fn new(alloc: Global, number: u32, count: u32) -> Self
         ensures { result ≡ record { number = number; count = count; collections = [] } }
     {
@@ -57,7 +57,8 @@ impl Shard {
         }
     }
 
-    /// The newest version of a document. None where it was deleted or never was, or belongs to another shard.
+    /// The newest version of a document. None where it was deleted, never existed, or belongs
+    /// to another shard.
     pub fn latest(&self, ns: &str, id: &IdKey) -> Option<&Doc>
         ensures latest { option_copied result ≡ latest_of (past_of self.now (ns.now, id.now)).versions }
         ensures rising { IsRising (past_of self.now (ns.now, id.now)).versions }
@@ -98,7 +99,7 @@ impl Shard {
         self.documents.release(ns, id);
     }
 
-    /// Adds a version of a document of the shard's, newer than each that it has. None is a deletion.
+    /// Adds a version of one of the shard's documents, newer than each that it has. None is a deletion.
     pub fn put(&mut self, ns: Text, id: IdKey, at: OpTime, doc: Option<Doc>) -> Mem<()>
         requires own { BelongsTo self.old.number self.old.count (ns, id) }
         requires later { All (λ version. is_before version.at at ≡ true)
@@ -158,8 +159,8 @@ impl Shard {
         self.documents.cut(cut);
     }
 
-    /// Lists what a read at an optime shows, so that the next such reads go over no other documents. Out of
-    /// memory, nothing is listed.
+    /// Lists what a read at an optime shows, so that the next such reads visit no other documents. Where
+    /// memory runs out, nothing is listed.
     pub(crate) fn list_at(&mut self, at: OpTime)
         ensures { self.new ≡ self.old }
     {
@@ -176,7 +177,7 @@ impl Shard {
         self.earlier = replace(&mut self.recent, Some(listing));
     }
 
-    /// Adds the documents that a read at an optime shows, in runs, and how long each run is.
+    /// Adds the documents that a read at an optime shows, in runs, and the length of each run.
     pub(crate) fn add_shown<'a>(
         &'a self,
         at: OpTime,
@@ -194,7 +195,7 @@ impl Shard {
         }
     }
 
-    /// At least how many documents `add_shown` goes over.
+    /// A lower bound on the number of documents that `add_shown` visits.
     pub(crate) fn count_at(&self, at: OpTime) -> usize {
         match self.listed(at) {
             Some(listing) => listing.len(),

@@ -1,4 +1,4 @@
-// The part of the documents whose places have one number by their hash.
+// The documents whose places hash to one number.
 ghost use Rattle.std.specs.Prelude.{◌≡◌, [], All, Some, None, true, false, MatchOption, OnOk, OnErr};
 ghost use Rattle.std.specs.Option.{option_copied};
 ghost use Rattle.version_store.specs.Past.{no_past, is_before, shown, with_version, held_by, IsRising};
@@ -47,7 +47,7 @@ impl Model for ShardDocuments {
 }
 
 impl ShardDocuments {
-    /// A shard without documents, with its number among this many.
+    /// A shard without documents: shard `number` of `count`.
     pub(crate) fn new(alloc: Global, number: u32, count: u32) -> Self
         ensures { result ≡ record { number = number; count = count; collections = [] } }
     {
@@ -102,7 +102,7 @@ impl ShardDocuments {
         collection.release(id);
     }
 
-    /// Adds a version of a document of the shard's, newer than each that it has. None is a deletion.
+    /// Adds a version of one of the shard's documents, newer than each that it has. None is a deletion.
     pub(crate) fn put_in(&mut self, ns: &str, id: IdKey, at: OpTime, doc: Option<Doc>) -> Mem<()>
         requires own { BelongsTo self.old.number self.old.count (ns.now, id) }
         requires later { All (λ version. is_before version.at at ≡ true)
@@ -135,8 +135,8 @@ impl ShardDocuments {
         );
     }
 
-    /// Adds the documents that a read at an optime shows, in runs that are each of one collection and in the
-    /// order of its keys, and how long each run is.
+    /// Adds the documents that a read at an optime shows, in runs, each of one collection and in order of its
+    /// keys, and the length of each run.
     pub(crate) fn add_shown<'a>(
         &'a self,
         at: OpTime,
@@ -176,7 +176,7 @@ impl ShardDocuments {
         self.collections.get(ns)
     }
 
-    /// Puts a collection there, in the place of one that has its name.
+    /// Adds a collection, or replaces the one that has its name.
     fn add(&mut self, ns: &str, collection: Collection) -> Mem<()>
         requires { OwnsAll self.old.number self.old.count ns.now collection }
         ensures ok { OnOk result (ChangesCollection self.old self.new ns.now collection) }

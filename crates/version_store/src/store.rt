@@ -23,7 +23,7 @@ use thiserror::Error;
 /// Why a document wasn't held.
 #[derive(Clone, Copy, Debug, PartialEq, Eq, Error)]
 pub enum HoldError {
-    /// Another writer holds it: which one.
+    /// Another writer holds it: this one.
     #[error("writer {0} holds the document")]
     Held(u32),
     #[error("out of memory")]
@@ -44,13 +44,13 @@ impl From<AllocError> for HoldError {
 /// The newest version of a document, and the writer that holds it.
 #[derive(Drop)]
 pub struct Current<'a> {
-    /// None where it was deleted or never was.
+    /// None where it was deleted or never existed.
     pub latest: Option<&'a Doc>,
     pub holder: Option<u32>,
 }
 
 /// Documents with their versions by optime, and the writers that hold them, in shards. From `take_shards` to
-/// `put_shards` it has no shards: nothing is found there, and `put` and `hold` answer out of memory.
+/// `put_shards` it has no shards: nothing is found, and `put` and `hold` return out of memory.
 #[derive(Drop)]
 pub struct VersionStore {
     count: u32,
@@ -73,7 +73,7 @@ impl Model for VersionStore {
 }
 
 impl VersionStore {
-    /// A store without documents, of this many shards. The only error is out of memory.
+    /// A store of `shards` shards without documents. The only error is out of memory.
     pub fn new(alloc: Global, shards: u32) -> Mem<Self>
         requires { 0 < shards }
         ensures count { IfOk result (λ store. store.count ≡ shards) }
@@ -90,7 +90,7 @@ impl VersionStore {
         })
     }
 
-    /// The newest version of a document. None where it was deleted or never was.
+    /// The newest version of a document. None where it was deleted or never existed.
     pub fn latest(&self, ns: &str, id: &IdKey) -> Option<&Doc>
         ensures latest { option_copied result ≡ latest_of (versions_at self.now (ns.now, id.now)) }
         ensures rising { IsRising (versions_at self.now (ns.now, id.now)) }
@@ -114,7 +114,7 @@ impl VersionStore {
         self.history(ns, id)?.holder()
     }
 
-    /// What `latest` and `holder` give, by one look-up.
+    /// What `latest` and `holder` give, in one look-up.
     pub fn current(&self, ns: &str, id: &IdKey) -> Current<'_>
         ensures latest { option_copied result.latest ≡ latest_of (versions_at self.now (ns.now, id.now)) }
         ensures rising { IsRising (versions_at self.now (ns.now, id.now)) }
@@ -132,7 +132,7 @@ impl VersionStore {
         }
     }
 
-    /// Lets a writer hold a document. `Held` where another writer holds it. Either error leaves the store
+    /// Lets a writer hold a document. `Held` where another writer holds it. An error leaves the store
     /// as it was.
     pub fn hold(&mut self, ns: &str, id: &IdKey, writer: u32) -> Result<(), HoldError>
         ensures ok { OnOk result (Changes self.old self.new (ns.now, id.now)
@@ -154,7 +154,7 @@ impl VersionStore {
         Ok(())
     }
 
-    /// Has nobody hold a document, whoever held it.
+    /// Makes nobody hold a document, whoever held it.
     pub fn release(&mut self, ns: &str, id: &IdKey)
         ensures { Changes self.old self.new (ns.now, id.now)
             (held_by (past_at self.old (ns.now, id.now)) None) }
@@ -196,9 +196,9 @@ impl VersionStore {
         Ok(ordered)
     }
 
-    /// Lists what a read at an optime shows, so that `keys_at` and `documents_at` go over no other documents
-    /// there until versions are dropped: neither the deleted ones nor those that come later. Two optimes are
-    /// kept so. Out of memory, nothing is listed.
+    /// Lists what a read at an optime shows, so that `keys_at` and `documents_at` there visit no other
+    /// documents, neither deleted ones nor later ones, until versions are dropped. The last two optimes
+    /// listed are remembered. Where memory runs out, nothing is listed.
     pub fn list_at(&mut self, at: OpTime)
         ensures { self.new ≡ self.old }
     {
@@ -221,8 +221,8 @@ impl VersionStore {
         self.cut(Cut::From(at));
     }
 
-    /// Drops the versions that no read at or after an optime can tell from none: those before the newest one
-    /// at or before it, and that one too where it is a deletion.
+    /// Drops the versions that make no difference to a read at or after an optime: those before the newest
+    /// one at or before it, and that one too where it is a deletion.
     pub fn prune(&mut self, at: OpTime)
         ensures dropped { ChangesEach self.old self.new (pruned at) }
     {
@@ -237,8 +237,8 @@ impl VersionStore {
         self.count
     }
 
-    /// Takes the shards out, in order of their numbers, so that threads may work on them: no shards where
-    /// they are out already.
+    /// Takes the shards out, in order of their numbers, so that threads may work on them. Returns no shards
+    /// where they are already out.
     pub fn take_shards(&mut self) -> Vec<Shard>
         ensures taken { result.items ≡ self.old.shards }
         ensures whole { AreAllOrNone self.old.count result.items }
@@ -278,8 +278,8 @@ impl VersionStore {
         Ok(())
     }
 
-    // The documents that a read at an optime shows, in runs that are each in order of their keys, and how
-    // long each of them is.
+    // The documents that a read at an optime shows, in runs, each in order of its keys, and the length
+    // of each run.
     fn gathered(&self, at: OpTime, lengths: &mut Vec<usize>) -> Mem<Vec<Shown<'_>>>
         ensures { IfOk result (λ documents.
             AddsShown [] documents.items (λ place. shown_at self.now place at)) }
@@ -291,7 +291,7 @@ impl VersionStore {
         Ok(documents)
     }
 
-    // How many documents `gathered` goes over.
+    // How many documents `gathered` visits.
     fn count_at(&self, at: OpTime) -> usize {
         let mut count: usize = 0;
         for shard in &self.shards {

@@ -1,4 +1,4 @@
-// Documents by key in a tree, whatever order they came in.
+// Documents by key in a tree, whatever order they arrived in.
 ghost use Rattle.std.specs.Prelude.{◌≡◌, ◌↔◌, IsTrue, [], All, Some, None, true, false, MatchOption, OnOk, OnErr, if◌then◌else◌};
 ghost use Rattle.version_store.specs.Past.{no_past, is_before, shown, with_version, held_by};
 ghost use Rattle.version_store.specs.Cuts.{left_by};

@@ -1,4 +1,4 @@
--- What is kept of an answered visible optime while slots are opened and closed and entries are written.
+-- What stays true of a returned visible optime while slots are opened and closed and entries are written.
 use Rattle.std.proofs.Common.{◌≡◌, ◌∙◌, ◌<◌, ◌≤◌, ◌⊎◌, inl, inr, ap, sym, subst, refl, arith, max, Bool, true, false, not, cond, List, [], ◌∷◌, ◌++◌, ℕ, suc, zero, Option, None, Some, All}
 use Rattle.std.specs.Prelude.{nat_lt, slice_index_or}
 use Rattle.std.specs.List.{filter, AllPairs}

@@ -13,7 +13,7 @@ pub record State : Type 0 where
   pub log : List Entry
   pub reserved : Reserved
 
--- Of a reservation, the term and the clock. An entry is written at an open slot, or past the mark, which its
+-- A reservation has a term and a clock. An entry is written at an open slot, or past the mark, which its
 -- timestamp then raises
 pub data Action : Type 0 where
   Reserve : (term clock : ℕ) → Action
@@ -23,7 +23,7 @@ pub data Action : Type 0 where
   WriteAtSlot : (entry : Entry) → Action
   WritePast : (entry : Entry) → Action
 
--- what an action leaves, by the words of the calls' contracts
+-- the state after an action, by the definitions that the calls' contracts use
 abbrev pub after : State → Action → State
 after state (Reserve term clock) =
     record { log = state.log; reserved = opened state.reserved (next_slot state.reserved term clock) }
@@ -34,8 +34,8 @@ after state (WriteAtSlot entry) = record { log = with_entry state.log entry; res
 after state (WritePast entry) =
     record { log = with_entry state.log entry; reserved = with_seen state.reserved entry.optime.ts }
 
--- what an action needs: that the mark can be passed, an open slot, a later timestamp, and that the
--- log stays one
+-- what an action needs: a mark that can be passed, an open slot, a later timestamp, and a log that
+-- stays a log
 abbrev pub IsAllowed : State → Action → Type 0
 IsAllowed state (Reserve term clock) = state.reserved.mark < 2 ^ 64 - 1
 IsAllowed state (Settle at) = ⊤
@@ -60,6 +60,6 @@ pub record IsSound (state : State) : Type 0 where
   pub marked : All (λ entry. entry.optime.ts ≤ state.reserved.mark) state.log
   pub slots : AreSeen state.reserved.slots state.reserved.mark
 
--- the visible optime that is answered now
+-- the visible optime that is returned now
 abbrev pub answer : State → OpTime
 answer state = visible state.log (items state.reserved.slots)

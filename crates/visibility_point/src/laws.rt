@@ -2,8 +2,8 @@ ghost use Rattle.std.specs.Prelude.{◌≡◌, List, ◌++◌};
 ghost use Rattle.oplog_entry.specs.Visible.{log_up_to};
 ghost use Rattle.visibility_point.specs.Holes.{State, Action, IsSound, AreAllowed, run, answer};
 
-/// From a log with no entry past the mark, and after any actions: what was visible then is what the log has
-/// up to there ever after. So no entry appears at or before a visible optime that was answered.
+/// Start from a log with no entry past the mark, and take any actions: what was visible is what the log has
+/// up to there ever after. So no entry appears at or before a visible optime that was once returned.
 pub fn nothing_appears_after()
     ensures { (start : State) (earlier later : List Action) → IsSound start
         → AreAllowed start (earlier ++ later)

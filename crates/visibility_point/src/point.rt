@@ -24,7 +24,7 @@ pub fn visible(slots: &Slots, log: &Oplog) -> OpTime
     }
 }
 
-/// `visible` of a log that keeps places for open slots.
+/// `visible` of a log that reserves places for open slots.
 #[tactic(auto, using(crate::proofs::Least::whole_is_visible, crate::proofs::Least::items_again))]
 pub fn visible_open(slots: &Slots, log: &OpenLog) -> OpTime
     ensures { result ≡ seen.visible log.now.entries (items slots.now.slots) }
