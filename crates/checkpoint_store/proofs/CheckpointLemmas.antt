@@ -1,4 +1,4 @@
--- What the records of a checkpoint come to, whole or broken off.
+-- The state that the records of a checkpoint add up to, whole or cut off.
 use Rattle.std.proofs.Common.{◌≡◌, ℕ, ◌+◌, ◌*◌, ◌/◌, ◌≤◌, Bool, true, false, cond, List, [], ◌∷◌, ◌++◌, length, take, drop, map, suc, zero, Option, None, Some, refl, sym, ap, ◌∙◌, arith, take-append-drop, length-drop}
 use Rattle.std.specs.Prelude.{◌≢◌, fold, ◌&&◌, T}
 use Rattle.std.specs.Simd.{first_chunks}

@@ -1,4 +1,4 @@
--- A checkpoint store's disk is a record file's, and what a crash leaves of the one it leaves of the other.
+-- A checkpoint store's disk is a record file's, and a crash leaves of the one what it leaves of the other.
 use Rattle.std.proofs.Common.{◌≡◌, inl, inr, ℕ, List, [], ◌∷◌, ◌++◌, ◌^◌, ◌<◌, length, map, suc, zero, refl, sym, ap, subst, ◌∙◌, arith, append-nil}
 use Rattle.std.specs.Prelude.{All, Result, OnOk, Vec}
 use Rattle.std.specs.declared.alloc.Global.{Global}

@@ -1,4 +1,4 @@
--- Documents listed with their places, and the map that they make.
+-- Documents listed with their places, and the map that results from them.
 use Rattle.std.proofs.Common.{◌≡◌, cond, List, [], ◌∷◌, Option, None, Some, sym, ap, ◌∙◌}
 use Rattle.std.specs.Cmp.{eq_by_cmp_equiv}
 use Rattle.std.specs.FinMap.{empty, get, get-empty, insert, same_map}

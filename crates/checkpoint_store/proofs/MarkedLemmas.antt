@@ -1,4 +1,4 @@
--- One more record, and where the last whole checkpoint then stands.
+-- One more record, and where the last whole checkpoint then is.
 use Rattle.std.proofs.Common.{◌≡◌, ℕ, ◌+◌, ◌-◌, ◌<◌, ◌≤◌, List, [], ◌∷◌, ◌++◌, length, take, drop, map, refl, sym, ap, subst, ◌∙◌, Option, None, Some, arith, length-take}
 use Rattle.std.specs.Prelude.{All, IsSome, Vec, unwrap_or, slice_index, slice_index_or, slice_range}
 use Rattle.std.specs.declared.alloc.Global.{Global}

@@ -1,4 +1,4 @@
--- Bytes are those of one record at most, and a file has one last whole checkpoint.
+-- Bytes spell at most one record, and a file has one last whole checkpoint.
 use Rattle.std.proofs.Common.{◌≡◌, ℕ, ◌^◌, ◌<◌, List, [], ◌∷◌, ◌++◌, length, take, drop, map, suc, zero, Some, refl, sym, ap, ◌∙◌, arith}
 use Rattle.std.specs.Prelude.{All, slice_index}
 use Rattle.std.specs.List.{flat_map}

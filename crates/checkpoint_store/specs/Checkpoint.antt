@@ -1,4 +1,4 @@
--- What the records of a file come to: the last checkpoint that was ended.
+-- The state that the records of a file add up to: the last completed checkpoint.
 use Rattle.std.specs.Prelude.{◌+◌, ◌/◌, List, [], ◌∷◌, ◌++◌, length, map, fold, Option, None, Some, option_map, unwrap_or}
 use Rattle.std.specs.FinMap.{empty, insert, entries}
 use Rattle.std.specs.Simd.{first_chunks}
@@ -16,7 +16,7 @@ no_stable = record { at = record { term = 0; ts = 0 }; documents = empty }
 abbrev pub with_documents : Documents → List Saved → Documents
 with_documents documents more = fold (λ so_far saved. insert so_far saved.0 saved.1) documents more
 
--- the last checkpoint that was ended, and the one that was begun after it
+-- the last completed checkpoint, and the one that was begun after it
 pub record SoFar : Type 0 where
   pub whole : Stable
   pub begun : Option Stable
@@ -29,7 +29,7 @@ abbrev pub with_more : Option Stable → List Saved → Option Stable
 with_more begun more =
     option_map (λ stable. record { at = stable.at; documents = with_documents stable.documents more }) begun
 
--- with one more record. Only an end makes a checkpoint count
+-- with one more record. Only its end makes a checkpoint count
 abbrev pub with_record : SoFar → Record → SoFar
 with_record so_far (begins at) =
     record { whole = so_far.whole; begun = Some (record { at = at; documents = empty }) }
@@ -40,7 +40,7 @@ with_record so_far ends = record { whole = unwrap_or so_far.begun so_far.whole; 
 abbrev pub last_whole : List Record → Stable
 last_whole records = (fold with_record nothing_yet records).whole
 
--- some documents in full pieces, and then the rest of them
+-- some documents in full pieces, followed by the rest of them
 abbrev pub pieces : List Saved → List Record
 pieces documents = map holds (first_chunks PIECE ((length documents + 999) / PIECE) documents)
 

@@ -33,7 +33,7 @@ pub record IsAtRestWith (state : State) (records : List Record) : Type 0 where
   pub each : All IsRecord records
   pub rests : FileIsAtRest state (map record_bytes records)
 
--- All of the file is synced, and this is its last whole checkpoint. A prefix of one that was not ended may
+-- All of the file is synced, and this is its last whole checkpoint. The beginning of an unfinished one may
 -- come after it.
 pub record IsAtRest (state : State) (stable : Stable) : Type 0 where
   pub records : List Record

@@ -1,4 +1,4 @@
--- What the records that were read so far come to.
+-- The state that the records read so far add up to.
 use Rattle.checkpoint_store.specs.Checkpoint.{SoFar}
 use Rattle.checkpoint_store.specs.declared.fold.Fold.{Fold}
 

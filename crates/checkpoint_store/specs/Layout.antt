@@ -1,4 +1,4 @@
--- The bytes of a checkpoint's records: the kind, and then its parts. A number has its lowest byte first.
+-- The bytes of a checkpoint's records: the kind, then its parts. A number has its lowest byte first.
 use Rattle.std.specs.Prelude.{ℕ, List, [], ◌∷◌, ◌++◌, length}
 use Rattle.std.specs.List.{flat_map}
 use Rattle.entry_bytes.specs.Optimes.{optime_bytes}
@@ -15,7 +15,7 @@ Saved = Place × Fields
 pub data Record : Type 0 where
   -- a checkpoint as of an optime begins
   begins : (at : OpTime) → Record
-  -- it has these documents
+  -- it contains these documents
   holds : (documents : List Saved) → Record
   -- it ends
   ends : Record
@@ -24,7 +24,7 @@ pub data Record : Type 0 where
 abbrev pub sized : List ℕ → List ℕ
 sized bytes = number_bytes 4 (length bytes) ++ bytes
 
--- the collection's name and the document (BSON 1.1). The key isn't there besides: it is that of the `_id`
+-- the collection's name and the document (BSON 1.1). The key isn't stored separately: it is that of the `_id`
 abbrev pub saved_bytes : Saved → List ℕ
 saved_bytes saved = sized saved.0.0 ++ sized (document_bytes saved.1)
 

@@ -1,9 +1,9 @@
--- Where the last whole checkpoint stands among the records of a file.
+-- Where the last whole checkpoint is among the records of a file.
 use Rattle.std.specs.Prelude.{◌≡◌, ◌<◌, ◌≤◌, ℕ, List, take, fold, slice_range, IsSome, Option, None, Some}
 use Rattle.checkpoint_store.specs.Checkpoint.{SoFar, last_whole, nothing_yet, with_record}
 use Rattle.checkpoint_store.specs.Layout.{Record}
 
--- what the records come to
+-- the state that the records add up to
 abbrev pub come_to : List Record → SoFar
 come_to records = fold with_record nothing_yet records
 
@@ -13,7 +13,7 @@ IsBegun records count None = (come_to (take count records)).begun ≡ None
 IsBegun records count (Some place) = (place < count) × IsSome (come_to (take count records)).begun
     × ((come_to (slice_range records place count)).begun ≡ (come_to (take count records)).begun)
 
--- the last whole one of so many records is that of the records between two places
+-- the last whole checkpoint of the first count records is the one between two places
 pub record Marks (records : List Record) (count from to : ℕ) (begun : Option ℕ) : Type 0 where
   pub from_is : from ≤ to
   pub to_is : to ≤ count

@@ -23,11 +23,11 @@ pub record CanBeSaved (place : Place) (document : Fields) : Type 0 where
   pub bytes : document_length document ≤ 262144
   pub levels : document_levels document ≤ 100
 
--- and such is each that a read as of an optime shows
+-- each document that a read as of an optime shows can be saved
 abbrev pub AllCanBeSaved : Store → OpTime → Type 0
 AllCanBeSaved store at =
     (place : Place) (document : Fields) → shown_at store place at ≡ Some document → CanBeSaved place document
 
--- and such is each of some documents that are shown
+-- each of some documents that are shown can be saved
 abbrev pub EachCanBeSaved : List Shown → Type 0
 EachCanBeSaved documents = All (λ one. CanBeSaved (place_of one) one.document.now) documents

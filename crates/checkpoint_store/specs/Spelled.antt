@@ -7,7 +7,7 @@ use Rattle.bson_codec.specs.Spelling.{IsSpelling, document_bytes}
 use Rattle.oplog_entry.specs.Step.{id_key}
 use Rattle.checkpoint_store.specs.Layout.{Saved, Record, begins, holds, ends, record_bytes}
 
--- how many bytes a collection's name may have, and how many documents one record
+-- how many bytes a collection's name may have, and how many documents one record may have
 abbrev pub NAME : ℕ
 NAME = 1048576
 

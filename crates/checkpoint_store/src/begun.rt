@@ -1,4 +1,4 @@
-// A checkpoint that was begun and hasn't ended yet.
+// A checkpoint that was begun and isn't complete yet.
 ghost use Rattle.std.specs.Prelude.{◌≡◌, IfOk, OnOk};
 ghost use Rattle.std.specs.FinMap as maps;
 
@@ -8,7 +8,7 @@ use rs_optime::{Mem, OpTime};
 use std::alloc::Global;
 use std::marker::Model;
 
-// Its documents as they were read, which is in order of their places, so that no place is looked up as
+// Its documents as they were read. They come in order of their places, so no place is looked up when
 // one is added.
 #[derive(Drop)]
 pub(crate) struct Begun {
@@ -39,7 +39,7 @@ impl Begun {
         }
     }
 
-    /// Puts a document at a place, over the one that is there.
+    /// Puts a document at a place, replacing the one there, if any.
     pub(crate) fn insert(&mut self, place: (Text, IdKey), document: Doc) -> Mem<()>
         ensures { OnOk result (self.new ≡ record {
           at = self.old.at;
@@ -50,7 +50,7 @@ impl Begun {
         Ok(())
     }
 
-    /// The checkpoint, where it ends here.
+    /// The completed checkpoint, which ends here.
     pub(crate) fn ended(self) -> Mem<Stable>
         ensures { IfOk result (λ stable. stable ≡ self) }
     {

@@ -34,12 +34,11 @@ impl<D: Disk> Model for Checkpoints<D> {
 }
 
 impl<D: Disk> Checkpoints<D> {
-    /// Reads the last whole checkpoint of a disk: none as of `OpTime::ZERO` where there is no checkpoint. The
-    /// disk is empty, or a checkpoint store left it.
+    /// Reads the last whole checkpoint of a disk: no documents as of `OpTime::ZERO` where there is no
+    /// checkpoint. The disk is empty, or a checkpoint store left it.
     ///
     /// # Errors
-    /// `Disk` where the disk failed. Either error hands the disk back, and an opening may be tried
-    /// again on it.
+    /// `Disk` where the disk failed. Either error hands the disk back, and opening it may be tried again.
     pub fn open(alloc: Global, disk: D) -> Result<(Checkpoints<D>, Stable), (D, FileError)>
         requires { IsCheckpointDisk (D.state disk) }
 
@@ -66,7 +65,7 @@ impl<D: Disk> Checkpoints<D> {
         }
     }
 
-    /// Reads anew the last whole checkpoint of its disk, also where it has failed.
+    /// Reads the last whole checkpoint of its disk again, even where the store has failed.
     ///
     /// # Errors
     /// `Disk` where the disk failed. After either error it may be tried again.
@@ -90,8 +89,8 @@ impl<D: Disk> Checkpoints<D> {
     /// Saves the documents that a store shows as of an optime. After `Ok` every crash leaves them.
     ///
     /// # Errors
-    /// `Memory` leaves the file as it was: what a checkpoint takes is taken before its first record is added.
-    /// After `Disk` the store has failed, and only `close` is left.
+    /// `Memory` leaves the file as it was: memory for the whole checkpoint is reserved before its first
+    /// record is added. After `Disk` the store has failed, and only `close` is left.
     pub fn save(&mut self, at: OpTime, store: &VersionStore) -> Result<(), FileError>
         requires open { IsOpen (D.state self.old) }
         requires can { AllCanBeSaved store.now at }
@@ -125,7 +124,7 @@ impl<D: Disk> Checkpoints<D> {
         self.file.append_all(&records)
     }
 
-    /// Asks the disk to fail at its `call`-th call from now on, with a power cut where there is a pick.
+    /// Makes the disk fail at its `call`-th call from now on, with a power cut where there is a pick.
     pub fn arm(&mut self, call: u32, pick: Option<u64>)
         ensures disk { IsArmed call pick (D.state self.old) (D.state self.new) }
         ensures open { IsOpen (D.state self.old) → IsOpen (D.state self.new) }
@@ -133,7 +132,7 @@ impl<D: Disk> Checkpoints<D> {
         self.file.arm(call, pick);
     }
 
-    /// The power goes. The pick chooses among what may be left.
+    /// Cuts the power of the disk. The pick chooses what is left.
     pub fn power_cut(&mut self, pick: u64)
         ensures disk { IsCut pick (D.state self.old) (D.state self.new) }
         ensures left { IsCheckpointDisk (D.state self.old) → IsCheckpointDisk (D.state self.new) }

@@ -1,4 +1,4 @@
-// What the records of a file come to.
+// The state that the records of a file add up to.
 ghost use Rattle.std.specs.Prelude.{◌≡◌, List, All, map, IfOk, OnOk, unwrap_or};
 ghost use Rattle.std.specs.FinMap as maps;
 ghost use Rattle.entry_bytes.specs.Optimes.{optime_bytes};
@@ -80,7 +80,7 @@ fn begin(alloc: Global, bytes: &[u8]) -> Begun
     Begun::new(alloc, optime_of(bytes))
 }
 
-// The checkpoint that was begun, which ends here, or the last whole one where none was.
+// The checkpoint that was begun and ends here, or the last whole one where none was begun.
 fn ended(begun: Option<Begun>, whole: Stable) -> Mem<Stable>
     ensures { IfOk result (λ stable. stable ≡ unwrap_or begun whole) }
 {
@@ -128,7 +128,7 @@ fn add_each(alloc: Global, begun: &mut Begun, count: u32, bytes: &[u8]) -> Mem<(
     Ok(())
 }
 
-// The last whole checkpoint of the records of these bytes. What stands before it and after it is not read.
+// The last whole checkpoint among the records in these bytes. What is before it and after it is not read.
 pub(crate) fn stable_of(alloc: Global, pieces: &[Vec<u8>]) -> Mem<Stable>
     requires { (records : List ARecord) × All IsRecord records
         × (lists pieces.now ≡ map record_bytes records) }
@@ -139,7 +139,7 @@ pub(crate) fn stable_of(alloc: Global, pieces: &[Vec<u8>]) -> Mem<Stable>
     read_all(alloc, &pieces[last.from..last.to])
 }
 
-// What the records of these bytes come to.
+// The state that the records in these bytes add up to.
 fn read_all(alloc: Global, pieces: &[Vec<u8>]) -> Mem<Stable>
     requires { (records : List ARecord) × All IsRecord records
         × (lists pieces.now ≡ map record_bytes records) }

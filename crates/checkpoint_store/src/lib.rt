@@ -1,5 +1,5 @@
-//! The documents of a node at an optime, as records on one disk. A crash at any moment leaves the last
-//! checkpoint from before a new one was saved, or the new one.
+//! The documents of a node at an optime, as records on one disk. A crash while a checkpoint is saved leaves
+//! the last one from before it, or the new one.
 #![tactic(auto)]
 
 mod begun;

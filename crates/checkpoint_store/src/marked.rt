@@ -1,4 +1,4 @@
-// Where the last whole checkpoint stands among the records of a file: only that one is read.
+// Where the last whole checkpoint is among the records of a file: only that one is read.
 ghost use Rattle.std.specs.Prelude.{◌≡◌, ◌+◌, ◌^◌, ◌<◌, ◌≤◌, ◌++◌, ◌∷◌, [], List, All, length, map, slice_index, slice_range, take};
 ghost use Rattle.record_file.specs.Records.{lists};
 ghost use Rattle.checkpoint_store.specs.Checkpoint.{last_whole};
@@ -6,7 +6,7 @@ ghost use Rattle.checkpoint_store.specs.Layout.{Record as ARecord, record_bytes}
 ghost use Rattle.checkpoint_store.specs.Marked.{Marks};
 ghost use Rattle.checkpoint_store.specs.Spelled.{IsRecord};
 
-// The places of the last whole checkpoint, and where one begins after it that has not ended.
+// The places of the last whole checkpoint, and where an unfinished one begins after it.
 #[derive(Clone, Copy)]
 pub(crate) struct Marked {
     pub(crate) from: usize,

@@ -1,4 +1,4 @@
-// The records of a checkpoint: where it begins, its documents in pieces, and where it ends. Only the last
+// The records of a checkpoint: its beginning, its documents in pieces, and its end. Only the end
 // makes it count.
 ghost use Rattle.std.specs.Prelude.{◌≡◌, ◌≤◌, IfOk, OnOk, drop, length, map, take};
 ghost use Rattle.record_file.specs.Records.{lists};
@@ -13,7 +13,7 @@ use rs_optime::{Mem, OpTime};
 use std::alloc::Global;
 use version_store::{Shown, VersionStore};
 
-// How many documents a record has at most.
+// The most documents in one record.
 const PIECE: usize = 1000;
 
 /// The records of the documents that a store shows as of an optime.

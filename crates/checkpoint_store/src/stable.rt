@@ -42,7 +42,7 @@ impl DocumentMap {
         }
     }
 
-    /// Documents at their places. Where a place comes more than once, the last counts.
+    /// Documents at their places. Where a place occurs more than once, the last one counts.
     pub(crate) fn of(alloc: Global, documents: Vec<((Text, IdKey), Doc)>) -> Mem<Self>
         ensures { IfOk result (λ m. m ≡ with_documents maps.empty documents.items) }
     {
@@ -66,7 +66,7 @@ impl DocumentMap {
         documents
     }
 
-    /// Puts a document at a place, over the one that is there.
+    /// Puts a document at a place, replacing the one there, if any.
     pub fn insert(&mut self, place: (Text, IdKey), document: Doc) -> Mem<()>
         ensures { OnOk result (self.new ≡ maps.insert self.old place document) }
     {
@@ -95,7 +95,7 @@ fn collected(
     documents.into_iter().collect(alloc)
 }
 
-/// The documents as of an optime. Without any checkpoint, none as of `OpTime::ZERO`.
+/// The documents as of an optime. Without a checkpoint there are none, as of `OpTime::ZERO`.
 #[derive(Drop)]
 pub struct Stable {
     pub at: OpTime,
@@ -103,7 +103,7 @@ pub struct Stable {
 }
 
 impl Stable {
-    /// The same once more.
+    /// A copy.
     pub fn copy(&self) -> Mem<Stable>
         ensures { IfOk result (λ s. s ≡ self.now) }
     {

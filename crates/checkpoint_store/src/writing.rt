@@ -14,7 +14,7 @@ use rs_optime::{Mem, OpTime};
 use std::alloc::Global;
 use version_store::Shown;
 
-// Room for so many bytes is made for each document.
+// Room for this many bytes is made for each document.
 const USUAL_BYTES: usize = 64;
 
 fn put_optime(out: &mut Vec<u8>, at: OpTime) -> Mem<()>

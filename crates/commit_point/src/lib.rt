@@ -1,4 +1,4 @@
-//! What members report of themselves, and the commit point that follows (MongoDB's replication
+//! What members report about themselves, and the commit point that follows from it (MongoDB's replication
 //! architecture guide; RaftMongo).
 #![tactic(auto)]
 

@@ -31,7 +31,7 @@ impl Model for DryRun {
 }
 
 impl DryRun {
-    /// The node's own vote alone.
+    /// Only the node's own vote.
     pub fn new(alloc: Global, own: u32, term: u64, config: Config) -> Mem<Self>
         requires { length config.members ≤ 50 }
         ensures { IfOk result (λ d. d ≡ record { term = term; config = config; yes = own ∷ [] }) }
@@ -44,7 +44,7 @@ impl DryRun {
         })
     }
 
-    /// Counts a vote, where it is of a voter that isn't counted yet.
+    /// Counts a vote, if it is that of a voter not counted yet.
     pub fn add(&mut self, from: u32) -> Mem<Count>
         ensures ok { OnOk result
             (self.new ≡ record self.old { yes = with_vote (voters self.old.config) self.old.yes from }) }
@@ -55,7 +55,7 @@ impl DryRun {
         self.tally.add(from)
     }
 
-    /// The term for which it asked.
+    /// The term that it asks about.
     pub fn term(&self) -> u64
         ensures { result ≡ self.now.term }
     {

@@ -1,5 +1,5 @@
-//! Elections: whether a voter gives its vote, and how a candidate counts (MongoDB's replication architecture
-//! guide, elections; MongoRaftReconfig).
+//! Elections: whether a voter gives its vote, and how a candidate counts votes (MongoDB's replication
+//! architecture guide, elections; MongoRaftReconfig).
 #![tactic(auto)]
 
 mod dry_run;

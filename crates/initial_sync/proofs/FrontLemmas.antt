@@ -1,4 +1,4 @@
--- What a journal keeps once the first records of a copy were added.
+-- What a journal has once the first records of a copy were added.
 use Rattle.std.proofs.Common.{◌≡◌, ◌∙◌, ℕ, ◌+◌, ◌-◌, ◌/◌, ◌<◌, ◌≤◌, suc, zero, List, [], ◌∷◌, ◌++◌, length, take, drop, map, refl, sym, ap, subst, arith, append_assoc, append-nil, length-append, length-take, length-drop, take-append-drop}
 use Rattle.std.specs.Prelude.{◌≢◌, fold, slice_index_or}
 use Rattle.std.specs.List.{All, AllPairs}

@@ -1,4 +1,4 @@
--- What a crash leaves of both disks while a copy goes on.
+-- What a crash leaves of both disks while a copy is in progress.
 use Rattle.std.proofs.Common.{◌≡◌, ◌∙◌, ⊎_elim, inl, inr, ℕ, List, [], ◌++◌, ap, sym, subst, append-nil}
 use Rattle.std.specs.Prelude.{◌≢◌, fold}
 use Rattle.std.specs.List.{AllPairs}

@@ -1,4 +1,4 @@
--- Records that are found, with the first of those that are missing, are a part or the whole of a copy.
+-- Records that are found, with the first of those that are missing, are part or all of a copy.
 use Rattle.std.proofs.Common.{◌≡◌, ◌∙◌, ◌⊎◌, ⊎_elim, inl, inr, ℕ, Bool, true, false, cond, nat_eq, List, [], ◌∷◌, ◌++◌, length, drop, refl, sym, ap, subst, arith, append_assoc, append-nil, None}
 use Rattle.std.specs.Prelude.{fold}
 use Rattle.std.specs.List.{AllPairs}

@@ -1,4 +1,4 @@
--- What is read of the disks of a copy.
+-- What is read from the disks of a copy.
 use Rattle.std.proofs.Common.{◌≡◌, ◌∙◌, List, ap}
 use Rattle.rs_disk.specs.File.{contents}
 use Rattle.rs_disk.specs.Images.{read_is_image}

@@ -1,4 +1,4 @@
--- What a copy comes to, by what it did.
+-- What a copy results in, by what it did.
 use Rattle.std.proofs.Common.{◌≡◌, ◌∙◌, ◌⊎◌, ⊎_elim, inl, inr, List, ◌++◌, ap, sym, subst, refl, Option, None, Some, Ok, Err}
 use Rattle.std.specs.Prelude.{◌≢◌, Result, IfOk, OnOk}
 use Rattle.std.specs.List.{AllPairs}

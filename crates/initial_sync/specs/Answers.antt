@@ -1,4 +1,4 @@
--- What a copy answers, and the disks that it hands back.
+-- What a copy returns, and the disks that it hands back.
 use Rattle.std.specs.Prelude.{◌⊎◌, IsTrue, List, Option, None, Some, Result, Ok, Err}
 use Rattle.rs_io.specs.Fault.{CountRose}
 use Rattle.rs_disk.specs.File.{contents}
@@ -30,21 +30,21 @@ abbrev pub error_of : {A : Type 0} → Result A CopyError → Option CopyError
 error_of (Ok value) = None
 error_of (Err error) = Some error
 
--- What stays true of two disks that were used. A fault comes only where the count of one rose, and on steady
--- disks only where one was armed.
+-- What stays true of two disks while they are used. A fault comes only where the count of one rose, and on
+-- steady disks only where one was armed.
 pub record RanBoth (Fault : Type 0) (j j' c c' : State) : Type 0 where
   pub journal : Keeps ⊥ j j'
   pub checkpoints : Keeps ⊥ c c'
   pub cause : Fault → CountRose j.faults j'.faults ⊎ CountRose c.faults c'.faults
   pub only_armed : Fault → IsTrue j.is_steady → IsTrue c.is_steady → IsTrue j.is_armed ⊎ IsTrue c.is_armed
 
--- what a copy answers where a file answers so
+-- the error of a copy for an error of a file
 abbrev pub copy_error : FileError → CopyError
 copy_error Disk = CopyDisk
 copy_error Memory = CopyMemory
 
--- The records that were read stand there now, in the newest form, and so does the last checkpoint that was
--- read: nothing else was added, and every crash leaves them.
+-- The disks now have the records that were read, in the newest form, and the last checkpoint that was read.
+-- Nothing else was added, and every crash leaves them.
 pub record LeavesAsRead (j j' c c' : State) : Type 0 where
   pub journal : (items : List Record) → HasJournal (contents j.file) items → JournalAtRest j' (renewed items)
   pub checkpoints : (stable : Stable) → HasCheckpoint (contents c.file) stable → CheckpointsAtRest c' stable

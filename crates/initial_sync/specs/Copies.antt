@@ -1,4 +1,4 @@
--- A copy of a member's log and documents on the two disks of a new member: whole, or as far as it has come.
+-- A copy of a member's log and documents on the two disks of a new member: whole, or as far as it got.
 use Rattle.std.specs.Prelude.{◌≡◌, ◌≢◌, ◌⊎◌, ℕ, List, [], ◌∷◌, None, length}
 use Rattle.std.proofs.Common.{inl, inr, refl, ap, arith}
 use Rattle.rs_disk.specs.File.{File, IsEmpty, LeavesOnly}
@@ -29,7 +29,7 @@ pub record IsOf (term : ℕ) (log : List Entry) (state : Kept) : Type 0 where
   pub entries : state.entries ≡ log
   pub point : state.point ≡ last_of log
 
--- the bytes are a journal whose records come to that
+-- the bytes are a journal whose records add up to that
 pub record GivesBack (term : ℕ) (log : List Entry) (image : List ℕ) : Type 0 where
   pub records : List Record
   pub has : HasJournal image records
@@ -39,16 +39,16 @@ pub record GivesBack (term : ℕ) (log : List Entry) (image : List ℕ) : Type 0
 abbrev pub documents_of : List Entry → Stable
 documents_of entries = record { at = last_of entries; documents = docs entries }
 
--- the journal has the term and all entries, and the last checkpoint that was ended is that of their documents
+-- the journal has the term and all entries, and the last completed checkpoint is that of their documents
 pub record IsWhole (copy : Copy) (journal checkpoints : List ℕ) : Type 0 where
   pub log : GivesBack copy.term copy.entries journal
   pub documents : HasCheckpoint checkpoints (documents_of copy.entries)
 
--- where no entry was copied yet, the term need not be there either
+-- where no entry was copied yet, the term may be missing too
 abbrev pub IsTermOf : Copy → List Entry → ℕ → Type 0
 IsTermOf copy front term = (term ≡ copy.term) ⊎ ((front ≡ []) × (term ≡ 0))
 
--- the journal has the first entries, and no checkpoint was ended
+-- the journal has the first entries, and no checkpoint was completed
 pub record IsPart (copy : Copy) (journal checkpoints : List ℕ) : Type 0 where
   pub front : List Entry
   pub begins : Begins front copy.entries
@@ -60,7 +60,8 @@ pub record IsPart (copy : Copy) (journal checkpoints : List ℕ) : Type 0 where
 abbrev pub IsPartOrWhole : Copy → List ℕ → List ℕ → Type 0
 IsPartOrWhole copy journal checkpoints = IsPart copy journal checkpoints ⊎ IsWhole copy journal checkpoints
 
--- Whatever a crash of both disks now leaves has this property. So has what they read as, which is among it.
+-- Whatever a crash of both disks leaves now has this property. So does what they read as, which is
+-- one of these.
 abbrev pub LeaveBoth : (List ℕ → List ℕ → Type 0) → File → File → Type 0
 LeaveBoth P journal checkpoints = LeavesOnly (λ image. LeavesOnly (P image) checkpoints) journal
 
@@ -73,7 +74,7 @@ IsOfSomeCopy journal checkpoints =
 pub record AreCopyDisks (journal checkpoints : State) : Type 0 where
   pub leave : LeaveBoth IsOfSomeCopy journal.file checkpoints.file
 
--- empty disks have a part of every copy, and so they are disks that a copy can use
+-- empty disks are a part of every copy, so a copy can use them
 pub empty_part : (copy : Copy) (j c : State) → IsEmpty j.file → IsEmpty c.file
     → LeaveBoth (IsPartOrWhole copy) j.file c.file
 empty_part copy j c no_journal no_checkpoints journal left checkpoints here = inl (record {

@@ -12,15 +12,15 @@ use Rattle.checkpoint_store.specs.declared.stable.Stable.{Stable}
 use Rattle.initial_sync.specs.Copies.{Copy, IsPartOrWhole}
 use Rattle.initial_sync.specs.Missing.{HasFront, IsOfThis, missing}
 
--- beside this file of the checkpoints, or beside this one of the journal
+-- with the checkpoint file fixed, or with the journal's file fixed
 abbrev pub BesideCheckpoints : (List ℕ → List ℕ → Type 0) → File → List ℕ → Type 0
 BesideCheckpoints P checkpoints journal = LeavesOnly (P journal) checkpoints
 
 abbrev pub BesideJournal : (List ℕ → List ℕ → Type 0) → File → List ℕ → Type 0
 BesideJournal P journal checkpoints = LeavesOnly (λ image. P image checkpoints) journal
 
--- At each moment a crash left two lists of bytes that have P. First the journal was opened, and then the
--- checkpoints; after that the journal was written, and then the checkpoints.
+-- At each moment a crash left two lists of bytes that satisfy P. First the journal was opened, then the
+-- checkpoints; after that the journal was written, then the checkpoints.
 pub record EachMomentOfBoth (P : List ℕ → List ℕ → Type 0) (j j' c c' : State) : Type 0 where
   pub journal : State
   pub checkpoints : State
@@ -29,8 +29,8 @@ pub record EachMomentOfBoth (P : List ℕ → List ℕ → Type 0) (j j' c c' : 
   pub writes_journal : EachMoment (BesideCheckpoints P checkpoints.file) journal j'
   pub writes_checkpoints : EachMoment (BesideJournal P j'.file) checkpoints c'
 
--- What is read now of both disks can be a part or the whole of the copy. After its records, in the newest
--- form, stand the first of those that the copy adds.
+-- What is now read from both disks can be part or all of the copy. Its records, in the newest form, are
+-- followed by the first of those that the copy adds.
 pub record IsContinued (copy : Copy) (j c : State) (image : List ℕ) : Type 0 where
   pub items : List Record
   pub stable : Stable
@@ -39,7 +39,7 @@ pub record IsContinued (copy : Copy) (j c : State) (image : List ℕ) : Type 0 w
   pub this : IsOfThis copy (kept items) stable.at
   pub front : HasFront (renewed items) (missing copy (kept items)) image
 
--- what a crash before might have left of both disks, or that with the newest form of the journal
+-- what a crash before might have left of both disks, or the same with the journal in the newest form
 abbrev pub IsBefore : State → State → List ℕ → List ℕ → Type 0
 IsBefore j c journal checkpoints = IsOneOfRenewed j journal × IsOneCheckpoint c checkpoints
 

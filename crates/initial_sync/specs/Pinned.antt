@@ -1,4 +1,4 @@
--- What a new member is to begin with.
+-- What a new member begins with.
 use Rattle.std.specs.Prelude.{◌≡◌, ◌≢◌, ℕ, List, Some, map}
 use Rattle.std.specs.List.{All}
 use Rattle.std.specs.FinMap.{entries, get}
@@ -25,8 +25,8 @@ listed_of documents = map (λ one. (one.ns, one.doc)) documents
 abbrev pub copy_of : Pinned → Copy
 copy_of pinned = record { term = pinned.term; entries = pinned.entries.items }
 
--- The entries are an oplog up to an optime above ZERO, each within the bounds of an entry. The documents are
--- those that they leave, in order of collection and key, and each can be saved.
+-- The entries are an oplog up to an optime later than ZERO, each within the bounds of an entry. The documents
+-- are those that result from them, in order of collection and key, and each can be saved.
 pub record IsPinned (pinned : Pinned) : Type 0 where
   pub oplog : IsOplog pinned.entries.items
   pub last : last_of pinned.entries.items ≡ pinned.at

@@ -1,4 +1,4 @@
--- What reading two disks does to them, and what is read.
+-- What reading does to the two disks, and what is read.
 use Rattle.std.specs.Prelude.{◌≡◌, List}
 use Rattle.rs_disk.specs.File.{contents}
 use Rattle.rs_disk.specs.State.{State}
@@ -12,9 +12,9 @@ use Rattle.checkpoint_store.specs.declared.stable.Stable.{Stable}
 use Rattle.initial_sync.specs.Copies.{AreCopyDisks, Copy, IsPartOrWhole, IsWhole, LeaveBoth}
 use Rattle.initial_sync.specs.Moments.{EachMomentOfBoth, IsBefore}
 
--- A crash at any moment leaves what one before might have left, but for the newest form of the journal. So
--- two disks with a part or the whole of a copy have it at each moment, and where they have the whole they
--- still have it then; and a copy can use them after the reading.
+-- A crash at any moment leaves what an earlier one might have left, except that the journal may be in the
+-- newest form. So two disks with part or all of a copy still have it at each moment, and disks with all of it
+-- still have all of it. A copy can use them after the reading.
 pub record ReadsOver (j j' c c' : State) : Type 0 where
   pub moments : EachMomentOfBoth (IsBefore j c) j j' c c'
   pub part : (copy : Copy) → LeaveBoth (IsPartOrWhole copy) j.file c.file
@@ -23,7 +23,7 @@ pub record ReadsOver (j j' c c' : State) : Type 0 where
       → EachMomentOfBoth (IsWhole copy) j j' c c'
   pub left : AreCopyDisks j' c'
 
--- what the records of the journal come to in the newest form, and the last checkpoint
+-- the state that the journal's records add up to in the newest form, and the last checkpoint
 abbrev pub AreRead : State → State → Kept → Stable → Type 0
 AreRead j c read stable =
     (items : List Record) (last : Stable) → HasJournal (contents j.file) items

@@ -1,4 +1,4 @@
--- How a copy goes: what the opening finds, and what is done after it.
+-- How a copy proceeds: what the opening finds, and what is done after it.
 use Rattle.std.specs.Prelude.{◌≡◌, ◌≢◌, ◌⊎◌, List, ◌++◌, Option, None, Some}
 use Rattle.rs_disk.specs.File.{contents}
 use Rattle.rs_disk.specs.Moments.{EachMoment}
@@ -20,7 +20,7 @@ pub record OpensBoth (j j' c c' : State) : Type 0 where
   pub journal : EachMoment (IsOneOfRenewed j) j j'
   pub checkpoints : EachMoment (IsOneCheckpoint c) c c'
 
--- this was read of both disks, and stands there now, the records in the newest form
+-- this was read from both disks, and is there now, with the records in the newest form
 pub record IsFound (found : Kept) (stable : Stable) (j j' c c' : State) : Type 0 where
   pub items : List Record
   pub records : HasJournal (contents j.file) items
@@ -29,7 +29,7 @@ pub record IsFound (found : Kept) (stable : Stable) (j j' c c' : State) : Type 0
   pub documents : HasCheckpoint (contents c.file) stable
   pub checkpoints : CheckpointsAtRest c' stable
 
--- What is missing was added to the journal, or the first of it, and after all of it the
+-- What is missing was added to the journal, all of it or the first part, and after all of it the
 -- checkpoint was saved.
 pub record Fills (copy : Copy) (items : List Record) (stable : Stable) (Done : Type 0)
     (j j' c c' : State) : Type 0 where
@@ -47,7 +47,7 @@ pub record WentOn (copy : Copy) (found : Kept) (stable : Stable) (error : Option
   pub fills : error ≢ Some OtherCopy → (items : List Record) → JournalAtRest j items → found ≡ kept items
       → Fills copy items stable (error ≡ None) j j' c c'
 
--- the opening ended so
+-- the opening ended this way
 abbrev pub IsStop : Option CopyError → Type 0
 IsStop error = (error ≡ Some Disk) ⊎ (error ≡ Some Memory)
 

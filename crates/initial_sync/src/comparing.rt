@@ -1,4 +1,4 @@
-// Whether entries are the same. They are told by their bytes.
+// Whether entries are the same, by comparing their bytes.
 ghost use Rattle.std.specs.Prelude.{◌≡◌, ◌↔◌, IfOk, IfSome, None, true};
 ghost use Rattle.std.specs.List.{All};
 ghost use Rattle.bson_codec.specs.Sound.{IsSound};

@@ -25,7 +25,7 @@ use rs_disk::Disk;
 use rs_optime::{Mem, OpTime};
 use std::alloc::Global;
 
-// What was read of both disks.
+// What was read from both disks.
 #[derive(Drop)]
 pub(crate) struct Found {
     pub(crate) kept: Kept,
@@ -40,7 +40,7 @@ pub(crate) struct Disks<D: Disk> {
 }
 
 impl Found {
-    // Whether it can be a part or the whole of this copy.
+    // Whether it can be part or all of this copy.
     fn is_of(&self, alloc: Global, pinned: &Pinned) -> Mem<bool>
         requires { IsPinned pinned.now }
         ensures { IfOk result (λ is. is ≡ true
@@ -79,7 +79,7 @@ impl<D: Disk> Disks<D> {
         }
     }
 
-    // The same, where what was found is of this copy.
+    // The same, if what was found is of this copy.
     fn fill_if_same(
         &mut self,
         alloc: Global,
@@ -211,13 +211,13 @@ fn run<D: Disk>(
     }
 }
 
-/// Makes the disks of a new member a copy of what is pinned: first the term, then the entries, and last of
-/// all the documents. On disks on which a copy was cut off it goes on after the last record.
+/// Makes the disks of a new member a copy of what is pinned: first the term, then the entries, and last the
+/// documents. On disks where a copy was cut off it continues after the last record.
 ///
 /// # Errors
-/// `Disk` where a disk failed. `OtherCopy` where the disks have another term than 0 and that of the copy,
-/// entries with which those of the copy don't begin, or a checkpoint of another optime; nothing was added
-/// then but the newest form of the journal. After each error both disks are handed back, and a copy may be
+/// `Disk` where a disk failed. `OtherCopy` where the disks have a term other than 0 and that of the copy,
+/// entries that the copy's entries don't begin with, or a checkpoint of another optime; then nothing was
+/// added but the newest form of the journal. After each error both disks are handed back, and the copy may be
 /// tried again on them.
 pub fn copy<D: Disk>(
     alloc: Global,
@@ -231,12 +231,12 @@ pub fn copy<D: Disk>(
     // Every crash leaves the whole copy.
     ensures whole { IfOk result (λ disks. LeaveBoth (IsWhole (copy_of pinned.now))
         (D.state disks.0).file (D.state disks.1).file) }
-    // The records that were there stay, in the newest form, and after them stand those that were missing.
+    // The existing records stay, in the newest form, and the missing ones follow them.
     ensures goes_on { IfOk result (λ disks.
         (items : List ARecord) → HasJournal (contents (D.state journal).file) items
         → JournalAtRest (D.state disks.0) (renewed items ++ missing (copy_of pinned.now) (kept items))) }
 
-    // Another copy is refused, and no other is.
+    // Disks with another copy are refused, and no others are.
     ensures other { error_after result ≡ Some CopyError.OtherCopy → (items : List ARecord) (stable : AStable)
         → HasJournal (contents (D.state journal).file) items
         → HasCheckpoint (contents (D.state checkpoints).file) stable
@@ -251,12 +251,12 @@ pub fn copy<D: Disk>(
     ensures left { AreCopyDisks (D.state (journal_after result)) (D.state (checkpoints_after result)) }
 
     // A crash at any moment leaves what one before the call might have left, with or without the newest form
-    // of the journal, or a part or the whole of the copy after it.
+    // of the journal, or that continued by part or all of the copy.
     ensures any_moment { EachMomentOfBoth
         (IsBeforeOrContinued (D.state journal) (D.state checkpoints) (copy_of pinned.now))
         (D.state journal) (D.state (journal_after result))
         (D.state checkpoints) (D.state (checkpoints_after result)) }
-    // On disks with a part or the whole of this copy that is a part or the whole again.
+    // On disks with part or all of this copy, a crash leaves part or all of it again.
     ensures goes_on_after_a_crash { LeaveBoth (IsPartOrWhole (copy_of pinned.now))
         (D.state journal).file (D.state checkpoints).file
         → EachMomentOfBoth (IsPartOrWhole (copy_of pinned.now))

@@ -1,4 +1,4 @@
-// The documents as a store shows them.
+// The documents, as a store shows them.
 ghost use Rattle.std.specs.Prelude.{◌≡◌, IfOk, map};
 ghost use Rattle.std.specs.FinMap.{entries};
 ghost use Rattle.oplog_entry.specs.Docs.{Documents};
@@ -10,7 +10,7 @@ use rs_optime::{Mem, OpTime};
 use std::alloc::Global;
 use version_store::VersionStore;
 
-/// A store that shows these documents as of an optime. They share their fields with the ones given.
+/// A store that shows these documents as of an optime. They share their fields with the arguments.
 pub(crate) fn store_of(alloc: Global, at: OpTime, documents: &[Kept1]) -> Mem<VersionStore>
     requires { (of : Documents) × (map placed documents.now ≡ entries of) }
     ensures { IfOk result (λ store. (of : Documents) → map placed documents.now ≡ entries of

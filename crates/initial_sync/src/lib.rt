@@ -1,5 +1,5 @@
-//! A copy of a member's log and documents on the two disks of a new member. It can be cut off at any call
-//! of a disk, and goes on from there.
+//! A copy of a member's log and documents on the two disks of a new member. It can be interrupted at any disk
+//! call, and continues from there.
 #![tactic(auto)]
 
 mod comparing;

@@ -11,7 +11,7 @@ pub struct Pinned {
     pub at: OpTime,
     /// The entries of its log up to there.
     pub entries: Vec<Entry>,
-    /// The documents that these entries leave, in order of collection and key.
+    /// The documents that result from these entries, in order of collection and key.
     pub documents: Vec<Kept1>,
 }
 

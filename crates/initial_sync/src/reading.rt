@@ -11,8 +11,8 @@ use repl_msg::Kept;
 use rs_disk::Disk;
 use std::alloc::Global;
 
-/// What stands on the two disks of a member: the journal's records come to this, and this is the last
-/// checkpoint.
+/// What is on the two disks of a member: the state that the journal's records add up to, and
+/// the last checkpoint.
 #[derive(Drop)]
 pub struct Standing {
     pub kept: Kept,
@@ -33,13 +33,13 @@ pub fn read<D: Disk>(
     // The records of the journal and the last checkpoint are read.
     ensures standing { IfOk result (λ read. AreRead (D.state journal) (D.state checkpoints)
         read.2.kept read.2.stable) }
-    // Of a whole copy that is its term without a vote, its entries, and their documents.
+    // For a whole copy that is its term without a vote, its entries, and their documents.
     ensures whole { IfOk result (λ read. (copy : Copy)
         → LeaveBoth (IsWhole copy) (D.state journal).file (D.state checkpoints).file
         → IsOf copy.term copy.entries read.2.kept × (read.2.stable ≡ documents_of copy.entries)) }
 
-    // A crash at any moment leaves what one before the call might have left, but that a journal of the first
-    // form may have the record of the newest one. A copy or a reading may be tried on them again.
+    // A crash at any moment leaves what one before the call might have left, except that a journal of the
+    // first form may have the record of the newest one. A copy or a reading may be tried on them again.
     ensures read { IfOk result (λ read. ReadsOver (D.state journal) (D.state read.0)
         (D.state checkpoints) (D.state read.1)) }
     ensures refused { IfErr result (λ refused. ReadsOver (D.state journal) (D.state refused.0)

@@ -1,4 +1,4 @@
-// What a copy writes: the term, the entries, and last of all the documents.
+// What a copy writes: the term, the entries, and last the documents.
 ghost use Rattle.std.specs.Prelude.{◌≡◌, ◌++◌, ◌≤◌, List, drop, length, take, IfOk, OnOk, IsErrOf};
 ghost use Rattle.std.specs.List.{All};
 ghost use Rattle.oplog_entry.specs.Lawful.{IsLawful};
@@ -25,7 +25,7 @@ use rs_optime::{Mem, OpTime};
 use std::alloc::Global;
 use vote_store::Vote;
 
-// How many entries a record has at most.
+// The most entries in one record.
 const PIECE: usize = 2000;
 
 fn last_of_entries(entries: &[Entry]) -> OpTime
@@ -57,7 +57,7 @@ fn next_piece(entries: &[Entry]) -> (&[Entry], &[Entry])
     entries.split_at(entries.len().min(PIECE))
 }
 
-// Adds these entries, in as few records as will do.
+// Adds these entries, in as few records as possible.
 fn add_entries<D: Disk>(
     alloc: Global,
     journal: &mut Journal<D>,
@@ -81,7 +81,7 @@ fn add_entries<D: Disk>(
     Ok(())
 }
 
-// Adds the term where the journal hasn't it.
+// Adds the term if the journal doesn't have it.
 fn add_term<D: Disk>(journal: &mut Journal<D>, term: u64, kept: u64) -> Result<(), FileError>
     requires open { IsOpenJournal (D.state journal.old.0) }
     ensures ok { OnOk result ((items : List ARecord) → JournalAtRest (D.state journal.old.0) items
@@ -102,7 +102,7 @@ fn add_term<D: Disk>(journal: &mut Journal<D>, term: u64, kept: u64) -> Result<(
     journal.add(&Record::Vote(vote))
 }
 
-/// Adds what the journal still needs after what it keeps.
+/// Adds what the journal still needs after what it has.
 pub(crate) fn add_missing<D: Disk>(
     alloc: Global,
     journal: &mut Journal<D>,
@@ -123,7 +123,7 @@ pub(crate) fn add_missing<D: Disk>(
     add_entries(alloc, journal, entries_left(pinned, kept))
 }
 
-// The entries after those that are kept.
+// The entries after those that the journal has.
 fn entries_left<'a>(pinned: &'a Pinned, kept: &Kept) -> &'a [Entry]
     requires { length kept.now.entries ≤ length pinned.now.entries.items }
     ensures { result.now ≡ drop (length kept.now.entries) pinned.now.entries.items }
@@ -131,7 +131,7 @@ fn entries_left<'a>(pinned: &'a Pinned, kept: &Kept) -> &'a [Entry]
     pinned.entries.split_at(kept.entries.as_slice().len()).1
 }
 
-/// Saves the documents, where the last checkpoint isn't that of them.
+/// Saves the documents, unless the last checkpoint is theirs.
 pub(crate) fn save_documents<D: Disk>(
     alloc: Global,
     checkpoints: &mut Checkpoints<D>,

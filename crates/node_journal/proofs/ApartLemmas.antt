@@ -1,4 +1,4 @@
--- Records with the same bytes are one record.
+-- Records with the same bytes are the same record.
 use Rattle.std.proofs.Common.{◌≡◌, ◌⊎◌, ◌<◌, ◌^◌, inl, inr, ℕ, suc, Bool, List, [], ◌∷◌, ◌++◌, length, drop, Option, None, Some, refl, sym, ap, subst, ◌∙◌, arith}
 use Rattle.std.specs.Prelude.{◌≢◌, All, unwrap_or, slice_index}
 use Rattle.std.specs.List.{flat_map}

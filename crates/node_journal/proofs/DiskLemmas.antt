@@ -1,4 +1,5 @@
--- What crates above cite of a journal's disk while it is at rest: what leaves its list of records, and how many there are.
+-- What other crates cite about a journal's disk at rest: what leaves its list of records as it is, and how
+-- many records there are.
 use Rattle.std.proofs.Common.{◌≡◌, ℕ, ◌+◌, ◌*◌, ◌^◌, ◌<◌, ◌≤◌, List, [], ◌∷◌, length, ap, ◌∙◌, arith, length-append}
 use Rattle.std.specs.Prelude.{fold}
 use Rattle.std.specs.Int.{to_le_bytes, w32}

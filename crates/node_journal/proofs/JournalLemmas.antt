@@ -1,4 +1,4 @@
--- A journal's disk is a record file's, and what a crash leaves of the one it leaves of the other.
+-- A journal's disk is a record file's, and a crash leaves of the one what it leaves of the other.
 use Rattle.std.proofs.Common.{⊎_elim, inl, inr, ℕ, List, [], ◌∷◌, ◌++◌, subst}
 use Rattle.std.specs.Prelude.{Result, Ok, Err, OnOk}
 use Rattle.rs_disk.specs.File.{File, IsImage, LeavesOnly, contents}

@@ -1,4 +1,4 @@
--- A truth in front of some bytes, and what follows it.
+-- A truth value at the start of some bytes, and what follows it.
 use Rattle.std.proofs.Common.{◌≡◌, ℕ, ◌≤◌, Bool, true, false, not, List, ◌∷◌, length, drop, refl, ap, ◌∙◌, arith}
 use Rattle.std.specs.Prelude.{◌==◌, slice_index}
 use Rattle.node_journal.specs.Layout.{truth_byte}

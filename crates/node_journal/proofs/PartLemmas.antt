@@ -1,4 +1,4 @@
--- The parts of what stands in front of some bytes.
+-- The parts of what some bytes begin with.
 use Rattle.std.proofs.Common.{◌≡◌, ℕ, ◌<◌, ◌^◌, List, ◌∷◌, ◌++◌, length, Option, None, Some, refl, sym, ap, subst, ◌∙◌, arith, append_assoc}
 use Rattle.std.specs.Prelude.{◌≢◌, Err, unwrap_or}
 use Rattle.bson_codec.specs.Numbers.{number_bytes}

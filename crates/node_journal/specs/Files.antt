@@ -37,7 +37,7 @@ pub record IsOpen (state : State) : Type 0 where
 abbrev pub MayHave : State → List Record → Type 0
 MayHave state records = MayLeave HasJournal state records
 
--- the bytes have records, and they are such as the disk might have had
+-- the bytes have records, and the disk might have had these
 abbrev pub IsOneOf : State → List ℕ → Type 0
 IsOneOf state image = IsOneLeft HasJournal state image
 
@@ -79,16 +79,16 @@ abbrev pub form_steps : State → List Step
 form_steps state =
     append_steps (length (contents state.file)) (body (record_bytes (records.Form NEWEST_FORM)) ++ 0 ∷ [])
 
--- those calls, where the form is due, and none where it isn't
+-- those calls where the form is due, and no calls where it isn't
 abbrev pub AddsForm : {T : Type 0} → (due : Bool) → Result T FileError → State → State → Type 0
 AddsForm true result old new = EndsBy result (form_steps old) old new
 AddsForm false result old new = IsOk result × (new ≡ old)
 
--- a journal's opening: that of its file, and after it, where it went well, the newest form if that is due
+-- a journal's opening: that of its file, and after a success the newest form if that is due
 abbrev pub OpensInForm : {T : Type 0} → (due : Bool) → Result T FileError → State → State → Type 0
 OpensInForm due result old new = (IsErr result × OpensBy result old new)
     ⊎ ((opened : State) × OpensBy {T = Unit {0}} (Ok tt) old opened × AddsForm due result opened new)
 
--- this is what the records on the disk come to
+-- this is the state that the records on the disk add up to
 abbrev pub IsKeptOf : Kept → State → Type 0
 IsKeptOf read state = (records : List Record) → IsAtRest state records → read ≡ kept records

@@ -8,6 +8,6 @@ use Rattle.repl_msg.specs.declared.record.Record.TheVariants as records
 abbrev pub is_first : List Record → Bool
 is_first items = (kept items).form == FIRST_FORM
 
--- the records in the newest form: those of a journal of the first one have a record of it after them
+-- the records in the newest form: a journal of the first form gets a record of the newest one at its end
 abbrev pub renewed : List Record → List Record
 renewed items = if is_first items then items ++ records.Form NEWEST_FORM ∷ [] else items

@@ -21,7 +21,8 @@ use rs_optime::Mem;
 use std::alloc::Global;
 use std::marker::Model;
 
-/// The journal of a node on one disk. Contracts see it as its disk, and how many bytes its buffers can take.
+/// The journal of a node on one disk. Contracts see it as its disk and the number of bytes that its
+/// buffers can take.
 #[derive(Drop)]
 pub struct Journal<D: Disk> {
     file: RecordFile<D>,
@@ -37,12 +38,11 @@ impl<D: Disk> Model for Journal<D> {
 }
 
 impl<D: Disk> Journal<D> {
-    /// Reads what the journal on a disk keeps. The disk is empty, or a journal left it. A journal of the
-    /// first form has a record of the newest one after the others before it is open.
+    /// Reads the journal on a disk. The disk is empty, or a journal left it. A journal of the first form gets
+    /// a record of the newest form at its end before it is open.
     ///
     /// # Errors
-    /// `Disk` where the disk failed. Either error hands the disk back, and an opening may be tried
-    /// again on it.
+    /// `Disk` where the disk failed. Either error hands the disk back, and opening it may be tried again.
     pub fn open(alloc: Global, disk: D) -> Result<(Journal<D>, Kept), (D, FileError)>
         requires { IsJournalDisk (D.state disk) }
 
@@ -58,8 +58,8 @@ impl<D: Disk> Journal<D> {
             → OpensInForm (is_first records) (answer_of result) (D.state disk)
             (D.state (disk_after result)) }
 
-        // A crash at any moment leaves records that a crash before the call might have left, in the newest
-        // form or as they were.
+        // A crash at any moment leaves records that a crash before the call might have left, as they were or
+        // in the newest form.
         ensures any_moment { EachMoment (IsOneOfRenewed (D.state disk)) (D.state disk)
             (D.state (disk_after result)) }
         ensures keeps { Keeps (IsErrOf (answer_of result) FileError.Disk) (D.state disk)
@@ -75,7 +75,7 @@ impl<D: Disk> Journal<D> {
         }
     }
 
-    // Reads what the journal on its disk keeps, once its records are in the newest form.
+    // Reads the journal on its disk, with the records brought to the newest form.
     fn open_renewed(&mut self) -> Result<Kept, FileError>
         requires { IsJournalDisk (D.state self.old.0) }
         ensures kept { IfOk result (λ read.
@@ -121,7 +121,7 @@ impl<D: Disk> Journal<D> {
         Ok(with_form(read, NEWEST_FORM))
     }
 
-    /// Reads anew what the journal on its disk keeps, also where it has failed.
+    /// Reads the journal on its disk again, even where it has failed.
     ///
     /// # Errors
     /// `Disk` where the disk failed. After either error it may be tried again.
@@ -168,12 +168,12 @@ impl<D: Disk> Journal<D> {
             (append_steps (length (contents (D.state self.old.0).file))
             (body (record_bytes item.now) ++ 0 ∷ [])) (D.state self.old.0) (D.state self.new.0) }
 
-        // A crash at any moment of the call leaves the records from before it, with the new one or without.
+        // A crash at any moment of the call leaves the records from before it, with or without the new one.
         ensures any_moment { (records : List ARecord) → IsAtRest (D.state self.old.0) records
             → EachMoment (IsBeforeOrAfter records item.now) (D.state self.old.0) (D.state self.new.0) }
         ensures keeps { Keeps (IsErrOf result FileError.Disk) (D.state self.old.0) (D.state self.new.0) }
 
-        // A record that brings no entries takes 5 bytes more than it has of what was reserved.
+        // A record without entries takes 5 bytes more than its length of what was reserved.
         ensures room { IsShort item.now
             → length (record_bytes item.now) + 5 ≤ spare (D.state self.old.0) self.old.1
             → result ≢ Err FileError.Memory }
@@ -184,15 +184,15 @@ impl<D: Disk> Journal<D> {
         self.file.append(&self.buffer)
     }
 
-    /// There are fewer than 2^63 records: a fact for the proofs of callers that count them,
-    /// which costs nothing.
+    /// There are fewer than 2^63 records: a fact for proofs of callers that count them, which costs nothing.
     pub fn recall_count_fits(&self)
         ensures { (records : List ARecord) → IsAtRest (D.state self.now.0) records → length records < 2 ^ 63 }
     {
         let _len = self.file.len();
     }
 
-    /// Reserves memory for records without entries, of so many bytes together with 5 more for each of them.
+    /// Reserves memory for records without entries that have `more` bytes together, counting 5
+    /// extra for each.
     pub fn reserve(&mut self, more: u64) -> Mem<()>
         ensures same { SameButRoom (D.state self.old.0) (D.state self.new.0) }
         ensures open { IsOpen (D.state self.old.0) → IsOpen (D.state self.new.0) }
@@ -204,7 +204,7 @@ impl<D: Disk> Journal<D> {
         self.buffer.reserve(more as usize)
     }
 
-    /// Asks the disk to fail at its `call`-th call from now on, with a power cut where there is a pick.
+    /// Makes the disk fail at its `call`-th call from now on, with a power cut where there is a pick.
     pub fn arm(&mut self, call: u32, pick: Option<u64>)
         ensures disk { IsArmed call pick (D.state self.old.0) (D.state self.new.0) }
         ensures room { self.new.1 ≡ self.old.1 }
@@ -213,7 +213,7 @@ impl<D: Disk> Journal<D> {
         self.file.arm(call, pick);
     }
 
-    /// Cuts the power of the disk. The pick chooses among what may be left of what was not synced.
+    /// Cuts the power of the disk. The pick chooses what is left of what was not synced.
     pub fn power_cut(&mut self, pick: u64)
         ensures disk { IsCut pick (D.state self.old.0) (D.state self.new.0) }
         ensures room { self.new.1 ≡ self.old.1 }

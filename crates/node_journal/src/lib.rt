@@ -1,6 +1,6 @@
-//! The journal of a node: votes, configurations, entries and cuts, as records on one disk. A crash at any
-//! moment leaves the records from before a record was added, or those with it. A journal of the first form
-//! is opened as one of the newest.
+//! The journal of a node: votes, configurations, entries and cuts, as records on one disk. A crash while a
+//! record is added leaves the records without it, or with it. A journal of the first form is opened as one of
+//! the newest form.
 #![tactic(auto)]
 
 mod fold;

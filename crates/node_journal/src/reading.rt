@@ -144,7 +144,7 @@ fn form_of(bytes: &[u8]) -> u32
     u32_of(bytes).0
 }
 
-// The record that these bytes are of.
+// The record that these bytes spell.
 pub(crate) fn record_of(alloc: Global, bytes: &[u8]) -> Mem<Record>
     requires { (item : ARecord) × IsSpelled item bytes.now }
     ensures { IfOk result (λ read. (item : ARecord) → IsSpelled item bytes.now → read ≡ item) }
@@ -159,7 +159,7 @@ pub(crate) fn record_of(alloc: Global, bytes: &[u8]) -> Mem<Record>
     }
 }
 
-// How many entries the records of these bytes bring, so that there is room for them beforehand.
+// How many entries the records in these bytes have, so that room for them is made beforehand.
 pub(crate) fn entries_in(pieces: &[Vec<u8>]) -> usize {
     let mut count: usize = 0;
     for piece in pieces {
@@ -168,7 +168,7 @@ pub(crate) fn entries_in(pieces: &[Vec<u8>]) -> usize {
     count
 }
 
-// The number after the point, where these bytes are of a record of entries.
+// The number after the point, if these bytes are a record of entries.
 fn entry_count(bytes: &[u8]) -> usize {
     match bytes.get(17..21) {
         Some(number) if matches!(bytes[0], 3 | 6) => u32_of(number).0 as usize,

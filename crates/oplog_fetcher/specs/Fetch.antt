@@ -7,6 +7,6 @@ use Rattle.oplog_entry.specs.Visible.{log_up_to}
 use Rattle.repl_msg.specs.declared.message.FetchReply.{FetchReply}
 use Rattle.repl_msg.specs.Fetching.{reply_of}
 
--- what is answered from a log that is visible up to an optime
+-- the answer from a log that is visible up to an optime
 abbrev pub reply_to : List Entry → (visible base commit : OpTime) → Bool → FetchReply
 reply_to log visible base commit primary = reply_of (log_up_to visible log) visible base commit primary

@@ -1,4 +1,4 @@
--- The greatest entry that two logs have.
+-- The last entry that two logs have in common.
 use Rattle.std.proofs.Common.{◌≡◌, ◌∙◌, ap, sym, refl, Bool, true, false, not, ◌&&◌, ◌||◌, cond, filter, List, [], ◌∷◌}
 use Rattle.std.proofs.lemmas.Bool.{or_left, or_right}
 use Rattle.std.specs.List.{list_any}

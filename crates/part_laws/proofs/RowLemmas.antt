@@ -1,4 +1,4 @@
--- Each part's answer is its row, by cases.
+-- Each part's answer is the node's, by cases.
 use Rattle.std.proofs.Common.{◌≡◌, ◌∙◌, ap, sym, ℕ, Bool, true, false, not, cond, filter, List, [], ◌∷◌, Option, None, Some, Ok, Err, refl}
 use Rattle.std.specs.Prelude.{◌==◌, ◌&&◌, nat_lt, nat_le, length}
 use Rattle.std.specs.Option.{option_map}

@@ -1,4 +1,4 @@
--- What is visible of a log is the log up to its visible optime.
+-- The visible part of a log is the log up to its visible optime.
 use Rattle.std.proofs.Common.{◌≡◌, ◌∙◌, ap, sym, refl, subst, arith, Bool, true, false, not, cond, filter, List, [], ◌∷◌, Option, None, Some, zero}
 use Rattle.std.specs.List.{All, AllPairs}
 use Rattle.std.proofs.lemmas.List.Elements.{All-filter, All-tail}

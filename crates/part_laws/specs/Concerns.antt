@@ -1,4 +1,4 @@
--- Acknowledgements and reads: what the crates that decide them answer, given a node's values, and what
+-- Acknowledgements and reads: what the crates that decide them answer for a node's values, and what
 -- the node answers.
 use Rattle.std.specs.Prelude.{◌≡◌, List, Option, None, Some}
 use Rattle.rs_optime.specs.declared.optime.OpTime.{OpTime}
@@ -37,7 +37,7 @@ refusal_of part_answer.Acked = None
 refusal_of (part_answer.Waiting held needed) = Some (refusal.Waiting held needed)
 refusal_of (part_answer.CannotSatisfy members) = Some (refusal.CannotSatisfy members)
 
--- `answer` is what a node makes of a concern
+-- `answer` judges a concern as a node does
 abbrev pub ConcernsAgree : Type 0
 ConcernsAgree =
     (node : Node) (at : OpTime) (concern : AckConcern)

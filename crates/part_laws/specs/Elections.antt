@@ -1,5 +1,4 @@
--- Votes and tallies: what the crates that decide them answer, given a node's values, and what
--- the node answers.
+-- Votes and tallies: what the crates that decide them answer for a node's values, and what the node answers.
 use Rattle.std.specs.Prelude.{◌≡◌, ℕ, List}
 use Rattle.vote_store.specs.Voting.{vote_for}
 use Rattle.member_config.specs.declared.config.Config.{Config}
@@ -12,7 +11,7 @@ use Rattle.set_model.specs.Node.{Node}
 use Rattle.set_model.specs.Points.{last_point}
 use Rattle.set_model.specs.Votes.{vote_refusal, with_vote}
 
--- what a node decides by
+-- what a node's decision depends on
 abbrev pub voter_of : Node → VoterView
 voter_of node =
     record {
@@ -23,8 +22,7 @@ voter_of node =
       last = last_point node;
     }
 
--- `decide` refuses with the reason with which a node answers, and otherwise gives the vote for the
--- one who asks
+-- `decide` refuses for the reason that a node gives, and otherwise votes for the one who asks
 abbrev pub VotesAgree : Type 0
 VotesAgree =
     (node : Node) (from : ℕ) (ask : VoteAsk)

@@ -1,4 +1,4 @@
--- Sources, fetching and rollback: what the crates that decide them answer, given a node's values, and what
+-- Sources, fetching and rollback: what the crates that decide them answer for a node's values, and what
 -- the node answers.
 use Rattle.std.specs.Prelude.{◌≡◌, ℕ, true, not, nat_lt, List, filter, length, Result, Ok, Err, if◌then◌else◌}
 use Rattle.std.specs.List.{All}
@@ -36,7 +36,7 @@ use Rattle.set_model.specs.Rollback as rollback
 abbrev pub AreKnown : Node → List Known → Type 0
 AreKnown node known = (member : ℕ) → heard_of known member ≡ maps.get node.known member
 
--- `choose` takes the source that a node takes
+-- `choose` picks the source that a node picks
 abbrev pub SourcesAgree : Type 0
 SourcesAgree =
     (node : Node) (known : List Known) → AreKnown node known
@@ -45,7 +45,7 @@ SourcesAgree =
 
 -- ---- fetching
 
--- no entry has the optime that stands before every log
+-- no entry has the optime that comes before every log
 abbrev pub AreAfterZero : List Entry → Type 0
 AreAfterZero log = All (λ entry. is_before ZERO entry.optime ≡ true) log
 
@@ -56,7 +56,7 @@ FetchesAgree =
     → reply_to node.log (visible_point node) base node.commit (is_primary node.role)
     ≡ fetching.reply_to node base
 
--- a secondary takes what `accept` takes
+-- a secondary accepts what `accept` does
 abbrev pub AcceptsAgree : Type 0
 AcceptsAgree =
     (node : Node) (from : ℕ) (reply : FetchReply)
@@ -68,7 +68,7 @@ AcceptsAgree =
 
 -- ---- rollback
 
--- what a node makes of a plan
+-- what a node does with a plan
 abbrev pub planned : Node → Result OpTime RollbackRefusal → Plan
 planned node (Ok point) = rollback.rolled_back node point
 planned node (Err part.NotOlder) = finished (ignored row.NotOlder node)

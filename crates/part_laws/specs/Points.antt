@@ -1,4 +1,4 @@
--- Commit points and configurations: what the crates that decide them answer, given a node's values, and what
+-- Commit points and configurations: what the crates that decide them answer for a node's values, and what
 -- the node answers.
 use Rattle.std.specs.Prelude.{◌≡◌, ℕ, not, Option, Some, if◌then◌else◌}
 use Rattle.std.specs.Option.{option_map}
@@ -17,8 +17,8 @@ use Rattle.set_model.specs.Reconfig.{reconfig_refusal}
 
 -- ---- commit points
 
--- `advance` is where a primary's commit point goes, and `learn` is what another node makes of one that
--- it hears of
+-- `advance` is how a primary's commit point moves, and `learn` is how another node's does when it
+-- hears of one
 pub record PointsAgree : Type 0 where
   pub advances : (node : Node) → (evaluated node).commit ≡ if_primary node.role
       (advanced node.progress node.config node.term node.number node.durable node.commit) node.commit

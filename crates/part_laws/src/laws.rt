@@ -3,8 +3,7 @@ ghost use Rattle.part_laws.specs.Elections.{TalliesAgree, VotesAgree};
 ghost use Rattle.part_laws.specs.Logs.{AcceptsAgree, CommonPointsAreLast, FetchesAgree, RollbacksAgree, SourcesAgree};
 ghost use Rattle.part_laws.specs.Points.{PointsAgree, ReconfigsAgree};
 
-/// `decide` refuses with the reason with which a node answers, and otherwise gives the vote for the
-/// one who asks.
+/// `decide` refuses for the reason that a node gives, and otherwise votes for the one who asks.
 pub fn votes_are_decided_as_a_node_does()
     ensures { VotesAgree }
 {}
@@ -14,13 +13,13 @@ pub fn tallies_grow_as_a_node_s()
     ensures { TalliesAgree }
 {}
 
-/// `advance` is where a primary's commit point goes, and `learn` is what another node makes of one that
-/// it hears of.
+/// `advance` is how a primary's commit point moves, and `learn` is how another node's does when it
+/// hears of one.
 pub fn commit_points_move_as_a_node_s()
     ensures { PointsAgree }
 {}
 
-/// `answer` is what a node makes of a concern.
+/// `answer` judges a concern as a node does.
 pub fn concerns_are_answered_as_a_node_does()
     ensures { ConcernsAgree }
 {}
@@ -30,7 +29,7 @@ pub fn reads_show_what_a_node_does()
     ensures { ReadsAgree }
 {}
 
-/// `choose` takes the source that a node takes.
+/// `choose` picks the source that a node picks.
 pub fn sources_are_chosen_as_a_node_does()
     ensures { SourcesAgree }
 {}
@@ -40,7 +39,7 @@ pub fn entries_are_told_as_a_node_does()
     ensures { FetchesAgree }
 {}
 
-/// A secondary takes what `accept` takes.
+/// A secondary accepts what `accept` does.
 pub fn answers_are_taken_as_a_node_does()
     ensures { AcceptsAgree }
 {}

@@ -1,9 +1,9 @@
 //! The crates that each decide one thing of the protocol (votes, commit points, concerns, reads, sources,
 //! fetching, rollback and configurations) decide as a node of `set_model` does: given the node's values, each
-//! answers what the node answers. It is proved here where the crate and the model don't cite one definition
-//! already: where the crate's answers have a type of their own (`ConcernAnswer`, `ReadAt`, `RollbackRefusal`,
-//! `ConfigRefusal`), or where it is handed less than a node has (a log and the optime up to which it is
-//! visible, a list of what was heard).
+//! answers what the node answers. This is proved here where the crate and the model don't already cite the
+//! same definition: where the crate's answers have a type of their own (`ConcernAnswer`, `ReadAt`,
+//! `RollbackRefusal`, `ConfigRefusal`), or where it is given less than a node has (a log and the optime up to
+//! which it is visible, a list of what was heard).
 #![tactic(auto)]
 
 mod laws;

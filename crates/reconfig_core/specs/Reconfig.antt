@@ -9,8 +9,8 @@ use Rattle.repl_msg.specs.Points.{Reports, held}
 use Rattle.reconfig_core.specs.declared.refusal.ConfigRefusal.{ConfigRefusal}
 use Rattle.reconfig_core.specs.declared.refusal.ConfigRefusal.TheVariants.{WrongVersion, ConfigRule, PrimaryNotMember, TwoVoters, ConfigNotCommitted, TermNotCommitted, OplogNotCommitted, UnknownMember}
 
--- what the current configuration lacks: a majority of its voters has to have it, the commit point is of the
--- term, and a majority has that too
+-- what the current configuration lacks: a majority of its voters must have it, the commit point must be in
+-- the term, and a majority must have reached that too
 abbrev pub committed_refusal : Config → (own term : ℕ) → Reports
     → (durable commit : OpTime) → Option ConfigRefusal
 committed_refusal current own term reports durable commit =
@@ -21,7 +21,7 @@ committed_refusal current own term reports durable commit =
     then Some (OplogNotCommitted (held reports own durable commit (voters current)) (majority current))
     else None
 
--- what the new one lacks, beside the current one
+-- what the new one lacks, compared with the current one
 abbrev pub change_refusal : (current new : Config) → (own : ℕ) → Option ConfigRefusal
 change_refusal current new own =
     if nat_le new.version current.version then Some WrongVersion
@@ -43,7 +43,7 @@ abbrev pub unless_broken : Option ℕ → Option ConfigRefusal → Option Config
 unless_broken (Some broken) other = Some (ConfigRule broken)
 unless_broken None other = other
 
--- a rule that is broken, an unknown member, what the new one lacks, what the current one lacks
+-- a broken rule, an unknown member, what the new one lacks, what the current one lacks
 abbrev pub refusal : (current new : Config) → (own nodes term : ℕ) → Reports
     → (durable commit : OpTime) → Option ConfigRefusal
 refusal current new own nodes term reports durable commit =

@@ -8,9 +8,9 @@ use commit_point::Progress;
 use member_config::Config;
 use rs_optime::OpTime;
 
-/// Whether a primary, whose number is `own`, may take a new configuration in a set of so many nodes;
-/// otherwise the first reason against it. Among them: a majority of the current configuration's voters
-/// doesn't have that configuration yet, or no entry of the primary's term is committed yet.
+/// Whether a primary, whose number is `own`, may take a new configuration in a set of `nodes` nodes;
+/// otherwise the first reason against it. Among the reasons: no majority of the current configuration's
+/// voters has that configuration yet, or no entry of the primary's term is committed yet.
 pub fn check(
     current: &Config,
     new: &Config,
@@ -42,7 +42,7 @@ pub fn check(
     }
 }
 
-/// The first member that is no node of the set.
+/// The first member that isn't a node of the set.
 fn unknown_member(config: &Config, nodes: u32) -> Option<u32>
     ensures { result ≡ unknown_member nodes config.now }
 {
@@ -54,7 +54,7 @@ fn unknown_member(config: &Config, nodes: u32) -> Option<u32>
     None
 }
 
-/// What the new configuration lacks, beside the current one.
+/// What the new configuration lacks, compared with the current one.
 fn change_refusal(current: &Config, new: &Config, own: u32) -> Option<ConfigRefusal>
     ensures { result ≡ words.change_refusal current.now new.now own }
 {

@@ -4,7 +4,7 @@ ghost use Rattle.repl_msg.specs.Configs as words;
 use commit_point::Progress;
 use member_config::Config;
 
-/// How many voters have the current configuration, as the primary knows.
+/// How many voters have the current configuration, as far as the primary knows.
 pub(crate) fn config_held(current: &Config, own: u32, progress: &Progress) -> u32
     requires { length current.now.members ≤ 50 }
     ensures { result ≡ words.config_held progress.now current.now own }
@@ -18,7 +18,8 @@ pub(crate) fn config_held(current: &Config, own: u32, progress: &Progress) -> u3
     count
 }
 
-/// Whether a member has the current configuration: the primary itself has, and another by its report.
+/// Whether a member has the current configuration: the primary itself does, and another one does
+/// by its report.
 fn has_config(current: &Config, own: u32, progress: &Progress, member: u32) -> bool
     ensures { result ≡ words.has_config progress.now current.now own member }
 {

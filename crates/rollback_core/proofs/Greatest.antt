@@ -1,4 +1,4 @@
--- The greatest entry of a log that passes a test.
+-- The last entry of a log that passes a test.
 use Rattle.std.proofs.Common.{◌≡◌, ◌∙◌, ◌⊎◌, inl, inr, ap, sym, refl, arith, Bool, true, false, cond, not, ◌&&◌, ◌||◌, List, [], ◌∷◌, zero}
 use Rattle.std.proofs.Math.Bool.{or-false}
 use Rattle.std.proofs.lemmas.Bool.{and_parts, and_from, or_cases, or_left, or_right, cases_Bool}

@@ -1,4 +1,5 @@
--- The outcomes of what a primary alone does, and of a retry: it is refused, it was written before, or it is written now.
+-- The outcomes of what only a primary does, and of a retry: it is refused, it was written before, or it
+-- is written now.
 use Rattle.std.proofs.Common.{◌≡◌, ◌∙◌, ap, arith, ℕ, Bool, true, false, cond, nat_lt, eqb-true, eq-eqb, ltb-false, Option, None, Some, refl}
 use Rattle.std.specs.Prelude.{◌==◌, ◌≤◌}
 use Rattle.doc_update.specs.declared.write.WriteOp.{WriteOp}

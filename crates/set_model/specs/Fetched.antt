@@ -1,4 +1,4 @@
--- What a log owes that goes on with fetched entries.
+-- What a log that is continued by fetched entries has to satisfy.
 use Rattle.std.specs.Prelude.{◌≡◌, ◌<◌, ◌≤◌, false, List, All}
 use Rattle.std.specs.FinMap as maps
 use Rattle.rs_optime.specs.declared.optime.OpTime.{OpTime}

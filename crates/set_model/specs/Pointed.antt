@@ -1,4 +1,4 @@
--- How many entries a node has had committed in a run.
+-- How many committed entries a node has had in a run.
 use Rattle.std.specs.Prelude.{ℕ, max, List, [], ◌∷◌, length, if◌then◌else◌, slice_get}
 use Rattle.std.specs.Option.{option_map_or}
 use Rattle.oplog_entry.specs.Visible.{log_up_to}
@@ -7,14 +7,14 @@ use Rattle.set_model.specs.Node.{Node}
 use Rattle.set_model.specs.Run.{Sizes, opening}
 use Rattle.set_model.specs.World.{World, step}
 
--- the entries of a node's log up to its commit point; none of a node that is down
+-- how many entries a node's log has up to its commit point; 0 for a node that is down
 abbrev pub committed : Node → ℕ
 committed node = if node.up then length (log_up_to node.commit node.log) else 0
 
 abbrev pub committed_among : List Node → ℕ → ℕ
 committed_among nodes number = option_map_or committed (slice_get nodes number) 0
 
--- the most that a node has committed in a world, and in those that events make of it one after another
+-- the most that a node has committed in a world, and in the worlds after each of some events
 abbrev pub most_from : World → List Event → ℕ → ℕ
 most_from world [] number = committed_among world.nodes number
 most_from world (event ∷ events) number =

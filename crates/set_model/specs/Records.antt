@@ -7,6 +7,6 @@ use Rattle.set_model.specs.declared.records.Records.{Records}
 abbrev pub no_records : Records
 no_records = record { list = [] }
 
--- with what was stored, where it is a record
+-- with what was stored, if it is a record
 abbrev pub with_stored : Records → Store → Records
 with_stored records item = record { list = records_after records.list item }

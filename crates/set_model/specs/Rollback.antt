@@ -37,12 +37,12 @@ common next node to = sending (Sent next) node to (bodies.CommonAsk node.commit)
 abbrev pub optimes_of : List Entry → List OpTime
 optimes_of log = map (λ entry. entry.optime) log
 
--- the entries that will be visible once a message of this term is taken: all of them, where it makes the
+-- the entries that are visible once a message of this term is taken: all entries, where it makes the
 -- node step down
 abbrev pub shown_in : Node → ℕ → List Entry
 shown_in node term = if nat_lt node.term term then node.log else visible_log node
 
--- more than 20,000 optimes would be told
+-- more than 20,000 optimes would have to be sent
 abbrev pub common_refusal : Node → ℕ → OpTime → Option Refusal
 common_refusal node term after =
     if nat_lt 20000 (length (log_after after (shown_in node term))) then Some TooManyOptimes else None
@@ -69,14 +69,14 @@ rollback_reason node term after optimes visible =
     else if is_common after optimes (last_point node) then Some SameBranch
     else None
 
--- the documents that some entries touch, each once, in order, as they stand here, or as none
+-- the places that some entries touch, each once, in order, with the document that is there now, or none
 abbrev pub lost_documents : Documents → List Entry → List (Place × Option Fields)
 lost_documents documents entries = touched_documents (maps.get documents) entries
 
 abbrev pub cut_record : OpTime → Store
 cut_record at = stores.Record (records.Cut at)
 
--- the log is cut after a point, and the documents are those of what is left
+-- the log is cut after a point, and the documents are those of the remaining log
 abbrev pub cut_back : Node → OpTime → Node
 cut_back node point =
     record node {

@@ -20,13 +20,13 @@ later_write id last at (Some session) =
     if session.id == id && is_past last session.number
     then Some (record { number = session.number; at = at }) else last
 
--- the greatest number of a session in a log, and where its entry stands
+-- the greatest number of a session in a log, and where its entry is
 abbrev pub last_write : (id : ℕ) → List Entry → Option LastWrite
 last_write id log = fold (λ last entry. later_write id last entry.optime entry.session) None log
 
 -- ---- each write once
 
--- where both are writes of one session, the later has the greater number
+-- where both are writes of the same session, the later one has the greater number
 abbrev pub GoesUp : Entry → Entry → Type 0
 GoesUp one two =
     (a b : Session) → one.session ≡ Some a → two.session ≡ Some b → a.id ≡ b.id → a.number < b.number

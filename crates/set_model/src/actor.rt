@@ -6,7 +6,7 @@ ghost use Rattle.set_model.specs.World.{World, acts, is_delivery, task};
 use crate::Command;
 
 impl Command {
-    /// The node whose own command this is; none, where a message is delivered.
+    /// The node whose own command this is; none for the delivery of a message.
     #[tactic(auto, using(crate::proofs::LimitLemmas::named))]
     pub fn actor(&self) -> Option<u32>
         ensures some { IfSome result (λ number. (world : World) → task world self.now ≡ acts number) }

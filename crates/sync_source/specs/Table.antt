@@ -6,7 +6,7 @@ use Rattle.repl_msg.specs.Sources as words
 use Rattle.sync_source.specs.Known.{heard_by}
 use Rattle.sync_source.specs.declared.source.Known.{Known}
 
--- what was heard, and of how many more members there is room for it
+-- what was heard, and for how many more members there is room
 pub record Table : Type 0 where
   pub heard : maps.FinMap nat_cmp words.Heard
   pub spare : ℕ

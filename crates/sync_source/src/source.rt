@@ -25,7 +25,7 @@ pub struct NoSource;
 
 /// The member that a node fetches from: the lowest number among the other members whose last optime is later
 /// than `last`. Where the configuration doesn't allow chaining, only a primary counts. Where `known` names a
-/// member twice, the first counts. `NoSource` where there is no such member.
+/// member twice, the first mention counts. `NoSource` where there is no such member.
 pub fn choose(config: &Config, own: u32, last: OpTime, known: &[Known]) -> Result<u32, NoSource>
     ensures { result_ok result ≡ lowest (words.sources_of config.now own last (heard_of known.now)) }
 {
@@ -39,7 +39,7 @@ pub fn choose(config: &Config, own: u32, last: OpTime, known: &[Known]) -> Resul
         .ok_or(NoSource)
 }
 
-/// The lower of a number and another, if there is one.
+/// The lower of a number and another one, if there is another.
 pub(crate) fn lower(lowest: Option<u32>, number: u32) -> Option<u32>
     ensures { result ≡ Some (option_map_or (min number) lowest number) }
 {
@@ -55,7 +55,7 @@ fn goes_further(config: &Config, last: OpTime, known: &[Known], member: u32) -> 
     is_further(config, last, known_of(known, member))
 }
 
-/// Whether a member goes further, by what was heard of it.
+/// Whether a member's log goes further, by what was heard of it.
 pub(crate) fn is_further(config: &Config, last: OpTime, heard: Option<Known>) -> bool
     ensures { result ≡ words.goes_further config.now last (option_map heard_by heard) }
 {

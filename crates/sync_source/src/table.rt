@@ -10,7 +10,7 @@ use std::alloc::Global;
 use std::collections::HashMap;
 use std::marker::Model;
 
-/// What was last heard of each member, by its number. Nothing is kept of the others.
+/// What was last heard of each member, by its number. Nothing is stored for the others.
 #[derive(Drop)]
 pub struct KnownTable {
     known: HashMap<u32, Known>,
@@ -47,7 +47,7 @@ impl KnownTable {
         self.known.reserve(1)
     }
 
-    /// What is now heard of a member, in the room that `make_room` made.
+    /// Sets what is now heard of a member, in the room that `make_room` made.
     pub fn set(&mut self, member: u32, last: OpTime, primary: bool)
         requires room { 0 < self.old.spare }
         ensures { self.new.heard
@@ -64,8 +64,8 @@ impl KnownTable {
         }
     }
 
-    /// The member from which a node fetches: of the other members whose last optime is later than its own the
-    /// one with the lowest number, or none. Where chaining isn't allowed, only a primary counts.
+    /// The member from which a node fetches: the lowest number among the other members whose last optime is
+    /// later than its own, or none. Where chaining isn't allowed, only a primary counts.
     pub fn source(&self, config: &Config, own: u32, last: OpTime) -> Option<u32>
         ensures { result ≡ lowest (words.sources_of config.now own last (maps.get self.now.heard)) }
     {
