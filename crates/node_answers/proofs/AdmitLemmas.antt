@@ -1,4 +1,4 @@
--- What a write comes to on a node.
+-- The effect of a write on a node.
 use Rattle.std.proofs.Common.{◌≡◌, ◌∙◌, ℕ, zero, Bool, true, false, cond, List, [], ◌∷◌, fold, All, Option, None, Some, Result, Ok, Err, IfSome, option_map, refl, sym, ap, subst, arith}
 use Rattle.std.specs.Cmp.{eq_by_cmp_equiv}
 use Rattle.std.specs.Ordering.{nat_cmp}

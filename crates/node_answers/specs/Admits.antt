@@ -1,4 +1,4 @@
--- Which writes a node takes.
+-- Which writes a node accepts.
 use Rattle.std.specs.Prelude.{◌≡◌, ⊤, Option, Result, Ok, Err, None, Some, option_map}
 use Rattle.std.specs.FinMap as maps
 use Rattle.entry_bytes.specs.Sizes.{IsWithinEntry}
@@ -21,18 +21,17 @@ use Rattle.set_model.specs.Points.{next_optime}
 use Rattle.node_data.specs.Versions.{IsSmall}
 use Rattle.node_answers.specs.declared.admitted.Admission.{Admission}
 
--- the refusal for the reason that a write is refused for; out of memory is none
+-- the refusal for the reason why a write is refused; out of memory is no reason
 abbrev pub IsRefusal : WriteRefusal → Refusal → Type 0
 IsRefusal why refusal = option_map refusal_of (reason_of why) ≡ Some refusal
 
--- at the node's next optime the op's entry fits into a record, whatever session it is of
+-- at the node's next optime the op's entry fits into a record, whatever its session is
 abbrev pub FitsNext : Node → Op → Type 0
 FitsNext node op =
     (session : Option Session)
     → IsWithinEntry (record { optime = next_optime node; op = op; session = session })
 
--- an op that is logged is lawful, touches the document at the place, leaves one that isn't too large, and
--- fits
+-- a logged op is lawful, touches the document at the place, leaves one that isn't too large, and fits
 abbrev pub CanBeLogged : Node → Place → Prepared → Type 0
 CanBeLogged node place (Entry op after) =
     IsLawfulOp op × (place_of op ≡ Some place)
@@ -40,7 +39,7 @@ CanBeLogged node place (Entry op after) =
 CanBeLogged node place NoMatch = ⊤
 CanBeLogged node place Unchanged = ⊤
 
--- a write is refused, or its document is held by nobody, and its effect on that can be logged
+-- a write is refused; or nobody holds its document, and its effect on that can be logged
 abbrev pub Admits : Node → WriteOp → Result Admission Refusal → Type 0
 Admits node op (Err why) = admitted node op ≡ Err why
 Admits node op (Ok write) =

@@ -1,12 +1,11 @@
--- Commands to which neither the size of the set nor the number of its next message matters, nor what
--- a restart finds.
+-- Commands that don't depend on the size of the set, the number of its next message, or what a restart finds.
 use Rattle.std.specs.Prelude.{ℕ, Bool, false}
 use Rattle.set_model.specs.declared.command.Command.{Command}
 use Rattle.set_model.specs.Node.{Node}
 use Rattle.set_model.specs.Rows.{row}
 use Rattle.set_model.specs.Stores.{Plan}
 
--- a row takes all three, so these stand for what they happen to be
+-- a row takes all three, so these are arbitrary values for them
 abbrev any_size : ℕ
 any_size = 0
 
@@ -16,6 +15,6 @@ any_number = 0
 abbrev any_finding : Bool
 any_finding = false
 
--- a write, a step of a writer, or what a node shows of itself
+-- a write, a step of a writer, or what a node shows about itself
 abbrev pub plain_row : Node → Command → Plan
 plain_row node command = row any_size any_number any_finding node command

@@ -1,4 +1,4 @@
-// Writes that a node takes.
+// Writes that a node accepts.
 ghost use Rattle.std.specs.Prelude.{IfOk};
 ghost use Rattle.node_answers.specs.Admits.{IsRefusal};
 
@@ -7,7 +7,7 @@ use doc_update::{Prepared, WriteRefusal};
 use set_model::Refusal;
 use std::alloc::AllocError;
 
-/// What a write comes to that nothing refuses, with the place of its document.
+/// The effect of a write that isn't refused, with the place of its document.
 #[derive(Drop)]
 pub(crate) struct Admission {
     pub(crate) ns: Text,

@@ -1,5 +1,5 @@
-//! What a node in memory answers at once: writes, the steps of writers, and what it shows of itself. Nothing
-//! of it is stored or sent.
+//! What a node in memory answers at once: writes, the steps of writers, and what it shows about itself. None
+//! of this stores or sends anything.
 #![tactic(auto)]
 
 mod admitted;

@@ -1,4 +1,4 @@
-// Copies of documents, which a reply shows.
+// Copies of documents for a reply.
 ghost use Rattle.std.specs.Prelude.{◌≡◌, IfOk};
 ghost use Rattle.std.specs.FinMap.{get};
 ghost use Rattle.bson_doc.specs.Place.{Place};
@@ -21,7 +21,7 @@ pub(crate) fn listed(alloc: Global, store: &VersionStore, at: OpTime) -> Mem<Doc
     found(alloc, store, at, &store.keys_at(at)?)
 }
 
-/// The documents of some places, as of an optime.
+/// The documents at some places, as of an optime.
 fn found(
     alloc: Global,
     store: &VersionStore,

@@ -1,4 +1,4 @@
-// What a node shows of itself.
+// What a node shows about itself.
 ghost use Rattle.std.specs.Prelude.{◌≡◌, IfOk};
 ghost use Rattle.std.specs.Option.{option_copied};
 ghost use Rattle.std.specs.FinMap as maps;
@@ -50,7 +50,7 @@ fn shown_point(state: &State, level: ReadLevel) -> OpTime
     }
 }
 
-/// The document of a key.
+/// The document with a key.
 pub(crate) fn read(state: &State, level: ReadLevel, collection: &Text, id: &Value) -> Mem<Reply>
     ensures { IfOk result (λ reply.
         read state.now.node level collection.now (tree_of id.now) ≡ replied reply state.now.node) }
@@ -72,7 +72,7 @@ fn shown<'a>(state: &'a State, level: ReadLevel, ns: &str, id: &IdKey) -> Option
     state.node_data.read_at(ns, id, shown_point(state, level))
 }
 
-/// Lists the documents that a read shows, so that `dump` goes over no others.
+/// Lists the documents that a read shows, so that `dump` visits no others.
 pub(crate) fn list_shown(state: &mut State, level: ReadLevel)
     ensures { state.new ≡ state.old }
 {

@@ -38,7 +38,7 @@ pub(crate) fn begin(state: &mut State, writer: u32, borrowed: BorrowedWrite<'_>)
     }
 }
 
-/// Opens a slot for a write that nothing refuses.
+/// Opens a slot for a write that isn't refused.
 #[tactic(auto, using(crate::proofs::AdmitLemmas::closed_writers))]
 fn begin_admitted(state: &mut State, writer: u32, admission: Admission) -> Mem<Reply>
     requires seen { state.old.node.seen < 2 ^ 64 - 1 }
@@ -88,7 +88,7 @@ fn commit_open(state: &mut State, writer: u32) -> Mem<Reply>
     Ok(Reply::Committed(at))
 }
 
-/// Closes a writer's slot with no entry.
+/// Closes a writer's slot without an entry.
 pub(crate) fn abort(state: &mut State, writer: u32) -> Reply
     ensures { abort state.old.node writer ≡ replied result state.new.node }
 {

@@ -1,4 +1,4 @@
--- The steps by which a node's disks keep more.
+-- The steps by which a node's disks get more.
 use Rattle.std.proofs.Common.{◌≡◌, ◌∙◌, ◌≤◌, ap, sym, subst, arith, ℕ, zero, suc, false, take, drop, map, length, Option, List, [], ◌∷◌, cond}
 use Rattle.std.specs.List.{All}
 use Rattle.rs_optime.specs.declared.optime.OpTime.{OpTime}

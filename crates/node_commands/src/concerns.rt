@@ -43,7 +43,7 @@ pub(crate) fn ack(state: &State, target: Target, concern: AckConcern) -> Turn
     }
 }
 
-/// The optime that is to be acknowledged: the one that is named, or that of the writer's entry.
+/// The optime to acknowledge: the one named, or that of the writer's entry.
 fn target_point(state: &State, target: Target) -> Result<OpTime, Refusal>
     ensures { result ≡ concerns.target_point state.now.node target }
 {

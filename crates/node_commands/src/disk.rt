@@ -20,10 +20,10 @@ use set_model::{Refusal, Reply, Role, Store};
 use std::alloc::Global;
 use std::thread::Threads;
 
-/// How many entries a record has, at most.
+/// The most entries in one record.
 const RECORD: usize = 2_000;
 
-/// The entry with an optime, which is looked for at a likely place of the log first.
+/// The entry with an optime. A likely place of the log is looked at first.
 fn entry_at<'a>(node_data: &'a NodeData, likely: &mut usize, at: OpTime) -> Option<&'a Entry>
     ensures { option_copied result ≡ entry_at node_data.now.node.log at }
 {
@@ -56,7 +56,7 @@ fn copies_at(alloc: Global, node_data: &NodeData, optimes: &[OpTime]) -> Mem<Ent
     Ok(EntryList::new(copies))
 }
 
-/// Applies the next batch, by this many workers.
+/// Applies the next batch, with this many workers.
 pub(crate) fn apply<R: Threads + Sync>(state: &mut State, rt: &R, workers: u32) -> Mem<Turn>
     requires some { 0 < workers }
     requires most { workers ≤ 16 }
@@ -139,7 +139,7 @@ fn next_durable(state: &State, list: &EntryList) -> OpTime
     earlier(visible, last_optime(list))
 }
 
-/// Goes on once the entries are in the journal: the log is durable up to the point.
+/// Continues once the entries are in the journal: the log is durable up to the point.
 pub fn go_on_flush(state: &mut State, item: &Store, count: u64, point: OpTime) -> Turn
     requires ready { IsFlush item.now count point state.old.node }
     ensures turn { Means result state.new.node
@@ -151,7 +151,7 @@ pub fn go_on_flush(state: &mut State, item: &Store, count: u64, point: OpTime) -
     state.answered(Reply::Flushed { count, to: point })
 }
 
-/// Goes on once the first `count` entries that weren't in the journal are there: the log is durable
+/// Continues once the first `count` entries that weren't in the journal are there: the log is durable
 /// up to `point`.
 fn flush(state: &mut State, item: &Store, count: usize, point: OpTime)
     requires ready { IsFlush item.now count point state.old.node }
@@ -185,7 +185,7 @@ fn next_stable(state: &State) -> OpTime
     earlier(state.commit, state.applied_point())
 }
 
-/// Goes on once the checkpoint has the documents as of this optime.
+/// Continues once the checkpoint has the documents as of this optime.
 pub fn go_on_checkpoint(state: &mut State, item: &Store, at: OpTime) -> Turn
     requires ready { IsCheckpoint item.now at state.old.node }
     ensures turn { Means result state.new.node

@@ -29,8 +29,8 @@ fn candidate_refusal(state: &State) -> Option<Refusal>
     }
 }
 
-/// Begins a campaign: the node votes for itself in the next term, and asks the other voters once that
-/// vote is in the journal.
+/// Starts a campaign: the node votes for itself in the next term, and asks the other voters once that vote is
+/// in the journal.
 pub(crate) fn start_campaign(state: &mut State, next: u64) -> Mem<Turn>
     requires bounds { IsBounded state.old.node }
     requires next { IsNumbered next }
@@ -50,7 +50,7 @@ pub(crate) fn start_campaign(state: &mut State, next: u64) -> Mem<Turn>
     Ok(Turn::Storing { item, then })
 }
 
-/// Goes on once the candidate's own vote is in the journal: it is a candidate of the next term, or has won,
+/// Continues once the candidate's own vote is in the journal: it is a candidate in the next term, or has won,
 /// and asks the other voters.
 pub fn go_on_campaign(
     state: &mut State,
@@ -138,7 +138,7 @@ pub(crate) fn start_drain<R: Threads + Sync>(state: &mut State, rt: &R) -> Mem<T
     })
 }
 
-/// Goes on once the configuration in the node's term is in the journal: the node is primary, and
+/// Continues once the configuration in the node's term is in the journal: the node is primary, and
 /// writes a no-op.
 pub fn go_on_drain(state: &mut State, item: &Store, config: Config) -> Turn
     requires ready { IsDrained item.now config state.old }

@@ -34,7 +34,7 @@ fn refusal_of(why: ConfigRefusal) -> Refusal
     }
 }
 
-/// Why the node doesn't take a configuration, in a set of so many nodes.
+/// Why the node doesn't take a configuration, in a set of `nodes` nodes.
 fn reconfig_refusal(state: &State, nodes: u32, config: &Config) -> Option<Refusal>
     ensures { result ≡ change.reconfig_refusal nodes state.now.node config.now }
 {
@@ -74,7 +74,7 @@ pub(crate) fn start_reconfig(state: &mut State, nodes: u32, config: &Config) -> 
     })
 }
 
-/// Goes on once the new configuration is in the journal: the primary goes by it.
+/// Continues once the new configuration is in the journal: the primary uses it.
 pub fn go_on_reconfig(state: &mut State, item: &Store, config: Config) -> Turn
     requires ready { IsNewConfig item.now config state.old.node }
     ensures turn { Means result state.new.node

@@ -75,8 +75,7 @@ pub(crate) fn fetch(state: &mut State, next: u64) -> Mem<Turn>
     sends(state, reply, source, Body::Fetch { base: last })
 }
 
-/// What a heartbeat tells: configuration, commit point, last visible optime, and whether the
-/// node is primary.
+/// What a heartbeat says: configuration, commit point, last visible optime, and whether the node is primary.
 pub(crate) fn beat(state: &State) -> Mem<Beat>
     ensures { IfOk result (λ beat. beat ≡ beat_of state.now.node) }
 {

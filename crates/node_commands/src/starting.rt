@@ -18,8 +18,8 @@ use std::thread::Threads;
 
 /// Begins what a command asks of a node. `nodes` is how many nodes the set has, and `next` the number that
 /// the next message gets. For a plain command there is `node_answers::answer`. The only error is out of
-/// memory, which leaves the node as it was. A command that may run out of memory as it stores (`is_long`) has
-/// changed nothing by then.
+/// memory, which leaves the node as it was. A command that may run out of memory while it stores (`is_long`)
+/// has changed nothing by then.
 #[tactic(auto, using(node_state::proofs::TurnLemmas::while_up))]
 pub fn start<R: Threads + Sync>(
     state: &mut State,

@@ -1,4 +1,4 @@
--- The versions that a store has of a document, as the log and the other disk's optime go on.
+-- The versions that a store has of a document, as the log and the other disk's optime advance.
 use Rattle.std.proofs.Common.{◌≡◌, ◌≢◌, ◌≤◌, inl, inr, ◌∙◌, ap, sym, refl, subst, arith, Bool, true, false, cond, not, ℕ, zero, List, [], ◌∷◌, ◌++◌, Option, None, Some, append_assoc, option_and_then, is_some}
 use Rattle.std.specs.Prelude.{slice_index_or, nat_lt}
 use Rattle.std.specs.List.{All, AllPairs}

@@ -1,4 +1,4 @@
--- Logs that are parted at an optime.
+-- Logs that are split at an optime.
 use Rattle.std.proofs.Common.{◌≡◌, ◌∙◌, ap, sym, refl, subst, arith, Bool, true, false, cond, not, zero, suc, List, [], ◌∷◌, ◌++◌, append-nil}
 use Rattle.std.specs.Prelude.{filter, slice_index_or}
 use Rattle.std.specs.List.{All, AllPairs}

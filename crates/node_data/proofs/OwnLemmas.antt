@@ -1,4 +1,4 @@
--- Each document that a log leaves begins with an `_id` of its own key.
+-- Each document that results from a log begins with an `_id` of its own key.
 use Rattle.std.proofs.Common.{fold, ◌≡◌, ℕ, Bool, true, false, cond, List, [], ◌∷◌, Option, None, Some, IfSome, All, codes, option_and_then, option_map, refl, sym, ap, subst, ◌∙◌, arith, zero}
 use Rattle.std.specs.Str.{bytes_eq}
 use Rattle.std.specs.FinMap.{get, get-empty, empty}

@@ -1,4 +1,4 @@
--- A node's data out of the entries and the documents that disks have.
+-- A node's data, restored from the entries and the documents that disks have.
 use Rattle.std.proofs.Common.{◌≡◌, inl, inr, ◌∙◌, ◌≤◌, ap, sym, refl, subst, arith, Bool, true, false, not, ℕ, zero, suc, List, [], ◌∷◌, ◌++◌, Option, None, Some, append-nil, length, length-append, max}
 use Rattle.std.specs.Prelude.{slice_index_or}
 use Rattle.std.specs.List.{All, AllPairs, AllByRecursion}

@@ -1,4 +1,4 @@
--- A store whose documents are held and let go.
+-- A store whose documents are held and released.
 use Rattle.std.proofs.Common.{◌≡◌, inl, inr, ◌∙◌, ℕ, Option, None, Some, Result, Ok, Err, is_ok, IsTrue, OnOk, sym, ap, subst}
 use Rattle.std.specs.FinSet as sets
 use Rattle.bson_doc.specs.Place.{Place}

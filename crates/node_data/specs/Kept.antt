@@ -1,4 +1,4 @@
--- What is true of a node's data and of the documents that are stored with it, after each call.
+-- What holds of a node's data and of the documents stored with it, after each call.
 use Rattle.std.specs.Prelude.{◌≡◌, ◌≢◌, ◌⊎◌, ◌<◌, ◌≤◌, ◌^◌, ℕ, Bool, true, false, List, Option, None, Some, All, IsTrue, IsSome, MatchOption}
 use Rattle.std.specs.FinMap as maps
 use Rattle.std.specs.FinSet as sets
@@ -31,7 +31,8 @@ pub record IsNewest (log : List Entry) (entry : Entry) : Type 0 where
   pub fits : All (FitsBeside entry) log
   pub last : All (λ other. entry.optime.ts < other.optime.ts → place_of other.op ≢ place_of entry.op) log
 
--- an op that waits for its entry: after the checkpoint, and the newest of its document once it is written
+-- an op that waits for its entry: the entry will come after the checkpoint, and be the newest one
+-- for its document
 pub record IsPending (node : Node) (at : OpTime) (op : Op) : Type 0 where
   pub open_slot : IsTrue (sets.contains node.slots at)
   pub positive : 0 < at.ts
@@ -67,8 +68,8 @@ IsHolder writers place holder =
     MatchOption holder ((writer : ℕ) → is_held_by (maps.get writers writer) place ≡ false)
     (λ writer. is_held_by (maps.get writers writer) place ≡ true)
 
--- the documents that are stored have the versions that the log makes, are held by the writers that hold them,
--- and are spread over 64 shards
+-- the stored documents have the versions that the log makes, are held by the writers that hold them, and are
+-- spread over 64 shards
 pub record IsKept (node : Node) (store : Store) : Type 0 where
   pub sound : IsSound node
   pub writers : AreApart node

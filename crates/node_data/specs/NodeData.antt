@@ -1,5 +1,6 @@
--- What a node has written and will write, and how far that goes: a node whose other fields are as the set
--- begins. It is primary where its log is open to writers, and a secondary where it follows another node's.
+-- What a node has written and will write, and how far that goes, seen as a node whose other fields are
+-- as when the set begins. It is primary where its log is open to writers, and a secondary where it
+-- follows another node's.
 use Rattle.std.specs.Prelude.{◌≡◌, ◌<◌, ◌≤◌, ◌^◌, ℕ, Bool, true, false, All, IsTrue, List, [], ◌∷◌}
 use Rattle.std.specs.Ordering.{nat_cmp}
 use Rattle.std.specs.FinMap as maps
@@ -16,7 +17,7 @@ use Rattle.set_model.specs.declared.writer.Writer.{Writer}
 use Rattle.set_model.specs.Node.{Node, opening_node}
 use Rattle.set_model.specs.Roles.{is_primary}
 
--- the node, and how many more entries its log has room for
+-- the node, and for how many more entries its log has room
 pub record NodeData : Type 0 where
   pub node : Node
   pub spare : ℕ
@@ -25,12 +26,12 @@ pub record NodeData : Type 0 where
 abbrev pub nobody : Config
 nobody = first_config 0 0
 
--- the role of which the data is, by whether writers may write it
+-- the role that the data belongs to, by whether writers may write it
 abbrev pub data_role : Bool → Role
 data_role true = Primary
 data_role false = Secondary
 
--- a node with these fields, and the others as the set begins
+-- a node with these fields, and the others as when the set begins
 abbrev pub data_node : Bool → List Entry → sets.FinSet optime_cmp → maps.FinMap nat_cmp Writer → ℕ → OpTime
     → OpTime → Node
 data_node writable log slots writers seen applied stable =
@@ -44,7 +45,7 @@ data_node writable log slots writers seen applied stable =
       stable = stable;
     }
 
--- Data that comes up with the entries of its log, which it has applied, and the documents of its checkpoint
+-- Data of a node that comes up with the entries of its log, all applied, and the documents of its checkpoint
 -- as of an optime.
 abbrev pub restored : List Entry → OpTime → Node
 restored entries at =
@@ -55,8 +56,8 @@ restored entries at =
       stable = at;
     }
 
--- An optime at which a primary may write next, or open a slot: past every timestamp seen, and of no earlier
--- term than any entry and any open slot.
+-- An optime at which a primary may write next, or open a slot: later than every timestamp seen, and of no
+-- earlier term than any entry and any open slot.
 pub record IsNext (log : List Entry) (slots : sets.FinSet optime_cmp) (seen : ℕ) (at : OpTime) : Type 0 where
   pub past : seen < at.ts
   pub term : at.term < 2 ^ 63
@@ -68,17 +69,17 @@ abbrev pub applied_after : OpTime → List Entry → OpTime
 applied_after applied [] = applied
 applied_after applied (entry ∷ entries) = last_of (entry ∷ entries)
 
--- data whose log is applied so far
+-- data whose log is applied up to there
 abbrev pub applied_at : NodeData → OpTime → NodeData
 applied_at node_data at = record node_data { node = record node_data.node { applied = at } }
 
--- data whose log is applied by a batch more
+-- data whose log is applied by one more batch
 abbrev pub applied_with : NodeData → List Entry → NodeData
 applied_with node_data batch =
     applied_at node_data (applied_after node_data.node.applied batch)
 
--- The documents are there as of an optime: none of theirs is pruned, and, except on a primary, the log
--- is applied that far.
+-- The documents can be read as of an optime: no version needed for that is pruned, and, except on a primary,
+-- the log is applied that far.
 pub record IsReadable (node : Node) (at : OpTime) : Type 0 where
   pub kept : is_before at node.stable ≡ false
   pub reached : is_primary node.role ≡ false → is_before node.applied at ≡ false

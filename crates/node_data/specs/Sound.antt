@@ -1,4 +1,4 @@
--- What is always true of a node's data.
+-- What always holds of a node's data.
 use Rattle.std.specs.Prelude.{◌≡◌, ◌≤◌, ℕ, false, All}
 use Rattle.std.specs.FinSet as sets
 use Rattle.rs_optime.specs.Order.{is_before}
@@ -10,14 +10,14 @@ use Rattle.set_model.specs.Roles.{is_primary}
 use Rattle.node_data.specs.Versions.{AreSmall}
 use Rattle.node_data.specs.Writers.{IsWriting}
 
--- no slot is open, and no writer
+-- neither a slot nor a writer is open
 pub record IsIdle (node : Node) : Type 0 where
   pub slots : node.slots ≡ sets.empty
   pub writers : (writer : ℕ) → ¬ IsWriting node.writers writer
 
--- The log is one, of entries that fit into a record, up to the greatest timestamp seen. It is applied no
--- further than it goes, and the documents of the checkpoint are no newer than what is applied. Only a primary
--- has slots.
+-- The log is an oplog of entries that fit into a record, up to the greatest timestamp seen. It isn't applied
+-- further than it goes, and the documents of the checkpoint are no newer than what is applied. Only a
+-- primary has slots.
 pub record IsSound (node : Node) : Type 0 where
   pub oplog : IsOplog node.log
   pub entries : All IsWithinEntry node.log

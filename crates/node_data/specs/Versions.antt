@@ -14,7 +14,7 @@ use Rattle.repl_msg.specs.Logs.{log_after}
 use Rattle.version_store.specs.declared.history.Version.{Version}
 use Rattle.version_store.specs.Past.{latest_of}
 
--- each entry that touches the document makes a version of what stood there before
+-- each entry that touches the document makes a version from what was there before
 abbrev pub versions_from : Place → Option Fields → List Entry → List Version
 versions_from place before [] = []
 versions_from place before (entry ∷ log) =
@@ -35,12 +35,13 @@ IsSmall document = IfSome document (λ d. is_too_large d ≡ false)
 abbrev pub AreSmall : List Entry → Type 0
 AreSmall log = (place : Place) → All (λ version. IsSmall version.doc) (versions_of place log)
 
--- a document that stood at an optime, where there was one, as a version of then
+-- the document at an optime, where there was one, as a version as of then
 abbrev pub version_as_of : OpTime → Option Fields → List Version
 version_as_of at None = []
 version_as_of at (Some document) = record { at = at; doc = Some document } ∷ []
 
--- what the log makes after an optime, on top of versions up to there that show what the log leaves at it
+-- the versions that the log makes after an optime, on top of versions up to it that show what the log
+-- leaves at it
 pub record HasVersions (place : Place) (stable : OpTime) (log : List Entry)
     (versions : List Version) : Type 0 where
   pub base : List Version

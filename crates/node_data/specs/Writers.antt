@@ -38,7 +38,7 @@ held_place (Open at op) = place_of op
 held_place (Done at) = None
 held_place (Lost term) = None
 
--- the writers, put back to what one of them was
+-- the writers, with one of them put back to what it was
 abbrev pub put_back : Writers → ℕ → Option Writer → Writers
 put_back writers number None = maps.remove writers number
 put_back writers number (Some writer) = maps.insert writers number writer

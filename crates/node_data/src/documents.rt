@@ -1,4 +1,4 @@
-// The documents that the log leaves.
+// The documents that result from the log.
 ghost use Rattle.std.specs.Prelude.{◌≡◌, Some, IfSome};
 ghost use Rattle.std.specs.Option.{option_copied};
 ghost use Rattle.std.specs.FinMap as maps;
@@ -75,7 +75,7 @@ impl NodeData {
         self.store.holder(ns, id)
     }
 
-    /// What `latest` and `holder` give, by one look-up.
+    /// What `latest` and `holder` give, in one look-up.
     pub fn current(&self, ns: &str, id: &IdKey) -> Current<'_>
         ensures latest { option_copied result.latest
             ≡ maps.get (local_documents self.now.node) (ns.now, id.now) }

@@ -21,13 +21,13 @@ use optime_slots::Slots;
 use rs_optime::OpTime;
 use std::thread::Threads;
 
-/// How many entries are applied at once, at most.
+/// The most entries that are applied at once.
 const BATCH: usize = 5_000;
 
 /// How many workers apply a batch that nobody waits for.
 const WORKERS: u32 = 4;
 
-/// Writes entries after a log, in the room that there is.
+/// Appends entries to a log, in the room that there is.
 pub(crate) fn insert_all(log: &mut SessionLog, slots: &mut Slots, entries: Vec<Entry>)
     requires room { length entries.items ≤ log.old.spare }
     requires stays { IsOplog (log.old.entries ++ entries.items) }
@@ -59,8 +59,8 @@ impl NodeData {
         insert_all(&mut self.log, &mut self.slots, entries);
     }
 
-    /// Applies the next batch, of at most 5,000 entries, by this many workers. The result is how many entries
-    /// there were. Out of memory leaves all as it was.
+    /// Applies the next batch, of at most 5,000 entries, with this many workers. The result is how many
+    /// entries there were. Out of memory leaves everything as it was.
     pub fn apply<R: Threads + Sync>(&mut self, rt: &R, workers: u32) -> Mem<usize>
         requires role { is_primary self.old.node.role ≡ false }
         requires workers { (0 < workers) × (workers ≤ 16) }
@@ -71,8 +71,8 @@ impl NodeData {
         self.apply_next(rt, workers, BATCH)
     }
 
-    /// Applies all entries up to an optime that aren't applied yet, batch by batch. Out of memory leaves all
-    /// as it was.
+    /// Applies all entries up to an optime that aren't applied yet, batch by batch. Out of memory leaves
+    /// everything as it was.
     pub fn apply_to<R: Threads + Sync>(&mut self, rt: &R, to: OpTime) -> Mem<()>
         requires { is_primary self.old.node.role ≡ false }
         ensures ok { OnOk result (self.new ≡ applied_at self.old
@@ -102,7 +102,7 @@ impl NodeData {
             .saturating_sub(log.up_to(self.applied).len())
     }
 
-    /// Applies so many entries, batch by batch. After out of memory, the first of them are applied.
+    /// Applies `count` entries, batch by batch. Where memory runs out, the first of them have been applied.
     fn apply_batches<R: Threads + Sync>(&mut self, rt: &R, count: usize) -> Mem<()>
         requires role { is_primary self.old.node.role ≡ false }
         requires there { count ≤ length (log_after self.old.node.applied self.old.node.log) }
@@ -119,7 +119,7 @@ impl NodeData {
         Ok(())
     }
 
-    /// Applies the next entries, at most so many, by this many workers. The result is how many there were.
+    /// Applies the next entries, at most `most`, with this many workers. The result is how many there were.
     fn apply_next<R: Threads + Sync>(&mut self, rt: &R, workers: u32, most: usize) -> Mem<usize>
         requires role { is_primary self.old.node.role ≡ false }
         requires workers { (0 < workers) × (workers ≤ 16) }
@@ -143,8 +143,8 @@ impl NodeData {
         Ok(count)
     }
 
-    /// Drops the entries after a point, which is an applied entry's optime or ZERO, and takes the documents
-    /// back to it.
+    /// Drops the entries after a point, which is an applied entry's optime or ZERO, and returns the
+    /// documents to it.
     pub fn cut(&mut self, point: OpTime)
         requires role { is_primary self.old.node.role ≡ false }
         requires kept { is_before point self.old.node.stable ≡ false }
@@ -158,7 +158,7 @@ impl NodeData {
         self.drop_unapplied();
     }
 
-    /// Takes the documents back to how they were at an optime; the entries after it count as not applied.
+    /// Returns the documents to their state at an optime; the entries after it count as not applied.
     fn unapply(&mut self, at: OpTime)
         requires role { is_primary self.old.node.role ≡ false }
         requires kept { is_before at self.old.node.stable ≡ false }
@@ -181,15 +181,15 @@ impl NodeData {
         self.log.cut(self.applied);
     }
 
-    /// Lists what the store shows at an optime, so that reading all of it there goes over no other documents.
+    /// Lists what the store shows at an optime, so that reading all of it there visits no other documents.
     pub fn list_at(&mut self, at: OpTime)
         ensures { self.new ≡ self.old }
     {
         self.store.list_at(at);
     }
 
-    /// Drops the versions of documents that only reads before `at` could show. The checkpoint has the
-    /// documents as of `at` by then.
+    /// Drops the versions of documents that only reads before `at` could show. By then the checkpoint has the
+    /// documents as of `at`.
     pub fn prune(&mut self, at: OpTime)
         requires later { is_before at self.old.node.stable ≡ false }
         requires applied { is_before (applied_point self.old.node) at ≡ false }

@@ -1,4 +1,4 @@
-// What a node has written and will write, and the documents that its log leaves.
+// What a node has written and will write, and the documents that result from its log.
 ghost use Rattle.std.specs.Prelude.{◌≡◌, ◌≤◌, IfOk, OnOk};
 ghost use Rattle.std.specs.Option.{option_copied};
 ghost use Rattle.std.specs.FinMap as maps;
@@ -83,7 +83,7 @@ impl Model for NodeData {
 }
 
 impl NodeData {
-    /// The data of a node that has written nothing yet, and follows. The only error is out of memory.
+    /// The data of a node that follows and has written nothing yet. The only error is out of memory.
     pub fn new(alloc: Global) -> Mem<Self>
         ensures { IfOk result (λ made. made.node ≡ opening_node nobody 0) }
     {
@@ -99,7 +99,7 @@ impl NodeData {
         })
     }
 
-    /// The log is in order and lawful, and no two writers hold one document: facts for callers' proofs,
+    /// The log is in order and lawful, and no two writers hold the same document: facts for callers' proofs,
     /// which cost nothing.
     pub fn recall_sound(&self)
         ensures node { IsSound self.now.node }
@@ -108,8 +108,8 @@ impl NodeData {
         let _ = &self.writable;
     }
 
-    /// How far a log that isn't writable is applied. Where it is, this stays where it was when it became so;
-    /// see `applied_point`.
+    /// How far a log that isn't writable is applied. In a writable log this stays where it was when the log
+    /// became writable; see `applied_point`.
     pub fn applied(&self) -> OpTime
         ensures { result ≡ self.now.node.applied }
     {

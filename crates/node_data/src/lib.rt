@@ -1,4 +1,4 @@
-//! What a node has written: its log, the slots that are open with their writers, and the documents with their
+//! What a node has written: its log, the open slots with their writers, and the documents with their
 //! versions, as far as the log is applied.
 #![tactic(auto)]
 

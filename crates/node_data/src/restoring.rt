@@ -1,4 +1,4 @@
-// A node's data out of what its disks have.
+// A node's data, restored from what its disks have.
 ghost use Rattle.std.specs.Prelude.{◌≡◌, false, None, All, IfOk};
 ghost use Rattle.std.specs.FinMap as maps;
 ghost use Rattle.bson_doc.specs.Place.{Place};
@@ -41,8 +41,8 @@ fn stored(alloc: Global, documents: BTreeMap<(Text, IdKey), Doc>, at: OpTime) ->
 }
 
 impl NodeData {
-    /// The data of a node that comes up, and follows: the log is these entries, all applied, and `documents`
-    /// are those that the checkpoint has, as of the optime `at`. The only error is out of memory.
+    /// The data of a node that comes up and follows: the log is these entries, all applied, and `documents`
+    /// are those of the checkpoint, as of the optime `at`. The only error is out of memory.
     pub fn restore<R: Threads + Sync>(
         rt: &R,
         alloc: Global,

@@ -69,8 +69,8 @@ struct Slot {
 }
 
 impl NodeData {
-    /// Opens a slot past all entries for a writer's op, whose document no writer holds. The writer then holds
-    /// the document. Out of memory leaves all as it was.
+    /// Opens a slot after all entries for a writer's op, whose document no writer holds. The writer then
+    /// holds the document. Out of memory leaves everything as it was.
     pub fn open(&mut self, at: OpTime, number: u32, ns: &str, id: &IdKey, op: Op) -> Mem<()>
         requires role { self.old.node.role ≡ Primary }
         requires next { IsNext self.old.node.log self.old.node.slots self.old.node.seen at }
@@ -100,8 +100,8 @@ impl NodeData {
         Ok(())
     }
 
-    /// Writes a writer's entry at its slot, closes the slot, and gives its optime. The writer no longer holds
-    /// its document. Out of memory leaves all as it was.
+    /// Writes a writer's entry at its slot, closes the slot, and returns its optime. The writer no longer
+    /// holds its document. Out of memory leaves everything as it was.
     pub fn settle(&mut self, number: u32) -> Mem<OpTime>
         requires { IsWriting self.old.node.writers number }
         ensures ok { IfOk result (λ at. (op : Op) × HasOpen self.old.node.writers number at op
@@ -124,8 +124,8 @@ impl NodeData {
         Ok(slot.at)
     }
 
-    /// Aborts a writer: its slot is closed without an entry, its document is free again, and its number may
-    /// be used anew.
+    /// Aborts a writer: its slot is closed without an entry, its document is free again, and its number
+    /// may be reused.
     pub fn abort(&mut self, number: u32)
         requires { IsWriting self.old.node.writers number }
         ensures node { (at : OpTime) × (op : Op) × HasOpen self.old.node.writers number at op

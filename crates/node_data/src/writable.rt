@@ -19,8 +19,8 @@ impl NodeData {
         self.writable = true;
     }
 
-    /// Closes the log to writers. What they wrote then counts as applied. Slots are closed without entries,
-    /// the writers that had them are lost, and hold their documents no longer.
+    /// Closes the log to writers. What they wrote then counts as applied. Slots are closed without entries;
+    /// the writers that had them are lost and no longer hold their documents.
     pub fn follow(&mut self)
         ensures { self.new ≡ record self.old { node = stepped_down self.old.node } }
     {
@@ -33,7 +33,7 @@ impl NodeData {
         self.writable = false;
     }
 
-    /// How far the log counts as applied once it isn't writable: up to its end, where it was.
+    /// How far the log counts as applied once it isn't writable: up to its end, if it was writable.
     fn reached(&self) -> OpTime
         ensures { result ≡ if_primary self.now.node.role (last_point self.now.node) self.now.node.applied }
     {

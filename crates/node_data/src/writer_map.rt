@@ -150,7 +150,7 @@ impl WriterMap {
         }
     }
 
-    /// Puts a writer in, and gives the one of its number that was there. Only a new number takes memory.
+    /// Inserts a writer, and returns the previous one with its number. Only a new number takes memory.
     pub(crate) fn insert(&mut self, number: u32, writer: Held) -> Mem<Option<Held>>
         ensures ok { OnOk result (self.new ≡ maps.insert self.old number writer) }
         ensures old { IfOk result (λ old. old ≡ maps.get self.old number) }
@@ -160,7 +160,7 @@ impl WriterMap {
         Ok(self.writers.insert(number, writer)?)
     }
 
-    /// Marks an open writer as done, and gives its op.
+    /// Marks an open writer as done, and returns its op.
     pub(crate) fn finish(&mut self, number: u32, at: OpTime) -> SharedOp
         requires { IsWriting self.old number }
         ensures done { self.new ≡ maps.insert self.old number (Writer.Done at) }
@@ -180,7 +180,7 @@ impl WriterMap {
         self.writers.remove(&number)
     }
 
-    /// Undoes `insert`: the number has the writer again that it had before, or none.
+    /// Undoes `insert`: the number again has the writer that it had before, or none.
     pub(crate) fn put_back(&mut self, number: u32, old: Option<Held>)
         requires { IsSome (maps.get self.old number) }
         ensures { self.new ≡ put_back self.old number old }
@@ -210,7 +210,7 @@ impl WriterMap {
         }
     }
 
-    /// Each open writer is lost.
+    /// Marks each open writer as lost.
     pub(crate) fn lose_all(&mut self)
         ensures { self.new ≡ maps.from_entries (all_lost (maps.entries self.old)) }
     {

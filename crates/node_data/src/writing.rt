@@ -21,7 +21,7 @@ use oplog_entry::{Entry, Op, Session, SharedOp};
 use optime_slots::Slots;
 use rs_optime::OpTime;
 
-/// Writes an entry past all others, in the room that there is.
+/// Writes an entry after all others, in the room that there is.
 fn append(log: &mut SessionLog, slots: &mut Slots, entry: Entry)
     requires room { 0 < log.old.spare }
     requires stays { IsOplog (with_entry log.old.entries entry) }
@@ -36,9 +36,9 @@ fn append(log: &mut SessionLog, slots: &mut Slots, entry: Entry)
 }
 
 impl NodeData {
-    /// Writes an entry past all others, for a document that no writer holds. `after` is what the op leaves of
-    /// the document, and `session` the write of a session that the entry is, where it is one. Out of memory
-    /// leaves all as it was.
+    /// Writes an entry after all others, for a document that no writer holds. `after` is the document after
+    /// the op, and `session` the write of a session that the entry is, if it is one. Out of memory leaves
+    /// everything as it was.
     pub fn write(
         &mut self,
         at: OpTime,
@@ -76,7 +76,7 @@ impl NodeData {
         Ok(())
     }
 
-    /// Writes a no-op past all other entries, in the room that `reserve` made.
+    /// Writes a no-op after all other entries, in the room that `reserve` made.
     pub fn append_noop(&mut self, at: OpTime)
         requires role { self.old.node.role ≡ Primary }
         requires next { IsNext self.old.node.log self.old.node.slots self.old.node.seen at }
@@ -87,7 +87,7 @@ impl NodeData {
         self.append_idle(at, SharedOp::noop());
     }
 
-    /// Writes a note past all other entries. Out of memory leaves all as it was.
+    /// Writes a note after all other entries. Out of memory leaves everything as it was.
     pub fn write_note(&mut self, at: OpTime) -> Mem<()>
         requires role { self.old.node.role ≡ Primary }
         requires next { IsNext self.old.node.log self.old.node.slots self.old.node.seen at }
@@ -100,7 +100,7 @@ impl NodeData {
         Ok(())
     }
 
-    /// Writes an entry that touches no document, past all others.
+    /// Writes an entry that touches no document, after all others.
     fn append_idle(&mut self, at: OpTime, op: SharedOp)
         requires role { self.old.node.role ≡ Primary }
         requires next { IsNext self.old.node.log self.old.node.slots self.old.node.seen at }

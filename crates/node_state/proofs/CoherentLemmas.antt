@@ -1,4 +1,4 @@
--- What changes of a node in memory keep it coherent.
+-- Which changes of a node in memory keep it coherent.
 use Rattle.std.proofs.Common.{◌≡◌, ◌≢◌, ◌∙◌, ◌<◌, arith, inl, inr, ap, sym, subst, refl, ℕ, Bool, true, false, not, filter, map, Option, List}
 use Rattle.std.proofs.lemmas.List.Elements.{All-filter}
 use Rattle.std.specs.List.{All}

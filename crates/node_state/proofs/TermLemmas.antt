@@ -1,4 +1,4 @@
--- Another role, another term, a vote or a configuration keep a node coherent.
+-- A change of role, term, vote or configuration keeps a node coherent.
 use Rattle.std.proofs.Common.{◌≡◌, ◌≢◌, ◌∙◌, ◌<◌, ◌≤◌, ◌^◌, arith, ap, sym, subst, ℕ, true, false, not, filter, map, Option, None, Some, IfSome, List, [], ◌∷◌, ◌++◌}
 use Rattle.std.specs.Prelude.{unwrap_or}
 use Rattle.std.specs.List.{All}

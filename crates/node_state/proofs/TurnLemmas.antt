@@ -1,4 +1,4 @@
--- Turns that are finished at once.
+-- Turns that finish at once.
 use Rattle.std.proofs.Common.{◌≡◌, true, cond, ap, []}
 use Rattle.set_model.specs.declared.reply.Reply.{Reply}
 use Rattle.set_model.specs.declared.reply.Refusal.TheVariants.{NodeDown}

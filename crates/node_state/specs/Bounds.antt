@@ -1,10 +1,10 @@
--- How large the numbers are that a node is handed, and which commands are its own.
+-- How large the numbers are that a node is given, and which commands are its own.
 use Rattle.std.specs.Prelude.{◌<◌, ◌-◌, ◌^◌, ℕ, Bool, true, false, ◌||◌}
 use Rattle.set_model.specs.declared.command.Command.{Command}
 use Rattle.set_model.specs.declared.command.Command.TheVariants.{Insert, Replace, Update, Delete, Retry, Note, Begin, Commit, Abort, Read, Dump, Log, State, Rolled, Deliver, DeliverLatest, Flush, Checkpoint, Crash, Restart, DiskFail, Clock}
 use Rattle.set_model.specs.Node.{Node}
 
--- one more term, one more timestamp and one more rollback have numbers
+-- one more term, one more timestamp and one more rollback still have numbers
 pub record IsBounded (node : Node) : Type 0 where
   pub term : node.term < 2 ^ 63 - 1
   pub seen : node.seen < 2 ^ 64 - 1
@@ -24,7 +24,7 @@ is_own (Restart node) = false
 is_own (DiskFail node disk call pick) = false
 is_own _ = true
 
--- commands that store so much that memory may run out as they do
+-- commands that store so much that memory may run out while they do
 abbrev pub is_long : Command → Bool
 is_long (Flush node) = true
 is_long (Checkpoint node) = true
@@ -43,7 +43,7 @@ is_write (Commit node writer) = true
 is_write (Abort node writer) = true
 is_write _ = false
 
--- what a node shows of itself, and its clock
+-- what a node shows about itself, and its clock
 abbrev pub is_show : Command → Bool
 is_show (Read node level collection id) = true
 is_show (Dump node level) = true

@@ -1,4 +1,4 @@
--- What is true of a node in memory after each step.
+-- What holds of a node in memory after each step.
 use Rattle.std.specs.Prelude.{◌≡◌, ◌≢◌, ◌<◌, ◌≤◌, ◌^◌, ◌⊎◌, ℕ, Bool, true, false, All, IsTrue, List, Option, None, IfSome, map, filter, unwrap_or}
 use Rattle.std.specs.FinSet as sets
 use Rattle.rs_optime.specs.Order.{is_before, optime_cmp}
@@ -25,12 +25,12 @@ pub record ArePoints (node : Node) : Type 0 where
   pub durable : AtMost node.durable (visible_point node)
   pub there : (node.durable ≡ ZERO) ⊎ Has node.log node.durable
 
--- an entry is among the kept ones
+-- an entry is among those in the records
 abbrev pub is_kept : Node → Entry → Bool
 is_kept node entry = has_entry (kept node.records).entries entry.optime
 
--- The records keep the node's term and vote, its configuration, entries of its log, all up to the durable
--- point, and that point.
+-- The records have the node's term and vote, its configuration, entries of its log including all up to the
+-- durable point, and that point.
 pub record IsRecorded (node : Node) : Type 0 where
   pub vote : (kept node.records).vote ≡ record { term = node.term; candidate = node.vote }
   pub config : unwrap_or (kept node.records).config node.first ≡ node.config
@@ -60,8 +60,8 @@ pub record IsOfTerm (term : ℕ) (log : List Entry) (slots : sets.FinSet optime_
   pub entries : All (λ entry. entry.optime.term ≤ term) log
   pub open_slots : (slot : OpTime) → IsTrue (sets.contains slots slot) → slot.term ≡ term
 
--- A node of this data and of what it has beside is coherent. Writers may write where it is primary, and only
--- there, and its log is of its term.
+-- A node with this data and with what it has beside it is coherent. Writers may write only where it is
+-- primary, and its log is of its term.
 pub record IsState (node : Node) (rest : BesideData) (optimes : List OpTime) : Type 0 where
   pub writable : node.role ≡ data_role (is_primary rest.role)
   pub of_term : IsOfTerm rest.term node.log node.slots

@@ -1,4 +1,4 @@
--- What a message comes to at a node that has taken its term.
+-- What a message does at a node that has taken its term.
 use Rattle.std.specs.Prelude.{ℕ, ◌+◌, List, Option, None, Some}
 use Rattle.bson_doc.specs.Place.{Place}
 use Rattle.bson_doc.specs.Tree.{Fields}

@@ -1,5 +1,5 @@
--- What going on needs: no memory runs out between two stores, and what was made before is what the remaining
--- steps are to leave.
+-- What a continuation needs: memory doesn't run out between two stores, and what was prepared is what the
+-- remaining steps are to leave.
 use Rattle.std.specs.Prelude.{◌≡◌, ◌<◌, ◌≤◌, ◌-◌, ◌^◌, ◌+◌, ℕ, false, List, [], ◌∷◌, All, Option, None, Some, IfSome, length, ⊤, ◌⊎◌}
 use Rattle.rs_optime.specs.declared.optime.OpTime.{OpTime}
 use Rattle.oplog_entry.specs.Visible.{ZERO}
@@ -41,7 +41,7 @@ use Rattle.node_state.specs.declared.turn.NewConfig.{NewConfig}
 use Rattle.node_state.specs.declared.turn.Turn.{Turn}
 use Rattle.node_state.specs.declared.turn.Turn.TheVariants.{Finished, Storing}
 
--- ---- one way of going on each
+-- ---- each way of continuing
 
 pub record IsCandidacy (item : Store) (tally : Tallied) (sent : List Message) (node : Node) : Type 0 where
   pub item_is : item ≡ vote_record (node.term + 1) (Some node.number)
@@ -111,7 +111,7 @@ pub record IsFetched (fetched : FetchReply) (standing : StateView) : Type 0 wher
   pub lawful : CanTakeEntries standing.node standing.node.term fetched
   pub room : length fetched.entries ≤ standing.spare
 
--- a configuration that is kept and installed alike
+-- the same configuration is stored and installed
 abbrev pub IsHeard : Option NewConfig → HeardBeat → StateView → Type 0
 IsHeard newer hearing standing =
     (0 < standing.places)
@@ -151,8 +151,8 @@ IsReady item (TookTerm term told) standing = IsTerm item term told standing
 IsReady item (Installed config hearing) standing = IsInstall item config standing
 IsReady item (Cut point removed lost) standing = (item ≡ cut_record point) × IsCut point standing.node
 
--- what a node stores can be kept: a vote for a member, a configuration that breaks no rule, and at most 2,000
--- entries, each of which fits into a record
+-- what a node stores fits into a record: a vote for a member, a configuration that breaks no rule, and at
+-- most 2,000 entries, each of which fits too
 abbrev pub CanBeStored : Store → Type 0
 CanBeStored (stores.Record (records.Vote vote)) = IfSome vote.candidate (λ c. c < 50)
 CanBeStored (stores.Record (records.Config config)) = rule config ≡ None

@@ -1,4 +1,4 @@
--- A node in memory, as it is seen.
+-- A node in memory, as contracts see it.
 use Rattle.std.specs.Prelude.{ℕ, true, List, [], Option, None, Some}
 use Rattle.std.specs.Ordering.{nat_cmp}
 use Rattle.std.specs.FinMap as maps
@@ -16,7 +16,7 @@ abbrev pub yes_of : Option Tallied → List ℕ
 yes_of None = []
 yes_of (Some tally) = tally.yes
 
--- beside the log and what hangs on it
+-- what a node has beside the log and what depends on it
 pub record BesideData : Type 0 where
   pub number : ℕ
   pub first : Config
@@ -35,7 +35,7 @@ pub record BesideData : Type 0 where
   pub lost : List (Place × Option Fields)
   pub rollback : ℕ
 
--- the node that has this data. It is up.
+-- the node with this data. It is up.
 abbrev pub seen_node : Node → BesideData → Node
 seen_node node_data rest =
     record node_data {

@@ -1,5 +1,4 @@
--- A plan in code: what a command or a message comes to at a node, and how it goes on once
--- something is stored.
+-- A plan in code: what a command or a message does at a node, and how it continues once something is stored.
 use Rattle.std.specs.Prelude.{◌≡◌, List, None, Some}
 use Rattle.repl_msg.specs.declared.message.Message.{Message}
 use Rattle.set_model.specs.declared.reply.Reply.{Reply}
@@ -18,7 +17,7 @@ use Rattle.node_state.specs.declared.turn.Continuation.TheVariants.{Campaign, Dr
 use Rattle.node_state.specs.declared.turn.Turn.{Turn}
 use Rattle.node_state.specs.declared.turn.Turn.TheVariants.{Finished, Storing}
 
--- what the rest of a row comes to at a node on whose disks the store stands
+-- what the rest of a row does at a node that has the store on its disks
 abbrev pub rest_of : Continuation → Node → Plan
 rest_of (Campaign next tally sent) node = finished (campaigned next (candidate node))
 rest_of (Drain config) node = finished (primary_begun (drained node))
@@ -33,7 +32,7 @@ rest_of (TookTerm term told) node = message_plan told (in_new_term node term Non
 rest_of (Installed config hearing) node = finished (heard_outcome hearing (installed node config))
 rest_of (Cut point removed lost) node = finished (cut_outcome point removed lost node)
 
--- a turn is a plan at a node: it is finished there, or it stores something and then goes on
+-- a turn is a plan at a node: it is finished there, or it stores something and then continues
 abbrev pub Means : Turn → Node → Plan → Type 0
 Means (Finished answer sent) node plan =
     plan ≡ finished (record { reply = answer; node = node; sent = sent.items })

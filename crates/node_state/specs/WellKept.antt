@@ -1,4 +1,4 @@
--- What a node's records owe, so that it can come back with them.
+-- What a node's records have to satisfy, so that it can come back with them.
 use Rattle.std.specs.Prelude.{◌≡◌, ◌<◌, ◌≤◌, ◌⊎◌, ◌^◌, ℕ, false, List, All, None, IfSome}
 use Rattle.rs_optime.specs.declared.optime.OpTime.{OpTime}
 use Rattle.oplog_entry.specs.Visible.{ZERO, log_up_to}
@@ -35,15 +35,15 @@ pub record IsWellKept (records : List Record) (stable : OpTime) : Type 0 where
   pub there : ((kept records).point ≡ ZERO) ⊎ Has (kept records).entries (kept records).point
   pub stable_is : AtMost stable (kept records).point
 
--- what was read of a journal whose entries after the point are cut is what these records keep
+-- what was read of a journal, with the entries after its point cut, is the state that these records add up to
 pub record IsReadAs (found : Kept) (records : List Record) : Type 0 where
   pub vote : found.vote ≡ (kept records).vote
   pub config : found.config ≡ (kept records).config
   pub point : found.point ≡ (kept records).point
   pub entries : log_up_to found.point found.entries ≡ (kept records).entries
 
--- A node can come back with what it stores, whether that is there or not. The documents of its checkpoint are
--- those of what it then keeps, and of its log, and can be read in memory.
+-- A node can come back whether what it stores is there or not. The documents of its checkpoint are those of
+-- what it then has stored, and of its log, and can be read in memory.
 pub record StoresWell (node : Node) (item : Store) : Type 0 where
   pub well : IsWellKept (records_after node.records item) (stable_after node.stable item)
   pub same : log_up_to node.stable (kept (records_after node.records item)).entries

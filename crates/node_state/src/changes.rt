@@ -15,7 +15,7 @@ use repl_msg::Record;
 use set_model::{Role, Store};
 use vote_store::Vote;
 
-/// What keeps a vote, or none, in a term.
+/// The record of a vote, or of none, in a term.
 pub fn vote_record(term: u64, candidate: Option<u32>) -> Store
     ensures { result ≡ vote_record term candidate }
 {
@@ -44,7 +44,7 @@ impl State {
         self.dry_run = None;
     }
 
-    /// The node is a secondary, and what it counted is forgotten.
+    /// Makes the node a secondary that forgets what it counted.
     pub fn be_secondary(&mut self)
         ensures node { self.new.node ≡ stepped_down self.old.node }
         ensures spare { self.new.spare ≡ self.old.spare }
@@ -57,7 +57,7 @@ impl State {
         self.dry_run = None;
     }
 
-    /// The node has a vote in its term, whose record stands.
+    /// Sets the node's vote in its term. The record of it is in the journal.
     pub fn set_vote(&mut self, item: &Store, vote: u32)
         requires item { item.now ≡ vote_record self.old.node.term (Some vote) }
         requires vote { vote < 50 }
@@ -79,7 +79,7 @@ impl State {
         self.tally = Some(tally);
     }
 
-    /// A candidate that a majority voted for has won.
+    /// Whether the node is a candidate that a majority voted for. If so, it has won.
     pub fn has_won(&mut self) -> bool
         requires role { self.old.node.role ≡ Candidate }
         ensures elected { result ≡ is_elected self.old.node }

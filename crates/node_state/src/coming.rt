@@ -26,7 +26,7 @@ use std::collections::BTreeMap;
 use std::thread::Threads;
 use sync_source::KnownTable;
 
-/// Who a node is, and what it keeps in memory while it is down.
+/// The identity of a node, and what it keeps in memory while it is down.
 #[derive(Drop)]
 pub struct Coming<'a> {
     /// Its number in the set.
@@ -35,7 +35,7 @@ pub struct Coming<'a> {
     pub first: &'a Config,
     /// The second that its clock shows.
     pub clock: u32,
-    /// How often it rolled back or came up before.
+    /// How often it has rolled back or come up.
     pub rollback: u64,
     pub records: Records,
 }
@@ -90,9 +90,9 @@ impl State {
     }
 }
 
-// Facts of a node in memory, for the proofs of who stores for it.
+// Facts about a node in memory, for proofs of code that stores for it.
 impl State {
-    /// It is up, with nothing in doubt, its log is in order and of its term, and its number and first
+    /// It is up, with nothing in doubt; its log is in order and of its term; and its number and first
     /// configuration are lawful: a fact for callers' proofs, which costs nothing.
     pub fn recall_sound(&self)
         ensures sound { IsSound self.now.node }
@@ -134,7 +134,7 @@ impl State {
     }
 }
 
-/// The configuration that was kept, or the first one.
+/// The stored configuration, or the first one.
 fn config_or(config: Option<Config>, first: &Config) -> Mem<Config>
     ensures { IfOk result (λ c. c ≡ unwrap_or config first.now) }
 {
@@ -144,7 +144,7 @@ fn config_or(config: Option<Config>, first: &Config) -> Mem<Config>
     }
 }
 
-/// The entries that aren't after a point.
+/// The entries at or before a point.
 fn entries_up_to(entries: EntryList, point: OpTime) -> EntryList
     ensures { result ≡ log_up_to point entries }
 {

@@ -28,9 +28,9 @@ use std::marker::Model;
 use sync_source::KnownTable;
 use version_store::VersionStore;
 
-/// A node that is up, as far as it is in memory. What it is to store on its disks it tells by its turns.
+/// A node that is up, as far as it is in memory. Its turns say what is to be stored on its disks.
 ///
-/// Its fields are open to the crates of commands and messages. What holds of them together (`IsState`) is
+/// Its fields are open to the crates of commands and messages. The invariant over all of them (`IsState`) is
 /// proved wherever one of them changes.
 #[derive(Drop)]
 pub struct State {
@@ -47,15 +47,15 @@ pub struct State {
     pub clock: u32,
     /// Its log, with the open slots, and the documents.
     pub node_data: NodeData,
-    /// Whom it voted for in its term.
+    /// The candidate that it voted for in its term.
     pub vote: Option<u32>,
     /// How far the log is durable.
     pub durable: OpTime,
     /// The commit point, as far as it is known.
     pub commit: OpTime,
-    /// The configuration that it goes by.
+    /// The configuration that it uses.
     pub config: Config,
-    /// How far each member is durable, as a primary heard.
+    /// How far each member is durable, as reported to a primary.
     pub progress: Progress,
     /// What was last heard of each member.
     pub known: KnownTable,
@@ -69,7 +69,7 @@ pub struct State {
     pub rollback: u64,
     /// The optimes of the entries that aren't in the records.
     pub unjournaled: Unjournaled,
-    /// What it stored, for proofs alone.
+    /// What it stored, only for proofs.
     pub records: Records,
 }
 
@@ -151,7 +151,7 @@ impl Model for State {
 }
 
 impl State {
-    /// A node as the set begins, with this number and this first configuration. The only error is
+    /// A node when the set begins, with this number and this first configuration. The only error is
     /// out of memory.
     pub fn open(alloc: Global, number: u32, config: &Config) -> Mem<State>
         requires number { number < 50 }
@@ -182,7 +182,7 @@ impl State {
         })
     }
 
-    /// The documents that the log leaves, as of each optime that the store can show, in 64 shards.
+    /// The documents that result from the log, as of each optime that the store can show, in 64 shards.
     pub fn store(&self) -> &VersionStore
         ensures latest { (place : Place)
             → latest_of (versions_at result.now place) ≡ maps.get (local_documents self.now.node) place }
@@ -193,7 +193,7 @@ impl State {
         self.node_data.store()
     }
 
-    /// A turn that is finished, with this reply and no message.
+    /// A finished turn, with this reply and no message.
     pub fn answered(&self, reply: Reply) -> Turn
         ensures { FinishesWith result reply [] }
     {
@@ -203,7 +203,7 @@ impl State {
         }
     }
 
-    /// A turn that is finished: the command is refused.
+    /// A finished turn: the command is refused.
     pub fn refused(&self, why: Refusal) -> Turn
         ensures { FinishesWith result (Reply.Refused why) [] }
     {
@@ -211,7 +211,7 @@ impl State {
     }
 }
 
-// What a node keeps while it is down, and who it is.
+// What a node keeps while it is down, and its identity.
 impl State {
     /// The node's number in the set, counted from 0.
     pub fn number(&self) -> u32
@@ -274,7 +274,7 @@ impl State {
         self.node_data.applied_point()
     }
 
-    /// How many entries of its log stand up to its commit point.
+    /// How many entries its log has up to its commit point.
     pub fn committed(&mut self) -> u64
         ensures count { result ≡ length (log_up_to self.old.node.commit self.old.node.log) }
         ensures same { self.new ≡ self.old }
@@ -289,7 +289,7 @@ impl State {
         self.rollback
     }
 
-    /// The records that the node stored, which exist in proofs alone.
+    /// The records that the node stored, which exist only in proofs.
     pub fn records(&self) -> &Records
         ensures { result.now.list ≡ self.now.node.records }
     {

@@ -1,8 +1,8 @@
-// What a node does with a command or a message, step by step: it stores something, and goes on once that is
+// What a node does with a command or a message, step by step: it stores something, and continues once that is
 // on its disk.
 //
-// All memory that the later steps need is taken beforehand and lies in here, since a node mustn't run out
-// between two stores.
+// All memory that the later steps need is reserved beforehand and is in here, since a node mustn't run out of
+// it between two stores.
 
 use election_core::Tally;
 use member_config::Config;
@@ -10,19 +10,19 @@ use repl_msg::{FetchReply, Message, VoteAsk, VoteRefusal};
 use rs_optime::OpTime;
 use set_model::{Ignored, LostList, Reply, Store};
 
-/// How far a node has come with a command or a message.
+/// How far a node has got with a command or a message.
 #[derive(Drop)]
 pub enum Turn {
     /// It has its reply, and the messages that it sends.
     Finished { reply: Reply, sent: Vec<Message> },
-    /// It stores this, and then goes on.
+    /// It stores this, and then continues.
     Storing { item: Store, then: Continuation },
 }
 
-/// What the node does once that which it stores is on its disk.
+/// What the node does once what it stores is on its disk.
 #[derive(Drop)]
 pub enum Continuation {
-    /// The node is a candidate of the next term, with its own vote, and asks the others.
+    /// The node is a candidate in the next term, with its own vote, and asks the others.
     Campaign {
         next: u64,
         tally: Tally,
@@ -32,7 +32,7 @@ pub enum Continuation {
     Drain {
         config: Config,
     },
-    /// So many more entries are in the journal, and the log is durable up to the point.
+    /// This many more entries are in the journal, and the log is durable up to the point.
     Flush {
         count: u64,
         point: OpTime,
@@ -41,7 +41,7 @@ pub enum Continuation {
     Checkpoint {
         at: OpTime,
     },
-    /// The primary goes by its new configuration.
+    /// The primary uses its new configuration.
     Reconfig {
         config: Config,
     },
@@ -66,7 +66,7 @@ pub enum Continuation {
         term: u64,
         told: MessageContinuation,
     },
-    /// It goes by a newer configuration that a heartbeat brought.
+    /// It uses a newer configuration that a heartbeat brought.
     Installed {
         config: Config,
         hearing: HeardBeat,
@@ -87,12 +87,12 @@ pub enum MessageContinuation {
         next: u64,
         sent: Vec<Message>,
     },
-    /// The answer's entries are written after the log.
+    /// The answer's entries are appended to the log.
     Fetched {
         from: u32,
         reply: FetchReply,
     },
-    /// A heartbeat is heard, with its configuration where the node installs that.
+    /// A heartbeat is heard, with its configuration if the node installs that.
     Heard {
         newer: Option<NewConfig>,
         hearing: HeardBeat,
@@ -107,14 +107,14 @@ pub enum MessageContinuation {
     Ignored(Ignored),
 }
 
-/// A newer configuration, once for the journal and once for the node.
+/// A newer configuration, one copy for the journal and one for the node.
 #[derive(Drop)]
 pub struct NewConfig {
     pub journaled: Config,
     pub installed: Config,
 }
 
-/// What a heartbeat tells of its sender, and the answer to it, where one is sent.
+/// What a heartbeat says about its sender, and the answer to it, if one is sent.
 #[derive(Drop)]
 pub struct HeardBeat {
     pub from: u32,

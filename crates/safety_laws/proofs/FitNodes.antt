@@ -1,5 +1,5 @@
--- A node whose log is fit: each prefix of it leaves documents that may be stored; and of a primary, what it wrote in its term
--- and what its writers have open may stand in an oplog.
+-- A node whose log is fit: each prefix of it leaves documents that may be stored; and for a primary, what it
+-- wrote in its term and what its writers have open may be in an oplog.
 use Rattle.std.proofs.Common.{◌≡◌, ◌≢◌, ◌∙◌, ◌≤◌, ◌<◌, inl, inr, ap, sym, subst, refl, arith, ℕ, Bool, true, false, Option, None, Some, Result, Ok, Err, List}
 use Rattle.std.specs.Prelude.{IfSome, IsSome}
 use Rattle.std.specs.FinMap as maps

@@ -1,4 +1,4 @@
--- Who leads has what it won with, and entries of its own term.
+-- A leader has what it won with, and entries of its own term.
 use Rattle.std.proofs.Common.{◌≡◌, ◌∙◌, ◌<◌, ◌+◌, inl, inr, ap, sym, subst, arith, ℕ, not, List}
 use Rattle.rs_optime.specs.declared.optime.OpTime.{OpTime}
 use Rattle.rs_optime.specs.Membership.{In}

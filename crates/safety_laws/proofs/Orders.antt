@@ -1,4 +1,4 @@
--- A log whose entries stand in order rises.
+-- A log whose entries are in order rises.
 use Rattle.std.proofs.Common.{inl, inr, subst, arith, List, [], ◌∷◌}
 use Rattle.std.proofs.lemmas.List.Elements.{All-tail}
 use Rattle.std.specs.List.{All, AllPairs}

@@ -1,4 +1,5 @@
--- Each retried write once: what a client is told of its write is where the log has it, and nowhere else.
+-- Each retried write happens once: what a client is told about its write is where the log has it,
+-- and nowhere else.
 use Rattle.std.proofs.Common.{◌≡◌, ◌∙◌, ap, sym, subst, refl, ℕ, suc, Bool, true, false, if◌then◌else◌, Option, None, Some, Result, Ok, Err, slice_get, List, [], ◌∷◌}
 use Rattle.std.specs.Prelude.{option_and_then}
 use Rattle.std.proofs.lemmas.Option.{same_Some}

@@ -1,4 +1,5 @@
--- Each message that is within limits keeps the numbers of the node that takes it so, and its configurations lawful.
+-- Each message within limits keeps the numbers of the node that takes it within limits, and
+-- its configurations lawful.
 use Rattle.std.proofs.Common.{◌≡◌, ◌≤◌, ◌<◌, ◌+◌, arith, ℕ, Bool, true, false, not, ◌&&◌, ◌==◌, nat_lt, cond, length, take, is_some, Option, None, Some, List, [], ◌∷◌, ◌++◌}
 use Rattle.std.proofs.lemmas.List.{length-append}
 use Rattle.std.specs.Prelude.{IfSome}

@@ -15,7 +15,7 @@ use Rattle.set_model.specs.Rollback.{common_point, rollback_reason}
 use Rattle.set_model.specs.Run.{Sizes, world_at}
 use Rattle.set_model.specs.Safety.{Has, IsAt}
 
--- the greatest entry that both logs have, or ZERO where they have none; up to it they are the same
+-- the last entry that both logs have, or ZERO where they have none; up to it they are the same
 pub record IsGreatestInBoth (one two : List Entry) (at : OpTime) : Type 0 where
   pub there : (at ≡ ZERO) ⊎ (Has one at × Has two at)
   pub same : log_up_to at one ≡ log_up_to at two
@@ -30,7 +30,7 @@ module _ (sizes : Sizes) (events : List Event) where
     pub sends : IsAt sizes events (suc place) message.from sender
 
   -- If an answer makes a node roll back, the common point is the last entry that two logs share: the node's
-  -- own, and the source's visible log as it sent the answer. It is ZERO where they share none.
+  -- own, and the source's visible log when it sent the answer. It is ZERO where they share none.
   abbrev pub CommonPointsAreGreatest : Type 0
   CommonPointsAreGreatest =
       (place number : ℕ) (node : Node) (message : Message) (after : OpTime) (optimes : List OpTime)

@@ -1,5 +1,4 @@
--- The order of the logs that a run leaves, and what a leader keeps (MongoDB's replication architecture
--- guide, oplog).
+-- The order of the logs in a run, and what a leader keeps (MongoDB's replication architecture guide, oplog).
 use Rattle.std.specs.Prelude.{◌<◌, ◌≤◌, ℕ, List}
 use Rattle.std.specs.List.{AllPairs}
 use Rattle.rs_optime.specs.Membership.{In}
@@ -13,12 +12,12 @@ use Rattle.set_model.specs.Points.{next_optime}
 use Rattle.set_model.specs.Run.{Sizes}
 use Rattle.set_model.specs.Safety.{IsAt, Leads}
 
--- Along the log of a node that is up timestamps rise and terms never fall.
+-- Along the log of a node that is up, timestamps rise and terms never fall.
 abbrev pub LogsRise : Sizes → List Event → Type 0
 LogsRise sizes events =
     (place number : ℕ) (node : Node) → IsAt sizes events place number node → AllPairs StandsBefore node.log
 
--- No entry is at ZERO, which stands for the beginning of each log.
+-- No entry is at ZERO, which means the beginning of each log.
 abbrev pub EntriesFollowZero : Sizes → List Event → Type 0
 EntriesFollowZero sizes events =
     (place number : ℕ) (node : Node) → IsAt sizes events place number node
@@ -30,14 +29,14 @@ NextOptimesAreLast sizes events =
     (place number : ℕ) (node : Node) → IsAt sizes events place number node
     → (entry : Entry) → In entry node.log → Before entry.optime (next_optime node)
 
--- What a leader has in its log it has wherever it leads in the same term later, visible or not.
+-- Whatever a leader has in its log, visible or not, it still has wherever it leads in the same term later.
 abbrev pub LeadersKeep : Sizes → List Event → Type 0
 LeadersKeep sizes events =
     (i j number term : ℕ) (old new : Node) → i ≤ j → Leads sizes events i number term old
     → Leads sizes events j number term new → (entry : Entry) → In entry old.log → In entry new.log
 
--- What a leader has of earlier terms it has wherever it leads in that term, sooner or later: while it leads,
--- it adds entries of its own term alone.
+-- Whatever a leader has of earlier terms it has wherever it leads in that term, sooner or later: while it
+-- leads, it adds only entries of its own term.
 abbrev pub LeadersAddTheirOwn : Sizes → List Event → Type 0
 LeadersAddTheirOwn sizes events =
     (i j number term : ℕ) (one two : Node) → Leads sizes events i number term one

@@ -1,4 +1,4 @@
--- What a majority read shows, as far as a new node may begin with it (MongoDB's replication architecture
+-- What a majority read shows is something that a new node may begin with (MongoDB's replication architecture
 -- guide, initial sync).
 use Rattle.std.specs.Prelude.{◌≡◌, ◌≢◌, ℕ, All, List, Some, false}
 use Rattle.std.specs.FinMap.{get}
@@ -24,15 +24,15 @@ pub record IsFitDocument (place : Place) (document : Fields) : Type 0 where
   pub key : id_key document ≡ Some place.1
   pub small : is_too_large document ≡ false
 
--- A log that ends at an optime, unless that is ZERO. None of its entries is too large, and neither is a
--- document that it leaves.
+-- A log that ends at an optime, unless that is ZERO. None of its entries is too large, nor any document that
+-- results from it.
 pub record IsFitLog (at : OpTime) (log : List Entry) : Type 0 where
   pub last : at ≢ ZERO → last_of log ≡ at
   pub entries : All IsWithinEntry log
   pub documents : (place : Place) (document : Fields) → get (docs log) place ≡ Some document
       → IsFitDocument place document
 
--- What a majority read shows of a node that is up is such a log, up to the lesser of its commit point and
+-- What a majority read shows at a node that is up is such a log, up to the earlier of its commit point and
 -- what it has applied.
 abbrev pub MajorityLogsAreFit : Sizes → List Event → Type 0
 MajorityLogsAreFit sizes events =

@@ -1,5 +1,5 @@
--- Which events leave the world as it was, and what is left of one whose store fails. Nothing is asked of the
--- world.
+-- Which events leave the world as it was, and what remains of an event whose store fails. Nothing is assumed
+-- about the world.
 use Rattle.std.specs.Prelude.{◌≡◌, ◌≤◌, ℕ, zero, suc, Bool, true, false, not, ◌&&◌, nat_lt, List, ◌∷◌, ◌++◌, fold, length, None, Some, slice_get, slice_set, if◌then◌else◌}
 use Rattle.oplog_entry.specs.declared.entry.Session.{Session}
 use Rattle.doc_update.specs.declared.write.WriteOp.{WriteOp}
@@ -31,14 +31,14 @@ use Rattle.set_model.specs.World.{World, step, takes, task, touched_node}
 abbrev pub Stays : World → Event → Type 0
 Stays world event = (step world event).world ≡ world
 
--- ---- what is told
+-- ---- replies
 
 abbrev pub is_disk_failure : Refusal → Bool
 is_disk_failure DiskFailed = true
 is_disk_failure _ = false
 
--- it is a refusal, but not that a disk failed; it shows something of the node; there was nothing to write; a
--- vote wasn't given; or a disk will fail
+-- a refusal, unless a disk failed; a reply that shows something of the node; that there was nothing to write;
+-- that a vote wasn't given; or that a disk will fail
 abbrev pub is_quiet : Reply → Bool
 is_quiet (reply.Refused why) = not (is_disk_failure why)
 is_quiet (reply.Acked at) = true
@@ -59,7 +59,7 @@ abbrev pub QuietRepliesChangeNothing : Type 0
 QuietRepliesChangeNothing =
     (world : World) (event : Event) → is_quiet (step world event).reply ≡ true → Stays world event
 
--- it asks what a node has, or whether a write is safe
+-- a command that asks what a node has, or whether a write is safe
 abbrev pub is_question : Command → Bool
 is_question (commands.Read node level collection id) = true
 is_question (commands.Dump node level) = true
@@ -74,8 +74,8 @@ abbrev pub QuestionsChangeNothing : Type 0
 QuestionsChangeNothing =
     (world : World) (event : Event) → is_question event.command ≡ true → Stays world event
 
--- A write of a session that the node's log has, or that is older than the last one there, is not done again:
--- the world stays as it was.
+-- A write of a session that the node's log has, or that is older than the session's last one there, is not
+-- done again: the world stays as it was.
 abbrev pub RetriesChangeNothing : Type 0
 RetriesChangeNothing =
     (world : World) (event : Event) (number : ℕ) (session : Session) (op : WriteOp) (node : Node)
@@ -85,19 +85,19 @@ RetriesChangeNothing =
 
 -- ---- messages that aren't taken
 
--- the node with a message's term, which stands on its disk, where that is higher
+-- the node with a message's term, stored on its disk, where that is higher
 abbrev pub with_term_of : Message → Node → Node
 with_term_of message node =
     if brings_term message.body && nat_lt node.term message.term
     then in_new_term (stored node (vote_record message.term None)) message.term None
     else node
 
--- this message is handed to this node
+-- this message is delivered to this node
 pub record IsHanded (world : World) (event : Event) (message : Message) (node : Node) : Type 0 where
   pub takes_it : task world event.command ≡ takes message
   pub there : slice_get world.nodes message.to ≡ Some node
 
--- An ignored message leaves the world as it was, but that its receiver takes a higher term.
+-- An ignored message leaves the world as it was, except that its receiver takes a higher term.
 pub record IgnoredMessagesBringTerms : Type 0 where
   pub term :
       (world : World) (event : Event) (message : Message) (node : Node) (why : Ignored)
@@ -120,12 +120,12 @@ RefusedVotesChangeNoNode =
 
 -- ---- a store that fails
 
--- these stand on the node's disks, one after another
+-- these are stored on the node's disks, one after another
 abbrev pub with_stores : Node → List Store → Node
 with_stores node stores = fold stored node stores
 
--- Of what was to be stored from `start` on, this many stand on the node's disks, the next is in doubt, and
--- the node is down. `whole` is the node where nothing fails.
+-- Of what was to be stored from `start` on, this many are on the node's disks, the next is in doubt, and the
+-- node is down. `whole` is the node if nothing fails.
 pub record IsCutOff (number : ℕ) (start new whole : Node) : Type 0 where
   pub earlier : List Store
   pub failing : Store
@@ -135,15 +135,15 @@ pub record IsCutOff (number : ℕ) (start new whole : Node) : Type 0 where
   pub records : whole.records ≡ (with_stores start (earlier ++ failing ∷ later)).records
   pub stable : whole.stable ≡ (with_stores start (earlier ++ failing ∷ later)).stable
 
--- Of a restart the opening of the disks counts as its first store: where it fails, the node stays as it was,
--- with what is in doubt; otherwise that was settled.
+-- For a restart, opening the disks counts as the first store: where it fails, the node stays as it was, with
+-- its store in doubt; otherwise that store was settled.
 abbrev pub IsStopped : (restart : Bool) (number : ℕ) (there : Bool) (old new whole : Node) → Type 0
 IsStopped false number there old new whole = IsCutOff number old new whole
 IsStopped true zero there old new whole = new ≡ old
 IsStopped true (suc number) there old new whole =
     IsCutOff number (settled_doubt old old.doubt there) new whole
 
--- the event with no store that fails
+-- the event without a failing store
 abbrev pub unfailed : Event → Event
 unfailed event = record event { failed = None }
 
@@ -162,7 +162,7 @@ pub record BreaksOff (world : World) (event : Event) : Type 0 where
   pub left : (step world event).world
       ≡ record world { nodes = slice_set world.nodes (touched_node world event.command) new }
 
--- A disk's failure is told only of an event whose store failed.
+-- A disk's failure is reported only for an event whose store failed.
 abbrev pub FailedStoresStop : Type 0
 FailedStoresStop =
     (world : World) (event : Event) → (step world event).reply ≡ reply.Refused DiskFailed

@@ -14,8 +14,8 @@ use Rattle.set_model.specs.Run.{HISTORY_LIMIT, Sizes, run}
 use Rattle.set_model.specs.Safety.{IsAt}
 
 -- The entries of an answer continue its base: they are in order, none is too large, and none is of a later
--- term than the message. Appended to a node's log that ends at the base, any first part of them leaves no
--- document too large.
+-- term than the message. Appended to a node's log that ends at the base, no prefix of them leaves a document
+-- that is too large.
 pub record RepliesFollowAt (sizes : Sizes) (events : List Event) (message : Message)
     (fetched : FetchReply) : Type 0 where
   pub order : IsOplog fetched.entries

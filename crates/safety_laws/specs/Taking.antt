@@ -1,4 +1,4 @@
--- Every message that was sent can be taken by its receiver.
+-- Every message sent can be taken by its receiver.
 use Rattle.std.specs.Prelude.{◌≤◌, List, length, Contains}
 use Rattle.repl_msg.specs.declared.message.Message.{Message}
 use Rattle.set_model.specs.declared.command.Event.{Event}
@@ -7,7 +7,7 @@ use Rattle.set_model.specs.Run.{HISTORY_LIMIT, Sizes, run}
 use Rattle.set_model.specs.Safety.{IsAt}
 use Rattle.set_model.specs.Taking.{CanTake}
 
--- After at most 4,294,967,295 events each message that was sent meets what its receiver requires of
+-- After at most 4,294,967,295 events each message sent satisfies what its receiver requires of
 -- a message (`CanTake`).
 abbrev pub MessagesCanBeTaken : Sizes → List Event → Type 0
 MessagesCanBeTaken sizes events =
