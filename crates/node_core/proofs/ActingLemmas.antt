@@ -1,4 +1,4 @@
--- What a command or a message comes to at a node on its disks, by what was done in memory and on the disks.
+-- What a command or a message does at a node on its disks, by what was done in memory and on the disks.
 use Rattle.std.proofs.Common.{◌≡◌, ◌∙◌, inl, ap, sym, subst, refl, ℕ, Bool, true, false, not, ◌&&◌, ◌||◌, [], Option, None, Some, if◌then◌else◌}
 use Rattle.std.specs.Prelude.{IsSome, IfOk, OnErr, Result, Ok, Err}
 use Rattle.rs_disk.specs.Orders.{Orders}

@@ -1,4 +1,4 @@
--- How a turn ends, by how what is left of it after its first store does.
+-- How a turn ends, by how the rest of it after its first store ends.
 use Rattle.std.proofs.Common.{◌≡◌, sym, subst, refl, ℕ, suc, ◌+◌, true, Option, None, Some, List, arith, length}
 use Rattle.std.specs.Prelude.{IfOk, OnErr, ◌≤◌, Result, Ok, Err}
 use Rattle.std.proofs.lemmas.Bool.{ltb-true, lt-ltb}

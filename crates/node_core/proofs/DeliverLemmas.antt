@@ -1,4 +1,4 @@
--- What a message comes to stores at most two short records, and leaves the others as they are.
+-- A message stores at most two short records, and leaves the others as they are.
 use Rattle.std.proofs.Common.{refl, ℕ, zero, suc, Bool, true, false, not, ◌&&◌, nat_lt, ◌==◌, is_some, Option, None, Some, List, if◌then◌else◌}
 use Rattle.rs_optime.specs.declared.optime.OpTime.{OpTime}
 use Rattle.member_config.specs.Config.{is_newer}

@@ -1,5 +1,5 @@
--- A plan leaves a node's records and its stable optime as they are, but for what it stores, and what it stores is short where it
--- has to be.
+-- A plan leaves a node's records and its stable optime as they are, except for what it stores, and what it
+-- stores is short where it has to be.
 use Rattle.std.proofs.Common.{◌≡◌, subst, [], ◌∷◌, ◌+◌, refl, ℕ, zero, suc, Bool, true, false, not, Option, None, Some, if◌then◌else◌, Result, Ok, Err, List}
 use Rattle.std.specs.Prelude.{⊤}
 use Rattle.std.specs.FinMap as maps

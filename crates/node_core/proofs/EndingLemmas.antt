@@ -1,4 +1,4 @@
--- What a command or a message comes to at a node that is up, by how its turn ended.
+-- What a command or a message does at a node that is up, by how its turn ended.
 use Rattle.std.proofs.Common.{◌≡◌, sym, subst, ℕ, Bool, true, false}
 use Rattle.std.specs.Prelude.{IsSome, OnErr, Result, Ok, Err}
 use Rattle.rs_disk.specs.State.{State}

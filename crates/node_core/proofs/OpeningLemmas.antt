@@ -1,4 +1,4 @@
--- A node as the set begins, on two empty disks.
+-- A node when the set begins, on two empty disks.
 use Rattle.std.proofs.Common.{◌≡◌, ◌∙◌, ⊎_elim, Err, inl, inr, ap, sym, subst, refl, ℕ, List, [], length, arith, true}
 use Rattle.rs_disk.specs.File.{IsEmpty, LeavesOnly, contents}
 use Rattle.rs_disk.specs.Moments.{EachMoment, starts, weakens}

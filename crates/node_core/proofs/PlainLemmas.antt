@@ -1,5 +1,5 @@
--- What a command that stores and sends nothing comes to at a node that is up: it is answered, and its disks are
--- left alone.
+-- What a command that stores and sends nothing does at a node that is up: it is answered, and its disks
+-- are left alone.
 use Rattle.std.proofs.Common.{◌≡◌, ◌∙◌, subst, refl, ℕ, Bool, true, false, []}
 use Rattle.rs_disk.specs.State.{State}
 use Rattle.set_model.specs.declared.command.Command.{Command}

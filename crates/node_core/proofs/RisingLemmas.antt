@@ -1,4 +1,4 @@
--- What a node that comes up does of its row, and how its disks then are.
+-- Which part of its row a node that comes up does, and the state of its disks afterwards.
 use Rattle.std.proofs.Common.{◌≡◌, ◌↔◌, ◌∙◌, ap, sym, subst, refl, ℕ, Bool, true, false, not, ◌&&◌, ◌||◌, cond, [], Option, Some, None}
 use Rattle.std.specs.Prelude.{IfOk, IfSome, IsSome, OnErr, is_some, if◌then◌else◌, Result, Ok, Err}
 use Rattle.rs_disk.specs.State.{State}

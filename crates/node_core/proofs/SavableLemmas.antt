@@ -1,4 +1,5 @@
--- Each document that a log leaves can be saved: it has the key of its place, and it is no larger than an entry may leave it.
+-- Each document that results from a log can be saved: it has the key of its place, and it is no larger than
+-- an entry may leave it.
 use Rattle.std.proofs.Common.{◌≡◌, ◌≤◌, ap, sym, subst, refl, fold, ℕ, zero, Bool, true, false, not, cond, length, List, [], ◌∷◌, Option, None, Some, IfSome, arith}
 use Rattle.std.specs.List.{All}
 use Rattle.std.specs.FinMap.{get, get-empty, empty}

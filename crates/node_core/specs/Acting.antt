@@ -23,13 +23,13 @@ use Rattle.node_core.specs.Opening.{ReopensInTurn}
 use Rattle.node_core.specs.Stands.{Stands, documents_at}
 use Rattle.node_core.specs.declared.done.Done.{Done}
 
--- what was answered is the plan, up to the store that failed, if one did
+-- what was done is the plan, up to the store that failed, if one did
 pub record Follows (plan : Plan) (node : Node) (done : Done) : Type 0 where
   pub outcome : Rattle.set_model.specs.Stores.done plan done.failed
       ≡ record { reply = done.reply; node = node; sent = done.sent.items }
   pub reached : reaches plan done.failed ≡ true
 
--- a restart that gets past its first store settles what is in doubt, and nothing else does
+-- a restart that gets past its first store settles the store in doubt, and nothing else does
 abbrev pub MaySettle : Node → Command → Done → Type 0
 MaySettle node command done =
     (not done.kept || (is_restart command && passes_first done.failed && is_in_doubt node)) ≡ true
@@ -55,7 +55,7 @@ abbrev pub is_disk_fail : Command → Bool
 is_disk_fail (DiskFail node disk call pick) = true
 is_disk_fail _ = false
 
--- the orders that a command gives to one of the disks: a crash that is answered so cuts the power of both
+-- the orders that a command with this reply gives to one of the disks: a crash cuts the power of both
 abbrev pub orders_after : DiskName → Command → Reply → Orders → Orders
 orders_after name (Crash node pick) reply.Down orders = ordered (power_cut pick) orders
 orders_after disks.Journal (DiskFail node disks.Journal call pick) reply.Armed orders =
@@ -78,7 +78,7 @@ pub record DisksActed (command : Command) (reply : Reply) (Fault : Type 0) (j j'
   pub journal_orders : j'.orders ≡ orders_after disks.Journal command reply j.orders
   pub checkpoints_orders : c'.orders ≡ orders_after disks.Checkpoint command reply c.orders
 
--- Disks to which no orders were given, and none of which was armed. A fault comes only where one failed.
+-- Disks that were given no orders, and weren't armed. A fault comes only where one of them failed.
 pub record RunsWithoutOrders (Fault : Type 0) (j j' c c' : State) : Type 0 where
   pub fails : Fails Fault j j' c c'
   pub journal_armed : ArmedBefore j j'
@@ -86,19 +86,19 @@ pub record RunsWithoutOrders (Fault : Type 0) (j j' c c' : State) : Type 0 where
   pub journal_orders : j'.orders ≡ j.orders
   pub checkpoints_orders : c'.orders ≡ c.orders
 
--- two disks as they were, but for their room
+-- two disks as they were, except for their room
 pub record AreSame (j j' c c' : State) : Type 0 where
   pub journal : SameButRoom j j'
   pub checkpoints : SameButRoom c c'
 
--- ---- what a call of a node comes to
+-- ---- what a call of a node results in
 
 -- the plan stores nothing
 abbrev pub IsFinished : Plan → Type 0
 IsFinished (finished outcome) = ⊤
 IsFinished (storing broken rest) = ⊥
 
--- How a command that stores nothing leaves the two disks, by its reply: a crash that is answered `down` cuts
+-- How a command that stores nothing leaves the two disks, by its reply: a crash with the reply `down` cuts
 -- the power of both, and does nothing else to them; a `diskfail` arms the one that it names; any other leaves
 -- both as they were.
 abbrev pub UnstoredBy : Command → Reply → State → State → State → State → Type 0
@@ -106,13 +106,13 @@ UnstoredBy (Crash node pick) reply.Down j j' c c' = IsCut pick j j' × IsCut pic
 UnstoredBy (DiskFail node disk call pick) reply.Armed j j' c c' = Arms disk call pick j j' c c'
 UnstoredBy command answer j j' c c' = AreSame j j' c c'
 
--- what was being stored is on the disks: the journal holds that record too, or the last checkpoint is the one
+-- what was being stored is on the disks: the journal has that record too, or the last checkpoint is the one
 -- of that optime
 abbrev pub IsThere : Node → Store → State → State → Type 0
 IsThere node (stores.Record item) j c = HasJournal (contents j.file) (node.records ++ item ∷ [])
 IsThere node (stores.Checkpoint at) j c = HasCheckpoint (contents c.file) (documents_at node at)
 
--- What a command with this plan, which was answered so, did to the two disks of a node that was such before.
+-- What a command with this plan and this reply did to the two disks of a node that was `node` before.
 pub record DidToDisks (node : Node) (plan : Plan) (command : Command) (reply : Reply) (failed : Option ℕ)
     (kept : Bool) (j j' c c' : State) : Type 0 where
   pub acted : DisksActed command reply (IsSome failed) j j' c c'
@@ -120,11 +120,11 @@ pub record DidToDisks (node : Node) (plan : Plan) (command : Command) (reply : R
   -- a restart opens both disks first: where that failed, nothing else was done
   pub opening : is_restart command ≡ true → failed ≡ Some 0
       → ReopensInTurn {T = Unit {0}} (Err Disk) j j' c c'
-  -- where it didn't fail, `kept` is true exactly where what was in doubt is there
+  -- where it didn't fail, `kept` is true exactly if the store in doubt is there
   pub found : is_restart command ≡ true → passes_first failed ≡ true
       → IfSome node.doubt (λ item. kept ≡ true ↔ IsThere node item j c)
 
--- A command was done at a node with these two disks, which had been such before.
+-- A command was done at a node with these two disks; `old`, `j` and `c` are how they were before.
 pub record Acted (plan : Plan) (command : Command) (old new : Node) (j j' c c' : State)
     (done : Done) : Type 0 where
   pub follows : Follows plan new done
@@ -141,8 +141,8 @@ pub record Took (plan : Plan) (new : Node) (j j' c c' : State) (done : Done) : T
 
 -- ---- out of memory
 
--- Two disks that were opened anew, as far as memory went, and no more was done. No orders were given to them,
--- and at each moment a crash left a list that one before might have left.
+-- Two disks that were opened again, as far as memory allowed, and nothing more was done. They were given no
+-- orders, and at each moment a crash left a list that an earlier one might have left.
 pub record AreReopened (j j' c c' : State) : Type 0 where
   pub calls : ReopensInTurn {T = Unit {0}} (Err Memory) j j' c c'
   pub runs : RunsWithoutOrders ⊥ j j' c c'
@@ -154,7 +154,7 @@ abbrev pub DisksLeft : Command → State → State → State → State → Type 
 DisksLeft (Restart node) j j' c c' = AreReopened j j' c c'
 DisksLeft _ j j' c c' = AreSame j j' c c'
 
--- The node is as it was, and its disks are left so.
+-- The node is as it was, and its disks are left in this way.
 pub record Unchanged (Disks : State → State → State → State → Type 0) (old new : Node)
     (j j' c c' : State) : Type 0 where
   pub node : new ≡ old

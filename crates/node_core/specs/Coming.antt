@@ -23,14 +23,14 @@ use Rattle.node_state.specs.WellKept.{IsWellKept}
 
 -- ---- what is found
 
--- both disks were read, and what was read of them stands there now
+-- both disks were read, and what was read is there now
 pub record IsRead (found : Found) (j j' c c' : State) : Type 0 where
   pub kept_is : (items : List Record) → HasJournal (contents j.file) items → found.kept ≡ kept items
   pub journal : (items : List Record) → HasJournal (contents j.file) items → JournalAtRest j' items
   pub stable_is : HasCheckpoint (contents c.file) found.stable
   pub checkpoints : CheckpointsAtRest c' found.stable
 
--- Whether what was in doubt is there, beside so many records: the journal has one more, or the last
+-- Whether the store in doubt is there, after this many records: the journal has one more, or the last
 -- checkpoint is the one that was being saved.
 abbrev pub is_there : Option Store → ℕ → Found → Bool
 is_there None count found = false
@@ -41,7 +41,7 @@ is_there (Some (stores.Checkpoint at)) count found = same_optime found.stable.at
 abbrev pub settled : Node → ℕ → Found → Node
 settled node count found = settled_doubt node node.doubt (is_there node.doubt count found)
 
--- what was found is what a node keeps, and is enough to come back with
+-- what was found is what a node has stored, and is enough to come back with
 pub record IsFound (node : Node) (found : Found) : Type 0 where
   pub kept_is : found.kept ≡ kept node.records
   pub stable_is : found.stable ≡ documents_at node node.stable
@@ -62,7 +62,7 @@ cut_records (Some at) items = items ++ records.Cut at ∷ []
 abbrev pub cut_node : Option OpTime → Node → Node
 cut_node point node = record node { records = cut_records point node.records }
 
--- This node can come up, and takes no more memory for that.
+-- This node can come up, and needs no more memory for that.
 pub record IsPrepared (node : Node) (prepared : Prepared) : Type 0 where
   pub count : prepared.count ≡ length node.records
   pub cut : prepared.cut ≡ cut_point (kept node.records)

@@ -6,8 +6,8 @@ use Rattle.set_model.specs.declared.store.Store.{Store}
 use Rattle.set_model.specs.Node.{Node, opening_node}
 use Rattle.node_core.specs.declared.down.DownState.{DownState as InMemory}
 
--- what is left of a node that is down: beside its disks the clock, how often it rolled back or restarted, and
--- what was being stored as a disk failed
+-- what is left of a node that is down, besides its disks: the clock, how often it rolled back or restarted,
+-- and what was being stored when a disk failed
 pub record DownState : Type 0 where
   pub clock : ℕ
   pub stable : OpTime
@@ -15,7 +15,7 @@ pub record DownState : Type 0 where
   pub records : List Record
   pub doubt : Option Store
 
--- as the code has it
+-- as the code stores it
 abbrev pub down_state : InMemory → DownState
 down_state left =
     record {
@@ -26,7 +26,7 @@ down_state left =
       doubt = left.doubt;
     }
 
--- the node that was this one while it was up
+-- the node that is down, from what it was while it was up
 abbrev pub down_node : Node → DownState → Node
 down_node node left =
     record (opening_node node.first node.number) {

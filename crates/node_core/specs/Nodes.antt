@@ -1,4 +1,4 @@
--- A node on its disks, as it is opened.
+-- A node on its disks, when it is opened.
 use Rattle.std.specs.Prelude.{◌≡◌, Result, Ok, Err}
 use Rattle.record_file.specs.declared.error.FileError.{FileError}
 use Rattle.record_file.specs.declared.error.FileError.TheVariants.{Disk}
@@ -13,7 +13,7 @@ abbrev pub checkpoints_after : {D : Type 0} → Result (Node × D × D) (D × D 
 checkpoints_after (Ok opened) = opened.2
 checkpoints_after (Err refused) = refused.1
 
--- what an opening answers, but for the disks that it hands back
+-- what an opening returns, apart from the disks that it hands back
 abbrev pub answer_of :
     {D : Type 0} → Result (Node × D × D) (D × D × FileError) → Result (Node × D × D) FileError
 answer_of (Ok opened) = Ok opened

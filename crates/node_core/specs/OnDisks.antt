@@ -12,22 +12,21 @@ use Rattle.node_core.specs.Down.{DownState, down_node}
 use Rattle.node_core.specs.Stands.{Stands, documents_at}
 use Rattle.node_state.specs.WellKept.{IsWellKept}
 
--- so many records stand in the journal, and the stable documents in the checkpoints, and every
--- crash leaves them
+-- the journal has this many records, the checkpoints have the stable documents, and every crash leaves them
 pub record UpOnDisks (node : Node) (count : ℕ) (journal checkpoints : State) : Type 0 where
   pub counted : count ≡ length node.records
   pub records : JournalAtRest journal node.records
   pub documents : CheckpointsAtRest checkpoints (documents_at node node.stable)
 
--- A node that finds what was in doubt can come back with it, and its documents are then those of what
--- it kept before.
+-- A node that finds the store in doubt can come back with it, and its documents are then those of what it
+-- had stored before.
 abbrev pub IsWellKeptWith : Node → Store → Type 0
 IsWellKeptWith node item =
     IsWellKept (records_after node.records item) (stable_after node.stable item)
     × (log_up_to (stable_after node.stable item) (kept (records_after node.records item)).entries
     ≡ log_up_to (stable_after node.stable item) (kept node.records).entries)
 
--- a node that is down: so many of its records are known to stand in the journal
+-- a node that is down: this many of its records are known to be in the journal
 pub record DownOnDisks (node : Node) (count : ℕ) (journal checkpoints : State) : Type 0 where
   pub counted : count ≡ length node.records
   pub stands : Stands node journal checkpoints

@@ -36,7 +36,7 @@ pub record IsKeepable (node : Node) (item : Record) : Type 0 where
   pub bounds : CanBeKept item
   pub same : documents_at (stored node (stores.Record item)) node.stable ≡ documents_at node node.stable
 
--- documents that are there and can be saved, all of whose entries are in the records
+-- documents that can be read and saved, with all their entries in the records
 pub record IsSavable (node : Node) (at : OpTime) : Type 0 where
   pub readable : IsReadable node at
   pub kept_so : docs (log_up_to at node.log) ≡ docs (log_up_to at (kept node.records).entries)
@@ -58,7 +58,7 @@ SHORT = 473
 
 -- ---- what follows from it
 
--- it stands there, or nothing has changed, or it is in doubt
+-- it is there, or nothing has changed, or it is in doubt
 pub record Puts (result : Result (Unit {0}) FileError) (node : Node) (item : Store) (count : ℕ)
     (journal checkpoints : State) : Type 0 where
   pub ok : OnOk result (UpOnDisks (stored node item) count journal checkpoints)
@@ -78,7 +78,7 @@ abbrev pub IsEnd : Turn → Type 0
 IsEnd (Finished answer sent) = ⊤
 IsEnd (Storing item then) = ⊥
 
--- what it still stores has memory
+-- memory is reserved for what it still stores
 abbrev pub NeedsRoom : Turn → ℕ → Type 0
 NeedsRoom (Finished answer sent) room = ⊤
 NeedsRoom (Storing item then) room = SHORT ≤ room
@@ -88,7 +88,7 @@ abbrev pub BeginsUnreserved : Turn → Type 0
 BeginsUnreserved (Finished answer sent) = ⊥
 BeginsUnreserved (Storing item then) = ¬ IsShortStore item
 
--- What a plan comes to at the node: all of it, or up to the store that failed. The stores are counted
+-- What a plan does at the node: all of it, or up to the store that failed. The stores are counted
 -- from here on.
 abbrev pub EndsFrom : ℕ → Plan → Node → Ended → Type 0
 EndsFrom first plan node (WithReply answer sent) =
@@ -97,7 +97,7 @@ EndsFrom first plan node (StoreFailed item number) =
     (later : ℕ) × (number ≡ first + later)
     × (done plan (Some later) ≡ refused DiskFailed (in_doubt node item)) × (reaches plan (Some later) ≡ true)
 
--- how the disks then are
+-- the state of the disks afterwards
 abbrev pub LeavesOnDisks : Ended → Node → ℕ → State → State → Type 0
 LeavesOnDisks (WithReply answer sent) node count journal checkpoints =
     UpOnDisks node count journal checkpoints
@@ -117,7 +117,7 @@ abbrev pub IsShortDoubt : Option Store → Type 0
 IsShortDoubt None = ⊥
 IsShortDoubt (Some item) = IsShortStore item
 
--- a plan that stores at most so many records, each of them short
+-- a plan that stores at most this many records, each of them short
 abbrev pub StoresFewShort : ℕ → Plan → Type 0
 StoresFewShort most (finished outcome) = ⊤
 StoresFewShort zero (storing broken rest) = ⊥

@@ -1,4 +1,4 @@
-// A node that is down opens its disks anew, learns what is there of what was in doubt, and comes
+// A node that is down opens its disks again, learns whether the store in doubt is there, and comes
 // up with that.
 ghost use Rattle.std.specs.Prelude.{◌≡◌, ◌↔◌, ◌<◌, ◌≤◌, ◌-◌, ◌^◌, [], Err, None, Some, true, false, IfOk, IfSome, OnOk, OnErr, IsErrOf, IsSome};
 ghost use Rattle.record_file.specs.Files.{spare};
@@ -32,21 +32,21 @@ use set_model::{Records, Refusal, Reply, Store};
 use std::alloc::{AllocError, Global};
 use std::thread::Threads;
 
-/// What was read of a node's disks.
+/// What was read from a node's disks.
 #[derive(Drop)]
 pub(crate) struct Found {
     pub(crate) kept: Kept,
     pub(crate) stable: Stable,
 }
 
-/// A node that can come up and takes no more memory for it.
+/// A node that can come up and needs no more memory for it.
 #[derive(Drop)]
 pub(crate) struct Prepared {
-    /// The node in memory, as it comes up.
+    /// The node in memory, when it comes up.
     pub(crate) state: State,
-    /// What it kept while it was down, with what was in doubt where that is there.
+    /// What it kept while it was down, with the store in doubt if that is there.
     pub(crate) left: DownState,
-    /// What was in doubt is there.
+    /// The store in doubt is there.
     pub(crate) kept: bool,
     /// How many records its journal has.
     pub(crate) count: u64,
@@ -102,7 +102,7 @@ pub(crate) fn come_up<D: Disk, R: Threads + Sync>(
     }
 }
 
-// Opens both disks, the journal first, and takes the memory for one short record.
+// Opens both disks, the journal first, and reserves memory for one short record.
 fn open_both<D: Disk>(disks: &mut Disks<D>) -> Result<Found, FileError>
     requires journal { IsJournalDisk (D.state disks.old.journal.0) }
     requires checkpoints { IsCheckpointDisk (D.state disks.old.checkpoints) }
@@ -127,7 +127,7 @@ fn open_both<D: Disk>(disks: &mut Disks<D>) -> Result<Found, FileError>
     Ok(Found { kept, stable })
 }
 
-// Settles what was in doubt, and takes the memory for a node that comes up with that.
+// Settles the store in doubt, and takes the memory for a node that comes up with that.
 fn prepare<R: Threads + Sync>(
     alloc: Global,
     rt: &R,
@@ -149,7 +149,7 @@ fn prepare<R: Threads + Sync>(
     restore(alloc, rt, state, settled(left, there), there, found)
 }
 
-// Whether what was in doubt is there, beside so many records.
+// Whether the store in doubt is there, after `count` records.
 fn is_there(doubt: &Option<Store>, count: u64, found: &Found) -> bool
     ensures { result ≡ is_kept doubt.now count found.now }
 {
@@ -296,7 +296,7 @@ fn go_up<D: Disk>(
     }
 }
 
-// The cut may be there or not. The opening before it is numbered 0.
+// The cut may be there or not. The opening before it has the number 0.
 fn cut_failed(alloc: Global, left: &mut DownState, prepared: Prepared, at: OpTime) -> Done
     ensures left { down_state left.new
         ≡ record (down_state prepared.left) { doubt = Some (Store.Record (Record.Cut at)) } }
@@ -323,7 +323,7 @@ fn doubting(left: DownState, at: OpTime) -> DownState
     left
 }
 
-// The node is up.
+// Marks the node as up.
 fn is_up(alloc: Global, state: &mut State, up: &mut bool, prepared: Prepared) -> Done
     ensures state { state.new.node ≡ prepared.state.node }
     ensures up { up.new ≡ true }

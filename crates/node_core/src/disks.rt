@@ -82,7 +82,7 @@ impl<D: Disk> Disks<D> {
         }
     }
 
-    /// Puts this on its disk, for the node of this state.
+    /// Puts this on its disk, for a node with this state.
     pub(crate) fn put(&mut self, item: &Store, state: &State) -> Result<(), FileError>
         requires rests { UpOnDisks state.now.node self.old.count (D.state self.old.journal.0)
             (D.state self.old.checkpoints) }
@@ -136,8 +136,7 @@ impl<D: Disk> Disks<D> {
         }
     }
 
-    /// One of them is asked to fail at its `call`-th call from now on, with a power cut where there
-    /// is a pick.
+    /// Makes one of them fail at its `call`-th call from now on, with a power cut where there is a pick.
     pub(crate) fn arm(&mut self, disk: DiskName, call: u32, pick: Option<u64>)
         ensures armed { Arms disk call pick (D.state self.old.journal.0) (D.state self.new.journal.0)
             (D.state self.old.checkpoints) (D.state self.new.checkpoints) }
@@ -149,7 +148,7 @@ impl<D: Disk> Disks<D> {
         }
     }
 
-    /// The power of both goes. The pick chooses among what may be left.
+    /// Cuts the power of both. The pick chooses what is left.
     pub(crate) fn cut_power(&mut self, pick: u64)
         ensures journal { IsCut pick (D.state self.old.journal.0) (D.state self.new.journal.0) }
         ensures checkpoints { IsCut pick (D.state self.old.checkpoints) (D.state self.new.checkpoints) }

@@ -12,7 +12,7 @@ pub struct Done {
     pub sent: Vec<Message>,
     /// The number of the store that failed in this step, counted from 0.
     pub failed: Option<u32>,
-    /// At a restart: whether what was being stored as a disk failed is there.
+    /// At a restart: whether what was being stored when a disk failed is there.
     pub kept: bool,
 }
 

@@ -43,7 +43,7 @@ use std::marker::Model;
 use std::thread::Threads;
 use version_store::VersionStore;
 
-/// A node on its two disks, up or down. Contracts see the node of `set_model`, and the two disks.
+/// A node on its two disks, up or down. Contracts see it as the node of `set_model` and the two disks.
 #[derive(Drop)]
 pub struct Node<D: Disk> {
     pub(crate) alloc: Global,
@@ -96,11 +96,11 @@ impl<D: Disk> Model for Node<D> {
 }
 
 impl<D: Disk> Node<D> {
-    /// A node as the set begins, on two empty disks: the journal's, and that of the checkpoints.
+    /// A node when the set begins, on two empty disks: the journal's, and that of the checkpoints.
     ///
     /// # Errors
-    /// `Memory`, or `Disk` where one of them failed. The disks are handed back in the same order, and on them
-    /// stands the node as the set begins, but that its journal may lack the record of its form.
+    /// `Memory`, or `Disk` where one of them failed. The disks are handed back in the same order, and have
+    /// the node as it is when the set begins, except that its journal may lack the record of its form.
     pub fn open(
         alloc: Global,
         number: u32,
@@ -142,13 +142,13 @@ impl<D: Disk> Node<D> {
         }
     }
 
-    /// Does what a command asks of this node, in a set of so many nodes, where the next message gets this
-    /// number. A store that fails is no error: it has its number in `failed`, and the node is down then
+    /// Does what a command asks of this node, in a set of `nodes` nodes, where the next message gets the
+    /// number `next`. A store that fails is no error: `failed` has its number, and the node is then down
     /// and sends nothing.
     ///
     /// # Errors
-    /// Out of memory alone. Then the node is as it was, and so are its files. Only a restart may have opened
-    /// them anew, and then they keep what they kept.
+    /// Only out of memory. Then the node is as it was, and so are its files. Only a restart may have opened
+    /// them again; they still have what they had.
     pub fn act<R: Threads + Sync>(
         &mut self,
         rt: &R,
@@ -179,12 +179,12 @@ impl<D: Disk> Node<D> {
         }
     }
 
-    /// Takes a message of the set, where the next message gets this number. A node that is down
-    /// refuses it. A store that fails is no error: it has its number in `failed`, and the node is down
-    /// then and sends nothing.
+    /// Takes a message of the set, where the next message gets the number `next`. A node that is down
+    /// refuses it. A store that fails is no error: `failed` has its number, and the node is then down
+    /// and sends nothing.
     ///
     /// # Errors
-    /// Out of memory alone. Then the node and its files are as they were.
+    /// Only out of memory. Then the node and its files are as they were.
     pub fn take<R: Threads + Sync>(&mut self, rt: &R, next: u64, message: &Message) -> Mem<Done>
         requires bounds { IsBounded self.old.0 }
         requires next { IsNumbered next }
@@ -265,7 +265,7 @@ impl<D: Disk> Node<D> {
         }
     }
 
-    // The power of both disks is cut, with the node's.
+    // Cuts the power of both disks, with the node's.
     fn crash(&mut self, pick: u64) -> Done
         ensures ok { (nodes next node : ℕ)
             → Acted (row nodes next false self.old.0 (commands.Crash node pick))
@@ -284,7 +284,7 @@ impl<D: Disk> Node<D> {
         self.answered(Reply::Down)
     }
 
-    // A node that is down opens its disks anew, and comes up with what is there.
+    // A node that is down opens its disks again, and comes up with what is there.
     fn restart<R: Threads + Sync>(&mut self, rt: &R) -> Mem<Done>
         requires bounds { IsBounded self.old.0 }
         ensures ok { (nodes next node : ℕ) → IfOk result (λ done.
@@ -320,8 +320,8 @@ impl<D: Disk> Node<D> {
         self.answered(Reply::Armed)
     }
 
-    /// Lends the documents, in 64 shards. Those of a node that is up are what its log leaves, as of each
-    /// optime that can be read.
+    /// Lends the documents, in 64 shards. Those of a node that is up are what results from its log, as of
+    /// each optime that can be read.
     pub fn store(&self) -> &VersionStore
         ensures latest { self.now.0.up ≡ true → (place : Place)
             → latest_of (versions_at result.now place) ≡ maps.get (local_documents self.now.0) place }
@@ -332,7 +332,7 @@ impl<D: Disk> Node<D> {
         self.state.store()
     }
 
-    /// Whether it is up, and not down after a crash or a failure of a disk.
+    /// Whether it is up, rather than down after a crash or a failure of a disk.
     pub fn is_up(&self) -> bool
         ensures { result ≡ self.now.0.up }
     {
@@ -340,7 +340,7 @@ impl<D: Disk> Node<D> {
         self.up
     }
 
-    /// The optimes of its last entry, or ZERO, and of its commit point; none of a node that is down.
+    /// The optimes of its last entry, or ZERO, and of its commit point; none for a node that is down.
     pub fn points(&self) -> Option<(OpTime, OpTime)>
         ensures { MatchOption result (self.now.0.up ≡ false)
             (λ points. (self.now.0.up ≡ true) × (points ≡ (last_point self.now.0, self.now.0.commit))) }
@@ -352,7 +352,7 @@ impl<D: Disk> Node<D> {
         }
     }
 
-    /// How many entries of its log stand up to its commit point; none of a node that is down.
+    /// How many entries its log has up to its commit point; 0 for a node that is down.
     pub fn committed(&mut self) -> u64
         ensures count { result ≡ (if self.old.0.up
             then length (log_up_to self.old.0.commit self.old.0.log) else 0) }

@@ -1,4 +1,4 @@
-// A turn is carried out: what it stores is put on the disks, one after another, and then it goes on.
+// A turn is carried out: what it stores is put on the disks, one after another, and then it continues.
 ghost use Rattle.std.specs.Prelude.{◌≡◌, ◌+◌, ◌≤◌, ℕ, true, false, IfOk, OnErr};
 ghost use Rattle.record_file.specs.Files.{spare};
 ghost use Rattle.set_model.specs.Deliver.{deliver};
@@ -100,7 +100,7 @@ fn carry_on<D: Disk>(state: &mut State, disks: &mut Disks<D>, turn: Turn) -> End
 }
 
 // What a turn stores can be put on the disks, and the node can come back whether it is there or not.
-// It only reads.
+// This only reads.
 fn recall_can_store(state: &State, item: &Store, then: &Continuation)
     requires ready { IsReady item.now then.now state.now }
     requires stored { CanBeStored item.now }
@@ -124,8 +124,8 @@ fn said(turn: Turn) -> Ended
     }
 }
 
-/// Does what a command asks, in memory and on the disks. The only error is out of memory, and then all is
-/// as it was.
+/// Does what a command asks, in memory and on the disks. The only error is out of memory, which leaves
+/// everything as it was.
 pub(crate) fn act_own<D: Disk, R: Threads + Sync>(
     state: &mut State,
     disks: &mut Disks<D>,
@@ -161,7 +161,8 @@ pub(crate) fn act_own<D: Disk, R: Threads + Sync>(
     carry_out(state, disks, turn)
 }
 
-/// Takes a message, in memory and on the disks. The only error is out of memory, and then all is as it was.
+/// Takes a message, in memory and on the disks. The only error is out of memory, which leaves everything
+/// as it was.
 pub(crate) fn take_in<D: Disk, R: Threads + Sync>(
     state: &mut State,
     disks: &mut Disks<D>,

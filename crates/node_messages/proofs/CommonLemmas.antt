@@ -1,4 +1,4 @@
--- What a node answers to one who asks for what comes after a commit point.
+-- How a node answers another one that asks for what comes after a commit point.
 use Rattle.std.proofs.Common.{◌≡◌, ℕ, Bool, true, false, List}
 use Rattle.rs_optime.specs.declared.optime.OpTime.{OpTime}
 use Rattle.repl_msg.specs.Logs.{log_after}

@@ -1,4 +1,4 @@
--- Fetched entries after a node's log keep it coherent.
+-- Appending fetched entries to a node's log keeps it coherent.
 use Rattle.std.proofs.Common.{◌≡◌, ◌∙◌, ◌<◌, ◌≤◌, inl, inr, ap, sym, subst, refl, arith, zero, max, Bool, true, false, List, [], ◌∷◌, ◌++◌, Option, map, fold}
 use Rattle.std.specs.List.{All, AllPairs}
 use Rattle.std.proofs.lemmas.List.Elements.{All-append, All-tail}

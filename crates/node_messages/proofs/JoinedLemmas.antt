@@ -1,4 +1,4 @@
--- A node that goes on with entries that were fetched.
+-- A node whose log is continued by fetched entries.
 use Rattle.std.proofs.Common.{◌≡◌, ◌∙◌, ◌&&◌, ap, sym, subst, refl, arith, ℕ, suc, zero, cond, Bool, true, false, take, List, [], ◌∷◌, ◌++◌, Option, None, Some, map, fold}
 use Rattle.std.specs.List.{All}
 use Rattle.std.specs.FinMap as maps

@@ -1,4 +1,4 @@
--- How a node that rolls back makes it ready, while it may still be in its own term.
+-- How a node prepares a rollback, while it may still be in its own term.
 use Rattle.std.proofs.Common.{◌≡◌, ◌∙◌, ◌⊎◌, ◌<◌, ◌-◌, ◌^◌, inl, inr, ap, sym, subst, refl, ℕ, Bool, true, false, not, cond, length, Option, None, Some, List}
 use Rattle.std.specs.Prelude.{Result, Ok, Err, OnOk, OnErr}
 use Rattle.std.specs.declared.alloc.AllocError.{AllocError}

@@ -1,4 +1,4 @@
--- What a voter's decision says of the reason against it, and what a count leaves.
+-- What a voter's decision says about the reason against it, and what a count results in.
 use Rattle.std.proofs.Common.{◌≡◌, ap, refl, ℕ, Option, None, Some, Ok, Err}
 use Rattle.std.specs.Prelude.{Result, OnOk, OnErr}
 use Rattle.election_core.specs.Counting.{Tallied, with_yes}

@@ -1,4 +1,4 @@
--- What a message that brings a higher term comes to is made ready while the node is still in its own term.
+-- The effect of a message that brings a higher term is prepared while the node is still in its own term.
 use Rattle.std.specs.Prelude.{◌≡◌, ℕ, nat_lt, Bool, true, false, List, None, if◌then◌else◌}
 use Rattle.rs_optime.specs.declared.optime.OpTime.{OpTime}
 use Rattle.repl_msg.specs.declared.message.Body.{Body}
@@ -13,25 +13,25 @@ use Rattle.node_state.specs.MessageContinuation.{message_plan}
 use Rattle.node_messages.specs.declared.preparing.InTerm.{InTerm}
 use Rattle.node_state.specs.declared.turn.MessageContinuation.{MessageContinuation}
 
--- the node as it takes a message: once it has the message's term, where that is higher
+-- the node when it takes a message: with the message's term, if that is higher
 abbrev pub taking : Bool → ℕ → Node → Node
 taking raised term node = if raised then in_new_term node term None else node
 
--- the same, where the message's term tells whether it is higher
+-- the same, where the message's term itself decides whether it is higher
 abbrev pub in_term : ℕ → Node → Node
 in_term term node = taking (nat_lt node.term term) term node
 
--- its term, its role, and how far its log is visible then
+-- the term and the role that the node then has, and how far its log is then visible
 pub record IsInTerm (own : InTerm) (message : ℕ) (node : Node) : Type 0 where
   pub term_is : own.term ≡ (in_term message node).term
   pub role_is : own.role ≡ (in_term message node).role
   pub visible_is : own.visible ≡ visible_point (in_term message node)
 
--- the same, with the room that it has
+-- the same for a node with its room
 abbrev pub view_in_term : Bool → ℕ → StateView → StateView
 view_in_term raised term standing = record standing { node = taking raised term standing.node }
 
--- at that node this comes to what the plan says, whatever is stored before
+-- at that node this does what the plan says, whatever is stored before
 abbrev pub ComesTo : MessageContinuation → Bool → ℕ → (Node → Plan) → Node → Node → Type 0
 ComesTo told raised term plan old new =
     (items : List Record) → message_plan told (taking raised term (record new { records = items }))
@@ -44,7 +44,7 @@ pub record IsPreparedFor (told : MessageContinuation) (raised : Bool) (term : �
   pub at : OpTime
   pub same : new ≡ record old { applied = at }
 
--- a message that is made ready so: once its term is taken, it needs no more memory
+-- a message that is prepared like this: once its term is taken, it needs no more memory
 abbrev pub is_prepared : Body → Bool
 is_prepared (bodies.Fetch base) = true
 is_prepared (bodies.FetchReply reply) = true

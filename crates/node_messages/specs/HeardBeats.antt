@@ -1,4 +1,4 @@
--- Heartbeats and reports, in the steps in which the code takes them.
+-- Heartbeats and reports, in the steps that the code takes.
 use Rattle.std.specs.Prelude.{ℕ, ◌==◌, Bool, true, false, not, ◌&&◌, nat_lt, Option, None, Some, if◌then◌else◌}
 use Rattle.rs_optime.specs.declared.optime.OpTime.{OpTime}
 use Rattle.member_config.specs.Config.{is_newer}
@@ -25,7 +25,7 @@ abbrev pub newer : Bool → Config → Option NewConfig
 newer true config = Some (record { journaled = config; installed = config })
 newer false config = None
 
--- what is told of a heartbeat
+-- what a heartbeat says
 abbrev pub told_of : ℕ → Beat → Bool → Option Answer → MessageContinuation
 told_of from beat installs answer =
     Heard (newer installs beat.config)
@@ -37,14 +37,14 @@ told_of from beat installs answer =
       answer = answer;
     })
 
--- the commit point once another is heard of: a node that isn't primary learns one of the term of
+-- the commit point after another one is heard of: a node that isn't primary learns one in the term of
 -- its last entry
 abbrev pub commit_learnt : Node → OpTime → OpTime
 commit_learnt node heard =
     if not (is_primary node.role) && heard.term == (last_point node).term then commit_after node heard
     else node.commit
 
--- how the node stands once it has heard one
+-- the node's state after a heartbeat
 abbrev pub beat_after : Node → Beat → Beat
 beat_after node beat =
     record {

@@ -1,4 +1,4 @@
--- Up to where a node rolls back.
+-- The point to which a node rolls back.
 use Rattle.std.specs.Prelude.{◌+◌, List, Option, None, Some, Result, Ok, Err}
 use Rattle.bson_doc.specs.Place.{Place}
 use Rattle.bson_doc.specs.Tree.{Fields}
@@ -13,7 +13,7 @@ abbrev pub point_or : Option Ignored → OpTime → Result OpTime Ignored
 point_or (Some why) point = Err why
 point_or None point = Ok point
 
--- A node whose log is applied up to a point. A primary's documents go on to the end of its log.
+-- A node whose log is applied up to a point. A primary's documents extend to the end of its log.
 abbrev pub reached : Node → OpTime → Node
 reached node point = record node {
   applied = if_primary node.role node.applied (later_of node.applied (last_of (log_up_to point node.log)));

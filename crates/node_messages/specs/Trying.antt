@@ -5,7 +5,7 @@ use Rattle.member_config.specs.Voters.{majority}
 use Rattle.set_model.specs.Node.{DryTally}
 use Rattle.set_model.specs.Votes.{with_vote}
 
--- it asked in the term for which it is answered, and is still in that term
+-- it asked in the term that the answer is for, and is still in that term
 abbrev pub is_trying : Option DryTally → ℕ → ℕ → Bool
 is_trying None asked term = false
 is_trying (Some tally) asked term = tally.term == asked && asked == term

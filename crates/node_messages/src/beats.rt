@@ -1,4 +1,4 @@
-// Heartbeats, as they are heard.
+// Heartbeats, as they arrive.
 ghost use Rattle.std.specs.Prelude.{◌≡◌, ◌<◌, ◌∷◌, [], nat_lt, None, if◌then◌else◌, IfOk};
 ghost use Rattle.member_config.specs.Rule.{rule};
 ghost use Rattle.repl_msg.specs.declared.message.Body.TheVariants as bodies;
@@ -72,7 +72,7 @@ pub(crate) fn prepare_answer(
     Ok(told)
 }
 
-/// What the heartbeat tells, with its configuration where the node will install it in this role.
+/// What the heartbeat says, with its configuration if the node will install it in this role.
 fn heard_of(
     state: &State,
     from: u32,
@@ -148,8 +148,9 @@ fn config_after(state: &State, beat: &Beat, role: Role) -> Mem<Config>
     state.config.copy()
 }
 
-/// The commit point of a node in this role once a heartbeat is taken: one that isn't primary learns the
-/// sender's, as far as its own log is durable, if that is of the term of its own last entry.
+/// The commit point of a node in this role once a heartbeat is taken. A node that isn't primary learns
+/// the sender's commit point, as far as its own log is durable, if that point is in the term of its
+/// own last entry.
 fn commit_after(state: &State, heard: OpTime, role: Role) -> OpTime
     ensures { result ≡ commit_learnt (record state.now.node { role = role }) heard }
 {
@@ -183,7 +184,7 @@ pub(crate) fn hear(state: &mut State, newer: Option<NewConfig>, hearing: HeardBe
     }
 }
 
-/// Goes on once the newer configuration is in the journal: installs it, and takes the heartbeat.
+/// Continues once the newer configuration is in the journal: installs it, and takes the heartbeat.
 pub fn go_on_installed(state: &mut State, item: &Store, config: Config, hearing: HeardBeat) -> Turn
     requires ready { IsInstall item.now config state.old }
     ensures turn { Means result state.new.node
@@ -194,7 +195,7 @@ pub fn go_on_installed(state: &mut State, item: &Store, config: Config, hearing:
     heard(state, hearing)
 }
 
-/// A candidate that hears a primary is a secondary, and its votes are forgotten.
+/// A candidate that hears from a primary becomes a secondary, and its votes are forgotten.
 fn give_way(state: &mut State, hearing: &HeardBeat)
     ensures node { state.new.node ≡ beats.given_way state.old.node (beat_in hearing.now state.old.node) }
     ensures places { state.new.places ≡ state.old.places }
@@ -205,7 +206,7 @@ fn give_way(state: &mut State, hearing: &HeardBeat)
     }
 }
 
-/// Notes what the heartbeat tells of its sender, learns its commit point, and sends the answer if
+/// Notes what the heartbeat says about its sender, learns its commit point, and sends the answer if
 /// there is one.
 fn heard(state: &mut State, hearing: HeardBeat) -> Turn
     requires place { 0 < state.old.places }

@@ -124,7 +124,7 @@ fn take_known<R: Threads + Sync>(
     }
 }
 
-/// Takes a message whose term isn't higher. Nothing runs out of memory once it is prepared.
+/// Takes a message whose term isn't higher. Once it is prepared, nothing runs out of memory.
 fn take_prepared<R: Threads + Sync>(
     state: &mut State,
     rt: &R,
@@ -145,7 +145,7 @@ fn take_prepared<R: Threads + Sync>(
     Ok(tell(state, told))
 }
 
-/// Goes on once the message's term is in the journal: enters it, and takes the message.
+/// Continues once the message's term is in the journal: enters it, and takes the message.
 pub fn go_on_term(state: &mut State, item: &Store, term: u64, told: MessageContinuation) -> Turn
     requires ready { IsTerm item.now term told state.old }
     ensures turn { Means result state.new.node
@@ -156,7 +156,7 @@ pub fn go_on_term(state: &mut State, item: &Store, term: u64, told: MessageConti
     tell(state, told)
 }
 
-/// Takes a message whose term the node has. Takes no memory.
+/// Takes a message whose term the node has. This needs no memory.
 pub(crate) fn tell(state: &mut State, told: MessageContinuation) -> Turn
     requires ready { IsReadyMessage told state.old }
     ensures turn { Means result state.new.node (message_plan told state.old.node) }

@@ -1,4 +1,4 @@
-// Entries that were fetched, as they arrive.
+// Fetched entries, as they arrive.
 ghost use Rattle.std.specs.Prelude.{◌≡◌, ◌<◌, ◌≤◌, ◌-◌, nat_lt, fold, length, map, true, IfOk, OnOk, OnErr};
 ghost use Rattle.repl_msg.specs.Fetching.{continues};
 ghost use Rattle.oplog_store.specs.Unjournaled.{with_optime};
@@ -116,7 +116,7 @@ fn learn_from(state: &mut State, from: u32, visible: OpTime, commit: OpTime, pri
     state.known.set(from, visible, primary);
 }
 
-/// Its entries are written after the log.
+/// Appends the answer's entries to the log.
 fn append(state: &mut State, reply: FetchReply)
     requires fetched { CanTakeEntries state.old.node state.old.node.term reply }
     requires room { length reply.entries ≤ state.old.spare }

@@ -1,7 +1,7 @@
-//! What a node in memory does with a message that arrives: `take` begins its turn. What is called `go_on_..`
-//! goes on with a turn once that which it stores is on disk.
+//! What a node in memory does with a message that arrives: `take` begins its turn. A function called
+//! `go_on_..` continues a turn once what it stores is on disk.
 //!
-//! A file has the name of the definitions in set_model that it does.
+//! A file has the name of the definitions in set_model that it implements.
 #![tactic(auto)]
 
 mod beats;

@@ -1,4 +1,4 @@
-// What a message comes to, made ready before anything is stored: only here may memory run out.
+// The effect of a message, prepared before anything is stored: only here may memory run out.
 ghost use Rattle.std.specs.Prelude.{◌≡◌, ◌<◌, nat_lt, true, IfOk, OnErr, OnOk};
 ghost use Rattle.set_model.specs.Deliver as delivered;
 ghost use Rattle.set_model.specs.Fetching.{fetch_told};

@@ -27,7 +27,7 @@ use set_model::{Ignored, LostList, Refusal, Reply, Role, Store};
 use std::alloc::Global;
 use std::thread::Threads;
 
-/// The most optimes that are told at once.
+/// The most optimes in one answer.
 const MOST_OPTIMES: usize = 20_000;
 
 /// Lost documents, each by its place.
@@ -120,7 +120,7 @@ pub(crate) fn prepare_common_told<R: Threads + Sync>(
     })
 }
 
-/// Up to where the node rolls back, or why it doesn't.
+/// The point to which the node rolls back, or why it doesn't.
 fn rollback_point(
     state: &mut State,
     term: u64,
@@ -150,7 +150,7 @@ fn rollback_point(
     }
 }
 
-/// The documents that the entries after a point touched, as they stand.
+/// The documents that the entries after a point touched, as they are now.
 fn lost_after(state: &mut State, point: OpTime) -> Mem<LostList>
     ensures lost { IfOk result (λ lost.
         lost ≡ rows.lost_documents (local_documents state.old.node) (log_after point state.old.node.log)) }
@@ -187,7 +187,7 @@ pub(crate) fn roll_back(state: &mut State, point: OpTime, removed: u64, lost: Lo
     }
 }
 
-/// Goes on once the record of a rollback is in the journal: cuts the log after `point`, and replies.
+/// Continues once the record of a rollback is in the journal: cuts the log after `point`, and replies.
 pub fn go_on_cut(
     state: &mut State,
     item: &Store,
@@ -205,7 +205,7 @@ pub fn go_on_cut(
     state.answered(Reply::RolledBack { to: point, removed })
 }
 
-/// The log is cut after the point, and the record of that stands.
+/// Cuts the log after the point. The record of that is in the journal.
 fn cut_log(state: &mut State, item: &Store, point: OpTime, lost: LostList)
     requires item { item.now ≡ cut_record point }
     requires ready { IsCut point state.old.node }

@@ -1,4 +1,4 @@
-// Votes: what a node answers one who asks, and how it counts the answers.
+// Votes: how a node answers a request for its vote, and how it counts the answers to its own.
 ghost use Rattle.std.specs.Prelude.{◌≡◌, ◌^◌, ◌<◌, ◌∷◌, [], IfOk, IfSome, OnErr};
 ghost use Rattle.repl_msg.specs.declared.message.Body.TheVariants as bodies;
 ghost use Rattle.set_model.specs.Deliver.{vote_reply_told};
@@ -17,7 +17,7 @@ use node_state::{Continuation, State, Turn, vote_record};
 use repl_msg::{Body, Message, VoteAsk, VoteRefusal};
 use set_model::{Reply, Store};
 
-/// Whom the vote is for, unless there is a reason against it.
+/// The candidate that gets the vote, unless there is a reason against it.
 fn vote_for(from: u32, why: Option<VoteRefusal>) -> Option<u32>
     requires from { from < 50 }
     ensures vote { result ≡ votes.vote_for from why }
@@ -91,7 +91,7 @@ fn vote_refusal(state: &State, from: u32, ask: &VoteAsk) -> Option<VoteRefusal>
     }
 }
 
-/// The answer to one who asks, of a term.
+/// The answer to a request for a vote, in a term.
 fn vote_reply(
     state: &State,
     term: u64,
@@ -116,7 +116,7 @@ fn vote_reply(
     Ok(sent)
 }
 
-/// Goes on once the higher term with its vote is in the journal: enters it, and answers the candidate.
+/// Continues once the higher term with its vote is in the journal: enters it, and answers the candidate.
 pub fn go_on_vote_in_term(
     state: &mut State,
     item: &Store,
@@ -138,7 +138,7 @@ pub fn go_on_vote_in_term(
     }
 }
 
-/// Goes on once the vote is in the journal, and answers the candidate.
+/// Continues once the vote is in the journal, and answers the candidate.
 pub fn go_on_vote_given(
     state: &mut State,
     item: &Store,

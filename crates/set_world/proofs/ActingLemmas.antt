@@ -1,4 +1,4 @@
--- What a node came to is the model's step of the event.
+-- What a node did is the model's step of the event.
 use Rattle.std.proofs.Common.{◌≡◌, ◌∙◌, ap, sym, subst, refl, append-nil, is_none, ℕ, true, false, not, ◌&&◌, ◌||◌, Option, None, Some, Result, Ok, Err, length, List, [], ◌++◌, slice_get, slice_set}
 use Rattle.std.specs.Prelude.{IfOk, OnErr, option_and_then}
 use Rattle.std.specs.declared.alloc.AllocError.{AllocError}

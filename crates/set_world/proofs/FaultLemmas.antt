@@ -1,4 +1,4 @@
--- No row refuses with `DiskFailed` of itself: that is the answer to a store that failed, and to nothing else.
+-- No row itself refuses with `DiskFailed`: that is the answer to a store that failed, and to nothing else.
 use Rattle.std.proofs.Common.{◌≡◌, ◌∙◌, ap, sym, refl, ℕ, Bool, true, false, not, ◌&&◌, nat_lt, nat_le, length, ◌==◌, ◌+◌, Option, None, Some, if◌then◌else◌, Result, Ok, Err, List, [], ◌∷◌, slice_get}
 use Rattle.std.specs.Prelude.{IfSome, IsSome, is_some, option_and_then}
 use Rattle.std.specs.FinMap as maps

@@ -1,4 +1,4 @@
--- The set as it begins: its configuration's members, and its nodes, one after another.
+-- The set when it begins: its configuration's members, and its nodes, one after another.
 use Rattle.std.proofs.Common.{◌≡◌, ◌∙◌, ◌+◌, ◌≤◌, slice_get, None, Some, ap, sym, subst, refl, arith, ℕ, zero, suc, List, [], ◌∷◌, ◌++◌}
 use Rattle.member_config.specs.declared.config.Config.{Config}
 use Rattle.member_config.specs.declared.config.Member.{Member}

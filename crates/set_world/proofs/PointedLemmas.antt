@@ -1,4 +1,4 @@
--- How the numbers of committed entries rise with a run.
+-- How the counts of committed entries rise with a run.
 use Rattle.std.proofs.Common.{◌≡◌, ◌≢◌, ◌⊎◌, inl, inr, ◌∙◌, ◌≤◌, ◌<◌, ◌+◌, ap, sym, subst, refl, arith, ℕ, zero, suc, Option, None, Some, length, fold, List, [], ◌∷◌, ◌++◌, slice_get, slice_set}
 use Rattle.std.specs.Prelude.{All, max, slice_index, slice_index_or}
 use Rattle.std.specs.Option.{option_map_or}

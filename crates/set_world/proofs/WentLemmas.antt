@@ -1,4 +1,4 @@
--- How the disks of a set go on, event by event.
+-- How the disks of a set change, event by event.
 use Rattle.std.proofs.Common.{◌≡◌, ◌∙◌, ap, sym, subst, refl, append_assoc, ℕ, Bool, true, false, List, [], ◌∷◌, ◌++◌, fold, length}
 use Rattle.std.specs.Prelude.{IfOk, OnErr, OnOk, Result, Ok, Err}
 use Rattle.std.proofs.lemmas.List.{append-nil}

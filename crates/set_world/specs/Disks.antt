@@ -20,7 +20,7 @@ use Rattle.set_world.specs.World.{Set}
 
 -- ---- the two disks of one node
 
--- Of all disks only the two of this node changed, and so.
+-- Of all disks only the two of this node changed, and in this way.
 pub record OneChanged {D : Type 0} (state : D → State) (Changed : State → State → State → State → Type 0)
     (number : ℕ) (old new : List D) : Type 0 where
   pub journal : D
@@ -32,14 +32,14 @@ pub record OneChanged {D : Type 0} (state : D → State) (Changed : State → St
   pub disks : new ≡ slice_set (slice_set old (2 * number) journal') (2 * number + 1) checkpoints'
   pub changed : Changed (state journal) (state journal') (state checkpoints) (state checkpoints')
 
--- What an event does with this task, by the node that it touches. Where no such message was sent no node is
--- touched: no store fails then, and the list is as it was.
+-- What an event does with this task, by the node that it touches. Where no such message was sent, no node is
+-- touched: then no store fails, and the list is as it was.
 abbrev pub AtTouchedNode : {A : Type 0} → Task → Option ℕ → List A → List A → (ℕ → Type 0) → Type 0
 AtTouchedNode (acts number) failed old new At = At number
 AtTouchedNode (takes message) failed old new At = At message.to
 AtTouchedNode nothing failed old new At = (failed ≡ None) × (new ≡ old)
 
--- on the two disks of a node of this number stands what the node is
+-- the two disks of the node with this number have what the node is
 pub record StandsAtNumber {D : Type 0} (state : D → State) (number : ℕ) (node : Node)
     (disks : List D) : Type 0 where
   pub journal : D
@@ -48,7 +48,7 @@ pub record StandsAtNumber {D : Type 0} (state : D → State) (number : ℕ) (nod
   pub checkpoints_at : slice_get disks (2 * number + 1) ≡ Some checkpoints
   pub stands : Stands node (state journal) (state checkpoints)
 
--- on the disks of each node stands what it is in the last world
+-- the disks of each node have what the node is in the last world
 abbrev pub AllStand : {D : Type 0} → (D → State) → Set D → Type 0
 AllStand state set =
     (number : ℕ) (node : Node) → slice_get (run set.sizes set.history).world.nodes number ≡ Some node
@@ -70,8 +70,8 @@ DisksStep state world event old new =
     AtTouchedNode (task world event.command) event.failed old new
     (λ number. OneChanged state (DisksTouched world event) number old new)
 
--- One more event stands in the history, of this line and command. It is answered as the model says, and the
--- disks are as it leaves them.
+-- The history has one more event, of this line and command. It is answered as the model says, and the disks
+-- are as it leaves them.
 pub record IsStep {D : Type 0} (state : D → State) (old new : Set D) (line : ℕ) (command : Command)
     (reply : Reply) : Type 0 where
   pub event : Event
@@ -82,7 +82,7 @@ pub record IsStep {D : Type 0} (state : D → State) (old new : Set D) (line : �
   pub disks : DisksStep state (run old.sizes old.history).world event old.disks new.disks
 
 -- A command that wasn't done used at most the disks of the node that it would have touched, and leaves them
--- as such a command does.
+-- as a command that isn't done does.
 abbrev pub DisksUndone : {D : Type 0} → (D → State) → World → Command → List D → List D → Type 0
 DisksUndone state world command old new =
     (new ≡ old)
@@ -96,7 +96,7 @@ pub record NothingDone {D : Type 0} (state : D → State) (old new : Set D) (com
 
 -- ---- two disks on which a node is opened
 
--- The first two disks of a list became these by an opening that ended so, and the rest stays.
+-- The first two disks of a list became these by an opening that ended this way, and the rest stays.
 pub record TwoDisksRan {D : Type 0} (state : D → State) (ended : Result (Unit {0}) FileError) (old : List D)
     (journal' checkpoints' : D) (rest : List D) : Type 0 where
   pub journal : D
@@ -106,7 +106,7 @@ pub record TwoDisksRan {D : Type 0} (state : D → State) (ended : Result (Unit 
   pub runs : RunsWithoutOrders (HasFailed ended) (state journal) (state journal') (state checkpoints)
       (state checkpoints')
 
--- They stand in their places again, and on them stands this node.
+-- They are in their places again, and have this node on them.
 pub record TwoDisksReturned {D : Type 0} (state : D → State) (node : Node)
     (ended : Result (Unit {0}) FileError) (old new : List D) : Type 0 where
   pub journal' : D
@@ -118,14 +118,14 @@ pub record TwoDisksReturned {D : Type 0} (state : D → State) (node : Node)
 
 -- ---- the opening of a set
 
--- a disk that was used: no order was given to it
+-- a disk that was used: it was given no order
 pub record WasUsed (old new : State) : Type 0 where
   pub faults : old.faults ≤ new.faults
   pub steady : IsTrue old.is_steady → IsTrue new.is_steady
   pub armed : IsTrue new.is_armed → IsTrue old.is_armed
   pub orders : new.orders ≡ old.orders
 
--- on the disks of each of so many nodes stands what it is as a set with this configuration begins, but that
+-- the disks of each of this many nodes have what it is when a set with this configuration begins, except that
 -- its journal may lack the record of its form
 abbrev pub AllBegin : {D : Type 0} → (D → State) → Config → ℕ → List D → Type 0
 AllBegin state config count disks =
@@ -138,7 +138,7 @@ OneFaultCounted {D} state first old new =
     × (slice_get new place ≡ Some after)
     × CountRose (state before).faults (state after).faults
 
--- the two disks of a node of this number, before and after its opening, which ended so
+-- the two disks of the node with this number, before and after its opening, which ended this way
 pub record OpenedAt {D : Type 0} (state : D → State) (ended : Result (Unit {0}) FileError) (number : ℕ)
     (old new : List D) : Type 0 where
   pub journal : D
@@ -156,7 +156,7 @@ abbrev pub AllOpened : {D : Type 0} → (D → State) → ℕ → List D → Lis
 AllOpened state count old new = (number : ℕ) → number < count → OpenedAt state (Ok tt) number old new
 
 -- The nodes were opened in order of number. Where that ended in an error, memory ran out before the first
--- opening, or all nodes below one were opened, and at this one the error came: the disks after its own are
+-- opening, or all nodes below one were opened and the error came at that one: the disks after its own are
 -- as they were.
 abbrev pub OpenedInTurn : {D : Type 0} → (D → State) → ℕ → Result (Unit {0}) FileError → List D → List D
     → Type 0

@@ -1,4 +1,4 @@
--- What a step tells whoever takes it, alone or in turns with others.
+-- What a step says to its caller, who steps the set alone or in turns with others.
 use Rattle.std.specs.Prelude.{◌≡◌, ℕ, Bool, true, List, [], ◌∷◌, ◌++◌}
 use Rattle.set_model.specs.declared.command.Command.{Command}
 use Rattle.set_model.specs.declared.command.Event.{Event}
@@ -7,7 +7,7 @@ use Rattle.set_model.specs.Limits.{IsRun}
 use Rattle.set_model.specs.Run.{Sizes, AreSizes, run}
 use Rattle.set_model.specs.World.{step}
 
--- the events are a run of a set of these sizes, and it is defined
+-- the events are a run of a set of these sizes, and the run is defined
 pub record IsDefined (sizes : Sizes) (events : List Event) : Type 0 where
   pub sizes_are : AreSizes sizes
   pub run : IsRun sizes events
@@ -18,7 +18,8 @@ pub record Learns (alone : Bool) (old new : List Event) : Type 0 where
   pub new_is : new ≡ old ++ others
   pub none : alone ≡ true → others ≡ []
 
--- One event of this line and command comes last, after those that it met. The reply is that of the event.
+-- One event of this line and command comes last, after those that were there when it came. The reply is that
+-- of the event.
 pub record StepsOnce (alone : Bool) (sizes : Sizes) (old new : List Event) (line : ℕ) (command : Command)
     (reply : Reply) : Type 0 where
   pub met : List Event
@@ -29,7 +30,7 @@ pub record StepsOnce (alone : Bool) (sizes : Sizes) (old new : List Event) (line
   pub new_is : new ≡ met ++ event ∷ []
   pub reply_is : reply ≡ (step (run sizes met).world event).reply
 
--- The last event is one of its own, and it added no other.
+-- The last event is its own, and it added no other.
 pub record AddsOne (known own own' : List Event) : Type 0 where
   pub earlier : List Event
   pub event : Event

@@ -1,4 +1,4 @@
--- The set as it stands, the events that led there, and its disks.
+-- The current set, the events that led there, and its disks.
 use Rattle.std.specs.Prelude.{Bool, ◌≡◌, ◌≤◌, ◌+◌, ◌*◌, ℕ, Vec, vec_len, vec_capacity, true, not, ◌||◌, List, [], ◌∷◌, ◌++◌, length, map}
 use Rattle.std.specs.declared.alloc.Global.{Global}
 use Rattle.set_model.specs.declared.command.Command.{Command}
@@ -14,7 +14,7 @@ use Rattle.set_world.specs.Pool.{Pool}
 pub record Set (D : Type 0) : Type 0 where
   pub sizes : Sizes
   pub history : List Event
-  -- those of the nodes, each its journal and then its checkpoints, and then those without a node
+  -- those of the nodes, for each its journal and then its checkpoints, followed by those without a node
   pub disks : List D
   -- the same, as the opening left them
   pub opened : List D
@@ -28,7 +28,7 @@ abbrev pub disks_in : {D : Type 0} → List (Node × D × D) → List D
 disks_in [] = []
 disks_in (node ∷ nodes) = node.1 ∷ node.2 ∷ disks_in nodes
 
--- The history is a run that is defined, and the nodes and messages are those of its last world.
+-- The history is a defined run, and the nodes and messages are those of its last world.
 pub record IsReached (sizes : Sizes) (history : List Event) (nodes : List Node)
     (messages : List Message) : Type 0 where
   pub sizes_are : AreSizes sizes
@@ -38,11 +38,11 @@ pub record IsReached (sizes : Sizes) (history : List Event) (nodes : List Node)
 
 -- ---- one step
 
--- the event of a line, with what its node came to
+-- the event of a line, with what its node did
 abbrev pub event_of : ℕ → Command → Done → Event
 event_of line command done = record { line = line; command = command; failed = done.failed; kept = done.kept }
 
--- what a command came to is the model's step of its event, which fits
+-- what a command did is the model's step of its event, which fits
 pub record Acts (world : World) (command : Command) (nodes : List Node) (done : Done) : Type 0 where
   pub stepped : (line : ℕ) → step world (event_of line command done)
       ≡ record {
@@ -52,11 +52,11 @@ pub record Acts (world : World) (command : Command) (nodes : List Node) (done : 
   pub reached : (line : ℕ) → plan_reaches (event_plan world (event_of line command done)) done.failed ≡ true
   pub settled : (line : ℕ) → (not done.kept || settles_doubt world (event_of line command done)) ≡ true
 
--- a set as it stands: its history leads there, and its pool is between its nodes
+-- a current set: its history leads there, and its pool is between its nodes
 pub record IsStanding (sizes : Sizes) (history : List Event) (nodes : List Node) (pool : Pool) : Type 0 where
   pub reached : IsReached sizes history nodes pool.messages
   pub size : pool.nodes ≡ sizes.nodes
 
--- there is room for the two disks of each node, in front of those without a node
+-- there is room for the two disks of each node, before those without a node
 abbrev pub CanTakeBack : {D : Type 0} → ℕ → Vec D Global → Type 0
 CanTakeBack nodes idle = 2 * nodes + vec_len idle ≤ vec_capacity idle

@@ -19,8 +19,8 @@ use set_model::{Command, Refusal, Reply};
 use std::alloc::Global;
 use std::thread::Threads;
 
-/// Does a command: its node does it, or the receiver takes the message that it delivers. Out of memory leaves
-/// that node as it was.
+/// Does a command: its node does it, or the receiver takes the message that is delivered. Out of memory
+/// leaves that node as it was.
 pub(crate) fn act<D: Disk, R: Threads + Sync>(
     nodes: &mut [Node<D>],
     alloc: Global,

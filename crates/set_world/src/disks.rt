@@ -1,4 +1,4 @@
-// Disks for a set that is to be gone when the program ends.
+// Disks for a set that is gone when the program ends.
 ghost use Rattle.std.specs.Prelude.{◌≡◌, All, vec_len, IfOk};
 ghost use Rattle.rs_disk.specs.File.{IsEmpty};
 ghost use Rattle.rs_disk.specs.Memory.{state_of};
@@ -7,10 +7,10 @@ use bson_doc::Mem;
 use rs_disk::MemDisk;
 use std::alloc::Global;
 
-/// How many disks a set is given.
+/// How many disks a set needs.
 const DISKS: usize = 100;
 
-/// As many empty disks in memory as a set is given.
+/// As many empty disks in memory as a set needs.
 pub fn empty_disks(alloc: Global) -> Mem<Vec<MemDisk>>
     ensures len { IfOk result (λ disks. vec_len disks ≡ 100) }
     ensures empty { IfOk result (λ disks.

@@ -1,7 +1,7 @@
 //! A replica set: its nodes on their disks, every message that was sent, and the events that led there.
 //!
 //! `World::open` makes a set on empty disks, `step` does one command after another, and `close` hands back
-//! the history and the disks. What the nodes and the messages are is what the events of the history make of
+//! the history and the disks. The nodes and the messages are always what the events of the history make of
 //! the opening set.
 #![tactic(auto)]
 

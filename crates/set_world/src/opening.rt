@@ -17,7 +17,7 @@ use record_file::FileError;
 use rs_disk::Disk;
 use std::alloc::Global;
 
-/// Puts the disks of some nodes in front of others, which have room for them.
+/// Puts the disks of some nodes before other disks, which have room for them.
 pub(crate) fn give_back<D: Disk>(nodes: Vec<Node<D>>, disks: &mut Vec<D>)
     requires room { CanTakeBack (vec_len nodes) disks.old }
     ensures items { disks.new.items ≡ disks_in nodes.items ++ disks.old.items }
@@ -44,8 +44,9 @@ fn put_first<D: Disk>(disks: &mut Vec<D>, disk: D)
     }
 }
 
-/// Opens nodes on the first disks, two for each. Where one can't be opened, all disks stand in their places
-/// again, and on them stand the nodes as the set begins, but that a journal may lack the record of its form.
+/// Opens nodes on the first disks, two for each. Where one can't be opened, all disks are in their places
+/// again, and have the nodes as they are when the set begins, except that a journal may lack the record
+/// of its form.
 pub(crate) fn open_nodes<D: Disk>(
     alloc: Global,
     count: u32,
@@ -78,7 +79,7 @@ pub(crate) fn open_nodes<D: Disk>(
     Ok(nodes)
 }
 
-/// Opens a node on the first two disks. Where it can't be opened, they stand in their places again.
+/// Opens a node on the first two disks. Where it can't be opened, they are in their places again.
 fn open_next<D: Disk>(
     alloc: Global,
     number: u32,
@@ -111,7 +112,7 @@ fn open_next<D: Disk>(
     }
 }
 
-/// Puts a node after others, which have room for it.
+/// Appends a node to others, for which there is room.
 fn keep<D: Disk>(nodes: &mut Vec<Node<D>>, node: Node<D>)
     requires room { vec_len nodes.old < vec_capacity nodes.old }
     ensures items { nodes.new.items ≡ nodes.old.items ++ node ∷ [] }
@@ -124,7 +125,7 @@ fn keep<D: Disk>(nodes: &mut Vec<Node<D>>, node: Node<D>)
     }
 }
 
-/// The configuration that a set with so many members begins with, of whom so many vote.
+/// The configuration that a set with `members` members begins with, of whom the first `voters` vote.
 pub(crate) fn first_config(alloc: Global, voters: u32, members: u32) -> Mem<Config>
     requires { members ≤ 50 }
     ensures { IfOk result (λ config. config ≡ begins_with voters members) }
@@ -141,7 +142,7 @@ pub(crate) fn first_config(alloc: Global, voters: u32, members: u32) -> Mem<Conf
     })
 }
 
-/// A member as a set begins where so many vote: those vote, with priority 1, and no other can be elected.
+/// A member when a set begins with `voters` voters: those vote, with priority 1, and no other can be elected.
 fn first_member(voters: u32, number: u32) -> Member
     ensures { result ≡ first_member voters number }
 {

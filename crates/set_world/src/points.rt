@@ -20,7 +20,7 @@ use std::alloc::Global;
 use std::marker::Model;
 use std::thread::Threads;
 
-/// A number for each node: the most entries that it has had committed in any world so far.
+/// A count for each node: the most entries that it has had committed in any world so far.
 #[derive(Drop)]
 pub(crate) struct Points {
     numbers: Vec<u64>,
@@ -35,7 +35,7 @@ impl Model for Points {
 }
 
 impl Points {
-    /// 0 for each of so many nodes.
+    /// 0 for each of `nodes` nodes.
     pub(crate) fn new(alloc: Global, nodes: u32) -> Mem<Self>
         ensures size { IfOk result (λ points. length points ≡ nodes) }
         ensures zeros { IfOk result (λ points. All (λ number. number ≡ 0) points) }
@@ -45,7 +45,7 @@ impl Points {
         Ok(Points { numbers })
     }
 
-    /// The number of a node; 0 of what isn't a node.
+    /// The count of a node; 0 if there is no such node.
     pub(crate) fn of(&self, node: u32) -> u64
         ensures { result ≡ slice_index self.now node }
     {
@@ -55,7 +55,7 @@ impl Points {
         }
     }
 
-    /// The number of a node is raised to what it has committed.
+    /// Raises the count of a node to what it has committed.
     fn raise<D: Disk>(&mut self, nodes: &mut [Node<D>], node: u32)
         requires size { length self.old ≡ length nodes.old }
         requires known { node < length nodes.old }
@@ -68,7 +68,7 @@ impl Points {
     }
 }
 
-/// The number at a place is raised to another one.
+/// Raises the count at a place to another one, if that is greater.
 fn lift(numbers: &mut Vec<u64>, place: usize, count: u64)
     requires { place < length numbers.old.items }
     ensures size { length numbers.new.items ≡ length numbers.old.items }
@@ -100,7 +100,7 @@ pub(crate) fn touched(pool: &Pool, command: &Command) -> u32
     }
 }
 
-/// What a command comes to, as `acting::act` says. The number of the node that it touches is raised.
+/// What a command does, as `acting::act` says. The count of the node that it touches is raised.
 pub(crate) fn act<D: Disk, R: Threads + Sync>(
     nodes: &mut [Node<D>],
     points: &mut Points,

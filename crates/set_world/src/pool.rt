@@ -8,12 +8,12 @@ use std::alloc::Global;
 use std::collections::HashMap;
 use std::marker::Model;
 
-/// All messages that were sent. The newest from one node to another is found without going over them.
+/// All messages that were sent. The newest from one node to another is found without a search.
 #[derive(Drop)]
 pub(crate) struct Pool {
     nodes: u32,
     messages: Vec<Message>,
-    /// Where the newest from one node to another stands, if there is one.
+    /// Where the newest from one node to another is, if there is one.
     newest: HashMap<(u32, u32), usize>,
 }
 
@@ -40,7 +40,7 @@ impl Model for Pool {
 }
 
 impl Pool {
-    /// No message, between so many nodes.
+    /// No message, between `nodes` nodes.
     pub(crate) fn new(alloc: Global, nodes: u32) -> Self
         ensures nodes { result.nodes ≡ nodes }
         ensures messages { result.messages ≡ [] }

@@ -11,7 +11,7 @@ use set_model::{Command, Reply};
 use std::sync::Wait;
 use std::thread::Threads;
 
-/// Whoever steps a set: the set itself, or one of several that take turns.
+/// Something that steps a set: the set itself, or one of several that take turns.
 pub trait Stepper {
     ghost use Rattle.std.specs.Prelude.{◌≢◌, Bool, Err, List};
     ghost use Rattle.set_model.specs.declared.command.Event.{Event};
@@ -29,13 +29,13 @@ pub trait Stepper {
     // Whether no one else steps the set.
     ghost is_alone: { Bool };
 
-    // How a step leaves what isn't known, beside the sizes.
+    // How a step leaves what isn't known, apart from the sizes.
     ghost stays: { Self → Self → Type 0 };
 
-    // No step has run out of memory while it used disks, as far as this can be told.
+    // No step has run out of memory while it used disks, as far as this is known.
     ghost is_whole: { Self → Type 0 };
 
-    /// Does one command, whose event gets this line, and gives the event's reply.
+    /// Does one command, whose event gets this line, and returns the event's reply.
     ///
     /// # Errors
     /// Those of `World::step`. No event of this command is added.
@@ -45,7 +45,7 @@ pub trait Stepper {
         line: u32,
         command: &Command,
     ) -> Result<Reply, StepError>
-        // The proof of an `impl` isn't told of the bound `Sync`.
+        // The proof of an `impl` doesn't know of the bound `Sync`.
         requires sync { IsSync R.row }
         requires command { is_for (sizes self.old).nodes command.now ≡ true }
         ensures step { IfOk result (λ reply.
@@ -59,7 +59,7 @@ pub trait Stepper {
         ensures whole { is_whole self.old → result ≢ Err AStepError.Memory → is_whole self.new }
         ensures defined { IsDefined (sizes self.new) (known self.new) };
 
-    // Two steps leave it so.
+    // The same holds for two steps.
     ghost stays_on: { (one two three : Self) → stays one two → stays two three → stays one three };
 }
 

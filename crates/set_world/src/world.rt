@@ -30,7 +30,7 @@ use std::thread::Threads;
 /// A history has at most this many events.
 const MOST_EVENTS: usize = 4_294_967_295;
 
-/// No event sends more messages.
+/// The most messages that one event sends.
 const MOST_SENT: usize = 7;
 
 /// A replica set: its nodes on their disks, every message that was sent, and the events that led there.
@@ -50,7 +50,7 @@ pub struct World<D: Disk> {
     idle: Vec<D>,
     /// No step has run out of memory while it used its node's disks.
     whole: bool,
-    /// The nodes and the other disks as they were opened, for proofs alone.
+    /// The nodes and the other disks as they were opened, only for proofs.
     first_nodes: Snapshot<Vec<Node<D>>>,
     first_idle: Snapshot<Vec<D>>,
 }
@@ -99,14 +99,14 @@ impl<D: Disk> Model for World<D> {
 }
 
 impl<D: Disk> World<D> {
-    /// A set of up to 50 nodes on 100 empty disks. The first ones vote, up to seven, and with the next ones
-    /// are members. Its nodes are opened in order of number, each on the next two disks: its journal, and
-    /// then its checkpoints.
+    /// A set of up to 50 nodes on 100 empty disks. The first `members` nodes are members, and the first
+    /// `voters` of them, up to seven, vote. The nodes are opened in order of number, each on the next two
+    /// disks: its journal, then its checkpoints.
     ///
     /// # Errors
     /// `Disk` where a disk of one of the nodes failed, and `Memory` where memory ran out. Either hands back
-    /// the disks, each in its place, and on them stand the nodes as the set begins, but that a journal may
-    /// lack the record of its form.
+    /// the disks, each in its place. They have the nodes as they are when the set begins, except that a
+    /// journal may lack the record of its form.
     #[tactic(auto, using(crate::proofs::OpenLemmas::begins, crate::proofs::PointedLemmas::pointed_first))]
     pub fn open(
         alloc: Global,
@@ -169,7 +169,7 @@ impl<D: Disk> World<D> {
     /// # Errors
     /// `HistoryFull` where the history has 4,294,967,295 events: nothing is done. `Memory` where memory ran
     /// out: the nodes, the messages, the history and the disks' files are as they were. Only a restart may
-    /// have opened its node's disks anew.
+    /// have opened its node's disks again.
     pub fn step<R: Threads + Sync>(
         &mut self,
         rt: &R,
@@ -283,8 +283,8 @@ impl<D: Disk> World<D> {
         &self.history
     }
 
-    /// Lends the node of this number, as it is in the last world of the history. The set has to have a node
-    /// of that number.
+    /// Lends the node with this number, as it is in the last world of the history. The set must have a node
+    /// with that number.
     pub fn node(&self, node: u32) -> &Node<D>
         requires { node < self.now.sizes.nodes }
         ensures { slice_get (run self.now.sizes self.now.history).world.nodes node ≡ Some result.now.0 }
@@ -300,8 +300,8 @@ impl<D: Disk> World<D> {
         &self.nodes
     }
 
-    /// The most entries that a node has had committed in any world so far: those of its log up to its
-    /// commit point. It is 0 of what isn't a node of the set.
+    /// The most entries that a node has had committed in any world so far: those of its log up to its commit
+    /// point. It is 0 for a number that isn't a node of the set.
     pub fn point_of(&self, node: u32) -> u64
         ensures { result ≡ pointed self.now.sizes self.now.history node }
     {
@@ -319,23 +319,23 @@ impl<D: Disk> World<D> {
         touched(&self.pool, command)
     }
 
-    /// Whether no step has run out of memory while it used its node's disks. The disks are then those that
-    /// the events leave, and no others.
+    /// Whether no step has run out of memory while it used its node's disks. If so, the disks are exactly as
+    /// the events leave them.
     pub fn is_whole(&self) -> bool
         ensures { result ≡ self.now.whole }
     {
         self.whole
     }
 
-    /// What the events did to the disks since the set was opened: a fact for callers' proofs, which costs
-    /// nothing.
+    /// What the events have done to the disks since the set was opened: a fact for callers' proofs,
+    /// which costs nothing.
     pub fn recall_went(&self)
         ensures { DisksWent D.state self.now }
     {
         let _ = &self.nodes;
     }
 
-    /// On the nodes' disks stands what they are in the last world: a fact for callers' proofs,
+    /// The nodes' disks have what the nodes are in the last world: a fact for callers' proofs,
     /// which costs nothing.
     pub fn recall_stands(&self)
         ensures { AllStand D.state self.now }
@@ -343,7 +343,7 @@ impl<D: Disk> World<D> {
         let _ = &self.nodes;
     }
 
-    /// The history is a run that is defined: a fact for callers' proofs, which costs nothing.
+    /// The history is a defined run: a fact for callers' proofs, which costs nothing.
     pub fn recall_run(&self)
         ensures sizes { AreSizes self.now.sizes }
         ensures run { IsRun self.now.sizes self.now.history }
@@ -374,7 +374,7 @@ fn make_room(history: &mut Vec<Event>, pool: &mut Pool) -> Result<(), StepError>
     Ok(())
 }
 
-// Puts what was done after the messages and the history, in the room that there is.
+// Appends what was done to the messages and the history, in the room that there is.
 fn put(history: &mut Vec<Event>, pool: &mut Pool, line: u32, command: Command, done: Done) -> Reply
     requires room { vec_len history.old < vec_capacity history.old }
     requires spare { length done.sent.items ≤ pool.old.spare }
