@@ -1,9 +1,9 @@
--- A script by chance, from a number.
+-- A random script, from a number.
 --
--- Numbers are drawn from PCG32 (`Lcg64Xsh32` of `rand_pcg`), seeded by that number: each is the remainder of
--- the next word by how many may be drawn. Of each event, counted from 0, a kind of 16 is drawn, then the node
--- A that it happens at, then another node B, and then a last number X where its lines have one. A set of one
--- node has no B, nothing is drawn for it, and A flushes instead.
+-- Numbers are drawn from PCG32 (`Lcg64Xsh32` of `rand_pcg`), seeded by that number: each is the next word,
+-- modulo how many numbers there are to choose from. For each event, counted from 0, a kind of 16 is drawn,
+-- then the node A where it happens, then another node B, and then a last number X if its lines have one. A
+-- set of one node has no B: nothing is drawn for it, and A flushes instead.
 --
 --     0 to 3    insert A t {_id: EVENT, n: 0}
 --     4         update A t X {$inc: {n: 1}}        X is from 0 to EVENT
@@ -30,11 +30,11 @@ use Rattle.chance_script.specs.declared.happening.Happening.TheVariants.{Insert,
 abbrev pub seeded : ℕ → Lcg
 seeded seed = pcg32_of_seed (pcg32_seed 16 seed)
 
--- one of so many numbers from 0, and the generator after it
+-- a number below a limit, and the generator after it
 abbrev pub drawn : ℕ → Lcg → ℕ × Lcg
 drawn count generator = ((pcg32 generator).0 % count, (pcg32 generator).1)
 
--- another node of so many, and the generator after it
+-- another node of the set, and the generator after it
 abbrev pub other_node : (nodes node : ℕ) → Lcg → Option ℕ × Lcg
 other_node nodes node generator =
     if nat_lt 1 nodes
@@ -53,7 +53,7 @@ abbrev pub common_with : ℕ → Option ℕ → Happening
 common_with node None = Flush node
 common_with node (Some other) = Common node other
 
--- what happens at a node, by the kind that was drawn
+-- what happens at a node, by the kind drawn
 abbrev pub of_kind : (kind event node : ℕ) → Option ℕ → Lcg → Happening × Lcg
 of_kind kind event node other generator =
     if nat_lt kind 4 then (Insert node event, generator)
@@ -68,7 +68,7 @@ of_kind kind event node other generator =
     else if kind == 14 then (StepDown node, generator)
     else with_last (Clock node) (drawn 1000 generator)
 
--- the event of this number in a set of so many nodes
+-- the event of this number in a set of this size
 abbrev pub at_node : (kind event node : ℕ) → Option ℕ × Lcg → Happening × Lcg
 at_node kind event node (other, generator) = of_kind kind event node other generator
 
@@ -81,11 +81,11 @@ after_kind nodes event (kind, generator) = of_this_kind nodes event kind (drawn 
 unfoldable pub happening : (nodes event : ℕ) → Lcg → Happening × Lcg
 happening nodes event generator = after_kind nodes event (drawn 16 generator)
 
--- an event more
+-- one more event
 abbrev pub with_event : List Happening → Happening × Lcg → List Happening × Lcg
 with_event events (event, generator) = (events ++ event ∷ [], generator)
 
--- so many events, and the generator after them
+-- this many events, and the generator after them
 abbrev pub happenings : (nodes seed count : ℕ) → List Happening × Lcg
 happenings nodes seed zero = ([], seeded seed)
 happenings nodes seed (suc event) =
@@ -93,11 +93,11 @@ happenings nodes seed (suc event) =
 
 -- ---- its lines
 
--- a node is asked for something
+-- a line that asks a node for something
 abbrev pub ask : (word : List ℕ) (node : ℕ) (after : List ℕ) → List ℕ
 ask word node after = word ++ codes " n" ++ decimal node ++ after ++ codes "\n"
 
--- the same, with another node
+-- the same, naming another node
 abbrev pub ask_with : (word : List ℕ) (node other : ℕ) → List ℕ
 ask_with word node other = ask word node (codes " n" ++ decimal other)
 
@@ -107,12 +107,12 @@ vote_of candidate voter =
     if voter == candidate then []
     else ask_with (codes "deliver") candidate voter ++ ask_with (codes "deliver") voter candidate
 
--- so many nodes, the first ones, do
+-- the first nodes do it, this many
 abbrev pub votes_of : (candidate count : ℕ) → List ℕ
 votes_of candidate zero = []
 votes_of candidate (suc voter) = votes_of candidate voter ++ vote_of candidate voter
 
--- a node hears of its source and takes what it misses
+-- a node hears of its source and takes what it lacks
 abbrev pub taken_text : (node source : ℕ) → List ℕ
 taken_text node source =
     ask_with (codes "heartbeat") source node ++ ask_with (codes "deliver") source node
@@ -150,6 +150,6 @@ text_of nodes (Clock node seconds) = ask (codes "clock") node (codes " " ++ deci
 abbrev pub set_text : ℕ → List ℕ
 set_text nodes = codes "set " ++ decimal nodes ++ codes "\n"
 
--- the bytes of the script of a seed, with so many events in a set of so many nodes
+-- the bytes of the script of a seed, by the number of its events and of its set's nodes
 abbrev pub generated : (seed events nodes : ℕ) → List ℕ
 generated seed events nodes = set_text nodes ++ flat_map (text_of nodes) (happenings nodes seed events).0

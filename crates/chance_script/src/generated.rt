@@ -1,4 +1,4 @@
-// A script by chance.
+// Random scripts.
 ghost use Rattle.std.specs.Prelude.{◌≡◌, ◌≤◌, ◌*◌, ◌++◌, IfOk, OnOk, string_bytes};
 ghost use Rattle.chance_script.specs.Generated.{generated, set_text};
 
@@ -9,10 +9,10 @@ use rand_pcg::Pcg32;
 use std::alloc::Global;
 use std::fmt::Write;
 
-/// The bytes that a seed comes to, with so many events in a set of so many nodes. They are a script of
+/// The bytes of the script of a seed, with `events` events in a set of `nodes` nodes. They are a script of
 /// that set (`script_laws`).
 ///
-/// A seed always gives the same script, by PCG32 as the crate `rand_pcg` has it. There are at most 5,000
+/// A seed always gives the same script, drawn from the PCG32 of the crate `rand_pcg`. There are at most 5,000
 /// events and 1 to 50 nodes, and their product is at most 50,000.
 pub fn generate(alloc: Global, seed: u64, events: u32, nodes: u32) -> Mem<Vec<u8>>
     requires few { events ≤ 5000 }

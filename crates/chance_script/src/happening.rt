@@ -7,7 +7,7 @@ use rand_core::utils::NextWord;
 use rand_pcg::Pcg32;
 use std::fmt::Write;
 
-/// An event. Nodes are told by their numbers.
+/// An event. Nodes are given by their numbers.
 #[derive(Clone, Copy)]
 pub enum Happening {
     /// The node inserts the document of this `_id`.
@@ -18,7 +18,7 @@ pub enum Happening {
     Delete(u32, u32),
     /// It writes its log to the journal.
     Flush(u32),
-    /// The node takes what it misses from the other, applies and stores it, and reports.
+    /// The node takes what it lacks from the other, applies and stores it, and reports.
     Pull(u32, u32),
     /// It campaigns, and each other node hears of it.
     Election(u32),
@@ -30,11 +30,11 @@ pub enum Happening {
     Restart(u32),
     /// It steps down.
     StepDown(u32),
-    /// Its clock is set to so many seconds.
+    /// Its clock is set to this second.
     Clock(u32, u32),
 }
 
-/// Draws the event of this number in a set of so many nodes.
+/// Draws the event of this number in a set of this size.
 #[tactic(auto, unfolding(crate::specs::Generated::happening))]
 pub fn draw(generator: &mut Pcg32, nodes: u32, event: u32) -> Happening
     requires some { 1 ≤ nodes }
@@ -47,7 +47,7 @@ pub fn draw(generator: &mut Pcg32, nodes: u32, event: u32) -> Happening
     of_kind(generator, kind, event, node, other)
 }
 
-/// One of so many numbers from 0.
+/// A number below a limit.
 fn draw_below(generator: &mut Pcg32, count: u32) -> u32
     requires { 1 ≤ count }
     ensures drawn { (result, generator.new) ≡ drawn count generator.old }
@@ -56,7 +56,7 @@ fn draw_below(generator: &mut Pcg32, count: u32) -> u32
     generator.next_word() % count
 }
 
-/// Another node, where there is one.
+/// Another node, if there is one.
 fn draw_other(generator: &mut Pcg32, nodes: u32, node: u32) -> Option<u32>
     requires { node < nodes }
     ensures { (result, generator.new) ≡ other_node nodes node generator.old }
@@ -65,7 +65,7 @@ fn draw_other(generator: &mut Pcg32, nodes: u32, node: u32) -> Option<u32>
         return None;
     }
     let step = draw_below(generator, nodes - 1);
-    // Nodes are few, so that no sum is as much as 64 bits hold.
+    // There are few nodes, so no sum overflows 64 bits.
     let place = (u64::from(node) + 1 + u64::from(step)) % u64::from(nodes);
     Some(place as u32)
 }
@@ -96,7 +96,7 @@ fn of_kind(generator: &mut Pcg32, kind: u32, event: u32, node: u32, other: Optio
 }
 
 impl Happening {
-    /// Appends its lines, in a set of so many nodes.
+    /// Appends its lines, in a set of this size.
     #[tactic(auto, unfolding(crate::specs::Generated::text_of))]
     pub fn write(&self, nodes: u32, out: &mut String) -> Mem<()>
         ensures { OnOk result (string_bytes out.new ≡ string_bytes out.old ++ text_of nodes self.now) }
@@ -181,7 +181,7 @@ fn write_pull(node: u32, source: u32, out: &mut String) -> Mem<()>
     write_told(node, source, out)
 }
 
-/// The node hears of its source and takes what it misses.
+/// The node hears of its source and takes what it lacks.
 fn write_taken(node: u32, source: u32, out: &mut String) -> Mem<()>
     ensures { OnOk result (string_bytes out.new ≡ string_bytes out.old ++ taken_text node source) }
 {

@@ -1,4 +1,4 @@
-//! Scripts by chance, each from a seed.
+//! Random scripts, each from a seed.
 #![tactic(auto)]
 
 mod generated;

@@ -1,4 +1,4 @@
--- The events of one call of a stream, and what it comes to.
+-- The events of one call of a stream, and its result.
 use Rattle.std.specs.Prelude.{◌≡◌, ◌⊎◌, ℕ, Bool, List, [], ◌∷◌, ◌++◌, Result, Ok, Err, Some, length}
 use mathlib.Core.Logic.{inl, inr}
 use Rattle.rs_optime.specs.declared.optime.OpTime.{OpTime}
@@ -16,7 +16,7 @@ use Rattle.change_stream.specs.declared.error.WatchError.TheVariants.{NodeDown, 
 use Rattle.change_stream.specs.Calls.{Call, answer}
 use Rattle.change_stream.specs.Shown.{Shows, shown_state}
 
--- A step of a call: it stands on no line of a script.
+-- A step of a call: it isn't on a line of a script.
 abbrev pub Does : Bool → Sizes → List Event → List Event → Command → Reply → Type 0
 Does alone sizes old new command answered = StepsOnce alone sizes old new 0 command answered
 
@@ -33,7 +33,7 @@ module _ (alone : Bool) (sizes : Sizes) (old new : List Event) where
   abbrev pub Reads : ℕ → OpTime → List Entry → Type 0
   Reads node commit log = (term : ℕ) × Asks node term commit log
 
-  -- both events of a call at this node were answered, and it answers so
+  -- both events of a call at this node were answered, and this is its answer
   pub record Tells (token : OpTime) (node most : ℕ) (told : Result (List Entry) WatchError) : Type 0 where
     pub call : Call
     pub node_is : call.node ≡ node
@@ -81,7 +81,7 @@ module _ (alone : Bool) (sizes : Sizes) (old new : List Event) where
       → List Event
   both asks = asks.first.event ∷ asks.second.event ∷ []
 
-  -- those of a call that was refused, and of one that was broken off
+  -- the events of a call that was refused, and of one that was broken off
   abbrev pub did_refused : (node : ℕ) → IsRefused node → List Event
   did_refused node (inl first) = first.event ∷ []
   did_refused node (inr begun) = begun.first.event ∷ begun.on.event ∷ []

@@ -12,12 +12,12 @@ use Rattle.change_stream.specs.declared.error.WatchError.TheVariants.{UnknownTok
 abbrev pub part : OpTime → OpTime → List Entry → List Entry
 part start end log = log_after start (log_up_to end log)
 
--- the optime of the last of some entries, or the one before them where there is none
+-- the optime of the last of some entries, or the token before them if there are none
 abbrev pub token_of_last : OpTime → List Entry → OpTime
 token_of_last token [] = token
 token_of_last token (entry ∷ entries) = token_of_last entry.optime entries
 
--- What a call was shown: a node's term and its commit point, and then its log. It gives at most so many
+-- What a call was shown: a node's term and its commit point, and then its log. It gives at most `most`
 -- entries.
 pub record Call : Type 0 where
   pub node : ℕ
@@ -26,12 +26,12 @@ pub record Call : Type 0 where
   pub log : List Entry
   pub most : ℕ
 
--- A token is unknown where the log is committed that far and has no such entry. ZERO is always known.
+-- A token is unknown if the log is committed that far and has no such entry. ZERO is always known.
 abbrev pub is_unknown : OpTime → OpTime → List Entry → Bool
 is_unknown token commit log =
     not (same_optime token ZERO) && (not (is_before commit token) && not (has_entry log token))
 
--- the next entries after the token that are committed
+-- the next committed entries after the token
 abbrev pub answer : OpTime → Call → Result (List Entry) WatchError
 answer token call =
     if is_unknown token call.commit call.log then Err UnknownToken
@@ -45,7 +45,7 @@ entries_of (Err error) = []
 abbrev pub given : OpTime → Call → List Entry
 given token call = entries_of (answer token call)
 
--- the stream's token once a call is answered
+-- the stream's token after a call is answered
 abbrev pub after : OpTime → Call → OpTime
 after token call = token_of_last token (given token call)
 

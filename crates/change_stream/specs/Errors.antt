@@ -1,4 +1,4 @@
--- A call of a stream that ends in an error of a step.
+-- Calls of a stream that end in an error of a step.
 use Rattle.set_world.specs.declared.error.StepError.{StepError}
 use Rattle.set_world.specs.declared.error.StepError.TheVariants as steps
 use Rattle.change_stream.specs.declared.error.WatchError.{WatchError}

@@ -21,10 +21,10 @@ module _ (sizes : Sizes) (events : List Event) where
       ⊎ ((place number : ℕ) × (node : Node) × IsAt sizes events place number node × Has node.log at
       × AtMost at node.commit)
 
-  -- What the calls gave is a part of every log that is committed that far, wherever and whenever. It is also
-  -- a part of the log of whoever leads in a later term than any node that was asked had. Timestamps rise
-  -- along it, so each entry stands in it once. A token that was given, or that was committed, is known to
-  -- each call.
+  -- What the calls gave is a part of every log that is committed that far, at any node and any time. It is
+  -- also a part of the log of each node that leads in a later term than all nodes that were asked. Timestamps
+  -- rise along it, so it has each entry once. A token that was given, or that was committed, is known to each
+  -- call.
   pub record Streams (start : OpTime) (calls : List Call) : Type 0 where
     pub committed :
         (place number : ℕ) (node : Node) → IsAt sizes events place number node
@@ -39,7 +39,7 @@ module _ (sizes : Sizes) (events : List Event) where
         (IsCommittedPoint start ⊎ (joined start calls ≢ [])) → (call : Call) → Shows sizes events call
         → answer (token_after start calls) call ≢ Err UnknownToken
 
-  -- this holds of each stream, whatever it was opened with, and whichever calls it made
+  -- this holds of each stream, whatever token it was opened with, and whichever calls it made
   abbrev pub StreamLaw : Type 0
   StreamLaw =
       (start : OpTime) (calls : List Call) → All (Shows sizes events) calls → Streams start calls

@@ -1,4 +1,4 @@
-// What a call gives of a log.
+// The part of a log that a call gives.
 ghost use Rattle.std.specs.Prelude.{◌≡◌, true, false, not, All, IfNone, IfSome, take};
 ghost use Rattle.oplog_entry.specs.Lawful.{IsLawful};
 ghost use Rattle.oplog_entry.specs.Log.{IsOplog};
@@ -10,7 +10,7 @@ use oplog_entry::Entry;
 use oplog_fetcher::log_after;
 use rs_optime::OpTime;
 
-/// The next committed entries after a token, at most so many. None where the token is unknown.
+/// The next committed entries after a token, at most `most`; none where the token is unknown.
 pub(crate) fn next_entries(
     log: &[Entry],
     token: OpTime,
@@ -30,7 +30,7 @@ pub(crate) fn next_entries(
     Some(&entries[..entries.len().min(most as usize)])
 }
 
-/// Whether a log is committed as far as a token, and hasn't got its entry.
+/// Whether a log is committed as far as a token, and doesn't have its entry.
 fn is_unknown(log: &[Entry], token: OpTime, commit: OpTime) -> bool
     requires { IsOplog log.now }
     ensures { result ≡ is_unknown token commit log.now }
@@ -63,7 +63,7 @@ pub fn up_to(log: &[Entry], at: OpTime) -> &[Entry]
     &log[..count]
 }
 
-/// The token once these entries were given.
+/// The token after these entries were given.
 pub(crate) fn token_of_last(token: OpTime, entries: &[Entry]) -> OpTime
     ensures { result ≡ token_of_last token entries.now }
 {

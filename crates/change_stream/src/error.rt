@@ -12,7 +12,7 @@ pub enum WatchError {
     /// The node is down.
     #[error("the node is down")]
     NodeDown,
-    /// The node's log is committed as far as the token, and hasn't got its entry.
+    /// The node's log is committed as far as the token, and doesn't have its entry.
     #[error("the token is unknown")]
     UnknownToken,
     #[error("the history is full")]

@@ -1,5 +1,5 @@
-//! Change streams: a consumer of a set's changes sees each committed entry once, in order, and goes on at any
-//! node with the token of the last one.
+//! Change streams: a consumer of a set's changes sees each committed entry once, in order, and can go on at
+//! any node with the token of the last one.
 #![tactic(auto)]
 
 mod answering;

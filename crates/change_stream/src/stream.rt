@@ -20,18 +20,18 @@ use set_world::{StepError, Stepper};
 use std::sync::Wait;
 use std::thread::Threads;
 
-/// The events of a call stand on no line of a script.
+/// The events of a call aren't on a line of a script.
 const NO_LINE: u32 = 0;
 
 /// A consumer of a set's changes: where it began, and the last entry that it was given.
 #[derive(Clone, Copy, Debug, PartialEq, Eq)]
 pub struct ChangeStream {
     pub start: OpTime,
-    /// The resume token: with it a stream goes on at any node.
+    /// The resume token: with it a stream can go on at any node.
     pub token: OpTime,
 }
 
-/// A stream of what is after a token. ZERO is before all entries.
+/// A stream of what comes after a token. ZERO is before all entries.
 pub fn open(token: OpTime) -> ChangeStream
     ensures { result ≡ record { start = token; token = token } }
 {
@@ -41,11 +41,11 @@ pub fn open(token: OpTime) -> ChangeStream
     }
 }
 
-/// Asks a node for its state and then for its log. It gives the entries of the log after the token that are
-/// at or before the commit point in that state, the first so many of them.
+/// Asks a node for its state and then for its log. It gives the log's first `max` entries that are after the
+/// token, and at or before the commit point in that state.
 ///
 /// # Errors
-/// `NodeDown`, `UnknownToken` where the log is committed as far as the token and hasn't got its entry, and
+/// `NodeDown`, `UnknownToken` where the log is committed as far as the token and doesn't have its entry, and
 /// those of a step. The stream stays as it was.
 pub fn next<R: Threads + Wait + Sync, S: Stepper>(
     stream: &mut ChangeStream,
@@ -164,7 +164,7 @@ fn commit_shown(reply: &Reply) -> Option<OpTime>
     }
 }
 
-/// The entries of a log that was shown; none, where the reply shows no log.
+/// The entries of a log that was shown; none where the reply shows no log.
 pub fn log_shown(reply: Reply) -> Option<Vec<Entry>>
     ensures log { option_map (λ log. log.items) result ≡ shown_log reply }
     ensures lawful { IfSome result (λ log. All IsLawful log.items) }

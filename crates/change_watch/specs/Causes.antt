@@ -1,4 +1,4 @@
--- Why a watch stops where a lower layer refuses.
+-- Why a watch stops when a lower layer refuses.
 use Rattle.rs_io.specs.declared.sink.SinkError.{SinkError}
 use Rattle.rs_io.specs.declared.sink.SinkError.TheVariants.{Failed, Memory as NoRoom}
 use Rattle.change_stream.specs.declared.error.WatchError.{WatchError}

@@ -20,21 +20,21 @@ use Rattle.change_words.specs.Texts.{change_lines, refusal_text, resume_text}
 abbrev pub together : List (List ℕ) → List ℕ
 together lines = flat_map (λ (line : List ℕ). line) lines
 
--- Lines are put up to a stop: out of memory, some first ones and not all; where the sink fails, a prefix of
--- their bytes. What puts lines refuses nothing.
+-- Lines are put up to a stop: if memory runs out, some first ones and not all; if the sink fails, a prefix of
+-- their bytes. Putting lines refuses nothing.
 abbrev pub PutsUpTo : Option (List ℕ) → Option (List ℕ) → List (List ℕ) → WatchStop → Type 0
 PutsUpTo held now lines (Refused why) = ⊥
 PutsUpTo held now lines WriteFault = (count : ℕ) × Appends held now (take count (together lines))
 PutsUpTo held now lines Memory =
     (count : ℕ) × (count < length lines) × Appends held now (together (take count lines))
 
--- all these lines are put, or not all
+-- all these lines are put, or they are put up to a stop
 abbrev pub PutsLines : Option (List ℕ) → Option (List ℕ) → List (List ℕ) → Result (Unit {0}) WatchStop
     → Type 0
 PutsLines held now lines (Ok done) = Appends held now (together lines)
 PutsLines held now lines (Err stop) = PutsUpTo held now lines stop
 
--- all of the first lines are put, and of those after them not all
+-- all of the first lines are put, but not all of those after them
 abbrev pub PutsAfter : Option (List ℕ) → Option (List ℕ) → List (List ℕ) → List (List ℕ) → WatchStop
     → Type 0
 PutsAfter held now first after stop =
@@ -51,11 +51,11 @@ abbrev pub last_lines : OpTime → Result (Unit {0}) WatchStop → List (List �
 last_lines token (Ok done) = resume_text token ∷ []
 last_lines token (Err stop) = stop_lines stop
 
--- a call gives at most so many entries
+-- a call gives at most this many entries
 abbrev pub most : ℕ
 most = 1000
 
--- the nodes that are still to be asked, where the first of them gave these entries
+-- the nodes that are still to be asked, after the first of them gave these entries
 abbrev pub still_to_ask : ℕ → List ℕ → List Entry → List ℕ
 still_to_ask node others [] = others
 still_to_ask node others (entry ∷ entries) = node ∷ others
@@ -70,11 +70,12 @@ abbrev pub left_of : ℕ → Bool → List ℕ
 left_of node true = []
 left_of node false = node ∷ []
 
--- Nothing changed, or what a step doesn't change stayed.
+-- Nothing changed, or only what a step can change.
 abbrev pub StaysSo : {S : Type 0} → (S → S → Type 0) → S → S → Type 0
 StaysSo stays old new = (new ≡ old) ⊎ stays old new
 
--- These calls go by the nodes, and each was answered: the last of them leaves this token, and these nodes.
+-- These calls follow the list of nodes, and each was answered: the last one leaves this token, and these
+-- nodes.
 abbrev pub GoesBy : OpTime → List ℕ → List Call → OpTime → List ℕ → Type 0
 GoesBy token nodes [] end left = (end ≡ token) × (left ≡ nodes)
 GoesBy token [] (call ∷ calls) end left = ⊥
@@ -92,7 +93,7 @@ module _ (alone : Bool) (sizes : Sizes) where
       × AreMade between calls new
 
   module _ (token : OpTime) where
-    -- the next node refuses, or the set hasn't got it
+    -- the next node refuses, or isn't in the set
     abbrev pub RefusesAt : List ℕ → List Event → List Event → WatchRefusal → Type 0
     RefusesAt [] old new why = ⊥
     RefusesAt (node ∷ others) old new UnknownToken =
@@ -105,15 +106,15 @@ module _ (alone : Bool) (sizes : Sizes) where
     BreaksAt [] old new = new ≡ old
     BreaksAt (node ∷ others) old new = (new ≡ old) ⊎ Fails alone sizes old new token node most errors.Memory
 
-    -- What comes after the calls, by the nodes that are left then: nothing, or what stopped the next one.
-    -- The sink stops no call.
+    -- What comes after the calls, by the nodes that are left: nothing, or what stopped the next call. The
+    -- sink stops no call.
     abbrev pub EndsSo : List ℕ → List Event → List Event → Result (Unit {0}) WatchStop → Type 0
     EndsSo left old new (Ok done) = (left ≡ []) × (new ≡ old)
     EndsSo left old new (Err (Refused why)) = RefusesAt left old new why
     EndsSo left old new (Err WriteFault) = ⊥
     EndsSo left old new (Err Memory) = BreaksAt left old new
 
-  -- Some of these nodes are asked. The calls leave this token and these nodes, and the lines tell their
+  -- Some of these nodes are asked. The calls leave this token and these nodes, and the lines have their
   -- changes.
   pub record AskedSo (collection : List ℕ) (token : OpTime) (nodes : List ℕ) (token' : OpTime) (left : List ℕ)
       (old new : List Event) (lines : List (List ℕ)) : Type 0 where
@@ -122,8 +123,8 @@ module _ (alone : Bool) (sizes : Sizes) where
     pub made : AreMade old calls new
     pub lines_are : lines ≡ change_lines collection (joined token calls)
 
-  -- The changes of all calls but the last one are put. Of that one's not all are, and nothing is asked after
-  -- it.
+  -- The changes of all calls before the last one are put. Not all of the last one's are, and no call comes
+  -- after it.
   pub record LosesChange (collection : List ℕ) (token : OpTime) (nodes : List ℕ) (token' : OpTime)
       (old new : List Event) (held now : Option (List ℕ)) (stop : WatchStop) : Type 0 where
     pub before : OpTime
@@ -139,8 +140,8 @@ module _ (alone : Bool) (sizes : Sizes) where
 
   -- ---- a watch
 
-  -- From the old events to the new ones, some calls were answered, and then came this end. The lines tell
-  -- their changes; the last ones tell where to resume, or the refusal.
+  -- From the old events to the new ones, some calls were answered, and then came this end. The lines have
+  -- their changes; the last ones say where to resume, or why a node refused.
   pub record Watched (watch : Watch) (old new : List Event) (ended : Result (Unit {0}) WatchStop)
       (lines last : List (List ℕ)) : Type 0 where
     pub token : OpTime
@@ -157,21 +158,21 @@ module _ (alone : Bool) (sizes : Sizes) where
       (lines last : List (List ℕ)) × Watched watch old new ended lines last
       × Appends held now (together (lines ++ last))
 
-  -- all changes are put, and the last line isn't
+  -- all changes are put, but the last line isn't
   abbrev pub LosesLast : Watch → List Event → List Event → Option (List ℕ) → Option (List ℕ) → WatchStop
       → Type 0
   LosesLast watch old new held now stop =
       (ended : Result (Unit {0}) WatchStop) × (lines : List (List ℕ)) × (line : List ℕ)
       × Watched watch old new ended lines (line ∷ []) × PutsAfter held now lines (line ∷ []) stop
 
-  -- A line isn't put, and that ends the watch: one of the last call's, or the last.
+  -- A line isn't put, which ends the watch: one of the last call's, or the last line.
   abbrev pub LosesLine : Watch → List Event → List Event → Option (List ℕ) → Option (List ℕ) → WatchStop
       → Type 0
   LosesLine watch old new held now stop =
       ((token : OpTime) × LosesChange watch.collection watch.token watch.nodes token old new held now stop)
       ⊎ LosesLast watch old new held now stop
 
-  -- All is put, and out of memory a call may be broken off then; or a line is lost.
+  -- Everything is put, after which a call may be broken off out of memory; or a line is lost.
   abbrev pub Follows : Watch → List Event → List Event → Option (List ℕ) → Option (List ℕ)
       → Result (Unit {0}) WatchStop → Type 0
   Follows watch old new held now (Ok done) = TellsAll watch old new held now (Ok done)
@@ -190,9 +191,9 @@ module _ (alone : Bool) (sizes : Sizes) where
     pub asked : AskedSo collection token nodes token' left old between lines
     pub ends : EndsSo token' left between new (Err stop)
 
-  -- Some nodes are asked, and the changes that they gave are put. What is answered tells which nodes are
-  -- left. Where it stops, all changes before are put, or a line is lost. The lines of a refusal and of the
-  -- end come later.
+  -- Some nodes are asked, and the changes that they gave are put. The answer says which nodes are left. Where
+  -- it stops, all changes before are put, or a line is lost. The lines of a refusal and of the end come
+  -- later.
   abbrev pub AsksSome : {A : Type 0} → (A → List ℕ) → List ℕ → OpTime → List ℕ → OpTime → List Event
       → List Event → Option (List ℕ) → Option (List ℕ) → Result A WatchStop → Type 0
   AsksSome left_by collection token nodes token' old new held now (Ok answered) =
@@ -210,7 +211,7 @@ module _ (alone : Bool) (sizes : Sizes) where
   AsksAll collection token nodes token' old new held now ended =
       AsksSome (λ (done : Unit {0}). []) collection token nodes token' old new held now ended
 
-  -- One is asked once. It is left where it gave something.
+  -- One node is asked once. It is asked again if it gave something.
   abbrev pub AsksOnce : List ℕ → ℕ → OpTime → OpTime → List Event → List Event → Option (List ℕ)
       → Option (List ℕ) → Result Bool WatchStop → Type 0
   AsksOnce collection node token token' old new held now ended =

@@ -14,16 +14,16 @@ use std::alloc::Global;
 use std::sync::Wait;
 use std::thread::Threads;
 
-/// A call gives at most so many entries.
+/// A call gives at most this many entries.
 const MOST: u32 = 1000;
 
 /// Each call that is answered adds two events, and a history has fewer than twice as many.
 const MOST_CALLS: u32 = 2_147_483_648;
 
 /// Asks the nodes one after another, each until it has nothing more, and puts a line for each change of the
-/// collection. The last line tells where to resume, or why a node refused. Each line is put by one call, and
-/// those of a call of the stream before the next one is made; a line that isn't put ends the watch.
-/// `size` is how many nodes the set has.
+/// collection. The last line says where to resume, or why a node refused. Each line is put by one call of the
+/// sink, and a stream call's lines before the next stream call. A line that isn't put ends the watch. `size`
+/// is how many nodes the set has.
 ///
 /// # Errors
 /// `Refused` where a node is down or not of the set, or the token is unknown; `WriteFault` where the sink
@@ -124,7 +124,7 @@ fn ask_node<R: Threads + Wait + Sync, S: Stepper, K: Sink>(
     Err(WatchStop::Memory)
 }
 
-/// Asks a node once, and puts the changes that it gives. It tells whether there was none.
+/// Asks a node once, and puts the changes that it gives. The result is whether there were none.
 fn ask_once<R: Threads + Wait + Sync, S: Stepper, K: Sink>(
     rt: &R,
     collection: &Text,

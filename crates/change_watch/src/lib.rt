@@ -1,5 +1,4 @@
-//! Nodes of a set are asked one after another for the changes of a collection, and the lines that tell these
-//! are put.
+//! Asks nodes of a set one after another for the changes of a collection, and puts the lines of these.
 #![tactic(auto)]
 
 mod following;

@@ -1,4 +1,4 @@
-// Lines that tell changes, each put by one call.
+// The lines of changes, each put by one call.
 ghost use Rattle.std.specs.Prelude.{◌≡◌, ◌≢◌, ◌∷◌, [], All, Err, IsErrOf, Ok};
 ghost use Rattle.oplog_entry.specs.Lawful.{IsLawful};
 ghost use Rattle.rs_io.specs.Fault.{HasCause};
@@ -12,7 +12,7 @@ use oplog_entry::{Entry, Op};
 use rs_io::Sink;
 use rs_optime::OpTime;
 
-/// Puts a line for each change of the collection. `text` serves them all with its memory.
+/// Puts a line for each change of the collection, using the memory of `text` for all of them.
 pub fn put_changes<K: Sink>(
     collection: &Text,
     entries: &[Entry],
@@ -70,7 +70,7 @@ pub fn put_resume<K: Sink>(token: OpTime, sink: &mut K, text: &mut String) -> Re
     put_line(text.as_bytes(), sink)
 }
 
-/// Puts the line of a refusal, where it stopped for one.
+/// Puts the line of a refusal, if it stopped for one.
 pub fn put_stop<K: Sink>(stop: WatchStop, sink: &mut K) -> Result<(), WatchStop>
     ensures puts { PutsLines (K.held sink.old) (K.held sink.new) (stop_lines stop) result }
     ensures none { stop_lines stop ≡ [] → result ≡ Ok tt }

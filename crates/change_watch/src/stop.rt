@@ -1,4 +1,4 @@
-// Why a watch ends before its last node has nothing more.
+// Why a watch ends before its last node has no more changes.
 ghost use Rattle.std.specs.Prelude.{◌≡◌};
 ghost use Rattle.change_watch.specs.Causes.{of_sink, of_stream};
 ghost use Rattle.change_watch.specs.declared.stop.WatchStop.TheVariants.{Memory as IsMemory, Refused as IsRefused};
@@ -11,7 +11,7 @@ use std::alloc::AllocError;
 /// Why a watch stopped before its end.
 #[derive(Clone, Copy, Debug, PartialEq, Eq)]
 pub enum WatchStop {
-    /// A node refused to tell its changes, and that was told.
+    /// A node refused to give its changes, and the line that says so was put.
     Refused(WatchRefusal),
     /// The sink failed.
     WriteFault,
@@ -53,7 +53,7 @@ impl From<WatchError> for WatchStop {
         match error {
             WatchError::NodeDown => WatchStop::Refused(WatchRefusal::NodeDown),
             WatchError::UnknownToken => WatchStop::Refused(WatchRefusal::UnknownToken),
-            // A history that is full has no room for one event more.
+            // A full history has no room for one more event.
             WatchError::HistoryFull | WatchError::Memory => WatchStop::Memory,
         }
     }

@@ -1,4 +1,4 @@
--- What a consumer of changes is told, line by line.
+-- The lines that a consumer of changes gets.
 use Rattle.std.specs.Prelude.{ℕ, Bool, false, List, [], ◌∷◌, ◌++◌, codes, if◌then◌else◌}
 use Rattle.std.specs.List.{flat_map}
 use Rattle.std.specs.Str.{bytes_eq}
@@ -41,7 +41,7 @@ is_of collection (ops.Delete ns id) = bytes_eq ns collection
 is_of collection ops.Noop = false
 is_of collection ops.Note = false
 
--- the line of an entry of this collection; none of another entry
+-- the line of an entry of this collection; none for another entry
 abbrev pub entry_lines : List ℕ → Entry → List (List ℕ)
 entry_lines collection entry = if is_of collection entry.op then change_text entry ∷ [] else []
 

@@ -1,4 +1,4 @@
--- A resume token as it is written: the term and the timestamp of an optime, each in 16 hexadecimal digits.
+-- The text of a resume token: the term and the timestamp of an optime, each in 16 hexadecimal digits.
 use Rattle.std.specs.Prelude.{ℕ, Bool, ◌==◌, ◌&&◌, nat_le, ◌||◌, List, ◌++◌, length, take, drop, Option, None, Some, Result, Ok, Err, if◌then◌else◌}
 use Rattle.std.specs.List.{list_all}
 use Rattle.std.specs.Int.{w64, to_be_bytes, from_be_bytes}

@@ -63,7 +63,7 @@ impl NodeNumbers {
     }
 }
 
-/// The changes that some words ask for; none where they ask for nothing.
+/// The changes that some words ask for; none where the words are wrong.
 pub fn read_watch(
     alloc: Global,
     collection: &str,
@@ -112,7 +112,7 @@ fn read_nodes(alloc: Global, words: &[String]) -> Mem<Option<NodeNumbers>>
     Ok(Some(nodes))
 }
 
-/// The number of a node, which is named by `n` and one or two digits; none, where a word names none.
+/// The number of a node, written as `n` and one or two digits; none for another word.
 pub fn node_of(word: &[u8]) -> Option<u32>
     ensures { result ≡ node_of word.now }
 {

@@ -28,7 +28,7 @@ pub fn is_of(collection: &Text, op: &Op) -> bool
     }
 }
 
-/// Writes the line of a change into `text` in place of what stood there. After out of memory `text` is of no
+/// Writes the line of a change into `text`, in place of what was there. If memory runs out, `text` is of no
 /// use.
 pub fn set_change(entry: &Entry, text: &mut String) -> Mem<()>
     requires { IsLawful entry.now }

@@ -1,4 +1,4 @@
-// Resume tokens as they are written.
+// The text of resume tokens.
 ghost use Rattle.std.specs.Prelude.{◌≡◌, ◌++◌, OnOk, string_bytes};
 ghost use Rattle.std.specs.List.{list_all};
 ghost use Rattle.change_words.specs.Tokens.{digits_text, is_lower_digit, number_of_digits, token_of, token_text};
@@ -22,7 +22,7 @@ fn write_digits(number: u64, out: &mut String) -> Mem<()>
     out.push_str(&digits)
 }
 
-/// The token of 32 digits; none of other words.
+/// The token of 32 digits; none for another word.
 pub fn token_of(word: &[u8]) -> Option<OpTime>
     ensures { result ≡ token_of word.now }
 {

@@ -1,4 +1,4 @@
--- Where the newest message from one node to another stands.
+-- The place of the newest message from one node to another.
 use Rattle.std.specs.Prelude.{◌≡◌, ◌<◌, ◌+◌, ◌*◌, ℕ, List, Option, None, Some, length, slice_get}
 use Rattle.std.specs.FinMap as maps
 use Rattle.std.specs.Ordering.{nat_cmp}

@@ -1,4 +1,4 @@
--- Kinds of commands and of messages, by which those that do them are parted.
+-- Kinds of commands and of messages, which separate functions do.
 use Rattle.std.specs.Prelude.{Bool, true, false, not}
 use Rattle.repl_msg.specs.declared.message.Body.{Body}
 use Rattle.repl_msg.specs.declared.message.Body.TheVariants as bodies
@@ -54,7 +54,7 @@ is_plain (Deliver message) = false
 is_plain (DeliverLatest from to) = false
 is_plain command = not (is_telling command)
 
--- who takes such a message stores and sends nothing, once it has the message's term
+-- a node that takes such a message stores and sends nothing, once it has the message's term
 abbrev pub is_plain_body : Body → Bool
 is_plain_body (bodies.FetchReply reply) = true
 is_plain_body (bodies.Report config durable) = true

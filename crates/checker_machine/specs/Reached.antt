@@ -9,7 +9,7 @@ use Rattle.set_model.specs.Taking.{CanTake}
 use Rattle.set_model.specs.World.{World}
 use Rattle.checker_node.specs.Sound.{IsSound}
 
--- a run leads to this world, of few enough events that no number outgrows its type
+-- a run leads to this world, of few enough events that no number overflows its type
 pub record IsReached (world : World) : Type 0 where
   pub sizes : Sizes
   pub events : List Event

@@ -1,4 +1,4 @@
-// What a message comes to at the node that gets it.
+// What a message does at the node that receives it.
 ghost use Rattle.std.specs.Prelude.{◌≡◌, ◌<◌, ◌≤◌, ◌^◌, true, None, length, IfOk};
 ghost use Rattle.set_model.specs.Deliver as delivered;
 ghost use Rattle.set_model.specs.Taking.{CanTake};
@@ -67,7 +67,7 @@ fn take(node: &mut Node, next: u64, message: &Message, failed: &mut Option<u32>)
     told(node, next, message, failed)
 }
 
-/// Stores the message's term and enters it, and takes the message.
+/// Stores the message's term, enters it, and takes the message.
 fn take_higher(
     node: &mut Node,
     next: u64,
@@ -99,7 +99,7 @@ fn body_refusal(node: &Node, message: &Message) -> Option<Refusal>
     }
 }
 
-/// What the body comes to.
+/// Does what the body asks for.
 fn told(node: &mut Node, next: u64, message: &Message, failed: &mut Option<u32>) -> Mem<Answer>
     requires settled { node.old.doubt ≡ None }
     requires members { length node.old.config.members ≤ 50 }
@@ -125,7 +125,7 @@ fn told(node: &mut Node, next: u64, message: &Message, failed: &mut Option<u32>)
     }
 }
 
-/// What a body comes to that stores and sends nothing.
+/// Does what a body asks for that stores and sends nothing.
 fn told_plainly(node: &mut Node, message: &Message) -> Mem<Answer>
     requires members { length node.old.config.members ≤ 50 }
     requires message { CanHear message.now }

@@ -1,5 +1,5 @@
-//! The machine by which a printed run is checked: a replica set of plain lists and ordered maps, without
-//! disks, threads or shared memory. What each event makes of it is what set_model's definitions say.
+//! The machine that checks a printed run: a replica set of plain lists and ordered maps, without disks,
+//! threads or shared memory. Each event does to it what set_model defines.
 #![tactic(auto)]
 
 mod deliver;

@@ -86,7 +86,7 @@ impl Model for Machine {
     ghost view = { λ m. record { nodes = m.nodes.items; messages = m.pool } };
 }
 
-/// The configuration that a set with so many members begins with, of whom so many vote.
+/// The configuration that a set begins with, by the number of its members and of those that vote.
 fn first_config(alloc: Global, voters: u32, members: u32) -> Mem<Config>
     requires { members ≤ 50 }
     ensures { IfOk result (λ config. config ≡ begins_with voters members) }
@@ -103,7 +103,7 @@ fn first_config(alloc: Global, voters: u32, members: u32) -> Mem<Config>
     })
 }
 
-/// A member as a set begins where so many vote: those vote, with priority 1, and no other can be elected.
+/// A member of that configuration: the first ones vote, with priority 1, and no other can be elected.
 fn first_member(voters: u32, number: u32) -> Member
     ensures { result ≡ first_member voters number }
 {
@@ -115,8 +115,8 @@ fn first_member(voters: u32, number: u32) -> Member
     }
 }
 
-/// Whether an event may find there what its node was storing as a disk failed: it is a restart that gets past
-/// its first store, of a node with a store in doubt.
+/// Whether an event can find on disk what its node was storing when a disk failed: it is a restart that gets
+/// past its first store, of a node with a store in doubt.
 fn settles_doubt(node: &Node, event: &Event) -> bool
     ensures { result ≡ (limits.is_restart event.now.command && limits.passes_first event.now.failed
         && limits.is_in_doubt node.now) }
@@ -127,7 +127,7 @@ fn settles_doubt(node: &Node, event: &Event) -> bool
     }
 }
 
-/// Whether an event is to find there what its node isn't storing.
+/// Whether an event finds on disk what its node wasn't storing.
 fn is_out_of_doubt(node: &Node, event: &Event) -> bool
     ensures { result ≡ (event.now.kept && not (limits.is_restart event.now.command
         && limits.passes_first event.now.failed && limits.is_in_doubt node.now)) }
@@ -136,7 +136,7 @@ fn is_out_of_doubt(node: &Node, event: &Event) -> bool
 }
 
 impl Machine {
-    /// A set of so many nodes, of which the first ones vote, and with the next ones are members.
+    /// A set of this many nodes: the first ones vote, and the next ones are members without a vote.
     pub fn open(alloc: Global, nodes: u32, voters: u32, members: u32) -> Mem<Machine>
         requires { AreSizes (record { nodes = nodes; voters = voters; members = members }) }
         ensures { IfOk result (λ machine. machine ≡ worlds.opening_world nodes voters members) }
@@ -168,7 +168,7 @@ impl Machine {
         self.pool.as_slice()
     }
 
-    /// Does one event, and gives the reply to it.
+    /// Does one event, and returns its reply.
     pub fn step(&mut self, event: &Event) -> Result<Reply, StepError>
         requires reached { IsReached self.old }
         requires event { IsReadable self.old event.now }
@@ -244,7 +244,7 @@ impl Machine {
         Ok(act(node, nodes, next, event.kept, &event.command, failed)?)
     }
 
-    /// A message is delivered, where it was sent.
+    /// Delivers a message, if it was sent.
     fn deliver(&mut self, event: &Event, failed: &mut Option<u32>) -> Result<Answer, StepError>
         requires reached { IsReached self.old }
         requires event { IsReadable self.old event.now }
@@ -268,7 +268,7 @@ impl Machine {
     }
 }
 
-/// The message that a command delivers; none, where no such message was sent.
+/// The message that a command delivers; none if no such message was sent.
 fn delivered<'a>(pool: &'a Pool, command: &Command) -> Option<&'a Message>
     requires { is_delivery command.now ≡ true }
     ensures { (world : World) → world.messages ≡ pool.now

@@ -10,7 +10,7 @@ use std::alloc::Global;
 use std::collections::BTreeMap;
 use std::marker::Model;
 
-/// The messages, oldest first, and where the newest from one node to another stands.
+/// The messages, oldest first, and the place of the newest from one node to another.
 #[derive(Drop)]
 pub(crate) struct Pool {
     messages: Vec<Message>,
@@ -80,7 +80,7 @@ impl Pool {
         }
     }
 
-    /// Where that one stands.
+    /// The place of that one.
     fn place(&self, from: u32, to: u32) -> Option<usize>
         ensures { IsNewest self.now from to result }
     {

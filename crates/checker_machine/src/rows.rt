@@ -1,4 +1,4 @@
-// What each command comes to on the node that it names.
+// What each command does at the node that it names.
 ghost use Rattle.std.specs.Prelude.{◌≡◌, true, false, Some, IfOk};
 ghost use Rattle.set_model.specs.Limits.{is_within, write_of};
 ghost use Rattle.set_model.specs.Outcome.{replied};
@@ -13,9 +13,9 @@ use checker_node::{Answer, Node};
 use doc_update::WriteOp;
 use set_model::{Command, Refusal, Reply};
 
-/// Does a command of a node's own, in a set of so many nodes, where the next message gets the number `next`.
-/// `there` says whether what the node was storing as it failed is there, and `failed` is the number of
-/// the store that fails.
+/// Does a command of a node's own, in a set of `nodes` nodes, where the next message gets the number `next`.
+/// `there` says whether what the node was storing when a disk failed is on disk, and `failed` is the number
+/// of the store that fails.
 #[tactic(auto, using(crate::proofs::StepLemmas::does_reply))]
 pub(crate) fn act(
     node: &mut Node,
@@ -65,7 +65,7 @@ fn act_up(
     act_here(node, nodes, next, command, failed)
 }
 
-/// Does it where the node is up.
+/// Does it if the node is up.
 #[tactic(auto, using(node_state::proofs::TurnLemmas::while_up))]
 fn act_here(
     node: &mut Node,

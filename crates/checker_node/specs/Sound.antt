@@ -1,4 +1,4 @@
--- What is true of each node in every run, as far as its next step needs it.
+-- What is true of each node in every run, and needed for its next step.
 use Rattle.std.specs.Prelude.{◌≡◌, ◌<◌, ◌≤◌, ◌^◌, ◌-◌, true, All, IfSome, IsSome, Option, length}
 use Rattle.oplog_entry.specs.Lawful.{IsLawfulOp, IsSession}
 use Rattle.oplog_entry.specs.Step.{place_of}
@@ -19,7 +19,7 @@ pub record HasRoom (node : Node) : Type 0 where
   pub members : length node.config.members ≤ 50
   pub first : length node.first.members ≤ 50
 
--- its numbers have room, and where it is up, so have its log and what its records come to
+-- its numbers have room, and if it is up, so have its log and what its records give
 pub record IsSound (node : Node) : Type 0 where
   pub room : HasRoom node
   pub logs : node.up ≡ true → IsSoundNode node
@@ -39,7 +39,7 @@ pub record CanLog (node : Node) (op : Op) (session : Option Session) : Type 0 wh
   pub numbered : IfSome session IsSession
   pub touches : IfSome session (λ _. IsSome (place_of op))
 
--- the entries of an answer are in order, and go on after its base
+-- the entries of an answer are in order, and continue its base
 pub record GoOn (reply : FetchReply) : Type 0 where
   pub order : IsOplog reply.entries
   pub base : All (Follows reply.base) reply.entries

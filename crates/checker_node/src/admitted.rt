@@ -1,4 +1,4 @@
-// What a write comes to on a node.
+// The effect of a write on a node.
 ghost use Rattle.std.specs.Prelude.{◌≡◌, IfOk};
 ghost use Rattle.set_model.specs.Admitted.{admitted};
 ghost use Rattle.node_answers.specs.Admits.{IsRefusal};
@@ -12,7 +12,7 @@ use oplog_entry::SharedOp;
 use set_model::{Refusal, Reply};
 use std::alloc::AllocError;
 
-/// The refusal of a write that has no effect.
+/// The refusal for the reason against a write.
 fn refusal(why: WriteRefusal) -> Mem<Refusal>
     ensures { IfOk result (λ refusal. IsRefusal why refusal) }
 {
@@ -51,7 +51,7 @@ impl Node {
         }
     }
 
-    /// The op that a write logs, or the reply where it logs none.
+    /// The op that a write logs, or the reply if it logs none.
     pub(crate) fn op_to_log(&mut self, op: &WriteOp) -> Mem<Result<SharedOp, Reply>>
         requires sound { IsSoundNode self.old }
         ensures op { IfOk result (λ found. found ≡ op_to_log (admitted self.old op.now)) }

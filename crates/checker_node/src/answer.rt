@@ -1,4 +1,4 @@
-// What a command or a message came to at a node.
+// What a node did with a command or a message.
 ghost use Rattle.std.specs.Prelude.{[]};
 ghost use Rattle.checker_node.specs.Done.{Replies};
 

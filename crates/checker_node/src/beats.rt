@@ -1,4 +1,4 @@
-// Heartbeats: how a node stands.
+// Heartbeats: a node tells another its state.
 ghost use Rattle.std.specs.Prelude.{◌≡◌, None, IfOk};
 ghost use Rattle.set_model.specs.Beats as beats;
 ghost use Rattle.checker_node.specs.Done.{Answers, Does};
@@ -29,7 +29,7 @@ impl Node {
         self.sends(Reply::Sent(next), to, Body::Heartbeat(self.beat()?))
     }
 
-    /// A candidate that hears a primary is a secondary, and its votes are forgotten.
+    /// A candidate that hears a primary becomes a secondary, and its tally is cleared.
     fn give_way(&mut self, beat: &Beat)
         ensures { self.new ≡ beats.given_way self.old beat.now }
     {
@@ -39,7 +39,7 @@ impl Node {
         }
     }
 
-    /// A secondary keeps a newer configuration. The answer is false where that store fails.
+    /// A secondary stores a newer configuration. The result is false if that store fails.
     fn install(&mut self, beat: &Beat, failed: &mut Option<u32>) -> Mem<bool>
         requires settled { self.old.doubt ≡ None }
         ensures { IfOk result (λ stands.
@@ -64,7 +64,7 @@ impl Node {
         }
     }
 
-    /// What a node hears. The answer is false where a store fails.
+    /// Takes in a heartbeat. The result is false if a store fails.
     fn hear(&mut self, from: u32, beat: &Beat, failed: &mut Option<u32>) -> Mem<bool>
         requires settled { self.old.doubt ≡ None }
         ensures { IfOk result (λ stands. Hears self.old from beat.now failed.old failed.new stands self.new) }
@@ -79,7 +79,7 @@ impl Node {
         Ok(true)
     }
 
-    /// A heartbeat of a term, which is answered.
+    /// Takes a heartbeat of a term, and answers it.
     pub fn beat_told(
         &mut self,
         next: u64,
@@ -105,7 +105,7 @@ impl Node {
         )
     }
 
-    /// The answer to a heartbeat.
+    /// Takes the answer to a heartbeat.
     pub fn beat_answered(
         &mut self,
         from: u32,

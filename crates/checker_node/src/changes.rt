@@ -14,7 +14,7 @@ use rs_optime::OpTime;
 use set_model::{Role, Writer};
 
 impl Node {
-    /// Writes an entry at the node's next optime, which may be a write of a session.
+    /// Writes an entry at the node's next optime, for a session or none.
     pub(crate) fn log_op(&mut self, op: SharedOp, session: Option<Session>) -> Mem<OpTime>
         requires { CanLog self.old op session }
         ensures at { IfOk result (λ at. at ≡ next_optime self.old) }
@@ -54,7 +54,7 @@ impl Node {
         Ok(at)
     }
 
-    /// The node is a secondary: its slots are aborted, and what it counted is forgotten.
+    /// The node becomes a secondary: its slots are aborted, and its counts are cleared.
     pub(crate) fn be_secondary(&mut self)
         ensures { self.new ≡ changes.stepped_down self.old }
     {
@@ -67,7 +67,7 @@ impl Node {
         self.dry_tally = None;
     }
 
-    /// How far the log is applied once the node is a secondary: a primary has applied all of it.
+    /// How far the log is applied when the node becomes a secondary: a primary has applied all of it.
     fn applied_at_end(&self) -> OpTime
         ensures { result ≡ if_primary self.now.role (last_point self.now) self.now.applied }
     {
@@ -77,7 +77,7 @@ impl Node {
         }
     }
 
-    /// The node is a secondary of another term, with its vote in that term.
+    /// The node becomes a secondary in another term, with its vote in that term.
     pub fn enter_term(&mut self, term: u64, vote: Option<u32>)
         ensures { self.new ≡ changes.in_new_term self.old term vote }
     {

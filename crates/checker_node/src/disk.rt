@@ -53,7 +53,7 @@ impl Node {
         copy_unkept(self.alloc, more, self.journal.entries(), most)
     }
 
-    /// Whether no entry is left to store, and the log is durable as far as it is visible.
+    /// Whether there is no entry left to store, and the log is durable as far as it is visible.
     fn is_flushed(&self, next: &[Entry], visible: OpTime) -> bool
         ensures { result ≡ (length next.now == 0 && same_optime self.now.durable visible) }
     {
@@ -124,7 +124,7 @@ impl Node {
         self.recover(failed)
     }
 
-    /// The node comes up, once the entries are cut after which one is missing.
+    /// The node comes up, after cutting the entries that follow a missing one.
     fn recover(&mut self, failed: &mut Option<u32>) -> Mem<Answer>
         requires settled { self.old.doubt ≡ None }
         requires rollback { self.old.rollback < 2 ^ 62 }
@@ -140,7 +140,7 @@ impl Node {
         self.come_back()
     }
 
-    /// What was in doubt is there, or it isn't.
+    /// What was in doubt turns out to be on disk, or not.
     fn settle_doubt(&mut self, there: bool) -> Mem<()>
         ensures { OnOk result (self.new ≡ disk.settled_doubt self.old self.old.doubt there) }
     {

@@ -58,7 +58,7 @@ impl Node {
         self.ask_voters(next)
     }
 
-    /// The node is a candidate of this term, and has its own vote.
+    /// The node becomes a candidate in this term, with its own vote.
     fn stand(&mut self, term: u64) -> Mem<()>
         requires { term ≡ self.old.term + 1 }
         ensures { OnOk result (self.new ≡ elections.candidate self.old) }
@@ -144,7 +144,7 @@ impl Node {
         self.role = Role::Primary;
     }
 
-    /// A node that is no secondary becomes one.
+    /// A node that isn't a secondary becomes one.
     pub fn step_down(&mut self) -> Reply
         ensures { elections.step_down self.old ≡ replied result self.new }
     {

@@ -58,7 +58,7 @@ impl Node {
         }
     }
 
-    /// Takes the entries of an answer, where they go on after a secondary's log.
+    /// Takes the entries of an answer, if they continue a secondary's log.
     pub fn entries_told(&mut self, from: u32, reply: &FetchReply) -> Mem<Reply>
         requires fetched { GoOn reply.now }
         ensures { IfOk result (λ told.
@@ -81,7 +81,7 @@ impl Node {
         })
     }
 
-    /// Writes entries after the log.
+    /// Appends entries to the log.
     fn append(&mut self, entries: &[Entry]) -> Mem<()>
         requires stays { IsOplog (self.old.log ++ entries.now) }
         ensures { OnOk result (self.new ≡ fetching.with_fetched self.old entries.now) }
@@ -92,7 +92,7 @@ impl Node {
     }
 }
 
-/// The greatest timestamp, once these entries are seen.
+/// The greatest timestamp seen, counting these entries.
 fn seen_after(seen: u64, entries: &[Entry]) -> u64
     ensures { result ≡ fetching.seen_after seen entries.now }
 {

@@ -1,7 +1,7 @@
-//! A node of the checker: a node of a replica set of plain lists and ordered maps, without disks, and what
-//! each command and each message does to it. What that is, set_model's definitions say.
+//! A node of the checker: a node of a replica set made of plain lists and ordered maps, without disks, and
+//! what each command and each message does to it, as set_model defines it.
 //!
-//! A file that does what one of set_model's definitions say has that one's name: `beats`, `disk`, `rollback`.
+//! Each file is named after the definitions of set_model that it carries out: `beats`, `disk`, `rollback`.
 #![tactic(auto)]
 
 mod admitted;

@@ -25,7 +25,7 @@ pub struct Node {
     pub(crate) alloc: Global,
     pub(crate) number: u32,
     pub(crate) up: bool,
-    /// While it is down: what it was storing as a disk failed.
+    /// While it is down: what it was storing when a disk failed.
     pub(crate) doubt: Option<Store>,
     pub(crate) term: u64,
     pub(crate) vote: Option<u32>,
@@ -118,7 +118,7 @@ impl Model for Node {
 }
 
 impl Node {
-    /// A node as the set begins.
+    /// A node at the opening of the set.
     pub fn open(alloc: Global, number: u32, first: &Config) -> Mem<Node>
         ensures { IfOk result (λ node. node ≡ nodes.opening_node first.now number) }
     {
@@ -185,7 +185,7 @@ impl Node {
         self.up
     }
 
-    /// Whether it is down, and what it was storing as a disk failed is in doubt.
+    /// Whether it is down, with a store in doubt.
     pub fn is_in_doubt(&self) -> bool
         ensures { result ≡ is_in_doubt self.now }
     {

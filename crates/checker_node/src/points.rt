@@ -55,7 +55,7 @@ impl Node {
         }
     }
 
-    /// A commit point is learnt from another node.
+    /// Learns a commit point from another node.
     pub(crate) fn learn(&mut self, point: OpTime)
         ensures { self.new ≡ points.learnt self.old point }
     {

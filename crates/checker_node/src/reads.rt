@@ -1,4 +1,4 @@
-// What a node shows of itself.
+// What a node shows.
 ghost use Rattle.std.specs.Prelude.{◌≡◌, ◌≤◌, length, take, IfOk, OnOk};
 ghost use Rattle.std.specs.FinMap as maps;
 ghost use Rattle.bson_doc.specs.View.{tree_of};

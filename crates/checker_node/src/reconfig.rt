@@ -33,7 +33,7 @@ fn refusal_of(why: ConfigRefusal) -> Refusal
 }
 
 impl Node {
-    /// Why the node doesn't take a configuration, in a set of so many nodes.
+    /// Why the node doesn't take a configuration, in a set of this size.
     fn reconfig_refusal(&self, nodes: u32, config: &Config) -> Option<Refusal>
         requires { length self.now.config.members ≤ 50 }
         ensures { result ≡ reconfigs.reconfig_refusal nodes self.now config.now }

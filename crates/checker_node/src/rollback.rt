@@ -24,7 +24,7 @@ use rs_optime::OpTime;
 use set_model::{Ignored, LostList, Refusal, Reply, Role, Store};
 use std::alloc::Global;
 
-/// The most optimes that are told at once.
+/// The most optimes that are sent at once.
 const MOST_OPTIMES: usize = 20_000;
 
 /// The optimes of some entries.
@@ -38,7 +38,7 @@ fn optimes_of(alloc: Global, entries: &[Entry]) -> Mem<OptimeList>
     Ok(optimes)
 }
 
-/// These places, each with the document that stands there, or with none.
+/// These places, each with the document that is there, or with none.
 fn stood(alloc: Global, shelf: &Shelf, places: Vec<(Text, IdKey)>) -> Mem<LostList>
     ensures { IfOk result (λ lost.
         lost ≡ map (λ place. (place, maps.get shelf.now.documents place)) places.items) }
@@ -70,7 +70,7 @@ impl Node {
         log_after(self.log.log().up_to(to), after)
     }
 
-    /// Up to where the log is visible once a message of this term is taken.
+    /// How far the log is visible after a message of this term is taken.
     fn visible_in(&self, term: u64) -> OpTime
         ensures { result ≡ visible_point (in_term term self.now) }
     {
@@ -80,7 +80,7 @@ impl Node {
         self.visible_point()
     }
 
-    /// More optimes than are told at once.
+    /// Whether there are more optimes than are sent at once.
     pub fn common_refusal(&self, term: u64, after: OpTime) -> Option<Refusal>
         ensures { result ≡ rollbacks.common_refusal self.now term after }
     {

@@ -23,7 +23,7 @@ impl Node {
         self.write_in(None, op)
     }
 
-    /// A write that may be one of a session.
+    /// A write, of a session or of none.
     #[tactic(auto, using(crate::proofs::WriteLemmas::logging))]
     fn write_in(&mut self, session: Option<Session>, op: &WriteOp) -> Mem<Reply>
         requires ready { IsReady self.old }

@@ -7,7 +7,7 @@ use Rattle.bson_doc.specs.Place.{Place, place_cmp}
 use Rattle.set_model.specs.declared.writer.Writer.{Writer}
 use Rattle.set_model.specs.Holds.{holds}
 
--- numbers of writers by the places of documents, or nothing that is known of them
+-- numbers of writers by the places of documents; none if they aren't known
 abbrev pub Holders : Type 0
 Holders = Option (BTreeMap Place ℕ)
 
@@ -22,12 +22,12 @@ LeadToAll holders writers =
     (number : ℕ) (writer : Writer) (place : Place) → maps.get writers number ≡ Some writer
     → holds writer place ≡ true → LeadsTo holders place number
 
--- what led to other writers than this one leads to them
+-- places that led to other writers than this one still lead to them
 abbrev pub LeadToOthers : ℕ → Holders → Holders → Type 0
 LeadToOthers number old new = (place : Place) (other : ℕ) → other ≢ number → LeadsTo old place other
     → LeadsTo new place other
 
--- what led to a writer leads to it, and this place, where there is one, leads to this writer
+-- what led to a writer still leads to it, and this place, if there is one, leads to this writer
 pub record LeadAlso (place : Option Place) (number : ℕ) (old new : Holders) : Type 0 where
   pub same : (other : Place) (writer : ℕ) → LeadsTo old other writer → LeadsTo new other writer
   pub own : IfSome place (λ p. LeadsTo new p number)

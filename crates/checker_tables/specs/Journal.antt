@@ -1,4 +1,4 @@
--- What a node's records come to.
+-- What a node's records give.
 use Rattle.std.specs.Prelude.{◌≡◌, ◌≤◌, ℕ, Bool, true, false, not, IfSome, List, All, filter, Option, None, Some, length, take}
 use Rattle.rs_optime.specs.declared.optime.OpTime.{OpTime}
 use Rattle.member_config.specs.declared.config.Config.{Config}
@@ -20,7 +20,7 @@ pub record ComesTo (records : List Record) (vote : Vote) (config : Option Config
   pub entries_are : entries ≡ (kept records).entries
   pub point_is : point ≡ (kept records).point
 
--- the first so many entries of a log are among others
+-- the first entries of a log, this many, are among others
 pub record AreKept (count : ℕ) (log found : List Entry) : Type 0 where
   pub within : count ≤ length log
   pub there : All (λ entry. has_entry found entry.optime ≡ true) (take count log)
@@ -33,7 +33,7 @@ AreJournaled count log items = AreKept count log (kept items).entries
 abbrev pub unkept : List Entry → List Entry → List Entry
 unkept log found = filter (λ entry. not (has_entry found entry.optime)) log
 
--- what is in doubt may come after the records
+-- what is in doubt can come after the records
 abbrev pub MayStand : List Record → Option Store → Type 0
 MayStand records doubt = IfSome doubt (λ store. IsOplog (kept (records_after records store)).entries)
 

@@ -1,4 +1,4 @@
--- A log once its documents are no longer lent.
+-- A log after its documents are no longer lent.
 use Rattle.std.specs.Prelude.{◌≡◌, List}
 use Rattle.std.specs.Borrow.{Fml, MutBor}
 use Rattle.std.specs.Io.BufRead.{Rests}

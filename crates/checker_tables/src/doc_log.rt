@@ -1,4 +1,4 @@
-// A log, with the documents that its prefixes leave.
+// A log, with the documents that prefixes of it leave.
 ghost use Rattle.std.specs.Prelude.{◌≡◌, ◌≤◌, ◌++◌, [], length, take, IfOk, OnOk, OnErr};
 ghost use Rattle.std.specs.Option.{option_copied};
 ghost use Rattle.std.specs.FinMap as maps;
@@ -19,8 +19,8 @@ use set_model::LastWrite;
 use std::alloc::Global;
 use std::marker::Model;
 
-/// A log, with the documents of two of its prefixes and the last write of each session. These follow the log
-/// where they are asked for, by the entries that came since, so each entry is applied once to each.
+/// A log, with the documents of two of its prefixes and the last write of each session. Each is brought up to
+/// date when it is asked for, so each entry is applied to it once.
 #[derive(Drop)]
 pub struct DocLog {
     log: Oplog,
@@ -87,7 +87,7 @@ impl DocLog {
         Ok(())
     }
 
-    /// Puts entries after the log. Out of memory leaves it as it was.
+    /// Appends entries to the log. Out of memory leaves it as it was.
     pub fn append(&mut self, alloc: Global, entries: &[Entry]) -> Mem<()>
         requires { IsOplog (self.old ++ entries.now) }
         ensures ok { OnOk result (self.new ≡ self.old ++ entries.now) }

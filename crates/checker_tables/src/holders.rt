@@ -1,5 +1,5 @@
-// How the place of a document leads to the open writer that holds it. Where two writers hold one document,
-// which no set comes to, or memory runs out, nothing is known any more.
+// How the place of a document leads to the open writer that holds it. If two writers hold one document, which
+// happens in no run, or memory runs out, nothing is known any more.
 ghost use Rattle.std.specs.Prelude.{IfOk, IfSome};
 ghost use Rattle.std.specs.BTreeMap.{IsEmpty};
 ghost use Rattle.checker_tables.specs.Holding.{LeadAlso, LeadToOthers};
@@ -7,7 +7,7 @@ ghost use Rattle.checker_tables.specs.Holding.{LeadAlso, LeadToOthers};
 use bson_doc::{IdKey, Mem, Text};
 use std::collections::BTreeMap;
 
-/// A place more, which leads to a writer.
+/// Adds a place, which leads to a writer.
 pub(crate) fn with(
     holders: Option<BTreeMap<(Text, IdKey), u32>>,
     place: Option<(Text, IdKey)>,
@@ -28,7 +28,7 @@ pub(crate) fn with(
     Ok(Some(numbers))
 }
 
-/// A place less, which led to a writer.
+/// Removes a place, which led to a writer.
 pub(crate) fn without(
     holders: Option<BTreeMap<(Text, IdKey), u32>>,
     place: Option<(Text, IdKey)>,

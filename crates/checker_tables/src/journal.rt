@@ -1,4 +1,4 @@
-// What a node stored, and what its records come to.
+// What a node stored, and what its records give.
 ghost use Rattle.std.specs.Prelude.{◌≡◌, ◌∷◌, [], OnOk, OnErr};
 ghost use Rattle.std.specs.Option.{option_copied};
 ghost use Rattle.oplog_store.specs.Log.{IsOplog};
@@ -19,7 +19,7 @@ use std::alloc::Global;
 use std::marker::Model;
 use vote_store::Vote;
 
-/// The records of a node, as what they come to. The records themselves exist in proofs alone.
+/// The records of a node, as what they give. The records themselves exist in proofs alone.
 #[derive(Drop)]
 pub struct Journal {
     records: Records,
@@ -83,7 +83,7 @@ impl Journal {
         &self.entries
     }
 
-    /// Up to where no entry is missing.
+    /// The point up to which no entry is missing.
     pub fn point(&self) -> OpTime
         ensures { result ≡ (kept self.now).point }
     {
@@ -97,7 +97,7 @@ impl Journal {
         !self.entries.after(self.point).is_empty()
     }
 
-    /// Adds what is stored, where it is a record. Out of memory leaves it as it was.
+    /// Adds what is stored, if it is a record. Out of memory leaves it as it was.
     pub fn keep(&mut self, item: Store) -> Mem<()>
         requires stays { IsOplog (kept (records_after self.old item)).entries }
         ensures ok { OnOk result (self.new ≡ records_after self.old item) }

@@ -53,7 +53,7 @@ impl LastWrites {
         self.writes.get(&id).copied()
     }
 
-    /// One entry more, of a session or of none. Out of memory leaves all as it was.
+    /// Adds an entry, of a session or of none. Out of memory leaves all as it was.
     pub(crate) fn add(&mut self, at: OpTime, session: Option<Session>) -> Mem<()>
         ensures ok { OnOk result ((id : ℕ)
             → maps.get self.new id ≡ later_write id (maps.get self.old id) at session) }

@@ -1,5 +1,5 @@
 //! What a node of the checker is made of: its log with documents and sessions, its journal, its open slots
-//! and its writers, as plain lists and ordered maps. Each is seen as set_model's `Node` has it.
+//! and its writers, as plain lists and ordered maps. Contracts see each as set_model's `Node` has it.
 #![tactic(auto)]
 
 mod doc_log;

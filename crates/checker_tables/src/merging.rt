@@ -29,7 +29,7 @@ fn put_all(log: &mut Oplog, entries: Vec<Entry>)
     }
 }
 
-/// Puts entries after a log. Out of memory leaves it as it was.
+/// Appends entries to a log. Out of memory leaves it as it was.
 pub(crate) fn append(alloc: Global, log: &mut Oplog, entries: &[Entry]) -> Mem<()>
     requires { IsOplog (log.old.entries ++ entries.now) }
     ensures ok { OnOk result (log.new.entries ≡ log.old.entries ++ entries.now) }

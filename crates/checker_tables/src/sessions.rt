@@ -41,7 +41,7 @@ impl Sessions {
         }
     }
 
-    /// So many entries are counted.
+    /// How many entries are counted.
     fn count(&self) -> usize
         ensures { result ≡ self.now.count }
     {
@@ -55,7 +55,7 @@ impl Sessions {
         *self = Sessions::new(self.alloc);
     }
 
-    /// Forgets the entries after the first `kept`, where more are counted: the table is then made anew.
+    /// Forgets the entries after the first `kept`, if more are counted: the table is then built again.
     pub(crate) fn back_to(&mut self, kept: usize)
         ensures { (log other : List Entry) → take kept other ≡ take kept log → IsTableOf log self.old
             → IsTableOf other self.new }
@@ -105,7 +105,7 @@ impl Sessions {
         Ok(self.last.get(id))
     }
 
-    /// Counts one entry more. Out of memory leaves the table as it was.
+    /// Counts one more entry. Out of memory leaves the table as it was.
     fn add(&mut self, entry: &Entry) -> Mem<()>
         requires { self.old.count < 2 ^ 64 - 1 }
         ensures ok { OnOk result ((log : List Entry) → Counts log self.old

@@ -44,7 +44,7 @@ impl Slots {
         self.slots.first().copied()
     }
 
-    /// Opens a slot. Out of memory is the one error.
+    /// Opens a slot. The only error is out of memory.
     pub fn insert(&mut self, at: OpTime) -> Mem<()>
         ensures { OnOk result (self.new ≡ sets.insert self.old at) }
     {

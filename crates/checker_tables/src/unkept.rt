@@ -9,7 +9,7 @@ use oplog_store::Oplog;
 use rs_optime::OpTime;
 use std::alloc::Global;
 
-/// How many first entries of a log are known to be kept, once those after the first `count` are looked up.
+/// How many first entries of a log are known to be in the journal, looking up those after the first `count`.
 pub fn pass_kept(entries: &[Entry], kept: &Oplog, count: usize) -> usize
     requires { AreKept count entries.now kept.now.entries }
     ensures { AreKept result entries.now kept.now.entries }
@@ -24,7 +24,7 @@ pub fn pass_kept(entries: &[Entry], kept: &Oplog, count: usize) -> usize
     place
 }
 
-/// Copies of the first `most` entries that aren't kept.
+/// Copies of the first `most` entries that aren't in the journal.
 pub fn copy_unkept(alloc: Global, entries: &[Entry], kept: &Oplog, most: usize) -> Mem<Vec<Entry>>
     ensures { IfOk result (λ found. found.items ≡ take most (unkept entries.now kept.now.entries)) }
 {
@@ -38,7 +38,7 @@ pub fn copy_unkept(alloc: Global, entries: &[Entry], kept: &Oplog, most: usize) 
     Ok(found)
 }
 
-/// Adds a copy of an entry, where it isn't kept.
+/// Adds a copy of an entry, if it isn't in the journal.
 fn add_unkept(found: &mut Vec<Entry>, kept: &Oplog, entry: &Entry) -> Mem<()>
     ensures { OnOk result (found.new.items ≡ (if has_entry kept.now.entries entry.now.optime
         then found.old.items else found.old.items ++ entry.now ∷ [])) }
@@ -56,7 +56,7 @@ fn is_kept(kept: &Oplog, at: OpTime) -> bool
     kept.find(at).is_some()
 }
 
-/// The same, by a look at a likely place first.
+/// The same, looking at a likely place first.
 fn is_kept_near(kept: &Oplog, likely: usize, at: OpTime) -> bool
     ensures { result ≡ has_entry kept.now.entries at }
 {

@@ -16,7 +16,7 @@ use std::alloc::{AllocError, Global};
 use std::collections::BTreeMap;
 use std::marker::Model;
 
-/// The writers, and for each document that an open one holds the number of that one.
+/// The writers, and for each document that an open one holds, that writer's number.
 #[derive(Drop)]
 pub struct WriterMap {
     writers: BTreeMap<u32, Writer>,
@@ -57,7 +57,7 @@ impl WriterMap {
         self.writers.get(&number)
     }
 
-    /// Puts a writer at a number. Out of memory is the one error, after which the writers are of no use.
+    /// Puts a writer at a number. The only error is out of memory, after which the writers are of no use.
     pub fn insert(&mut self, number: u32, writer: Writer) -> Mem<()>
         ensures { OnOk result (self.new ≡ maps.insert self.old number writer) }
     {
@@ -109,7 +109,7 @@ impl WriterMap {
         Ok(None)
     }
 
-    /// What `holder` gives, from a look at each writer.
+    /// What `holder` gives, by a scan of the writers.
     fn first_holder(&self, place: &(Text, IdKey)) -> Mem<Option<u32>>
         ensures { IfOk result (λ holder.
             holder ≡ holds.holder_among (maps.entries self.now) place.now) }
@@ -133,7 +133,7 @@ fn lose(writer: &mut Writer)
     }
 }
 
-/// What leads to the writers that are left, where a writer goes.
+/// What leads to the writers that are left after one goes.
 fn left_by(
     holders: Option<BTreeMap<(Text, IdKey), u32>>,
     number: u32,

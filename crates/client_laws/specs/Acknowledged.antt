@@ -19,7 +19,7 @@ module _ (sizes : Sizes) (events : List Event) where
     pub asks : is_majority_ack event.command ≡ true
     pub node_at : IsAt sizes events (suc place) number node
 
-  -- an acknowledged log: that of a node which acknowledged an optime at majority, up to the optime
+  -- an acknowledged log: a node's log up to an optime that the node acknowledged at majority
   pub record IsAcknowledged (log : List Entry) : Type 0 where
     pub place : ℕ
     pub number : ℕ
@@ -28,7 +28,7 @@ module _ (sizes : Sizes) (events : List Event) where
     pub acked : IsAcked place number at node
     pub log_is : log ≡ log_up_to at node.log
 
-  -- an acknowledged log has the entry: it was acknowledged, or stands before what was
+  -- an acknowledged log has the entry: it was acknowledged, or comes before one that was
   abbrev pub WasAcknowledged : Entry → Type 0
   WasAcknowledged entry = (log : List Entry) × IsAcknowledged log × In entry log
 

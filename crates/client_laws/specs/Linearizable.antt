@@ -19,32 +19,32 @@ use Rattle.linear_read.specs.Written.{WasWritten}
 use Rattle.client_laws.specs.Acknowledged.{WasAcknowledged}
 
 module _ (sizes : Sizes) (events : List Event) where
-  -- a log has exactly the entries, of those that are ever acknowledged, that were written before a place
+  -- of the entries that are ever acknowledged, a log has exactly those written before a place
   pub record IsExact (place : ℕ) (log : List Entry) : Type 0 where
     pub no_more : (entry : Entry) → In entry log
         → WasAcknowledged sizes events entry × WasWritten sizes events place entry
     pub no_less : (entry : Entry) → WasAcknowledged sizes events entry → WasWritten sizes events place entry
         → In entry log
 
-  -- So has the log of a primary that is confirmed.
+  -- The log of a confirmed primary is exact.
   abbrev pub ConfirmedLogsAreExact : Type 0
   ConfirmedLogsAreExact =
       (place number : ℕ) (node : Node) → IsConfirmed sizes events place number node → IsExact place node.log
 
-  -- A linear read shows a document, or that there is none, as such a log leaves it.
+  -- A linear read shows a document, or that there is none, as an exact log leaves it.
   abbrev pub LinearReadsAreExact : Type 0
   LinearReadsAreExact =
       (place number : ℕ) (node : Node) (collection : List ℕ) (id : Value) (shown : Reply)
       → IsLinear sizes events place number node collection id shown
       → IsExact place node.log × (is_refusal shown ≡ false → ShowsOf node.log collection (tree_of id) shown)
 
-  -- What a linear read showed, each later one shows, at whichever node.
+  -- Each linear read, at any node, shows what earlier ones showed.
   abbrev pub LinearReadsGrow : Type 0
   LinearReadsGrow =
       (i j n m : ℕ) (one two : Node) → i ≤ j → IsConfirmed sizes events i n one
       → IsConfirmed sizes events j m two → (entry : Entry) → In entry one.log → In entry two.log
 
-  -- What a majority read showed, at whichever node, each later linear read shows.
+  -- Each linear read shows what earlier majority reads, at any node, showed.
   abbrev pub MajorityReadsAreShown : Type 0
   MajorityReadsAreShown =
       (i j n m : ℕ) (reader node : Node) → i ≤ j → IsAt sizes events i n reader

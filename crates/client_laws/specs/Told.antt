@@ -1,4 +1,4 @@
--- What a client is told of a write of its session (MongoDB manual, retryable writes).
+-- What a client is told about its session's writes (MongoDB manual, retryable writes).
 use Rattle.std.specs.Prelude.{◌≡◌, ◌<◌, ◌≤◌, ◌⊎◌, ℕ, suc, true, List, Some}
 use Rattle.rs_optime.specs.Membership.{In}
 use Rattle.rs_optime.specs.declared.optime.OpTime.{OpTime}
@@ -29,14 +29,14 @@ module _ (sizes : Sizes) (events : List Event) where
     pub acked : IsAcked sizes events place number entry.optime node
     pub there : In entry node.log
 
-  -- a primary of a later term, at any place, or of the entry's term once the entry was written
+  -- a primary of a later term, at any place, or of the entry's term after the entry was written
   pub record IsPrimarySince (entry : Entry) (place number : ℕ) (node : Node) : Type 0 where
     pub node_at : IsAt sizes events place number node
     pub role : node.role ≡ Primary
     pub since : (entry.optime.term < node.term)
         ⊎ ((entry.optime.term ≡ node.term) × WasWritten sizes events place entry)
 
-  -- the event after a place retries a write of a session, and is answered so by such a primary
+  -- the event after a place retries a session's write at such a primary, with this reply
   pub record IsRetried (session : Session) (entry : Entry) (answer : Reply) : Type 0 where
     pub place : ℕ
     pub number : ℕ
@@ -48,18 +48,18 @@ module _ (sizes : Sizes) (events : List Event) where
     pub command_is : event.command ≡ commands.Retry own session op
     pub answers : Answers sizes events place number event answer
 
-  -- the session went on: it has a write of this number, or of a greater one
+  -- the session moved on: it has a write of this number, or of a greater one
   abbrev pub IsTooOld : ℕ → Reply → Type 0
   IsTooOld number answer = (last : ℕ) × (number ≤ last) × (answer ≡ reply.Refused (OldNumber last))
 
-  -- Where a session's write was acknowledged, a retry of it is told its optime, or that the session went on.
+  -- Where a session's write was acknowledged, a retry of it is told its optime, or that the session moved on.
   abbrev pub RetriesAreTold : Type 0
   RetriesAreTold =
       (session : Session) (entry : Entry) (answer : Reply) → IsAckedWrite session entry
       → IsRetried session entry answer
       → (answer ≡ reply.Written entry.optime) ⊎ IsTooOld (suc session.number) answer
 
-  -- Where a greater number of the session was acknowledged, a retry is told that the session went on.
+  -- Where a greater number of the session was acknowledged, a retry is told that the session moved on.
   abbrev pub GreaterNumbersAreTold : Type 0
   GreaterNumbersAreTold =
       (session greater : Session) (entry : Entry) (answer : Reply) → greater.id ≡ session.id
@@ -72,8 +72,8 @@ module _ (sizes : Sizes) (events : List Event) where
       (session : Session) (one two : Entry) → one.session ≡ Some session → two.session ≡ Some session
       → WasAcknowledged sizes events one → WasAcknowledged sizes events two → one ≡ two
 
-  -- A retry is told an optime by a node whose log, just after it, is confirmed: then the write at that optime
-  -- is an acknowledged one.
+  -- Where a node tells a retry an optime, and its log just after it is confirmed, the write at that optime is
+  -- an acknowledged one.
   abbrev pub ConfirmedRetriesAreAcknowledged : Type 0
   ConfirmedRetriesAreAcknowledged =
       (place number own : ℕ) (event : Event) (session : Session) (op : WriteOp) (at : OpTime) (node : Node)

@@ -1,4 +1,4 @@
-// What holds of what clients are told.
+// Laws about what clients are told.
 ghost use Rattle.safety_laws.specs.Laws.{InEveryRun};
 ghost use Rattle.client_laws.specs.Acknowledged.{AcknowledgedLogsChain};
 ghost use Rattle.client_laws.specs.Linearizable.{ConfirmedLogsAreExact, LinearReadsAreExact, LinearReadsGrow, MajorityReadsAreShown};
@@ -21,9 +21,9 @@ pub fn acknowledged_logs_chain()
     committed_logs_chain();
 }
 
-/// A linear read shows exactly the acknowledged entries that were written before it, and what it showed each
-/// later one shows: linearizability, by the places at which entries were written. That the entries of one
-/// document stand in a log in that order is no law here: an open writer holds its document.
+/// A linear read shows exactly the acknowledged entries that were written before it, and each later one shows
+/// what it showed: linearizability, by the places at which entries were written. No law here says that a log
+/// has the entries of one document in that order: an open writer holds its document.
 pub fn linearizable()
     ensures logs { InEveryRun ConfirmedLogsAreExact }
     ensures reads { InEveryRun LinearReadsAreExact }
@@ -39,7 +39,7 @@ pub fn linearizable()
     linear_law();
 }
 
-/// A linear read shows all that a majority read showed before it, at whichever node.
+/// A linear read shows all that majority reads, at any node, showed before it.
 pub fn majority_reads_are_shown()
     ensures { InEveryRun MajorityReadsAreShown }
 {
@@ -51,9 +51,8 @@ pub fn majority_reads_are_shown()
     winner_completeness();
 }
 
-/// Once a write of a session is acknowledged at majority, whoever leads later tells a retry of it as it was
-/// told, or that the session went on; it is never written again. And no other optime of it is ever
-/// acknowledged.
+/// Once a session's write is acknowledged at majority, each later primary answers a retry as before, or that
+/// the session moved on; it is never written again. No other optime of it is ever acknowledged.
 pub fn writes_are_told_once()
     ensures told { InEveryRun RetriesAreTold }
     ensures greater { InEveryRun GreaterNumbersAreTold }
@@ -66,8 +65,8 @@ pub fn writes_are_told_once()
     committed_logs_chain();
 }
 
-/// A client knows that a retried write stays where the node that told it writes a note in the same term,
-/// and a majority acknowledges that note.
+/// A client knows that a retried write stays if the node that answered writes a note in the same term, and a
+/// majority acknowledges that note.
 pub fn confirmed_retries()
     ensures { InEveryRun ConfirmedRetriesAreAcknowledged }
 {

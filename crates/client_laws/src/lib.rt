@@ -1,5 +1,5 @@
-//! What a client of a set may rely on, of every run: what a majority acknowledged is one log, linear reads
-//! show exactly what of it was written when they read, and a write of a session is told once.
+//! What a client of a set can rely on in every run: what a majority acknowledged is one log, linear reads
+//! show exactly what of it was written when they read, and a session's write has one answer.
 #![tactic(auto)]
 
 mod laws;

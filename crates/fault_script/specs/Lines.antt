@@ -4,11 +4,11 @@ use Rattle.std.specs.Str.{is_utf8}
 use Rattle.script_words.specs.declared.rule.ScriptRule.{ScriptRule}
 use Rattle.script_words.specs.declared.rule.ScriptRule.TheVariants.{TooManyLines, LineTooLong, NotUtf8}
 
--- a script has at most so many lines
+-- a script has at most this many lines
 abbrev pub MOST_LINES : ℕ
 MOST_LINES = 200000
 
--- the text of a line with this number, or the first fault that needs no word of it
+-- the text of the line of this number, or its first fault that doesn't depend on its words
 unfoldable pub text_of : ℕ → List ℕ → Result (List ℕ) ScriptRule
 text_of number line =
     if nat_lt MOST_LINES number then Err TooManyLines

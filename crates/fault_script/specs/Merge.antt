@@ -1,4 +1,4 @@
--- Merges: several lists as one, each of them whole and in its order.
+-- Merges: several lists as one, each whole and in its own order.
 use Rattle.std.specs.Prelude.{◌≡◌, ◌⊎◌, List, [], ◌∷◌}
 
 -- each item of the merge is the next one of the first list or of the second, and nothing is left

@@ -1,13 +1,13 @@
 -- What a script is.
 --
--- Its lines are those of `str::lines`: a line feed ends a line, a carriage return right before it belongs
--- to that end, and the last line may go without. They are counted from 1. There are at most 200,000, of at
--- most 1,048,576 bytes each without the end, and each is UTF-8. Empty lines, and lines whose first byte is
--- `#`, say nothing.
+-- Its lines are those of `str::lines`: a line feed ends a line, a carriage return right before it belongs to
+-- that end, and the last line may have no end. They are counted from 1. There are at most 200,000, of at most
+-- 1,048,576 bytes each without the end, and each is UTF-8. Empty lines, and lines whose first byte is `#`,
+-- say nothing.
 --
--- Words are what stands between single spaces, so two spaces have an empty word between them. A line has as
--- many words as its form below has; words in brackets may be left out from the right. A DOC, the ID at the
--- end of a line, and a JSON go on to the line's end, with spaces of their own, and have at least one byte.
+-- Single spaces separate words, so two spaces have an empty word between them. A line has as many words as
+-- its form below has; words in brackets may be left out from the right. A DOC, the ID at the end of a line,
+-- and a JSON go on to the line's end, with spaces of their own, and have at least one byte.
 --
 --     set NODES [VOTERS [MEMBERS]]   the first line that says something, and no other
 --     insert N COLL DOC              replace N COLL ID DOC       update N COLL ID DOC      delete N COLL ID
@@ -24,22 +24,22 @@
 --
 -- A number is one or more decimal digits. N is `n` and the number of a node of the set, and two nodes on a
 -- line differ; W is `w` and a number up to 999; M is `m` and a number of 64 bits. NODES is from 1 to 50,
--- VOTERS from 1 to the lesser of 7 and NODES, and MEMBERS from VOTERS to NODES: without MEMBERS there are
--- just the voters, and with NODES alone all are members and as many vote as may. COLL is an ASCII letter
--- and up to 63 letters, digits, `_` and `.`. TARGET is W or TERM/SECONDS/INCREMENT, of 64, 32 and 32 bits.
--- CONCERN is `majority` or 1 to 50; LEVEL is `local` or `majority`; DISK is `journal` or `checkpoint`;
+-- VOTERS from 1 to the lesser of 7 and NODES, and MEMBERS from VOTERS to NODES: without MEMBERS only the
+-- voters are members, and with NODES alone all nodes are members and as many vote as may. COLL is an ASCII
+-- letter and up to 63 letters, digits, `_` and `.`. TARGET is W or TERM/SECONDS/INCREMENT, of 64, 32 and 32
+-- bits. CONCERN is `majority` or 1 to 50; LEVEL is `local` or `majority`; DISK is `journal` or `checkpoint`;
 -- WORKERS is 1 to 16, by default 4; PICK is of 64 bits, at `crash` by default 0; CALL is 1 to 1000; SECONDS
--- is below 2^31. ID is a value and DOC a document in the notation of documents; an ID that a DOC follows
--- has one space after it. JSON is a configuration. SID is a session, below 2^32, and NUMBER that of a
--- write in it, from 1 on and below 2^31.
+-- is below 2^31. ID is a value and DOC a document in the notation of documents; an ID that a DOC follows has
+-- one space after it. JSON is a configuration. SID is a session, below 2^32, and NUMBER that of a write in
+-- it, from 1 on and below 2^31.
 --
 -- `par` begins a block and `end` ends it. In between each `thread` begins one of at most 16 threads, and the
 -- commands after it are that thread's.
 --
--- The first faulty line is told, with its first fault in this order: too many lines, too long, not UTF-8, an
--- unknown first word (of the first command: not `set`), the number of words, a first word that may not stand
--- there, and then the words from left to right. After the last line, as faults of the line after it, are told
--- that there was no `set`, and that a block is open.
+-- The first faulty line is reported, with its first fault in this order: too many lines, too long, not UTF-8,
+-- an unknown first word (of the first command: not `set`), the number of words, a first word that isn't
+-- allowed there, and then the words from left to right. A missing `set` and an open block are faults of the
+-- line after the last one.
 use Rattle.std.specs.Prelude.{ℕ, ◌≡◌, ◌+◌, Bool, nat_lt, List, [], ◌∷◌, ◌++◌, length, Option, None, Some, Result, Ok, Err, if◌then◌else◌}
 use Rattle.std.specs.List.{list_all, flat_map}
 use Rattle.std.specs.Str.Lines.{lines}
@@ -68,7 +68,7 @@ use Rattle.fault_script.specs.Lines.{text_of, is_passed_over}
 abbrev pub Thread : Type 0
 Thread = List (ℕ × Command)
 
--- a command more in the last thread
+-- one more command in the last thread
 abbrev pub in_last : List Thread → ℕ × Command → List Thread
 in_last [] line = []
 in_last (own ∷ []) line = (own ++ line ∷ []) ∷ []
@@ -118,7 +118,7 @@ with_keyword nodes number reading (keywords.End, left) = end_block reading readi
 with_keyword nodes number reading (keywords.Command verb, left) =
     add_command number reading reading.block (words_at nodes verb left)
 
--- in a set of so many nodes
+-- in a set of this size
 unfoldable pub with_command : ℕ → ℕ → Reading → List ℕ → Result Reading ScriptRule
 with_command nodes number reading text = do
   keyword ← keyword_at text
@@ -150,7 +150,7 @@ whole number reading (Some set) (Some threads) = faulty number OpenPar
 whole number reading (Some set) None =
     Ok (record { nodes = set.nodes; voters = set.voters; members = set.members; parts = reading.parts })
 
--- the later lines, where this one has no fault
+-- the later lines, if this one has no fault
 abbrev pub and_then : {A : Type 0} → ℕ → Result Reading ScriptRule → (Reading → Result A ScriptFault)
     → Result A ScriptFault
 and_then number (Err rule) later = faulty number rule
@@ -168,7 +168,7 @@ script bytes = script_from 1 start (lines bytes)
 
 -- ---- whose commands they are
 
--- each command of a part is one of a set of so many nodes
+-- each command of a part is one of a set of this size
 abbrev pub is_part_for : ℕ → Part → Bool
 is_part_for nodes (parts.Line number command) = is_for nodes command
 is_part_for nodes (parts.Par threads) = list_all (list_all (λ line. is_for nodes line.1)) threads
@@ -177,12 +177,12 @@ is_part_for nodes (parts.Par threads) = list_all (list_all (λ line. is_for node
 abbrev pub joined : List Thread → List (ℕ × Command)
 joined threads = flat_map (λ (thread : Thread). thread) threads
 
--- the commands of a part, in the order in which they stand in the script
+-- the commands of a part, in the order of the script
 abbrev pub lines_of : Part → List (ℕ × Command)
 lines_of (parts.Line number command) = (number, command) ∷ []
 lines_of (parts.Par threads) = joined threads
 
--- the same of several parts
+-- the same for several parts
 abbrev pub lines_in : List Part → List (ℕ × Command)
 lines_in parts = flat_map lines_of parts
 

@@ -8,7 +8,7 @@ use script_words::{LineError, command, command_verb};
 use set_model::Command;
 use std::alloc::Global;
 
-/// The command that a line of a script spells, in a set of so many nodes, or the first rule that it breaks.
+/// The command that a line of a script spells, in a set of this size, or the first rule that it breaks.
 /// `set`, `par`, `thread` and `end` are unknown commands here, and so are a comment and an empty text. The
 /// text may be longer than a line of a script.
 #[tactic(auto, unfolding(script_words::specs::Commands::command_at))]

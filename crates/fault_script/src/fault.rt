@@ -9,7 +9,7 @@ pub struct ScriptFault {
     pub rule: ScriptRule,
 }
 
-/// Why bytes give no script.
+/// Why bytes aren't a script.
 #[derive(Clone, Copy, Debug, PartialEq, Eq)]
 pub enum ScriptError {
     /// The first faulty line, with its first fault from left to right.

@@ -1,5 +1,5 @@
-//! Scripts: the bytes of a script as its commands, or its first faulty line with the rule that it breaks; and
-//! a command alone.
+//! Reads the bytes of a script as its commands, or as its first faulty line with the rule that it breaks; and
+//! reads a command alone.
 #![tactic(auto)]
 
 mod command;

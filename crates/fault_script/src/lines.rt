@@ -46,7 +46,7 @@ fn without_return(line: &[u8]) -> &[u8]
 }
 
 /// The text of a line. `TooManyLines`: its number is above 200,000. `LineTooLong`: it has more than 1,048,576
-/// bytes. `NotUtf8`: it is no UTF-8.
+/// bytes. `NotUtf8`: it isn't UTF-8.
 #[tactic(auto, unfolding(crate::specs::Lines::text_of))]
 pub fn text_of(number: u32, line: &[u8]) -> Result<&str, ScriptRule>
     ensures { Reads (λ text. text.now) result (text_of number line.now) }
@@ -63,7 +63,7 @@ pub fn text_of(number: u32, line: &[u8]) -> Result<&str, ScriptRule>
     }
 }
 
-/// The bytes as text, where they are UTF-8. Most lines are ASCII, for which the test is shorter.
+/// The bytes as text, if they are UTF-8. Most lines are ASCII, which is quicker to test.
 pub fn as_text(line: &[u8]) -> Option<&str>
     ensures { MatchOption result (¬ IsUtf8 line.now) (λ text. (text.now ≡ line.now) × IsUtf8 line.now) }
 {

@@ -1,4 +1,4 @@
-// Lists of commands, each with the number of its line, which contracts see as lists.
+// Lists of commands, each with the number of its line. Contracts see them as lists.
 ghost use Rattle.std.specs.Prelude.{◌≡◌, [], ◌∷◌, ◌++◌, IfOk, OnOk};
 ghost use Rattle.fault_script.specs.Script.{in_last};
 
@@ -56,7 +56,7 @@ impl Lines {
         Ok(())
     }
 
-    /// The same lines once more.
+    /// A copy of the lines.
     pub fn copy(&self) -> Mem<Lines>
         ensures { IfOk result (λ l. l ≡ self.now) }
     {
@@ -67,7 +67,7 @@ impl Lines {
         Ok(copies)
     }
 
-    /// The same in no more memory than it needs.
+    /// The same list, in no more memory than it needs.
     fn shrunk(mut self) -> Self
         ensures { result ≡ self }
     {
@@ -118,7 +118,7 @@ impl Threads {
         self.threads
     }
 
-    /// The same threads once more.
+    /// A copy of the threads.
     pub fn copy(&self) -> Mem<Threads>
         ensures { IfOk result (λ t. t ≡ self.now) }
     {
@@ -129,7 +129,7 @@ impl Threads {
         Ok(Threads { threads: copies })
     }
 
-    /// Begins one thread more. The one before it is in no more memory than it needs.
+    /// Begins one more thread. The one before it gives back the memory that it doesn't need.
     pub(crate) fn begin_thread(&mut self, alloc: Global) -> Mem<()>
         ensures { OnOk result (self.new ≡ self.old ++ [] ∷ []) }
     {
@@ -138,7 +138,7 @@ impl Threads {
         Ok(())
     }
 
-    /// One command more, in the last thread. Where there is no thread there is no command more.
+    /// Adds a command to the last thread. Without a thread it adds nothing.
     pub(crate) fn push(&mut self, line: (u32, Command)) -> Mem<()>
         ensures { OnOk result (self.new ≡ in_last self.old line) }
     {
@@ -150,7 +150,7 @@ impl Threads {
         Ok(())
     }
 
-    /// Gives back what the last thread doesn't need.
+    /// Gives back the memory that the last thread doesn't need.
     pub(crate) fn shrink_last(&mut self) -> Mem<()>
         ensures { OnOk result (self.new ≡ self.old) }
     {

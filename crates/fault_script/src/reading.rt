@@ -23,7 +23,7 @@ pub struct Reading {
     /// The sizes of the set, after the `set` line.
     set: Option<SetLine>,
     parts: Parts,
-    /// The threads of the block that is open, where one is.
+    /// The threads of the open block, if there is one.
     block: Option<Threads>,
 }
 
@@ -68,7 +68,7 @@ impl Reading {
         Ok(())
     }
 
-    /// A later command, in a set of so many nodes.
+    /// A later command, in a set of this size.
     #[tactic(auto, unfolding(crate::specs::Script::with_command))]
     fn add_command(
         &mut self,
@@ -147,8 +147,8 @@ impl Reading {
         Ok(())
     }
 
-    /// The script, once all its lines are added; `number` is one more than that of the last. A fault at
-    /// `number` where there was no `set` line, or a block is still open.
+    /// The script after all its lines are added; `number` is one more than the last one's. It is a fault at
+    /// `number` if there was no `set` line, or a block is still open.
     pub fn finish(self, number: u32) -> Result<Script, ScriptFault>
         ensures { result ≡ whole number self self.set self.block }
     {

@@ -7,7 +7,7 @@ use set_model::Command;
 use std::alloc::Global;
 use std::marker::Model;
 
-/// So many places of parts that were taken out are kept at most.
+/// At most this many places of parts that were taken out are kept.
 const MOST_SPARE: usize = 1024;
 
 /// A script: the sizes of its set, and what is done in order.
@@ -24,7 +24,7 @@ pub struct Script {
 }
 
 impl Script {
-    /// The same script once more.
+    /// A copy of the script.
     pub fn copy(&self) -> Mem<Script>
         ensures { IfOk result (λ s. s ≡ self.now) }
     {
@@ -47,7 +47,7 @@ pub enum Part {
 }
 
 impl Part {
-    /// The same part once more.
+    /// A copy of the part.
     pub fn copy(&self) -> Mem<Part>
         ensures { IfOk result (λ p. p ≡ self.now) }
     {
@@ -108,7 +108,7 @@ impl Parts {
         Ok(())
     }
 
-    /// The same parts once more.
+    /// A copy of the parts.
     pub fn copy(&self) -> Mem<Parts>
         ensures { IfOk result (λ p. p ≡ self.now) }
     {
@@ -128,8 +128,8 @@ impl Parts {
     }
 }
 
-/// What is left of the parts of a script. They lie last first, so that what they took is given back while
-/// they are taken out.
+/// What is left of the parts of a script. They are stored in reverse, so that memory is given back while they
+/// are taken out.
 #[derive(Drop)]
 pub struct Rest {
     parts: Vec<Part>,

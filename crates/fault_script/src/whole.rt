@@ -14,7 +14,7 @@ use std::alloc::Global;
 
 /// The script that some bytes are, or the first faulty line with its first fault from left to right.
 ///
-/// The sizes are lawful. Each command is one of a set of so many nodes, and there are at most 200,000.
+/// The sizes are lawful. Each command is one of a set of this size, and there are at most 200,000.
 pub fn parse(alloc: Global, bytes: &[u8]) -> Result<Script, ScriptError>
     ensures ok { IfOk result (λ read. script bytes.now ≡ Ok read) }
     ensures sizes { IfOk result (λ read. AreSizes (sizes_of read)) }

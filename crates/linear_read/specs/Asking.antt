@@ -1,4 +1,4 @@
--- A talk that is held with a set, which others may step too: each command of it is one event.
+-- A talk with a set, which others may step too: each of its commands is one event.
 use Rattle.std.specs.Prelude.{◌≡◌, ◌⊎◌, Bool, List, [], ◌∷◌, ◌++◌}
 use mathlib.Core.Logic.{inl, inr}
 use Rattle.set_model.specs.declared.command.Event.{Event}
@@ -25,14 +25,14 @@ module _ (alone : Bool) (sizes : Sizes) where
 
   -- ---- with whoever steps the set
 
-  -- the events of the commands of a talk that was held
+  -- the events of a talk's commands, if it was held
   abbrev pub did : {A : Type 0} (old new : List Event) (talk : Talk A) (told : A) → IsHeld old new talk told
       → List Event
   did old new (tells answer) told held = []
   did old new (asks command next) told held =
       held.2.event ∷ did held.0 new (next held.1) told held.3
 
-  -- and of one that was broken off
+  -- the same of one that was broken off
   abbrev pub did_before : {A : Type 0} (old new : List Event) (talk : Talk A) → IsBrokenOff old new talk
       → List Event
   did_before old new (tells answer) broken = []

@@ -1,4 +1,4 @@
--- What a talk leaves of the set that it is held with, over what whoever steps the set tells of it.
+-- What a talk leaves of its set, by what the stepper of the set tells.
 use Rattle.std.specs.Prelude.{◌≡◌, ◌≢◌, Bool, List, Result, Ok, Err, length}
 use Rattle.set_model.specs.declared.command.Event.{Event}
 use Rattle.set_model.specs.Run.{HISTORY_LIMIT, Sizes}
@@ -8,7 +8,7 @@ use Rattle.set_world.specs.Stepper.{IsDefined}
 use Rattle.linear_read.specs.Asking.{BreaksOff, Holds}
 use Rattle.linear_read.specs.Talk.{Talk}
 
--- Whatever led to the set as it was leads to it as it is, also where no step was done.
+-- What led to the old set leads to the new one too, even where no step was done.
 pub record Leads {S : Type 0} (sizes : S → Sizes) (known : S → List Event) (stays : S → S → Type 0)
     (old new : S) : Type 0 where
   pub sizes_are : sizes new ≡ sizes old

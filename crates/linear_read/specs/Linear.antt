@@ -41,8 +41,8 @@ module _ (sizes : Sizes) (events : List Event) where
     pub command_is : event.command ≡ command
     pub answers : Answers sizes events place number event answer
 
-  -- A primary whose log is confirmed: it wrote a note later, in the term that it has, and a majority
-  -- acknowledged that note.
+  -- A primary whose log is confirmed: it wrote a note later, in the same term, and a majority acknowledged
+  -- that note.
   pub record IsConfirmed (place number : ℕ) (node : Node) : Type 0 where
     pub node_at : IsAt sizes events place number node
     pub role : node.role ≡ Primary
@@ -60,14 +60,14 @@ module _ (sizes : Sizes) (events : List Event) where
     pub confirmed : IsConfirmed place number node
     pub reads : Asks place number (commands.Read number levels.Local collection id) shown
 
-  -- a log begins with all that any node had up to an optime that it acknowledged at majority before
+  -- the node's log begins with what each node had up to an optime that it acknowledged at majority before
   abbrev pub HoldsAcked : ℕ → Node → Type 0
   HoldsAcked place node =
       (h m : ℕ) (event : Event) (at : OpTime) (other : Node) → h < place
       → Answers sizes events h m event (reply.Acked at) → is_majority_ack event.command ≡ true
       → IsAt sizes events (suc h) m other → Begins (log_up_to at other.log) node.log
 
-  -- A linear read shows a document, or that there is none, as a log leaves it that holds all that was
+  -- A linear read shows a document, or that there is none, as left by a log that holds all that was
   -- acknowledged at majority before the read.
   abbrev pub LinearLaw : Type 0
   LinearLaw =
@@ -75,8 +75,7 @@ module _ (sizes : Sizes) (events : List Event) where
       → IsLinear place number node collection id shown
       → HoldsAcked place node × (is_refusal shown ≡ false → ShowsOf node.log collection (tree_of id) shown)
 
-  -- What is shown is the answer of a linear read after at least so many events: the document, or that
-  -- there is none.
+  -- The answer is that of a linear read after at least this many events: the document, or that there is none.
   abbrev pub Comes : ℕ → ℕ → List ℕ → Value → Reply → Type 0
   Comes first number collection id shown =
       (place : ℕ) × (node : Node) × (first ≤ place) × IsLinear place number node collection id shown

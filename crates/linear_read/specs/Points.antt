@@ -1,4 +1,4 @@
--- What a linear read asks, point by point, and what it answers.
+-- What a linear read asks, in five points, and what it answers.
 use Rattle.std.specs.Prelude.{ℕ, zero, suc, ◌+◌, ◌==◌, Bool, true, false, not, ◌&&◌, List, Option, None, Some, Result, Ok, Err, if◌then◌else◌, is_some}
 use Rattle.bson_doc.specs.declared.doc.Value.{Value}
 use Rattle.rs_optime.specs.Order.{is_before}
@@ -42,7 +42,7 @@ abbrev pub is_flushed : Reply → Bool
 is_flushed (reply.Flushed count point) = true
 is_flushed _ = false
 
--- so many times at most, while there is something to flush
+-- at most this many times, while there is something to flush
 abbrev pub flushes : ℕ → ℕ → Talk (Unit {0})
 flushes node zero = tells tt
 flushes node (suc more) =
@@ -57,12 +57,12 @@ message_sent (reply.SentTo message source) = Some message
 message_sent (reply.Replied message) = Some message
 message_sent _ = None
 
--- the message that a delivery was answered by
+-- the message that answers a delivery
 abbrev pub message_replied : Option Reply → Option ℕ
 message_replied (Some told) = message_sent told
 message_replied None = None
 
--- a message is delivered; where none was sent, this is left out
+-- delivers a message, if one was sent
 abbrev pub delivers : Option ℕ → Talk (Option Reply)
 delivers None = tells None
 delivers (Some message) = asks (commands.Deliver message) (λ told. tells (Some told))
@@ -71,13 +71,13 @@ delivers (Some message) = asks (commands.Deliver message) (λ told. tells (Some 
 abbrev pub carries : Command → Talk (Option Reply)
 carries command = asks command (λ told. delivers (message_sent told))
 
--- entries were taken, and the last of them is before the optime
+-- entries were taken, and the last one is before the optime
 abbrev pub took_some : OpTime → Option Reply → Bool
 took_some at (Some (reply.Took count last)) = not (count == 0) && is_before last at
 took_some at _ = false
 
--- One round: the other node hears of this one, fetches from its source, and flushes. Another one is worth
--- while where each command before the flushes was answered by what it asks for, and more is to be fetched.
+-- One round: the other node hears of this one, fetches from its source, and flushes. Another round is
+-- worthwhile if each command before the flushes got what it asked for, and there is more to fetch.
 abbrev pub round : ℕ → ℕ → OpTime → Talk Bool
 round node other at =
     and_then (carries (commands.Heartbeat node other)) (λ heard.
@@ -86,20 +86,20 @@ round node other at =
     and_then (flushes other 3) (λ done.
     tells (is_some (message_replied heard) && took_some at taken)))))
 
--- so many rounds at most, while another one is worth while
+-- at most this many rounds, while another one is worthwhile
 abbrev pub rounds : ℕ → ℕ → OpTime → ℕ → Talk (Unit {0})
 rounds node other at zero = tells tt
 rounds node other at (suc more) =
     and_then (round node other at) (λ goes_on. if goes_on then rounds node other at more else tells tt)
 
--- another node has its rounds, and reports how far it is durable
+-- another node does its rounds, and reports how far it is durable
 abbrev pub told : ℕ → ℕ → OpTime → Talk (Unit {0})
 told node other at =
     if other == node then tells tt
     else and_then (rounds node other at 50) (λ done.
     and_then (carries (commands.Report other node)) (λ counted. tells tt))
 
--- so many nodes from this one on
+-- this many nodes, from this one on
 abbrev pub others_told : ℕ → OpTime → ℕ → ℕ → Talk (Unit {0})
 others_told node at other zero = tells tt
 others_told node at other (suc more) =
@@ -119,7 +119,7 @@ acknowledges node nodes at =
 
 -- ---- the five points
 
--- after the read: why no note of this term is written and acknowledged
+-- after the read: why no note of this term was written, or what follows if one was
 abbrev pub unless_noted : Result OpTime Refusal → (OpTime → Talk (Option Refusal)) → Talk (Option Refusal)
 unless_noted (Err why) next = tells (Some why)
 unless_noted (Ok at) next = next at
@@ -128,7 +128,7 @@ abbrev pub confirms : ℕ → ℕ → ℕ → Talk (Option Refusal)
 confirms node nodes term =
     asks (commands.Note node) (λ note. unless_noted (note_written term note) (acknowledges node nodes))
 
--- a refusal is the answer
+-- a refusal becomes the answer
 abbrev pub unless_refused : {A : Type 0} → Result A Refusal → (A → Talk LinearAnswer)
     → Talk LinearAnswer
 unless_refused (Err why) next = tells (Refused why)

@@ -1,4 +1,4 @@
--- A talk with a set: commands one after another, where each may depend on the replies before it, and the
+-- A talk with a set: commands one after another, each of which may depend on the replies before it, and a
 -- result at the end.
 use Rattle.set_model.specs.declared.command.Command.{Command}
 use Rattle.set_model.specs.declared.reply.Reply.{Reply}

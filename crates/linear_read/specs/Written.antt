@@ -1,4 +1,4 @@
--- By which event an entry was written.
+-- Which event wrote an entry.
 use Rattle.std.specs.Prelude.{◌≡◌, ◌<◌, ℕ, suc, List, Some, slice_get}
 use Rattle.rs_optime.specs.Membership.{In}
 use Rattle.oplog_entry.specs.declared.entry.Entry.{Entry}
@@ -11,8 +11,8 @@ use Rattle.set_model.specs.Run.{Sizes, world_at}
 use Rattle.set_model.specs.Safety.{Leads}
 
 module _ (sizes : Sizes) (events : List Event) where
-  -- The event after a place wrote the entry: a node that led in the entry's term before it, and leads in it
-  -- still, has this entry more in its log.
+  -- The event after a place wrote the entry: a node that led in the entry's term before it, and still does,
+  -- has this one more entry in its log.
   pub record Wrote (place : ℕ) (entry : Entry) : Type 0 where
     pub event : Event
     pub event_is : slice_get events place ≡ Some event

@@ -12,7 +12,7 @@ use set_world::{StepError, Stepper};
 use std::sync::Wait;
 use std::thread::Threads;
 
-/// The events of a read stand on no line of a script.
+/// The events of a read aren't on a line of a script.
 const NO_LINE: u32 = 0;
 
 /// Does a command.
@@ -30,7 +30,7 @@ pub(crate) fn ask<R: Threads + Wait + Sync, S: Stepper>(
     set.step(rt, NO_LINE, &command)
 }
 
-/// Delivers a message, where one was sent.
+/// Delivers a message, if one was sent.
 pub(crate) fn deliver<R: Threads + Wait + Sync, S: Stepper>(
     rt: &R,
     set: &mut S,

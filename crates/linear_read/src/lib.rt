@@ -1,4 +1,4 @@
-//! Linearizable reads: a read that shows each write which a majority had acknowledged before it.
+//! Linearizable reads: each shows every write that a majority had acknowledged before it.
 #![tactic(auto)]
 
 mod answer;

@@ -23,14 +23,14 @@ use std::alloc::Global;
 use std::sync::Wait;
 use std::thread::Threads;
 
-/// At most so many times the node flushes its log before the others are told of the note.
+/// The node flushes its log at most this many times before the others are told of the note.
 const MOST_FLUSHES: u32 = 200;
 
-/// Reads a document at a primary, so that what it shows holds each write that a majority had acknowledged
-/// before: the node writes a note after the read, and a majority acknowledges that.
+/// Reads a document at a primary, and shows every write that a majority had acknowledged before: the node
+/// writes a note after the read, and a majority acknowledges the note.
 ///
 /// # Errors
-/// Those of a step. Its commands were done as far as the one that failed.
+/// Those of a step. The commands before the one that failed were done.
 pub fn linear_read<R: Threads + Wait + Sync, S: Stepper>(
     alloc: Global,
     rt: &R,
@@ -59,7 +59,7 @@ pub fn linear_read<R: Threads + Wait + Sync, S: Stepper>(
     ask_points(alloc, rt, set, node, nodes, coll, id)
 }
 
-/// The five points. The first is asked in any case.
+/// The five points. The first is always asked.
 fn ask_points<R: Threads + Wait + Sync, S: Stepper>(
     alloc: Global,
     rt: &R,
@@ -97,7 +97,7 @@ fn local_read(alloc: Global, node: u32, coll: &str, id: &Value) -> Mem<Command>
     })
 }
 
-/// Reads. What is read is the answer where a note after it is confirmed in this term.
+/// Reads. The result is the answer if a note after it is confirmed in this term.
 fn read_in_term<R: Threads + Wait + Sync, S: Stepper>(
     rt: &R,
     set: &mut S,
@@ -123,7 +123,7 @@ fn read_in_term<R: Threads + Wait + Sync, S: Stepper>(
     }
 }
 
-/// A note of this term is written, and a majority acknowledges it; or why not.
+/// Writes a note of this term, which a majority acknowledges; or why not.
 fn confirm<R: Threads + Wait + Sync, S: Stepper>(
     rt: &R,
     set: &mut S,
@@ -142,7 +142,7 @@ fn confirm<R: Threads + Wait + Sync, S: Stepper>(
     }
 }
 
-/// A note is made durable, also at the others, and acknowledged by a majority; or why it isn't.
+/// Makes a note durable, here and at the others, until a majority acknowledges it; or why it doesn't.
 fn acknowledge<R: Threads + Wait + Sync, S: Stepper>(
     rt: &R,
     set: &mut S,

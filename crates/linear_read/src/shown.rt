@@ -61,7 +61,7 @@ pub(crate) fn message_sent(reply: &Reply) -> Option<u64>
     }
 }
 
-/// The message that a delivery was answered by.
+/// The message that answers a delivery.
 pub(crate) fn message_replied(reply: &Option<Reply>) -> Option<u64>
     ensures { result ≡ message_replied reply.now }
 {
@@ -71,14 +71,14 @@ pub(crate) fn message_replied(reply: &Option<Reply>) -> Option<u64>
     }
 }
 
-/// Whether a flush was answered by what it made durable.
+/// Whether a flush made something durable.
 pub(crate) fn is_flushed(reply: &Reply) -> bool
     ensures { result ≡ is_flushed reply.now }
 {
     matches!(reply, Reply::Flushed { .. })
 }
 
-/// Whether entries were taken that end before an optime.
+/// Whether entries were taken, the last of them before an optime.
 pub(crate) fn took_some(at: OpTime, reply: &Option<Reply>) -> bool
     ensures { result ≡ took_some at reply.now }
 {

@@ -11,13 +11,13 @@ use set_world::{StepError, Stepper};
 use std::sync::Wait;
 use std::thread::Threads;
 
-/// At most so many rounds each node has.
+/// Each node does at most this many rounds.
 const MOST_ROUNDS: u32 = 50;
 
-/// At most so many times a node flushes in a round.
+/// A node flushes at most this many times in a round.
 const FLUSHES_OF_ROUND: u32 = 3;
 
-/// A node flushes its log, at most so many times, while there is something to flush.
+/// A node flushes its log, at most this many times, while there is something to flush.
 pub(crate) fn flush<R: Threads + Wait + Sync, S: Stepper>(
     rt: &R,
     set: &mut S,
@@ -55,7 +55,7 @@ pub(crate) fn tell_others<R: Threads + Wait + Sync, S: Stepper>(
     Ok(())
 }
 
-/// Another node has its rounds, and reports how far it is durable.
+/// Another node does its rounds, and reports how far it is durable.
 fn tell<R: Threads + Wait + Sync, S: Stepper>(
     rt: &R,
     set: &mut S,
@@ -80,7 +80,7 @@ fn tell<R: Threads + Wait + Sync, S: Stepper>(
     Ok(())
 }
 
-/// As many rounds as are worth while.
+/// Does rounds while another one is worthwhile.
 fn repeat_rounds<R: Threads + Wait + Sync, S: Stepper>(
     rt: &R,
     set: &mut S,
@@ -101,8 +101,8 @@ fn repeat_rounds<R: Threads + Wait + Sync, S: Stepper>(
     Ok(())
 }
 
-/// One round: the other node hears of this one, fetches from its source, and flushes. Whether another one is
-/// worth while.
+/// One round: the other node hears of this one, fetches from its source, and flushes. The result is whether
+/// another one is worthwhile.
 fn has_round<R: Threads + Wait + Sync, S: Stepper>(
     rt: &R,
     set: &mut S,

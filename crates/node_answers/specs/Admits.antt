@@ -21,7 +21,7 @@ use Rattle.set_model.specs.Points.{next_optime}
 use Rattle.node_data.specs.Versions.{IsSmall}
 use Rattle.node_answers.specs.declared.admitted.Admission.{Admission}
 
--- the refusal for the reason why a write is refused; out of memory is no reason
+-- the refusal for the reason against a write; being out of memory isn't one
 abbrev pub IsRefusal : WriteRefusal → Refusal → Type 0
 IsRefusal why refusal = option_map refusal_of (reason_of why) ≡ Some refusal
 
@@ -39,7 +39,7 @@ CanBeLogged node place (Entry op after) =
 CanBeLogged node place NoMatch = ⊤
 CanBeLogged node place Unchanged = ⊤
 
--- a write is refused; or nobody holds its document, and its effect on that can be logged
+-- a write is refused, or no writer holds its document, and its effect can be logged
 abbrev pub Admits : Node → WriteOp → Result Admission Refusal → Type 0
 Admits node op (Err why) = admitted node op ≡ Err why
 Admits node op (Ok write) =

@@ -5,7 +5,7 @@ use Rattle.set_model.specs.Node.{Node}
 use Rattle.set_model.specs.Rows.{row}
 use Rattle.set_model.specs.Stores.{Plan}
 
--- a row takes all three, so these are arbitrary values for them
+-- a row takes all three; these are placeholders
 abbrev any_size : ℕ
 any_size = 0
 
@@ -15,6 +15,6 @@ any_number = 0
 abbrev any_finding : Bool
 any_finding = false
 
--- a write, a step of a writer, or what a node shows about itself
+-- a write, a writer's step, or a question about the node
 abbrev pub plain_row : Node → Command → Plan
 plain_row node command = row any_size any_number any_finding node command

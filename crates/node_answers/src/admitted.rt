@@ -7,7 +7,7 @@ use doc_update::{Prepared, WriteRefusal};
 use set_model::Refusal;
 use std::alloc::AllocError;
 
-/// The effect of a write that isn't refused, with the place of its document.
+/// The effect of a write that nothing refuses, with the place of its document.
 #[derive(Drop)]
 pub(crate) struct Admission {
     pub(crate) ns: Text,

@@ -1,4 +1,4 @@
-// The commands that are answered at once: writes, and what a node shows about itself.
+// The commands that are answered at once: writes, and questions about the node.
 ghost use Rattle.std.specs.Prelude.{◌≡◌, true, IfOk, OnErr};
 ghost use Rattle.set_model.specs.Clock.{set_clock};
 ghost use Rattle.set_model.specs.Limits.{is_within};
@@ -15,15 +15,15 @@ use doc_update::BorrowedWrite;
 use node_state::State;
 use set_model::{Command, Reply};
 
-/// Whether a command is answered at once: a write, a step of a writer, or what a node shows about itself.
-/// None of these stores or sends anything.
+/// Whether a command is answered at once: a write, a writer's step, or a question about the node. None of
+/// these stores or sends anything.
 pub fn is_plain(command: &Command) -> bool
     ensures { result ≡ is_plain command.now }
 {
     is_write(command) || is_show(command)
 }
 
-/// Whether a command is a write, or a step of a writer.
+/// Whether a command is a write, or a writer's step.
 fn is_write(command: &Command) -> bool
     ensures { result ≡ is_write command.now }
 {
@@ -41,7 +41,7 @@ fn is_write(command: &Command) -> bool
     )
 }
 
-/// Whether a command asks for what a node shows about itself, or sets its clock.
+/// Whether a command is a question about the node, or sets its clock.
 fn is_show(command: &Command) -> bool
     ensures { result ≡ is_show command.now }
 {
@@ -56,8 +56,7 @@ fn is_show(command: &Command) -> bool
     )
 }
 
-/// Executes a command that is answered at once. The only error is out of memory, which leaves the node
-/// as it was.
+/// Does a command that is answered at once. The only error is out of memory, which leaves the node as it was.
 pub fn answer(state: &mut State, command: &Command) -> Mem<Reply>
     requires bounds { IsBounded state.old.node }
     requires plain { is_plain command.now ≡ true }
@@ -72,7 +71,7 @@ pub fn answer(state: &mut State, command: &Command) -> Mem<Reply>
     show(state, command)
 }
 
-/// Executes a write, or a step of a writer.
+/// Does a write, or a writer's step.
 #[tactic(auto, using(node_state::proofs::TurnLemmas::while_up))]
 fn write(state: &mut State, command: &Command) -> Mem<Reply>
     requires bounds { IsBounded state.old.node }
@@ -115,7 +114,7 @@ fn write(state: &mut State, command: &Command) -> Mem<Reply>
     }
 }
 
-/// Shows something about the node, or sets its clock.
+/// Answers a question about the node, or sets its clock.
 #[tactic(auto, using(node_state::proofs::TurnLemmas::while_up))]
 fn show(state: &mut State, command: &Command) -> Mem<Reply>
     requires show { is_show command.now ≡ true }

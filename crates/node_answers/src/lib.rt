@@ -1,5 +1,5 @@
-//! What a node in memory answers at once: writes, the steps of writers, and what it shows about itself. None
-//! of this stores or sends anything.
+//! What a node in memory answers at once: writes, the steps of writers, and questions about itself. Nothing
+//! is stored or sent.
 #![tactic(auto)]
 
 mod admitted;

@@ -16,7 +16,7 @@ use node_state::State;
 use oplog_entry::Session;
 use set_model::{Refusal, Reply, Role};
 
-/// The effect of a write on a primary's latest documents.
+/// The effect of a write on the latest documents of a primary.
 pub(crate) fn admit(state: &State, borrowed: BorrowedWrite<'_>) -> Mem<Result<Admission, Refusal>>
     requires role { state.now.node.role ≡ Role.Primary }
     requires name { is_collection (collection_of (shown borrowed)) ≡ true }
@@ -54,7 +54,7 @@ fn admit_at(
     }
 }
 
-/// Writes an entry at once, for a write without a session.
+/// Writes an entry for a write without a session, at once.
 pub(crate) fn write_at_once(state: &mut State, borrowed: BorrowedWrite<'_>) -> Mem<Reply>
     requires seen { state.old.node.seen < 2 ^ 64 - 1 }
     requires name { is_collection (collection_of (shown borrowed)) ≡ true }
@@ -68,7 +68,7 @@ pub(crate) fn write_at_once(state: &mut State, borrowed: BorrowedWrite<'_>) -> M
     write_in(state, borrowed, None)
 }
 
-/// Writes an entry for a write that a primary accepts, and that may belong to a session.
+/// Writes an entry for a write that a primary takes, with its session or none.
 fn write_in(state: &mut State, borrowed: BorrowedWrite<'_>, session: Option<Session>) -> Mem<Reply>
     requires seen { state.old.node.seen < 2 ^ 64 - 1 }
     requires role { state.old.node.role ≡ Role.Primary }
@@ -85,7 +85,7 @@ fn write_in(state: &mut State, borrowed: BorrowedWrite<'_>, session: Option<Sess
     }
 }
 
-/// Does a write of a session, unless it was done before, or is older than the session's last write.
+/// Does a session's write, unless it was done before, or is older than the last one done.
 pub(crate) fn retry(state: &mut State, session: Session, borrowed: BorrowedWrite<'_>) -> Mem<Reply>
     requires seen { state.old.node.seen < 2 ^ 64 - 1 }
     requires name { is_collection (collection_of (shown borrowed)) ≡ true }

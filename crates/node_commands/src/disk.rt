@@ -56,7 +56,7 @@ fn copies_at(alloc: Global, node_data: &NodeData, optimes: &[OpTime]) -> Mem<Ent
     Ok(EntryList::new(copies))
 }
 
-/// Applies the next batch, with this many workers.
+/// Applies the next batch, by this many workers.
 pub(crate) fn apply<R: Threads + Sync>(state: &mut State, rt: &R, workers: u32) -> Mem<Turn>
     requires some { 0 < workers }
     requires most { workers ≤ 16 }
@@ -151,8 +151,7 @@ pub fn go_on_flush(state: &mut State, item: &Store, count: u64, point: OpTime) -
     state.answered(Reply::Flushed { count, to: point })
 }
 
-/// Continues once the first `count` entries that weren't in the journal are there: the log is durable
-/// up to `point`.
+/// The first `count` entries that weren't in the journal are there now: the log is durable up to `point`.
 fn flush(state: &mut State, item: &Store, count: usize, point: OpTime)
     requires ready { IsFlush item.now count point state.old.node }
     ensures { state.new.node ≡ record (stored state.old.node item.now) { durable = point } }

@@ -1,8 +1,8 @@
 //! What a node in memory does with each command of its own that isn't answered at once (`node_answers`):
 //! elections, messages to others, batches, flushes, checkpoints, new configurations and acknowledgements.
 //!
-//! `start` begins the turn of such a command. A function called `go_on_..` continues a turn once what it
-//! stores is on disk.
+//! `start` begins the turn of such a command. A function named `go_on_..` goes on with a turn when its store
+//! is on disk.
 #![tactic(auto)]
 
 mod asking;

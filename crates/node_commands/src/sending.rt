@@ -1,4 +1,4 @@
-// What a node sends: when it is told to, and as an answer.
+// Messages that a node sends.
 ghost use Rattle.std.specs.Prelude.{◌≡◌, [], ◌∷◌, IfOk, OnErr};
 ghost use Rattle.set_model.specs.Beats.{beat_of, heartbeat};
 ghost use Rattle.set_model.specs.Fetching.{fetch};
@@ -75,7 +75,8 @@ pub(crate) fn fetch(state: &mut State, next: u64) -> Mem<Turn>
     sends(state, reply, source, Body::Fetch { base: last })
 }
 
-/// What a heartbeat says: configuration, commit point, last visible optime, and whether the node is primary.
+/// What a heartbeat carries: configuration, commit point, last visible optime, and whether the node is
+/// primary.
 pub(crate) fn beat(state: &State) -> Mem<Beat>
     ensures { IfOk result (λ beat. beat ≡ beat_of state.now.node) }
 {

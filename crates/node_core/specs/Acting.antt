@@ -23,7 +23,7 @@ use Rattle.node_core.specs.Opening.{ReopensInTurn}
 use Rattle.node_core.specs.Stands.{Stands, documents_at}
 use Rattle.node_core.specs.declared.done.Done.{Done}
 
--- what was done is the plan, up to the store that failed, if one did
+-- the answer is the plan's, up to the store that failed, if one did
 pub record Follows (plan : Plan) (node : Node) (done : Done) : Type 0 where
   pub outcome : Rattle.set_model.specs.Stores.done plan done.failed
       ≡ record { reply = done.reply; node = node; sent = done.sent.items }
@@ -46,16 +46,16 @@ pub record Fails (Fault : Type 0) (journal journal' checkpoints checkpoints' : S
   pub journal_steady : IsTrue journal.is_steady → IsTrue journal'.is_steady
   pub checkpoint_steady : IsTrue checkpoints.is_steady → IsTrue checkpoints'.is_steady
 
--- a disk is armed only by an order
+-- only an order arms a disk
 abbrev pub ArmedBefore : State → State → Type 0
 ArmedBefore old new = IsTrue new.is_armed → IsTrue old.is_armed
 
--- a disk is told to fail
+-- a disk is ordered to fail
 abbrev pub is_disk_fail : Command → Bool
 is_disk_fail (DiskFail node disk call pick) = true
 is_disk_fail _ = false
 
--- the orders that a command with this reply gives to one of the disks: a crash cuts the power of both
+-- the orders that a command gives to one of the disks: a crash with this reply cuts the power of both
 abbrev pub orders_after : DiskName → Command → Reply → Orders → Orders
 orders_after name (Crash node pick) reply.Down orders = ordered (power_cut pick) orders
 orders_after disks.Journal (DiskFail node disks.Journal call pick) reply.Armed orders =
@@ -86,7 +86,7 @@ pub record RunsWithoutOrders (Fault : Type 0) (j j' c c' : State) : Type 0 where
   pub journal_orders : j'.orders ≡ j.orders
   pub checkpoints_orders : c'.orders ≡ c.orders
 
--- two disks as they were, except for their room
+-- the two disks are as they were, except for their room
 pub record AreSame (j j' c c' : State) : Type 0 where
   pub journal : SameButRoom j j'
   pub checkpoints : SameButRoom c c'
@@ -112,7 +112,7 @@ abbrev pub IsThere : Node → Store → State → State → Type 0
 IsThere node (stores.Record item) j c = HasJournal (contents j.file) (node.records ++ item ∷ [])
 IsThere node (stores.Checkpoint at) j c = HasCheckpoint (contents c.file) (documents_at node at)
 
--- What a command with this plan and this reply did to the two disks of a node that was `node` before.
+-- What a command with this plan and this reply did to the two disks of its node, given the node before it.
 pub record DidToDisks (node : Node) (plan : Plan) (command : Command) (reply : Reply) (failed : Option ℕ)
     (kept : Bool) (j j' c c' : State) : Type 0 where
   pub acted : DisksActed command reply (IsSome failed) j j' c c'
@@ -120,11 +120,11 @@ pub record DidToDisks (node : Node) (plan : Plan) (command : Command) (reply : R
   -- a restart opens both disks first: where that failed, nothing else was done
   pub opening : is_restart command ≡ true → failed ≡ Some 0
       → ReopensInTurn {T = Unit {0}} (Err Disk) j j' c c'
-  -- where it didn't fail, `kept` is true exactly if the store in doubt is there
+  -- if it didn't fail, `kept` is true exactly if what was in doubt is on disk
   pub found : is_restart command ≡ true → passes_first failed ≡ true
       → IfSome node.doubt (λ item. kept ≡ true ↔ IsThere node item j c)
 
--- A command was done at a node with these two disks; `old`, `j` and `c` are how they were before.
+-- A command was done at a node with these two disks.
 pub record Acted (plan : Plan) (command : Command) (old new : Node) (j j' c c' : State)
     (done : Done) : Type 0 where
   pub follows : Follows plan new done
@@ -141,8 +141,8 @@ pub record Took (plan : Plan) (new : Node) (j j' c c' : State) (done : Done) : T
 
 -- ---- out of memory
 
--- Two disks that were opened again, as far as memory allowed, and nothing more was done. They were given no
--- orders, and at each moment a crash left a list that an earlier one might have left.
+-- Two disks that were opened again, as far as memory went, and nothing more was done. No orders were given to
+-- them, and at each moment a crash left what an earlier crash could have left.
 pub record AreReopened (j j' c c' : State) : Type 0 where
   pub calls : ReopensInTurn {T = Unit {0}} (Err Memory) j j' c c'
   pub runs : RunsWithoutOrders ⊥ j j' c c'
@@ -154,7 +154,7 @@ abbrev pub DisksLeft : Command → State → State → State → State → Type 
 DisksLeft (Restart node) j j' c c' = AreReopened j j' c c'
 DisksLeft _ j j' c c' = AreSame j j' c c'
 
--- The node is as it was, and its disks are left in this way.
+-- The node is as it was, and its disks are as such a command leaves them.
 pub record Unchanged (Disks : State → State → State → State → Type 0) (old new : Node)
     (j j' c c' : State) : Type 0 where
   pub node : new ≡ old

@@ -23,25 +23,25 @@ use Rattle.node_state.specs.WellKept.{IsWellKept}
 
 -- ---- what is found
 
--- both disks were read, and what was read is there now
+-- both disks were read, and what was read is on them now
 pub record IsRead (found : Found) (j j' c c' : State) : Type 0 where
   pub kept_is : (items : List Record) → HasJournal (contents j.file) items → found.kept ≡ kept items
   pub journal : (items : List Record) → HasJournal (contents j.file) items → JournalAtRest j' items
   pub stable_is : HasCheckpoint (contents c.file) found.stable
   pub checkpoints : CheckpointsAtRest c' found.stable
 
--- Whether the store in doubt is there, after this many records: the journal has one more, or the last
+-- Whether what was in doubt is on disk, given the number of records: the journal has one more, or the last
 -- checkpoint is the one that was being saved.
 abbrev pub is_there : Option Store → ℕ → Found → Bool
 is_there None count found = false
 is_there (Some (stores.Record item)) count found = nat_lt count found.kept.count
 is_there (Some (stores.Checkpoint at)) count found = same_optime found.stable.at at
 
--- the node once that is known
+-- the node after that is known
 abbrev pub settled : Node → ℕ → Found → Node
 settled node count found = settled_doubt node node.doubt (is_there node.doubt count found)
 
--- what was found is what a node has stored, and is enough to come back with
+-- what was found is what the node stored, and is enough to come back with
 pub record IsFound (node : Node) (found : Found) : Type 0 where
   pub kept_is : found.kept ≡ kept node.records
   pub stable_is : found.stable ≡ documents_at node node.stable
@@ -49,7 +49,7 @@ pub record IsFound (node : Node) (found : Found) : Type 0 where
 
 -- ---- what it comes up with
 
--- the point, where entries come after it
+-- the point, if entries come after it
 abbrev pub cut_point : Kept → Option OpTime
 cut_point found = if has_more found then Some found.point else None
 

@@ -6,8 +6,8 @@ use Rattle.set_model.specs.declared.store.Store.{Store}
 use Rattle.set_model.specs.Node.{Node, opening_node}
 use Rattle.node_core.specs.declared.down.DownState.{DownState as InMemory}
 
--- what is left of a node that is down, besides its disks: the clock, how often it rolled back or restarted,
--- and what was being stored when a disk failed
+-- what a node that is down has besides its disks: the clock, how often it rolled back or restarted, and what
+-- was being stored when a disk failed
 pub record DownState : Type 0 where
   pub clock : ℕ
   pub stable : OpTime

@@ -13,7 +13,7 @@ abbrev pub checkpoints_after : {D : Type 0} → Result (Node × D × D) (D × D 
 checkpoints_after (Ok opened) = opened.2
 checkpoints_after (Err refused) = refused.1
 
--- what an opening returns, apart from the disks that it hands back
+-- the result of an opening, without the disks that it hands back
 abbrev pub answer_of :
     {D : Type 0} → Result (Node × D × D) (D × D × FileError) → Result (Node × D × D) FileError
 answer_of (Ok opened) = Ok opened

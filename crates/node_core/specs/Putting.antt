@@ -36,7 +36,7 @@ pub record IsKeepable (node : Node) (item : Record) : Type 0 where
   pub bounds : CanBeKept item
   pub same : documents_at (stored node (stores.Record item)) node.stable ≡ documents_at node node.stable
 
--- documents that can be read and saved, with all their entries in the records
+-- documents that can be read and saved, all of whose entries are in the records
 pub record IsSavable (node : Node) (at : OpTime) : Type 0 where
   pub readable : IsReadable node at
   pub kept_so : docs (log_up_to at node.log) ≡ docs (log_up_to at (kept node.records).entries)
@@ -58,7 +58,7 @@ SHORT = 473
 
 -- ---- what follows from it
 
--- it is there, or nothing has changed, or it is in doubt
+-- it is on disk, or nothing has changed, or it is in doubt
 pub record Puts (result : Result (Unit {0}) FileError) (node : Node) (item : Store) (count : ℕ)
     (journal checkpoints : State) : Type 0 where
   pub ok : OnOk result (UpOnDisks (stored node item) count journal checkpoints)
@@ -73,7 +73,7 @@ abbrev pub plan_of : Turn → Node → Plan
 plan_of (Finished answer sent) node = finished (record { reply = answer; node = node; sent = sent.items })
 plan_of (Storing item then) node = storing (in_doubt node item) (rest_of then (stored node item))
 
--- it stores nothing more
+-- it stores nothing else
 abbrev pub IsEnd : Turn → Type 0
 IsEnd (Finished answer sent) = ⊤
 IsEnd (Storing item then) = ⊥
@@ -88,8 +88,7 @@ abbrev pub BeginsUnreserved : Turn → Type 0
 BeginsUnreserved (Finished answer sent) = ⊥
 BeginsUnreserved (Storing item then) = ¬ IsShortStore item
 
--- What a plan does at the node: all of it, or up to the store that failed. The stores are counted
--- from here on.
+-- What a plan does at the node: all of it, or up to the store that failed. Stores are counted from here on.
 abbrev pub EndsFrom : ℕ → Plan → Node → Ended → Type 0
 EndsFrom first plan node (WithReply answer sent) =
     done plan None ≡ record { reply = answer; node = node; sent = sent.items }

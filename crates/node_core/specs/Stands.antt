@@ -1,4 +1,4 @@
--- What is on a node's two disks, now and after a crash.
+-- What a node's two disks have, now and after a crash.
 use Rattle.std.specs.Prelude.{◌≡◌, ◌⊎◌, ℕ, List, [], ◌∷◌, ◌++◌, Some}
 use Rattle.rs_disk.specs.File.{LeavesOnly}
 use Rattle.rs_disk.specs.Moments.{EachMoment}
@@ -21,19 +21,19 @@ HasRecordsOf node image =
     ⊎ ((item : Record) × (node.doubt ≡ Some (stores.Record item))
     × HasJournal image (node.records ++ item ∷ []))
 
--- the documents at an optime, by the log in the node's records
+-- the documents as of an optime, by the log in the node's records
 abbrev pub documents_at : Node → OpTime → Stable
 documents_at node at = record { at = at; documents = docs (log_up_to at (kept node.records).entries) }
 
--- these bytes are checkpoints, the last of them at the node's stable optime, or at one that is in doubt
+-- these bytes are checkpoints, the last at the node's stable optime, or at one that is in doubt
 abbrev pub HasDocumentsOf : Node → List ℕ → Type 0
 HasDocumentsOf node image =
     HasCheckpoint image (documents_at node node.stable)
     ⊎ ((at : OpTime) × (node.doubt ≡ Some (stores.Checkpoint at))
     × HasCheckpoint image (documents_at node at))
 
--- A crash now leaves the node's records on the one disk and its documents on the other. They are also there
--- without a crash, since what a disk reads as is among what a crash may leave.
+-- A crash now leaves the node's records on one disk and its documents on the other. Without a crash they are
+-- there too, since what a disk reads as is among what a crash can leave.
 pub record Stands (node : Node) (journal checkpoints : State) : Type 0 where
   pub records : LeavesOnly (HasRecordsOf node) journal.file
   pub documents : LeavesOnly (HasDocumentsOf node) checkpoints.file

@@ -1,5 +1,5 @@
-// A node that is down opens its disks again, learns whether the store in doubt is there, and comes
-// up with that.
+// A node that is down opens its disks again, learns whether what was in doubt is there, and comes up with
+// that.
 ghost use Rattle.std.specs.Prelude.{◌≡◌, ◌↔◌, ◌<◌, ◌≤◌, ◌-◌, ◌^◌, [], Err, None, Some, true, false, IfOk, IfSome, OnOk, OnErr, IsErrOf, IsSome};
 ghost use Rattle.record_file.specs.Files.{spare};
 ghost use Rattle.rs_disk.specs.Moments.{EachMoment};
@@ -44,13 +44,13 @@ pub(crate) struct Found {
 pub(crate) struct Prepared {
     /// The node in memory, when it comes up.
     pub(crate) state: State,
-    /// What it kept while it was down, with the store in doubt if that is there.
+    /// What it kept while it was down, with what was in doubt if that is there.
     pub(crate) left: DownState,
     /// The store in doubt is there.
     pub(crate) kept: bool,
     /// How many records its journal has.
     pub(crate) count: u64,
-    /// The journal's point, where entries come after it.
+    /// The journal's point, if entries come after it.
     pub(crate) cut: Option<OpTime>,
     /// The last entry up to the point.
     pub(crate) last: OpTime,
@@ -127,7 +127,7 @@ fn open_both<D: Disk>(disks: &mut Disks<D>) -> Result<Found, FileError>
     Ok(Found { kept, stable })
 }
 
-// Settles the store in doubt, and takes the memory for a node that comes up with that.
+// Settles what was in doubt, and reserves memory for a node that comes up with that.
 fn prepare<R: Threads + Sync>(
     alloc: Global,
     rt: &R,
@@ -149,7 +149,7 @@ fn prepare<R: Threads + Sync>(
     restore(alloc, rt, state, settled(left, there), there, found)
 }
 
-// Whether the store in doubt is there, after `count` records.
+// Whether what was in doubt is there, given the number of records.
 fn is_there(doubt: &Option<Store>, count: u64, found: &Found) -> bool
     ensures { result ≡ is_kept doubt.now count found.now }
 {
@@ -160,7 +160,7 @@ fn is_there(doubt: &Option<Store>, count: u64, found: &Found) -> bool
     }
 }
 
-// What is left of the node once that is known.
+// The node that is down, after that is known.
 fn settled(left: &DownState, there: bool) -> DownState
     ensures settled { (node : Node) → down_node node (down_state result)
         ≡ settled_doubt (down_node node (down_state left.now)) left.now.doubt there }
@@ -230,7 +230,7 @@ fn restore<R: Threads + Sync>(
     })
 }
 
-// The point, where entries come after it.
+// The point, if entries come after it.
 fn point_to_cut(kept: &Kept) -> Option<OpTime>
     ensures { result ≡ cut_point kept.now }
 {
@@ -261,7 +261,7 @@ fn records_cut(records: &Records, cut: Option<OpTime>) -> Records
     }
 }
 
-// Comes up. Entries after the point are cut first, where there are any.
+// Comes up. Entries after the point are cut first, if there are any.
 fn go_up<D: Disk>(
     alloc: Global,
     state: &mut State,
@@ -314,7 +314,7 @@ fn cut_failed(alloc: Global, left: &mut DownState, prepared: Prepared, at: OpTim
     disk_failed(alloc, 1, kept)
 }
 
-// What is left of the node where a cut may be there or not.
+// The node that is down, with a cut in doubt.
 fn doubting(left: DownState, at: OpTime) -> DownState
     ensures { down_state result ≡ record (down_state left) { doubt = Some (Store.Record (Record.Cut at)) } }
 {

@@ -38,7 +38,7 @@ pub(crate) struct Disks<D: Disk> {
 }
 
 impl<D: Disk> Disks<D> {
-    /// Opens both, which are empty, the journal first.
+    /// Opens both empty disks, the journal first.
     ///
     /// # Errors
     /// `Memory`, or `Disk` where one of them failed. They are handed back in the same order.
@@ -82,7 +82,7 @@ impl<D: Disk> Disks<D> {
         }
     }
 
-    /// Puts this on its disk, for a node with this state.
+    /// Stores this on its disk, for the node of this state.
     pub(crate) fn put(&mut self, item: &Store, state: &State) -> Result<(), FileError>
         requires rests { UpOnDisks state.now.node self.old.count (D.state self.old.journal.0)
             (D.state self.old.checkpoints) }
@@ -136,7 +136,7 @@ impl<D: Disk> Disks<D> {
         }
     }
 
-    /// Makes one of them fail at its `call`-th call from now on, with a power cut where there is a pick.
+    /// Makes one of them fail at its `call`-th call from now on, with a power cut if there is a pick.
     pub(crate) fn arm(&mut self, disk: DiskName, call: u32, pick: Option<u64>)
         ensures armed { Arms disk call pick (D.state self.old.journal.0) (D.state self.new.journal.0)
             (D.state self.old.checkpoints) (D.state self.new.checkpoints) }
@@ -148,7 +148,7 @@ impl<D: Disk> Disks<D> {
         }
     }
 
-    /// Cuts the power of both. The pick chooses what is left.
+    /// Cuts the power of both. The pick chooses among what may be left.
     pub(crate) fn cut_power(&mut self, pick: u64)
         ensures journal { IsCut pick (D.state self.old.journal.0) (D.state self.new.journal.0) }
         ensures checkpoints { IsCut pick (D.state self.old.checkpoints) (D.state self.new.checkpoints) }

@@ -1,4 +1,4 @@
-// A node that goes down: what is left of it, and how it answers then.
+// A node that goes down: what it keeps, and what it answers.
 ghost use Rattle.std.specs.Prelude.{◌≡◌, ℕ, true, false, IsSome};
 ghost use Rattle.rs_disk.specs.State.{State as OnDisk};
 ghost use Rattle.set_model.specs.Node.{down};
@@ -15,7 +15,7 @@ use rs_optime::OpTime;
 use set_model::{Records, Refusal, Reply, Store};
 use std::alloc::Global;
 
-/// What is left of a node that is down, besides its disks.
+/// What a node that is down has besides its disks.
 #[derive(Drop)]
 pub(crate) struct DownState {
     pub(crate) clock: u32,
@@ -26,7 +26,7 @@ pub(crate) struct DownState {
     pub(crate) doubt: Option<Store>,
 }
 
-/// What was done, by how a turn ended. A node with a failed store is down from there on.
+/// What was done, by how a turn ended. A node whose store failed is down from then on.
 pub(crate) fn told(
     alloc: Global,
     state: &State,
@@ -63,7 +63,7 @@ pub(crate) fn told(
     }
 }
 
-/// What is left of a node that goes down, with what was being stored when a disk failed.
+/// What a node that goes down keeps, with what was being stored when a disk failed.
 pub(crate) fn left_of(state: &State, doubt: Option<Store>) -> DownState
     ensures { down_node state.now.node (down_state result) ≡ record (down state.now.node) { doubt = doubt } }
 {

@@ -1,4 +1,4 @@
-// How a node continues once what it stores is on its disk.
+// How a node goes on after a store.
 ghost use Rattle.set_model.specs.Stores.{stored};
 ghost use Rattle.node_state.specs.Ready.{IsReady, IsReadyTurn};
 ghost use Rattle.node_state.specs.Turns.{Means, rest_of};
@@ -8,8 +8,8 @@ use node_messages::{go_on_cut, go_on_installed, go_on_term, go_on_vote_given, go
 use node_state::{Continuation, State, Turn};
 use set_model::Store;
 
-/// Continues once `item`, which a turn asked to store, is on the node's disk: `then` is what the turn gave
-/// with it. This can't run out of memory.
+/// Goes on after `item`, which a turn asked to store, is on the node's disk; `then` is what the turn gave
+/// with it. It can't run out of memory.
 pub(crate) fn go_on(state: &mut State, item: &Store, then: Continuation) -> Turn
     requires ready { IsReady item.now then state.old }
     ensures turn { Means result state.new.node (rest_of then (stored state.old.node item.now)) }

@@ -96,11 +96,11 @@ impl<D: Disk> Model for Node<D> {
 }
 
 impl<D: Disk> Node<D> {
-    /// A node when the set begins, on two empty disks: the journal's, and that of the checkpoints.
+    /// A node at the opening of the set, on two empty disks: the journal's, and that of the checkpoints.
     ///
     /// # Errors
-    /// `Memory`, or `Disk` where one of them failed. The disks are handed back in the same order, and have
-    /// the node as it is when the set begins, except that its journal may lack the record of its form.
+    /// `Memory`, or `Disk` where one of them failed. The disks are handed back in the same order, with the
+    /// node as at the opening, except that its journal may lack the record of its form.
     pub fn open(
         alloc: Global,
         number: u32,
@@ -116,7 +116,7 @@ impl<D: Disk> Node<D> {
         ensures stands { OnOk result (Stands (opening_node config.now number)
             (D.state (journal_after result)) (D.state (checkpoints_after result))) }
 
-        // A crash at any moment leaves no documents, and no record but that of the journal's form.
+        // A crash at any moment leaves no documents, and no record other than that of the journal's form.
         ensures any_moment { StandsSince (unopened_node config.now number) (D.state journal)
             (D.state (journal_after result)) (D.state checkpoint) (D.state (checkpoints_after result)) }
         ensures calls { OpensInTurn (answer_of result) (D.state journal) (D.state (journal_after result))
@@ -143,12 +143,12 @@ impl<D: Disk> Node<D> {
     }
 
     /// Does what a command asks of this node, in a set of `nodes` nodes, where the next message gets the
-    /// number `next`. A store that fails is no error: `failed` has its number, and the node is then down
-    /// and sends nothing.
+    /// number `next`. A store that fails is no error: it has its number in `failed`, and the node is down
+    /// then and sends nothing.
     ///
     /// # Errors
-    /// Only out of memory. Then the node is as it was, and so are its files. Only a restart may have opened
-    /// them again; they still have what they had.
+    /// Out of memory alone. Then the node and its files are as they were. Only a restart may have opened the
+    /// files again, which leaves what they had.
     pub fn act<R: Threads + Sync>(
         &mut self,
         rt: &R,
@@ -179,9 +179,9 @@ impl<D: Disk> Node<D> {
         }
     }
 
-    /// Takes a message of the set, where the next message gets the number `next`. A node that is down
-    /// refuses it. A store that fails is no error: `failed` has its number, and the node is then down
-    /// and sends nothing.
+    /// Takes a message of the set, where the next message gets the number `next`. A node that is down refuses
+    /// it. A store that fails is no error: it has its number in `failed`, and the node is down then and sends
+    /// nothing.
     ///
     /// # Errors
     /// Only out of memory. Then the node and its files are as they were.
@@ -232,7 +232,7 @@ impl<D: Disk> Node<D> {
         Ok(told(self.alloc, &self.state, &mut self.up, &mut self.left, ended))
     }
 
-    // Only the clock of a node that is down is set.
+    // Of a node that is down, only the clock is set.
     fn act_down(&mut self, command: &Command) -> Done
         requires down { self.old.0.up ≡ false }
         requires own { is_own command.now ≡ true }
@@ -265,7 +265,7 @@ impl<D: Disk> Node<D> {
         }
     }
 
-    // Cuts the power of both disks, with the node's.
+    // The power of both disks and of the node is cut.
     fn crash(&mut self, pick: u64) -> Done
         ensures ok { (nodes next node : ℕ)
             → Acted (row nodes next false self.old.0 (commands.Crash node pick))
@@ -308,7 +308,7 @@ impl<D: Disk> Node<D> {
         Ok(self.answered(Reply::Refused(Refusal::NotDown)))
     }
 
-    // One of the disks is told to fail.
+    // One of the disks is ordered to fail.
     fn disk_fail(&mut self, disk: DiskName, call: u32, pick: Option<u64>) -> Done
         ensures ok { (nodes next node : ℕ)
             → Acted (row nodes next false self.old.0 (commands.DiskFail node disk call pick))
@@ -352,7 +352,7 @@ impl<D: Disk> Node<D> {
         }
     }
 
-    /// How many entries its log has up to its commit point; 0 for a node that is down.
+    /// How many entries its log has up to its commit point; 0 of a node that is down.
     pub fn committed(&mut self) -> u64
         ensures count { result ≡ (if self.old.0.up
             then length (log_up_to self.old.0.commit self.old.0.log) else 0) }

@@ -1,4 +1,4 @@
-// A turn is carried out: what it stores is put on the disks, one after another, and then it continues.
+// Carries out a turn: puts what it stores on the disks, one after another, and goes on.
 ghost use Rattle.std.specs.Prelude.{◌≡◌, ◌+◌, ◌≤◌, ℕ, true, false, IfOk, OnErr};
 ghost use Rattle.record_file.specs.Files.{spare};
 ghost use Rattle.set_model.specs.Deliver.{deliver};
@@ -33,7 +33,7 @@ pub(crate) enum Ended {
     StoreFailed { item: Store, number: u32 },
 }
 
-/// Carries a turn out. It may run out of memory only where it stores one large record or checkpoint, and then
+/// Carries out a turn. It can run out of memory only where it stores one large record or checkpoint, and then
 /// nothing has changed.
 pub(crate) fn carry_out<D: Disk>(state: &mut State, disks: &mut Disks<D>, turn: Turn) -> Mem<Ended>
     requires rests { UpOnDisks state.old.node disks.old.count (D.state disks.old.journal.0)
@@ -124,8 +124,8 @@ fn said(turn: Turn) -> Ended
     }
 }
 
-/// Does what a command asks, in memory and on the disks. The only error is out of memory, which leaves
-/// everything as it was.
+/// Does what a command asks, in memory and on the disks. The only error is out of memory, and then all is
+/// as it was.
 pub(crate) fn act_own<D: Disk, R: Threads + Sync>(
     state: &mut State,
     disks: &mut Disks<D>,
@@ -161,8 +161,7 @@ pub(crate) fn act_own<D: Disk, R: Threads + Sync>(
     carry_out(state, disks, turn)
 }
 
-/// Takes a message, in memory and on the disks. The only error is out of memory, which leaves everything
-/// as it was.
+/// Takes a message, in memory and on the disks. The only error is out of memory, and then all is as it was.
 pub(crate) fn take_in<D: Disk, R: Threads + Sync>(
     state: &mut State,
     disks: &mut Disks<D>,

@@ -1,4 +1,4 @@
--- How a proof tells apart the tables of a node.
+-- How a proof distinguishes the tables of a node.
 use Rattle.std.specs.Coded.{Coded, coded_ℕ}
 use Rattle.std.specs.Ordering.{nat_cmp}
 use Rattle.std.specs.FinMap as maps

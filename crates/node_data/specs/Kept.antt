@@ -57,12 +57,12 @@ pub record AreApart (node : Node) : Type 0 where
   pub alone : (one two : ℕ) (at by : OpTime) (op other : Op) → HasOpen node.writers one at op
       → HasOpen node.writers two by other → place_of op ≡ place_of other → one ≡ two
 
--- whether a writer, where there is one, holds a document
+-- whether a writer, if there is one, holds a document
 abbrev pub is_held_by : Option Writer → Place → Bool
 is_held_by None place = false
 is_held_by (Some writer) place = holds writer place
 
--- the writer that holds a document, where one does
+-- the writer that holds a document, if one does
 abbrev pub IsHolder : Writers → Place → Option ℕ → Type 0
 IsHolder writers place holder =
     MatchOption holder ((writer : ℕ) → is_held_by (maps.get writers writer) place ≡ false)

@@ -1,6 +1,5 @@
--- What a node has written and will write, and how far that goes, seen as a node whose other fields are
--- as when the set begins. It is primary where its log is open to writers, and a secondary where it
--- follows another node's.
+-- What a node has written and will write, as a node whose other fields are as at the opening of the set. It
+-- is primary where its log is open to writers, and a secondary where it follows another node's.
 use Rattle.std.specs.Prelude.{◌≡◌, ◌<◌, ◌≤◌, ◌^◌, ℕ, Bool, true, false, All, IsTrue, List, [], ◌∷◌}
 use Rattle.std.specs.Ordering.{nat_cmp}
 use Rattle.std.specs.FinMap as maps
@@ -26,12 +25,12 @@ pub record NodeData : Type 0 where
 abbrev pub nobody : Config
 nobody = first_config 0 0
 
--- the role that the data belongs to, by whether writers may write it
+-- the role that the data has, by whether it is open to writers
 abbrev pub data_role : Bool → Role
 data_role true = Primary
 data_role false = Secondary
 
--- a node with these fields, and the others as when the set begins
+-- a node with these fields, and the others as at the opening of the set
 abbrev pub data_node : Bool → List Entry → sets.FinSet optime_cmp → maps.FinMap nat_cmp Writer → ℕ → OpTime
     → OpTime → Node
 data_node writable log slots writers seen applied stable =
@@ -64,12 +63,12 @@ pub record IsNext (log : List Entry) (slots : sets.FinSet optime_cmp) (seen : �
   pub entries : All (λ entry. entry.optime.term ≤ at.term) log
   pub open_slots : (slot : OpTime) → IsTrue (sets.contains slots slot) → slot.term ≤ at.term
 
--- how far a log is applied once a batch is
+-- how far a log is applied after a batch
 abbrev pub applied_after : OpTime → List Entry → OpTime
 applied_after applied [] = applied
 applied_after applied (entry ∷ entries) = last_of (entry ∷ entries)
 
--- data whose log is applied up to there
+-- data whose log is applied up to a point
 abbrev pub applied_at : NodeData → OpTime → NodeData
 applied_at node_data at = record node_data { node = record node_data.node { applied = at } }
 
@@ -78,8 +77,8 @@ abbrev pub applied_with : NodeData → List Entry → NodeData
 applied_with node_data batch =
     applied_at node_data (applied_after node_data.node.applied batch)
 
--- The documents can be read as of an optime: no version needed for that is pruned, and, except on a primary,
--- the log is applied that far.
+-- The documents can be read as of an optime: no version of then is pruned, and, except on a primary, the log
+-- is applied that far.
 pub record IsReadable (node : Node) (at : OpTime) : Type 0 where
   pub kept : is_before at node.stable ≡ false
   pub reached : is_primary node.role ≡ false → is_before node.applied at ≡ false

@@ -14,6 +14,6 @@ Table = maps.FinMap nat_cmp LastWrite
 abbrev pub table_code : Coded Table
 table_code = maps.code coded_ℕ the_row.coded
 
--- the table is what a scan of the log gives
+-- it has what a scan of the log gives
 abbrev pub HasLastWrites : Table → List Entry → Type 0
 HasLastWrites table log = (id : ℕ) → maps.get table id ≡ last_write id log

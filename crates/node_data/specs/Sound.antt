@@ -15,8 +15,8 @@ pub record IsIdle (node : Node) : Type 0 where
   pub slots : node.slots ≡ sets.empty
   pub writers : (writer : ℕ) → ¬ IsWriting node.writers writer
 
--- The log is an oplog of entries that fit into a record, up to the greatest timestamp seen. It isn't applied
--- further than it goes, and the documents of the checkpoint are no newer than what is applied. Only a
+-- The log is in order, its entries fit into a record, and none is past the greatest timestamp seen. It is
+-- applied at most to its end, and the documents of the checkpoint are no newer than what is applied. Only a
 -- primary has slots.
 pub record IsSound (node : Node) : Type 0 where
   pub oplog : IsOplog node.log

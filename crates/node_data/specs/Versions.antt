@@ -14,7 +14,7 @@ use Rattle.repl_msg.specs.Logs.{log_after}
 use Rattle.version_store.specs.declared.history.Version.{Version}
 use Rattle.version_store.specs.Past.{latest_of}
 
--- each entry that touches the document makes a version from what was there before
+-- each entry that touches the document makes a version out of what was there before
 abbrev pub versions_from : Place → Option Fields → List Entry → List Version
 versions_from place before [] = []
 versions_from place before (entry ∷ log) =
@@ -27,7 +27,7 @@ versions_from place before (entry ∷ log) =
 abbrev pub versions_of : Place → List Entry → List Version
 versions_of place log = versions_from place None log
 
--- a document, where there is one, that is no longer and no deeper than a stored one may be
+-- a document, if there is one, is no longer and no deeper than a stored one may be
 abbrev pub IsSmall : Option Fields → Type 0
 IsSmall document = IfSome document (λ d. is_too_large d ≡ false)
 
@@ -35,7 +35,7 @@ IsSmall document = IfSome document (λ d. is_too_large d ≡ false)
 abbrev pub AreSmall : List Entry → Type 0
 AreSmall log = (place : Place) → All (λ version. IsSmall version.doc) (versions_of place log)
 
--- the document at an optime, where there was one, as a version as of then
+-- the document as of an optime, if there was one, as a version of then
 abbrev pub version_as_of : OpTime → Option Fields → List Version
 version_as_of at None = []
 version_as_of at (Some document) = record { at = at; doc = Some document } ∷ []

@@ -25,7 +25,7 @@ HasOpen writers writer at op = maps.get writers writer ≡ Some (Open at op)
 abbrev pub IsWriting : Writers → ℕ → Type 0
 IsWriting writers writer = (at : OpTime) × (op : Op) × HasOpen writers writer at op
 
--- whether a writer, where there is one, has a slot
+-- whether a writer, if there is one, has a slot
 abbrev pub is_open : Option Writer → Bool
 is_open (Some (Open at op)) = true
 is_open (Some (Done at)) = false

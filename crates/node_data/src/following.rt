@@ -59,8 +59,8 @@ impl NodeData {
         insert_all(&mut self.log, &mut self.slots, entries);
     }
 
-    /// Applies the next batch, of at most 5,000 entries, with this many workers. The result is how many
-    /// entries there were. Out of memory leaves everything as it was.
+    /// Applies the next batch, of at most 5,000 entries, by this many workers. The result is how many entries
+    /// there were. Out of memory leaves all as it was.
     pub fn apply<R: Threads + Sync>(&mut self, rt: &R, workers: u32) -> Mem<usize>
         requires role { is_primary self.old.node.role ≡ false }
         requires workers { (0 < workers) × (workers ≤ 16) }
@@ -102,7 +102,8 @@ impl NodeData {
             .saturating_sub(log.up_to(self.applied).len())
     }
 
-    /// Applies `count` entries, batch by batch. Where memory runs out, the first of them have been applied.
+    /// Applies the next `count` entries, batch by batch. Where memory runs out, some first ones of them are
+    /// applied.
     fn apply_batches<R: Threads + Sync>(&mut self, rt: &R, count: usize) -> Mem<()>
         requires role { is_primary self.old.node.role ≡ false }
         requires there { count ≤ length (log_after self.old.node.applied self.old.node.log) }
@@ -119,7 +120,7 @@ impl NodeData {
         Ok(())
     }
 
-    /// Applies the next entries, at most `most`, with this many workers. The result is how many there were.
+    /// Applies the next entries, up to a limit, by this many workers. The result is how many there were.
     fn apply_next<R: Threads + Sync>(&mut self, rt: &R, workers: u32, most: usize) -> Mem<usize>
         requires role { is_primary self.old.node.role ≡ false }
         requires workers { (0 < workers) × (workers ≤ 16) }

@@ -83,7 +83,7 @@ impl Model for NodeData {
 }
 
 impl NodeData {
-    /// The data of a node that follows and has written nothing yet. The only error is out of memory.
+    /// The data of a node that has written nothing yet, and follows. The only error is out of memory.
     pub fn new(alloc: Global) -> Mem<Self>
         ensures { IfOk result (λ made. made.node ≡ opening_node nobody 0) }
     {
@@ -108,8 +108,8 @@ impl NodeData {
         let _ = &self.writable;
     }
 
-    /// How far a log that isn't writable is applied. In a writable log this stays where it was when the log
-    /// became writable; see `applied_point`.
+    /// How far a log that isn't writable is applied. While the log is writable, this stays where it was
+    /// before; see `applied_point`.
     pub fn applied(&self) -> OpTime
         ensures { result ≡ self.now.node.applied }
     {

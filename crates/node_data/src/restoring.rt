@@ -1,4 +1,4 @@
-// A node's data, restored from what its disks have.
+// A node's data, restored from its disks.
 ghost use Rattle.std.specs.Prelude.{◌≡◌, false, None, All, IfOk};
 ghost use Rattle.std.specs.FinMap as maps;
 ghost use Rattle.bson_doc.specs.Place.{Place};
@@ -26,7 +26,7 @@ use std::collections::BTreeMap;
 use std::thread::Threads;
 use version_store::VersionStore;
 
-/// A store of some documents, as of an optime.
+/// A store of these documents, as of an optime.
 fn stored(alloc: Global, documents: BTreeMap<(Text, IdKey), Doc>, at: OpTime) -> Mem<VersionStore>
     ensures versions { IfOk result (λ store. (place : Place)
         → versions_at store place ≡ version_as_of at (maps.get (documents_of documents.entries) place)) }
@@ -41,8 +41,8 @@ fn stored(alloc: Global, documents: BTreeMap<(Text, IdKey), Doc>, at: OpTime) ->
 }
 
 impl NodeData {
-    /// The data of a node that comes up and follows: the log is these entries, all applied, and `documents`
-    /// are those of the checkpoint, as of the optime `at`. The only error is out of memory.
+    /// The data of a node that comes up, and follows: the log is these entries, all applied, and `documents`
+    /// are those that the checkpoint has, as of the optime `at`. The only error is out of memory.
     pub fn restore<R: Threads + Sync>(
         rt: &R,
         alloc: Global,

@@ -17,9 +17,9 @@ use std::marker::Model;
 
 /// A log whose slots may be open. Contracts see only the log.
 ///
-/// A primary has a table of sessions, which it updates with its writes. Another node drops the table when a
-/// session's write is added or removed, and rebuilds it when it becomes primary. Where there is no memory for
-/// the table, the log is searched.
+/// A primary has a table of sessions, and follows its writes in it. Another node drops the table when a
+/// session's write comes or goes, and builds it again when it becomes primary. Where there is no memory for
+/// it, the log is searched.
 #[derive(Drop)]
 pub(crate) struct SessionLog {
     alloc: Global,
@@ -113,7 +113,7 @@ impl SessionTable {
     }
 }
 
-/// The last write of a session in some entries, found by looking at each.
+/// The last write of a session in some entries, by scanning them.
 fn search(entries: &[Entry], id: u32) -> Option<LastWrite>
     ensures { result ≡ last_write id entries.now }
 {
@@ -184,7 +184,7 @@ impl SessionLog {
         search(self.log.settled().as_slice(), id)
     }
 
-    /// Builds the table of sessions, if there is none and there is memory for it.
+    /// Builds the table of sessions if it isn't there and there is memory for it.
     pub(crate) fn tabulate(&mut self)
         ensures entries { self.new.entries ≡ self.old.entries }
         ensures spare { self.new.spare ≡ self.old.spare }
@@ -238,14 +238,14 @@ impl SessionLog {
         }
     }
 
-    /// Reserves a place for the entry of a slot that opens after all others, if there is memory for it.
+    /// Keeps a place for the entry of a slot that opens after all others, if there is memory for it.
     pub(crate) fn open(&mut self, at: OpTime)
         ensures { self.new ≡ self.old }
     {
         self.log.open(at);
     }
 
-    /// Gives up the place for the entry of a slot that closes.
+    /// Gives up the place kept for the entry of a slot that closes.
     pub(crate) fn close(&mut self, at: OpTime)
         ensures entries { self.new.entries ≡ self.old.entries }
         ensures spare { self.new.spare ≡ self.old.spare }

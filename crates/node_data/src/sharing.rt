@@ -1,5 +1,5 @@
-// What is shown and sent of the log. A node that is about to step down may have entries after open slots. It
-// sends them as if its slots were closed.
+// What a node shows of its log and sends of it. A node that is about to step down may have entries after open
+// slots, and sends them as if its slots were closed.
 ghost use Rattle.std.specs.Prelude.{◌≡◌, ◌≢◌, All, IfNone, IfOk, IfSome, length, map};
 ghost use Rattle.std.specs.Option.{option_copied};
 ghost use Rattle.oplog_entry.specs.Visible.{log_up_to};
@@ -43,8 +43,8 @@ impl NodeData {
         self.log.written().get(at)
     }
 
-    /// Like `entry_at`, but looks at a likely place of the log first, and sets `likely` to the place after
-    /// the entry. So consecutive entries are found without a search.
+    /// `entry_at`, which looks at a likely place of the log first, and sets that to the place after the
+    /// entry. So entries that follow one another are found at once.
     pub fn entry_near(&self, likely: &mut usize, at: OpTime) -> Option<&Entry>
         ensures found { IfSome (option_copied result) (λ entry. IsEntryAt self.now.node.log at entry) }
         ensures none { IfNone result (All (λ entry. entry.optime ≢ at) self.now.node.log) }
@@ -148,7 +148,7 @@ impl NodeData {
     }
 
     /// The documents that the entries after an optime touched, each once, as a read at `local` shows them:
-    /// what a rollback to that optime undoes. The only error is out of memory.
+    /// what a rollback to that optime takes. The only error is out of memory.
     pub fn lost_after(&mut self, at: OpTime) -> Mem<Vec<LostDocument>>
         ensures lost { IfOk result (λ lost. map lost_of lost.items
             ≡ touched_documents (λ place. maps.get (local_documents self.old.node) place)

@@ -36,9 +36,9 @@ fn append(log: &mut SessionLog, slots: &mut Slots, entry: Entry)
 }
 
 impl NodeData {
-    /// Writes an entry after all others, for a document that no writer holds. `after` is the document after
-    /// the op, and `session` the write of a session that the entry is, if it is one. Out of memory leaves
-    /// everything as it was.
+    /// Writes an entry past all others, for a document that no writer holds. `after` is what the op leaves of
+    /// the document, and `session` is the session's write, if the entry is one. Out of memory leaves all as
+    /// it was.
     pub fn write(
         &mut self,
         at: OpTime,

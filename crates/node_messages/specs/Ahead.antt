@@ -1,4 +1,4 @@
--- The effect of a message that brings a higher term is prepared while the node is still in its own term.
+-- A message that brings a higher term is prepared while the node is still in its own term.
 use Rattle.std.specs.Prelude.{◌≡◌, ℕ, nat_lt, Bool, true, false, List, None, if◌then◌else◌}
 use Rattle.rs_optime.specs.declared.optime.OpTime.{OpTime}
 use Rattle.repl_msg.specs.declared.message.Body.{Body}
@@ -13,11 +13,11 @@ use Rattle.node_state.specs.MessageContinuation.{message_plan}
 use Rattle.node_messages.specs.declared.preparing.InTerm.{InTerm}
 use Rattle.node_state.specs.declared.turn.MessageContinuation.{MessageContinuation}
 
--- the node when it takes a message: with the message's term, if that is higher
+-- the node that takes a message: it has the message's term already, if that is higher
 abbrev pub taking : Bool → ℕ → Node → Node
 taking raised term node = if raised then in_new_term node term None else node
 
--- the same, where the message's term itself decides whether it is higher
+-- the same, deciding by the term whether it is higher
 abbrev pub in_term : ℕ → Node → Node
 in_term term node = taking (nat_lt node.term term) term node
 
@@ -44,7 +44,7 @@ pub record IsPreparedFor (told : MessageContinuation) (raised : Bool) (term : �
   pub at : OpTime
   pub same : new ≡ record old { applied = at }
 
--- a message that is prepared like this: once its term is taken, it needs no more memory
+-- a message that is prepared so: after its term is taken, it needs no more memory
 abbrev pub is_prepared : Body → Bool
 is_prepared (bodies.Fetch base) = true
 is_prepared (bodies.FetchReply reply) = true

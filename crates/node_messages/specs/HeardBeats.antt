@@ -25,7 +25,7 @@ abbrev pub newer : Bool → Config → Option NewConfig
 newer true config = Some (record { journaled = config; installed = config })
 newer false config = None
 
--- what a heartbeat says
+-- what a heartbeat tells of its sender
 abbrev pub told_of : ℕ → Beat → Bool → Option Answer → MessageContinuation
 told_of from beat installs answer =
     Heard (newer installs beat.config)
@@ -37,14 +37,14 @@ told_of from beat installs answer =
       answer = answer;
     })
 
--- the commit point after another one is heard of: a node that isn't primary learns one in the term of
--- its last entry
+-- the commit point after another one is heard of: a node that isn't primary learns one of the term of its
+-- last entry
 abbrev pub commit_learnt : Node → OpTime → OpTime
 commit_learnt node heard =
     if not (is_primary node.role) && heard.term == (last_point node).term then commit_after node heard
     else node.commit
 
--- the node's state after a heartbeat
+-- the node's state after it heard one
 abbrev pub beat_after : Node → Beat → Beat
 beat_after node beat =
     record {

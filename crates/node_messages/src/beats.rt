@@ -115,7 +115,7 @@ fn installs(state: &State, beat: &Beat, role: Role) -> bool
 }
 
 /// The answer to a heartbeat: configuration, commit point, last visible optime, and whether the node is
-/// primary, as they will be once the heartbeat is taken.
+/// primary, as they will be after the heartbeat is taken.
 fn beat_answer(state: &State, next: u64, message: &Message, beat: &Beat, own: InTerm) -> Mem<Answer>
     requires own { IsInTerm own message.now.term state.now.node }
     ensures next { IfOk result (λ answer. answer.next ≡ next) }
@@ -195,7 +195,7 @@ pub fn go_on_installed(state: &mut State, item: &Store, config: Config, hearing:
     heard(state, hearing)
 }
 
-/// A candidate that hears from a primary becomes a secondary, and its votes are forgotten.
+/// A candidate that hears a primary becomes a secondary, and its tally is cleared.
 fn give_way(state: &mut State, hearing: &HeardBeat)
     ensures node { state.new.node ≡ beats.given_way state.old.node (beat_in hearing.now state.old.node) }
     ensures places { state.new.places ≡ state.old.places }

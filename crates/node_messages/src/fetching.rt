@@ -116,7 +116,7 @@ fn learn_from(state: &mut State, from: u32, visible: OpTime, commit: OpTime, pri
     state.known.set(from, visible, primary);
 }
 
-/// Appends the answer's entries to the log.
+/// Its entries are appended to the log.
 fn append(state: &mut State, reply: FetchReply)
     requires fetched { CanTakeEntries state.old.node state.old.node.term reply }
     requires room { length reply.entries ≤ state.old.spare }

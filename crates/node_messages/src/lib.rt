@@ -1,7 +1,7 @@
-//! What a node in memory does with a message that arrives: `take` begins its turn. A function called
-//! `go_on_..` continues a turn once what it stores is on disk.
+//! What a node in memory does with a message that arrives: `take` begins its turn. A function named
+//! `go_on_..` goes on with a turn when its store is on disk.
 //!
-//! A file has the name of the definitions in set_model that it implements.
+//! Each file is named after the definitions in set_model that it carries out.
 #![tactic(auto)]
 
 mod beats;

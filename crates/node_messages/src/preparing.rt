@@ -1,4 +1,4 @@
-// The effect of a message, prepared before anything is stored: only here may memory run out.
+// Messages are prepared before anything is stored: only here may memory run out.
 ghost use Rattle.std.specs.Prelude.{◌≡◌, ◌<◌, nat_lt, true, IfOk, OnErr, OnOk};
 ghost use Rattle.set_model.specs.Deliver as delivered;
 ghost use Rattle.set_model.specs.Fetching.{fetch_told};
@@ -19,8 +19,8 @@ use rs_optime::OpTime;
 use set_model::{Ignored, Role};
 use std::thread::Threads;
 
-/// What a node is once it has the term of a message. A higher term makes it a secondary, which has no slots,
-/// so all of its log is visible.
+/// A node after it took the term of a message. A higher term makes it a secondary, which has no slots, so all
+/// of its log is visible.
 #[derive(Clone, Copy)]
 pub(crate) struct InTerm {
     pub(crate) term: u64,
@@ -128,7 +128,7 @@ fn make_place(state: &mut State) -> Mem<()>
     state.known.make_room()
 }
 
-/// What the node is once it has the term of a message.
+/// The node after it took the term of a message.
 pub(crate) fn in_term(state: &State, term: u64) -> InTerm
     ensures { IsInTerm result term state.now.node }
 {

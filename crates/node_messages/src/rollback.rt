@@ -27,7 +27,7 @@ use set_model::{Ignored, LostList, Refusal, Reply, Role, Store};
 use std::alloc::Global;
 use std::thread::Threads;
 
-/// The most optimes in one answer.
+/// The most optimes that are sent at once.
 const MOST_OPTIMES: usize = 20_000;
 
 /// Lost documents, each by its place.
@@ -150,7 +150,7 @@ fn rollback_point(
     }
 }
 
-/// The documents that the entries after a point touched, as they are now.
+/// The current documents that the entries after a point touched.
 fn lost_after(state: &mut State, point: OpTime) -> Mem<LostList>
     ensures lost { IfOk result (λ lost.
         lost ≡ rows.lost_documents (local_documents state.old.node) (log_after point state.old.node.log)) }
@@ -205,7 +205,7 @@ pub fn go_on_cut(
     state.answered(Reply::RolledBack { to: point, removed })
 }
 
-/// Cuts the log after the point. The record of that is in the journal.
+/// The log is cut after the point, as its record already is.
 fn cut_log(state: &mut State, item: &Store, point: OpTime, lost: LostList)
     requires item { item.now ≡ cut_record point }
     requires ready { IsCut point state.old.node }

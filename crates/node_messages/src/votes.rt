@@ -1,4 +1,4 @@
-// Votes: how a node answers a request for its vote, and how it counts the answers to its own.
+// Votes: what a node answers a candidate, and how it counts the answers.
 ghost use Rattle.std.specs.Prelude.{◌≡◌, ◌^◌, ◌<◌, ◌∷◌, [], IfOk, IfSome, OnErr};
 ghost use Rattle.repl_msg.specs.declared.message.Body.TheVariants as bodies;
 ghost use Rattle.set_model.specs.Deliver.{vote_reply_told};
@@ -17,7 +17,7 @@ use node_state::{Continuation, State, Turn, vote_record};
 use repl_msg::{Body, Message, VoteAsk, VoteRefusal};
 use set_model::{Reply, Store};
 
-/// The candidate that gets the vote, unless there is a reason against it.
+/// The candidate that the vote is for, unless there is a reason against it.
 fn vote_for(from: u32, why: Option<VoteRefusal>) -> Option<u32>
     requires from { from < 50 }
     ensures vote { result ≡ votes.vote_for from why }
@@ -91,7 +91,7 @@ fn vote_refusal(state: &State, from: u32, ask: &VoteAsk) -> Option<VoteRefusal>
     }
 }
 
-/// The answer to a request for a vote, in a term.
+/// The answer to a candidate, in a term.
 fn vote_reply(
     state: &State,
     term: u64,

@@ -4,13 +4,13 @@ use Rattle.set_model.specs.declared.command.Command.{Command}
 use Rattle.set_model.specs.declared.command.Command.TheVariants.{Insert, Replace, Update, Delete, Retry, Note, Begin, Commit, Abort, Read, Dump, Log, State, Rolled, Deliver, DeliverLatest, Flush, Checkpoint, Crash, Restart, DiskFail, Clock}
 use Rattle.set_model.specs.Node.{Node}
 
--- one more term, one more timestamp and one more rollback still have numbers
+-- there are numbers for one more term, timestamp and rollback
 pub record IsBounded (node : Node) : Type 0 where
   pub term : node.term < 2 ^ 63 - 1
   pub seen : node.seen < 2 ^ 64 - 1
   pub rollback : node.rollback < 2 ^ 64 - 1
 
--- the messages of one step have numbers
+-- there are numbers for the messages of one step
 abbrev pub IsNumbered : ℕ → Type 0
 IsNumbered next = next < 2 ^ 63
 

@@ -60,8 +60,8 @@ pub record IsOfTerm (term : ℕ) (log : List Entry) (slots : sets.FinSet optime_
   pub entries : All (λ entry. entry.optime.term ≤ term) log
   pub open_slots : (slot : OpTime) → IsTrue (sets.contains slots slot) → slot.term ≡ term
 
--- A node with this data and with what it has beside it is coherent. Writers may write only where it is
--- primary, and its log is of its term.
+-- A node with this data, and with what it has besides, is coherent. Writers may write where it is primary,
+-- and only there, and its log is of its term.
 pub record IsState (node : Node) (rest : BesideData) (optimes : List OpTime) : Type 0 where
   pub writable : node.role ≡ data_role (is_primary rest.role)
   pub of_term : IsOfTerm rest.term node.log node.slots

@@ -1,5 +1,5 @@
--- What a continuation needs: memory doesn't run out between two stores, and what was prepared is what the
--- remaining steps are to leave.
+-- What a node needs to go on after a store: no memory runs out between two stores, and what was prepared is
+-- what the remaining steps have to leave.
 use Rattle.std.specs.Prelude.{◌≡◌, ◌<◌, ◌≤◌, ◌-◌, ◌^◌, ◌+◌, ℕ, false, List, [], ◌∷◌, All, Option, None, Some, IfSome, length, ⊤, ◌⊎◌}
 use Rattle.rs_optime.specs.declared.optime.OpTime.{OpTime}
 use Rattle.oplog_entry.specs.Visible.{ZERO}

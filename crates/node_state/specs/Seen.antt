@@ -16,7 +16,7 @@ abbrev pub yes_of : Option Tallied → List ℕ
 yes_of None = []
 yes_of (Some tally) = tally.yes
 
--- what a node has beside the log and what depends on it
+-- besides the log and what depends on it
 pub record BesideData : Type 0 where
   pub number : ℕ
   pub first : Config

@@ -2,7 +2,7 @@
 use Rattle.std.specs.Prelude.{ℕ}
 use Rattle.set_model.specs.Node.{Node}
 
--- the node, for how many more entries it has room, and for what is heard of how many more members
+-- the node; room for how many more entries; room for what is heard of how many more members
 pub record StateView : Type 0 where
   pub node : Node
   pub spare : ℕ

@@ -1,4 +1,4 @@
--- A plan in code: what a command or a message does at a node, and how it continues once something is stored.
+-- A plan in code: what a command or a message does at a node, and how it goes on after something is stored.
 use Rattle.std.specs.Prelude.{◌≡◌, List, None, Some}
 use Rattle.repl_msg.specs.declared.message.Message.{Message}
 use Rattle.set_model.specs.declared.reply.Reply.{Reply}
@@ -17,7 +17,7 @@ use Rattle.node_state.specs.declared.turn.Continuation.TheVariants.{Campaign, Dr
 use Rattle.node_state.specs.declared.turn.Turn.{Turn}
 use Rattle.node_state.specs.declared.turn.Turn.TheVariants.{Finished, Storing}
 
--- what the rest of a row does at a node that has the store on its disks
+-- what the rest of a row does at a node that has stored this
 abbrev pub rest_of : Continuation → Node → Plan
 rest_of (Campaign next tally sent) node = finished (campaigned next (candidate node))
 rest_of (Drain config) node = finished (primary_begun (drained node))

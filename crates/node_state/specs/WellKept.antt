@@ -1,4 +1,4 @@
--- What a node's records have to satisfy, so that it can come back with them.
+-- What must hold of a node's records, so that it can come back with them.
 use Rattle.std.specs.Prelude.{◌≡◌, ◌<◌, ◌≤◌, ◌⊎◌, ◌^◌, ℕ, false, List, All, None, IfSome}
 use Rattle.rs_optime.specs.declared.optime.OpTime.{OpTime}
 use Rattle.oplog_entry.specs.Visible.{ZERO, log_up_to}
@@ -42,8 +42,8 @@ pub record IsReadAs (found : Kept) (records : List Record) : Type 0 where
   pub point : found.point ≡ (kept records).point
   pub entries : log_up_to found.point found.entries ≡ (kept records).entries
 
--- A node can come back whether what it stores is there or not. The documents of its checkpoint are those of
--- what it then has stored, and of its log, and can be read in memory.
+-- A node can come back, whether what it stores is on disk or not. The documents of its checkpoint are those
+-- of the records that it then has, and of its log, and can be read in memory.
 pub record StoresWell (node : Node) (item : Store) : Type 0 where
   pub well : IsWellKept (records_after node.records item) (stable_after node.stable item)
   pub same : log_up_to node.stable (kept (records_after node.records item)).entries

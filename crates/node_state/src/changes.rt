@@ -15,7 +15,7 @@ use repl_msg::Record;
 use set_model::{Role, Store};
 use vote_store::Vote;
 
-/// The record of a vote, or of none, in a term.
+/// The record of a term, with a vote or none.
 pub fn vote_record(term: u64, candidate: Option<u32>) -> Store
     ensures { result ≡ vote_record term candidate }
 {
@@ -44,7 +44,7 @@ impl State {
         self.dry_run = None;
     }
 
-    /// Makes the node a secondary that forgets what it counted.
+    /// The node becomes a secondary, and its counts are cleared.
     pub fn be_secondary(&mut self)
         ensures node { self.new.node ≡ stepped_down self.old.node }
         ensures spare { self.new.spare ≡ self.old.spare }
@@ -57,7 +57,7 @@ impl State {
         self.dry_run = None;
     }
 
-    /// Sets the node's vote in its term. The record of it is in the journal.
+    /// The node has a vote in its term, whose record is stored.
     pub fn set_vote(&mut self, item: &Store, vote: u32)
         requires item { item.now ≡ vote_record self.old.node.term (Some vote) }
         requires vote { vote < 50 }

@@ -122,8 +122,8 @@ impl State {
         self.node_data.recall_sound();
     }
 
-    /// The node could come up again once this is stored, too: a fact for callers' proofs,
-    /// which costs nothing.
+    /// The node could also come up again after this is stored: a fact for callers' proofs, which costs
+    /// nothing.
     pub fn recall_stores_well(&self, _item: &Store, _then: &Continuation)
         requires ready { IsReady _item.now _then.now self.now }
         requires stored { CanBeStored _item.now }

@@ -89,7 +89,7 @@ impl State {
         at
     }
 
-    /// A primary's commit point advances to what a majority of the voters has reached.
+    /// A primary's commit point moves to what a majority of the voters has reached.
     pub fn evaluate(&mut self)
         ensures node { self.new.node ≡ evaluated self.old.node }
         ensures spare { self.new.spare ≡ self.old.spare }

@@ -1,9 +1,9 @@
 //! A node of a replica set in memory: its log and documents, its vote, its points, its configuration, and
 //! what it heard of others.
 //!
-//! What it does with a command or a message is a turn: it is finished, or it stores something and
-//! continues once that is on disk. Here are the node, its turns, how it comes up, and the steps that
-//! commands and messages share.
+//! What it does with a command or a message is a turn: it is finished, or it stores something and goes on
+//! when that is on disk. Here are the node, its turns, how it comes up, and the steps that commands and
+//! messages share.
 #![tactic(auto)]
 
 mod changes;

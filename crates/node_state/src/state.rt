@@ -28,10 +28,10 @@ use std::marker::Model;
 use sync_source::KnownTable;
 use version_store::VersionStore;
 
-/// A node that is up, as far as it is in memory. Its turns say what is to be stored on its disks.
+/// A node that is up, as it is in memory. Its turns say what to store on its disks.
 ///
-/// Its fields are open to the crates of commands and messages. The invariant over all of them (`IsState`) is
-/// proved wherever one of them changes.
+/// Its fields are open to the crates of commands and messages. Their invariant (`IsState`) is proved wherever
+/// one of them changes.
 #[derive(Drop)]
 pub struct State {
     pub alloc: Global,
@@ -39,7 +39,7 @@ pub struct State {
     pub number: u32,
     /// The configuration that the set began with.
     pub first: Config,
-    /// What it does in the set.
+    /// Its role in the set.
     pub role: Role,
     /// The term that it is in.
     pub term: u64,
@@ -69,7 +69,7 @@ pub struct State {
     pub rollback: u64,
     /// The optimes of the entries that aren't in the records.
     pub unjournaled: Unjournaled,
-    /// What it stored, only for proofs.
+    /// What it has stored, for proofs alone.
     pub records: Records,
 }
 
@@ -151,8 +151,8 @@ impl Model for State {
 }
 
 impl State {
-    /// A node when the set begins, with this number and this first configuration. The only error is
-    /// out of memory.
+    /// A node at the opening of the set, with this number and this first configuration. The only error is out
+    /// of memory.
     pub fn open(alloc: Global, number: u32, config: &Config) -> Mem<State>
         requires number { number < 50 }
         requires config { rule config.now ≡ None }

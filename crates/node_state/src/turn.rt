@@ -1,8 +1,8 @@
 // What a node does with a command or a message, step by step: it stores something, and continues once that is
 // on its disk.
 //
-// All memory that the later steps need is reserved beforehand and is in here, since a node mustn't run out of
-// it between two stores.
+// All memory that the later steps need is reserved here beforehand, since a node mustn't run out of memory
+// between two stores.
 
 use election_core::Tally;
 use member_config::Config;
@@ -19,7 +19,7 @@ pub enum Turn {
     Storing { item: Store, then: Continuation },
 }
 
-/// What the node does once what it stores is on its disk.
+/// What the node does when the store is on its disk.
 #[derive(Drop)]
 pub enum Continuation {
     /// The node is a candidate in the next term, with its own vote, and asks the others.
@@ -32,7 +32,7 @@ pub enum Continuation {
     Drain {
         config: Config,
     },
-    /// This many more entries are in the journal, and the log is durable up to the point.
+    /// `count` more entries are in the journal, and the log is durable up to the point.
     Flush {
         count: u64,
         point: OpTime,
@@ -107,7 +107,7 @@ pub enum MessageContinuation {
     Ignored(Ignored),
 }
 
-/// A newer configuration, one copy for the journal and one for the node.
+/// A newer configuration, twice: for the journal and for the node.
 #[derive(Drop)]
 pub struct NewConfig {
     pub journaled: Config,

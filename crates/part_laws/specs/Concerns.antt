@@ -37,7 +37,7 @@ refusal_of part_answer.Acked = None
 refusal_of (part_answer.Waiting held needed) = Some (refusal.Waiting held needed)
 refusal_of (part_answer.CannotSatisfy members) = Some (refusal.CannotSatisfy members)
 
--- `answer` judges a concern as a node does
+-- `answer` is what a node answers to a concern
 abbrev pub ConcernsAgree : Type 0
 ConcernsAgree =
     (node : Node) (at : OpTime) (concern : AckConcern)

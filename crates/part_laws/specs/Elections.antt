@@ -22,7 +22,8 @@ voter_of node =
       last = last_point node;
     }
 
--- `decide` refuses for the reason that a node gives, and otherwise votes for the one who asks
+-- `decide` refuses with the reason with which a node answers, and otherwise gives the vote for the
+-- one who asks
 abbrev pub VotesAgree : Type 0
 VotesAgree =
     (node : Node) (from : ℕ) (ask : VoteAsk)

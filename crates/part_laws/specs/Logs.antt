@@ -74,7 +74,7 @@ planned node (Ok point) = rollback.rolled_back node point
 planned node (Err part.NotOlder) = finished (ignored row.NotOlder node)
 planned node (Err part.SameBranch) = finished (ignored row.SameBranch node)
 
--- a secondary rolls back as `plan` says, once the message is no older than its term
+-- a secondary rolls back as `plan` says, if the message isn't of an earlier term
 abbrev pub RollbacksAgree : Type 0
 RollbacksAgree =
     (node : Node) (term : ℕ) (after : OpTime) (optimes : List OpTime) (visible : OpTime)
@@ -83,8 +83,8 @@ RollbacksAgree =
     else planned node (plan node.term node.log (last_point node) visible after optimes))
     ≡ rollback.common_told node term after optimes visible
 
--- Where a source shows, up to the optime that was asked for, what the node's log has up to there, the common
--- point is the last entry that both have.
+-- Where a source shows the same log as the node up to the optime that was asked for, the common point is the
+-- last entry that both have.
 abbrev pub CommonPointsAreLast : Type 0
 CommonPointsAreLast =
     (log shown : List Entry) (after : OpTime) → log_up_to after log ≡ log_up_to after shown

@@ -17,8 +17,8 @@ use Rattle.set_model.specs.Reconfig.{reconfig_refusal}
 
 -- ---- commit points
 
--- `advance` is how a primary's commit point moves, and `learn` is how another node's does when it
--- hears of one
+-- `advance` is where a primary's commit point goes, and `learn` is where another node's goes when it hears of
+-- one
 pub record PointsAgree : Type 0 where
   pub advances : (node : Node) → (evaluated node).commit ≡ if_primary node.role
       (advanced node.progress node.config node.term node.number node.durable node.commit) node.commit
@@ -37,7 +37,7 @@ refusal_of (part.TermNotCommitted commit) = row.TermNotCommitted commit
 refusal_of (part.OplogNotCommitted count needed) = row.OplogNotCommitted count needed
 refusal_of (part.UnknownMember number) = row.UnknownMember number
 
--- what `check` refuses at a node's values
+-- what `check` refuses, given a node's values
 abbrev pub checked : ℕ → Node → Config → Option ConfigRefusal
 checked nodes node config =
     reconfig.refusal node.config config node.number nodes node.term node.progress node.durable node.commit

@@ -3,7 +3,8 @@ ghost use Rattle.part_laws.specs.Elections.{TalliesAgree, VotesAgree};
 ghost use Rattle.part_laws.specs.Logs.{AcceptsAgree, CommonPointsAreLast, FetchesAgree, RollbacksAgree, SourcesAgree};
 ghost use Rattle.part_laws.specs.Points.{PointsAgree, ReconfigsAgree};
 
-/// `decide` refuses for the reason that a node gives, and otherwise votes for the one who asks.
+/// `decide` refuses with the reason with which a node answers, and otherwise gives the vote for the
+/// one who asks.
 pub fn votes_are_decided_as_a_node_does()
     ensures { VotesAgree }
 {}
@@ -13,13 +14,13 @@ pub fn tallies_grow_as_a_node_s()
     ensures { TalliesAgree }
 {}
 
-/// `advance` is how a primary's commit point moves, and `learn` is how another node's does when it
-/// hears of one.
+/// `advance` is where a primary's commit point goes, and `learn` is where another node's goes when it hears
+/// of one.
 pub fn commit_points_move_as_a_node_s()
     ensures { PointsAgree }
 {}
 
-/// `answer` judges a concern as a node does.
+/// `answer` is what a node answers to a concern.
 pub fn concerns_are_answered_as_a_node_does()
     ensures { ConcernsAgree }
 {}

@@ -9,8 +9,8 @@ use Rattle.repl_msg.specs.Points.{Reports, held}
 use Rattle.reconfig_core.specs.declared.refusal.ConfigRefusal.{ConfigRefusal}
 use Rattle.reconfig_core.specs.declared.refusal.ConfigRefusal.TheVariants.{WrongVersion, ConfigRule, PrimaryNotMember, TwoVoters, ConfigNotCommitted, TermNotCommitted, OplogNotCommitted, UnknownMember}
 
--- what the current configuration lacks: a majority of its voters must have it, the commit point must be in
--- the term, and a majority must have reached that too
+-- what the current configuration lacks: a majority of its voters has to have it, the commit point has to be
+-- of the term, and a majority has to have reached that
 abbrev pub committed_refusal : Config → (own term : ℕ) → Reports
     → (durable commit : OpTime) → Option ConfigRefusal
 committed_refusal current own term reports durable commit =

@@ -8,9 +8,9 @@ use commit_point::Progress;
 use member_config::Config;
 use rs_optime::OpTime;
 
-/// Whether a primary, whose number is `own`, may take a new configuration in a set of `nodes` nodes;
-/// otherwise the first reason against it. Among the reasons: no majority of the current configuration's
-/// voters has that configuration yet, or no entry of the primary's term is committed yet.
+/// Whether a primary, whose number is `own`, may take a new configuration in a set of so many nodes;
+/// otherwise the first reason against it. Among them: a majority of the current configuration's voters
+/// doesn't have that configuration yet, or no entry of the primary's term is committed yet.
 pub fn check(
     current: &Config,
     new: &Config,

@@ -4,7 +4,7 @@ ghost use Rattle.repl_msg.specs.Configs as words;
 use commit_point::Progress;
 use member_config::Config;
 
-/// How many voters have the current configuration, as far as the primary knows.
+/// How many voters have the current configuration, to the primary's knowledge.
 pub(crate) fn config_held(current: &Config, own: u32, progress: &Progress) -> u32
     requires { length current.now.members ≤ 50 }
     ensures { result ≡ words.config_held progress.now current.now own }

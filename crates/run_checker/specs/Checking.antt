@@ -1,6 +1,6 @@
--- Which bytes are a trace, and what is said of those that are none.
+-- Which bytes are a trace, and what the checker says of others.
 --
--- Lines are counted from 1. The first line that shows that the bytes are no trace decides.
+-- Lines are counted from 1. The first line that shows that the bytes aren't a trace decides.
 use Rattle.std.specs.Prelude.{◌≡◌, ⊤, ℕ, zero, suc, ◌+◌, Bool, not, nat_lt, slice_index, ◌==◌, ◌&&◌, ◌||◌, List, [], ◌∷◌, ◌++◌, length, Option, None, Some, Result, Ok, Err, if◌then◌else◌}
 use Rattle.bson_doc.specs.Bind.{◌>>=◌}
 use Rattle.set_model.specs.declared.command.Event.{Event}
@@ -24,12 +24,12 @@ set_of sizes = record { nodes = sizes.0; voters = sizes.1; members = sizes.2 }
 abbrev pub opening_of : ℕ × ℕ × ℕ → World
 opening_of sizes = opening_world sizes.0 sizes.1 sizes.2
 
--- what is said of an event, and of what follows it
+-- the finding on an event, and on what follows it
 abbrev pub reply_text : World → Event → List ℕ
 reply_text world event = line_text (event.line, (step world event).reply)
 
--- From this world on the bytes tell of these events: for each a line that reads as it, and the text of its
--- line and its reply.
+-- From this world on the bytes are these events: for each, a line that reads as it, and the text of its line
+-- and its reply.
 abbrev pub Tells : ℕ → World → List Event → List ℕ → Type 0
 Tells nodes world [] bytes = bytes ≡ []
 Tells nodes world (event ∷ events) bytes =
@@ -37,13 +37,13 @@ Tells nodes world (event ∷ events) bytes =
     × (after_line bytes ≡ Some (reply_text world event ++ rest))
     × Tells nodes (step world event).world events rest
 
--- the bytes are a trace of these events, of a set of as many nodes, voters and members
+-- the bytes are a trace of these events, of a set with this many nodes, voters and members
 pub record IsTrace (sizes : ℕ × ℕ × ℕ) (events : List Event) (bytes : List ℕ) : Type 0 where
   pub rest : List ℕ
   pub header : header_in bytes ≡ Some (sizes, rest)
   pub tells : Tells sizes.0 (opening_of sizes) events rest
 
--- The bytes are a trace of so many events and of no others, whose run is defined and safe.
+-- The bytes are a trace of this many events and of no others, whose run is defined and safe.
 pub record Shows (count : ℕ) (bytes : List ℕ) : Type 0 where
   pub sizes : ℕ × ℕ × ℕ
   pub events : List Event
@@ -58,7 +58,7 @@ pub record Shows (count : ℕ) (bytes : List ℕ) : Type 0 where
 abbrev pub IsNoTrace : List ℕ → Type 0
 IsNoTrace bytes = (sizes : ℕ × ℕ × ℕ) (events : List Event) → IsTrace sizes events bytes → ⊥
 
--- unless memory ran out, the bytes are no trace
+-- unless memory ran out, the bytes aren't a trace
 abbrev pub RulesOut : CheckError → List ℕ → Type 0
 RulesOut Memory bytes = ⊤
 RulesOut (BadHeader number) bytes = IsNoTrace bytes
@@ -68,28 +68,28 @@ RulesOut (OtherReply number) bytes = IsNoTrace bytes
 
 -- ---- what is said of bytes
 
--- the event fits the world, as far as its line doesn't tell
+-- the event fits the world, apart from what its line already shows
 abbrev pub fits : World → Event → Bool
 fits world event =
     plan_reaches (event_plan world event) event.failed && (not event.kept || settles_doubt world event)
 
--- this byte stands at a place
+-- this byte is at a place
 abbrev pub stands_at : ℕ → ℕ → List ℕ → Bool
 stands_at byte place bytes = nat_lt place (length bytes) && byte == slice_index bytes place
 
--- the number of the line in which the next byte stands
+-- the number of the line that has the next byte
 abbrev pub number_after : ℕ → ℕ → ℕ
 number_after byte number = if is_line_feed byte then number + 1 else number
 
--- What follows a text, with the number of the line there, where this one is the number of the first
--- line; else the number of the line in which another byte stands, or none.
+-- What follows a text, with the number of the line there, given the number of the first line; otherwise the
+-- number of the line that has a different byte, or none.
 abbrev pub after_text : ℕ → List ℕ → List ℕ → Result (List ℕ × ℕ) CheckError
 after_text number [] bytes = Ok (bytes, number)
 after_text number (c ∷ text) [] = Err (OtherReply number)
 after_text number (c ∷ text) (d ∷ bytes) =
     if c == d then after_text (number_after c number) text bytes else Err (OtherReply number)
 
--- after an event's line, which may be the last and go without its end
+-- after an event's line, which may be the last and have no end
 abbrev pub after_reply : ℕ → List ℕ → Left → Result (List ℕ × ℕ) CheckError
 after_reply number text None = Err (OtherReply number)
 after_reply number text (Some rest) = after_text number text rest
@@ -101,7 +101,7 @@ event_or number (Err rule) = Err (BadEvent number)
 abbrev pub if_fits : ℕ → World → Event → Result Event CheckError
 if_fits number world event = if fits world event then Ok event else Err (NoFit number)
 
--- the event that a line of this number is, where it fits
+-- the event that the line of this number is, if it fits
 unfoldable pub event_told : ℕ → World → ℕ → List ℕ → Result Event CheckError
 event_told nodes world number line = do
   event ← event_or number (event_in nodes line)
@@ -114,8 +114,8 @@ told_one nodes world number bytes = do
   rest ← after_reply (number + 1) (reply_text world event) (after_line bytes)
   Ok (event, rest.0, rest.1)
 
--- How many events these bytes tell of, from a line of this number and a world, after so many events. There
--- are fewer events than bytes.
+-- How many events these bytes have, from a line of this number and a world, added to those before. There are
+-- fewer events than bytes.
 abbrev pub told_from : ℕ → ℕ → World → ℕ → ℕ → List ℕ → Result ℕ CheckError
 told_from zero nodes world number count bytes = Ok count
 told_from (suc most) nodes world number count [] = Ok count
@@ -131,7 +131,7 @@ abbrev pub by_header : Option ((ℕ × ℕ × ℕ) × List ℕ) → Result ℕ C
 by_header None = Err (BadHeader 1)
 by_header (Some (sizes, rest)) = told sizes rest
 
--- of how many events the bytes are a trace, or why they are none
+-- how many events the bytes are a trace of, or why they aren't a trace
 abbrev pub checked : List ℕ → Result ℕ CheckError
 checked bytes = by_header (header_in bytes)
 
@@ -155,7 +155,7 @@ abbrev pub Reads : {X Y : Type 0} → (X → Y) → Result X CheckError → Resu
 Reads view (Ok x) read = read ≡ Ok (view x)
 Reads view (Err error) read = read ≡ Err error
 
--- after the header of a set the bytes tell of so many events
+-- after the header of a set the bytes have this many events
 pub record TellsSome (sizes : ℕ × ℕ × ℕ) (count : ℕ) (bytes : List ℕ) : Type 0 where
   pub events : List Event
   pub tells : Tells sizes.0 (opening_of sizes) events bytes
@@ -173,7 +173,7 @@ pub record DoneLine (nodes : ℕ) (old : World) (line : List ℕ) (new : World) 
   pub read : event_in nodes line ≡ Ok event
   pub done : Done old event new text
 
--- An event was told, and this comes after it.
+-- An event was read and done, and this comes after it.
 pub record Goes (nodes : ℕ) (old : World) (number : ℕ) (bytes : List ℕ) (new : World) (rest : List ℕ)
     (next : ℕ) : Type 0 where
   pub event : Event

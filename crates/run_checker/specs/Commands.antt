@@ -56,7 +56,7 @@ abbrev pub disk_word : DiskName → List ℕ
 disk_word disks.Journal = codes "journal"
 disk_word disks.Checkpoint = codes "checkpoint"
 
--- a pick, or no word
+-- a pick, or nothing
 abbrev pub pick_word : Option ℕ → List ℕ
 pick_word None = []
 pick_word (Some pick) = codes " " ++ decimal pick

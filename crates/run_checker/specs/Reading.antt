@@ -1,8 +1,8 @@
 -- How a trace is read: which lines are a header, and which an event.
 --
--- Words are what stands between single spaces, as in a script, and a number is one or more decimal digits. A
--- line ends at its line feed alone. A header and a reply have one; an event's line at the end of the bytes is
--- read without one, and then has no reply.
+-- Single spaces separate words, as in a script, and a number is one or more decimal digits. Only a line feed
+-- ends a line. A header and a reply have one; an event's line at the end of the bytes is read without one,
+-- and then has no reply.
 use Rattle.std.specs.Prelude.{ℕ, Bool, ◌==◌, List, Option, None, Some, codes, Result, Ok, Err, if◌then◌else◌}
 use Rattle.std.specs.List.{before_first, after_first, list_any}
 use Rattle.std.specs.Str.{bytes_eq, is_utf8}
@@ -24,7 +24,7 @@ is_line_feed byte = byte == 10
 abbrev pub line_at : List ℕ → List ℕ
 line_at bytes = before_first is_line_feed bytes
 
--- what follows the first line's end, where it has one
+-- what follows the first line's end, if it has one
 abbrev pub after_line : List ℕ → Left
 after_line bytes = if list_any is_line_feed bytes then Some (after_first is_line_feed bytes) else None
 
@@ -38,7 +38,8 @@ without_first name first = if bytes_eq first.0 name then Ok first.1 else Err Unk
 
 -- ---- the header
 
--- `trace`, then 1 to 50 nodes. Of these up to seven have a vote, and these and up to all others are members.
+-- `trace`, then 1 to 50 nodes, up to seven of them with a vote, and as many members as these, up to all
+-- nodes.
 unfoldable pub header_at : List ℕ → Result (ℕ × ℕ × ℕ) ScriptRule
 header_at text = do
   first ← word_at (Some text)
@@ -81,7 +82,7 @@ failed_at left = do
   failed ← failed_of word.0
   Ok (failed, word.1)
 
--- `event`, the line, what failed and whether it was kept, and then a command of a set of so many nodes
+-- `event`, the line, what failed and whether it was kept, and then a command of a set of this size
 unfoldable pub event_at : ℕ → List ℕ → Result Event ScriptRule
 event_at nodes text = do
   first ← word_at (Some text)

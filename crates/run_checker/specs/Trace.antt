@@ -5,7 +5,7 @@
 --     LINE: ..                            the text of its reply
 --
 -- LINE is the number of the event's line. FAILED is the number of the store that failed in it, or `-`. KEPT
--- is 1 where a restart found what was being stored as a disk failed, and else 0.
+-- is 1 if a restart found what was being stored when a disk failed, and otherwise 0.
 use Rattle.std.specs.Prelude.{◌≡◌, ◌<◌, ◌^◌, ℕ, Bool, true, false, List, ◌++◌, Option, None, Some, IfSome, codes}
 use Rattle.std.specs.Fmt.{decimal}
 use Rattle.std.specs.List.{flat_map, zip}
@@ -44,13 +44,13 @@ pub record IsPlain (event : Event) : Type 0 where
   pub failed : IfSome event.failed (λ store. store < 2 ^ 32)
   pub utf8 : is_utf8 (event_words event) ≡ true
 
--- an event, and what it was answered
+-- an event, and its reply
 abbrev pub entry_text : Event × Reply → List ℕ
 entry_text (event, reply) = event_text event ++ line_text (event.line, reply)
 
 abbrev pub entries_text : List Event → List Reply → List ℕ
 entries_text events replies = flat_map entry_text (zip events replies)
 
--- the trace of a set of these sizes, which did these events and gave these replies
+-- the trace of a set of these sizes that did these events and gave these replies
 abbrev pub trace_text : ℕ × ℕ × ℕ → List Event → List Reply → List ℕ
 trace_text sizes events replies = header_text sizes ++ entries_text events replies

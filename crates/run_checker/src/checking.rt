@@ -1,4 +1,4 @@
-// A trace, checked by itself.
+// Checks a trace on its own.
 ghost use Rattle.std.specs.Prelude.{◌≡◌, ◌+◌, ◌-◌, ◌<◌, ◌^◌, length, true, string_bytes, IfOk, IfErr, IfSome, OnOk};
 ghost use Rattle.checker_machine.specs.Reached.{IsReached};
 ghost use Rattle.set_model.specs.Limits.{IsSoundWrite, is_for, write_of};
@@ -16,21 +16,21 @@ use set_model::{Command, Event};
 use std::alloc::{AllocError, Global};
 use transcript::set_reply;
 
-/// After so many events a number of the machine may outgrow its type.
+/// After this many events a number of the machine could overflow its type.
 const MOST_EVENTS: u64 = 4_294_967_294;
 
-/// Why bytes are no trace, each with the number of the line that shows it, counted from 1. The first that is
+/// Why bytes aren't a trace, each with the number of the line that shows it, counted from 1. The first one
 /// met decides.
 #[derive(Clone, Copy, Debug, PartialEq, Eq)]
 pub enum CheckError {
-    /// The first line is no header.
+    /// The first line isn't a header.
     BadHeader(u64),
-    /// A line in an event's place is no event.
+    /// A line in an event's place isn't an event.
     BadEvent(u64),
     /// The event doesn't fit the world that it meets.
     NoFit(u64),
-    /// What follows an event isn't its reply: the first line that differs, or, where the bytes end
-    /// after a whole line or the event itself, the next one.
+    /// What follows an event isn't its reply: the first line that differs, or the next one if the bytes end
+    /// after a whole line or the event itself.
     OtherReply(u64),
     /// Memory ran out, or there are more than 4,294,967,294 events.
     Memory,
@@ -49,7 +49,7 @@ impl From<AllocError> for CheckError {
 /// Whether these bytes are a trace, and of how many events.
 ///
 /// # Errors
-/// Those of `CheckError`, each exactly where it is the first that is met.
+/// Those of `CheckError`, each exactly if it is the first one met.
 pub fn check(alloc: Global, bytes: &[u8]) -> Result<u64, CheckError>
     ensures ok { IfOk result (λ count. Shows count bytes.now) }
     ensures err { IfErr result (λ why. RulesOut why bytes.now) }
@@ -62,7 +62,7 @@ pub fn check(alloc: Global, bytes: &[u8]) -> Result<u64, CheckError>
     told(alloc, sizes, rest)
 }
 
-/// How many events are told after the header of a set.
+/// How many events follow the header of a set.
 fn told(alloc: Global, sizes: Sizes, bytes: &[u8]) -> Result<u64, CheckError>
     requires { AreSizes (set_of sizes) }
     ensures tells { IfOk result (λ count. TellsSome sizes count bytes.now) }
@@ -83,8 +83,8 @@ fn told(alloc: Global, sizes: Sizes, bytes: &[u8]) -> Result<u64, CheckError>
     Ok(count)
 }
 
-/// Does the event that the first line is, whose number is `line`, and passes over its reply: what stands
-/// after it, and the number of the next line. Uses the memory of `text`.
+/// Does the event of the first line, whose number is `line`, and skips its reply. The result is what follows
+/// it, and the number of the next line. Uses the memory of `text`.
 fn told_one<'a>(
     nodes: u32,
     machine: &mut Machine,
@@ -108,7 +108,7 @@ fn told_one<'a>(
     passed(text.as_bytes(), after, line + 1)
 }
 
-/// Does the event that a line of this number is, and writes its reply in place of `text`.
+/// Does the event of the line of this number, and writes its reply in place of `text`.
 fn done_line(
     nodes: u32,
     machine: &mut Machine,
@@ -125,7 +125,7 @@ fn done_line(
     step(machine, &event, line, text)
 }
 
-/// The event that a line of this number is.
+/// The event of the line of this number.
 fn event_of(alloc: Global, nodes: u32, own: &[u8], line: u64) -> Result<Event, CheckError>
     ensures event { Says (λ event. event) result (event_or line (event_in nodes own.now)) }
     ensures command { IfOk result (λ event. is_for nodes event.command ≡ true) }
@@ -137,7 +137,7 @@ fn event_of(alloc: Global, nodes: u32, own: &[u8], line: u64) -> Result<Event, C
     }
 }
 
-/// Does an event, which a line of this number is, and writes its reply in place of `text`.
+/// Does an event, of the line of this number, and writes its reply in place of `text`.
 fn step(
     machine: &mut Machine,
     event: &Event,
@@ -159,8 +159,7 @@ fn step(
     Ok(())
 }
 
-/// Passes over a reply, whose first line has this number: what follows it, and the number of the
-/// next line.
+/// Skips a reply, whose first line has this number: what follows it, and the number of the next line.
 fn passed<'a>(reply: &[u8], rest: &'a [u8], line: u64) -> Result<(&'a [u8], u64), CheckError>
     requires { line + length rest.now < 2 ^ 64 }
     ensures { Reads (λ x. (x.0.now, x.1)) result (after_text line reply.now rest.now) }
@@ -175,14 +174,14 @@ fn passed<'a>(reply: &[u8], rest: &'a [u8], line: u64) -> Result<(&'a [u8], u64)
     Ok((&rest[reply.len()..], next))
 }
 
-/// Whether this byte stands at a place.
+/// Whether this byte is at a place.
 fn stands_at(byte: u8, place: usize, bytes: &[u8]) -> bool
     ensures { result ≡ stands_at byte place bytes.now }
 {
     place < bytes.len() && byte == bytes[place]
 }
 
-/// The number of the line in which the next byte stands.
+/// The number of the line that has the next byte.
 fn number_after(byte: u8, line: u64) -> u64
     requires { line < 2 ^ 64 - 1 }
     ensures { result ≡ number_after byte line }
@@ -190,7 +189,7 @@ fn number_after(byte: u8, line: u64) -> u64
     if byte == b'\n' { line + 1 } else { line }
 }
 
-/// What a command brings is sound at every level: a fact for proofs, which costs nothing.
+/// The documents of a command are sound at every level: a fact for proofs, which costs nothing.
 fn recall_sound_write(command: &Command)
     ensures { IfSome (write_of command.now) IsSoundWrite }
 {

@@ -10,8 +10,8 @@ use bson_doc::Mem;
 use set_model::Command;
 use transcript::write_number;
 
-/// Appends a command in the words of a script. After out of memory a part may be appended. Those that name a
-/// node and nothing else stand here.
+/// Appends a command in the words of a script. If memory runs out, a part may have been appended. Those that
+/// name a node and nothing else are here.
 pub fn write_command(command: &Command, out: &mut String) -> Mem<()>
     ensures { OnOk result (string_bytes out.new ≡ string_bytes out.old ++ command_text command.now) }
 {

@@ -1,5 +1,5 @@
-//! Traces: a run, printed so that it can be played again. What a run came to is written as one, a trace's
-//! lines are read, and bytes are checked whether they are one.
+//! Traces: a run, printed so that it can be played again. Here a run is written as one, the lines of a trace
+//! are read, and bytes are checked to be one.
 #![tactic(auto)]
 
 mod checking;

@@ -6,7 +6,7 @@ ghost use Rattle.run_checker.specs.Reading.{after_line, line_at, text_of};
 
 use fault_script::{ScriptRule, as_text, line_feed};
 
-/// The first line without its end, and what follows that end, where it has one.
+/// The first line without its end, and what follows that end, if it has one.
 pub fn next_line(bytes: &[u8]) -> (&[u8], Option<&[u8]>)
     ensures line { result.0.now ≡ line_at bytes.now }
     ensures rest { option_copied result.1 ≡ after_line bytes.now }
@@ -17,7 +17,7 @@ pub fn next_line(bytes: &[u8]) -> (&[u8], Option<&[u8]>)
     }
 }
 
-/// The text of a line. `NotUtf8`: it is no UTF-8.
+/// The text of a line. `NotUtf8`: it isn't UTF-8.
 pub fn text_of(line: &[u8]) -> Result<&str, ScriptRule>
     ensures { Reads (λ text. text.now) result (text_of line.now) }
 {

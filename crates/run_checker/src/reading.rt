@@ -1,4 +1,4 @@
-// The lines of a trace, as they are read.
+// Reads the lines of a trace.
 ghost use Rattle.std.specs.Prelude.{◌≡◌, true, IfOk, MatchOption, None, Some};
 ghost use Rattle.std.specs.Option.{option_copied};
 ghost use Rattle.script_words.specs.Gives.{Gives, Reads};
@@ -12,8 +12,8 @@ use script_words::{Left, MAX_NODES, Read, most_voters, number, number_of, text, 
 use set_model::Event;
 use std::alloc::Global;
 
-/// The sizes that a trace's header names, and what follows the header. None where the bytes don't
-/// begin with one.
+/// The sizes that a trace's header names, and what follows the header. None if the bytes don't begin with
+/// one.
 pub fn read_header(bytes: &[u8]) -> Option<(Sizes, &[u8])>
     ensures { MatchOption result (header_in bytes.now ≡ None)
         (λ read. header_in bytes.now ≡ Some (read.0, read.1.now)) }
@@ -48,7 +48,7 @@ fn header(text: &str) -> Result<Sizes, ScriptRule>
     }
 }
 
-/// What is left after a line's first word, which is to have this name.
+/// What is left after a line's first word, which has to be this name.
 fn without_first<'a>(name: &str, first: &str, left: Left<'a>) -> Result<Left<'a>, ScriptRule>
     ensures { Reads option_copied result (without_first name.now (first.now, option_copied left.entry)) }
 {
@@ -59,7 +59,7 @@ fn without_first<'a>(name: &str, first: &str, left: Left<'a>) -> Result<Left<'a>
     }
 }
 
-/// The event that a line of a trace is, in a set of so many nodes, or the first rule that the line breaks.
+/// The event that a line of a trace is, in a set of this size, or the first rule that the line breaks.
 #[tactic(auto, unfolding(crate::specs::Reading::event_in))]
 pub fn read_event(alloc: Global, nodes: u32, line: &[u8]) -> Result<Event, CommandError>
     ensures read { Gives (λ event. event) result (event_in nodes line.now) }

@@ -1,4 +1,4 @@
-// What is printed of bytes that were checked.
+// What is printed about bytes that were checked.
 ghost use Rattle.std.specs.Prelude.{◌≡◌, ◌++◌, OnOk, string_bytes};
 ghost use Rattle.run_checker.specs.Verdicts.{count_text, named_line, no_trace_text};
 
@@ -6,7 +6,7 @@ use crate::checking::CheckError;
 use bson_doc::Mem;
 use transcript::write_number;
 
-/// Appends that the bytes are a trace of so many events.
+/// Appends that the bytes are a trace of this many events.
 pub fn write_count(count: u64, out: &mut String) -> Mem<()>
     ensures { OnOk result (string_bytes out.new ≡ string_bytes out.old ++ count_text count) }
 {
@@ -15,7 +15,7 @@ pub fn write_count(count: u64, out: &mut String) -> Mem<()>
     out.push_str("\n")
 }
 
-/// Appends why they are none; nothing, where memory ran out.
+/// Appends why they aren't one; nothing if memory ran out.
 pub fn write_no_trace(why: CheckError, out: &mut String) -> Mem<()>
     ensures { OnOk result (string_bytes out.new ≡ string_bytes out.old ++ no_trace_text why) }
 {

@@ -1,4 +1,4 @@
-// A trace, as it is written.
+// Writes a trace.
 ghost use Rattle.std.specs.Prelude.{◌≡◌, ◌<◌, ◌^◌, ◌++◌, IfSome, OnErr, OnOk, length, string_bytes};
 ghost use Rattle.run_checker.specs.Trace.{IsPlain, entries_text, entry_text, event_text, failed_word, header_text, kept_word, trace_text};
 
@@ -8,7 +8,7 @@ use bson_doc::Mem;
 use set_model::{Event, Reply};
 use transcript::{push_reply, write_number};
 
-/// Appends the trace of a set of these sizes, which did these events and gave these replies. Out of memory
+/// Appends the trace of a set of these sizes that did these events and gave these replies. Out of memory
 /// leaves `out` as it was.
 pub fn write_trace(sizes: Sizes, events: &[Event], replies: &[Reply], out: &mut String) -> Mem<()>
     requires { length events.now ≡ length replies.now }
@@ -22,8 +22,8 @@ pub fn write_trace(sizes: Sizes, events: &[Event], replies: &[Reply], out: &mut 
     out.push_str(&text)
 }
 
-/// Writes the header of a trace into `text` in place of what stood there, and uses its memory again. After
-/// out of memory `text` is of no use.
+/// Writes the header of a trace into `text` in place of what was there, reusing its memory. If memory runs
+/// out, `text` is of no use.
 pub fn set_header(sizes: Sizes, text: &mut String) -> Mem<()>
     ensures { OnOk result (string_bytes text.new ≡ header_text sizes) }
 {

@@ -1,5 +1,5 @@
--- Bounds that hold of every run: how large terms, timestamps and counts can get after n events, and that no
--- node ever has or is sent a configuration that breaks a rule.
+-- Bounds of every run: how large terms, timestamps and counts can get after n events, and that no node ever
+-- has or is sent a configuration that breaks a rule.
 use Rattle.std.specs.Prelude.{◌≡◌, ◌<◌, ◌≤◌, ◌+◌, ◌*◌, ℕ, suc, List, length, None, Some, IfSome, All, Contains, slice_get}
 use Rattle.oplog_entry.specs.declared.entry.Entry.{Entry}
 use Rattle.member_config.specs.declared.config.Config.{Config}
@@ -13,8 +13,8 @@ use Rattle.set_model.specs.Run.{Sizes, world_at}
 
 -- ---- numbers
 
--- No timestamp is later than this: a clock has less than 2^31 seconds, and each event makes at
--- most one timestamp.
+-- No timestamp is past this: a clock shows less than 2^31 seconds, and each event makes at most one
+-- timestamp.
 abbrev pub last_timestamp : ℕ → ℕ
 last_timestamp events = 9223372032559808513 + events
 
@@ -67,7 +67,7 @@ pub record HasLawfulConfigs (nodes : ℕ) (node : Node) : Type 0 where
   pub config : IsLawfulConfig nodes node.config
   pub kept : All (λ record_. IfSome (config_kept record_) (IsLawfulConfig nodes)) node.records
 
--- Each configuration that a node has, stores or is sent is lawful.
+-- Each configuration that a node has, has stored or is sent is lawful.
 pub record ConfigsAreLawful (sizes : Sizes) (events : List Event) : Type 0 where
   pub nodes :
       (place number : ℕ) (node : Node) → slice_get (world_at sizes events place).nodes number ≡ Some node

@@ -29,22 +29,23 @@ NextOptimesAreLast sizes events =
     (place number : ℕ) (node : Node) → IsAt sizes events place number node
     → (entry : Entry) → In entry node.log → Before entry.optime (next_optime node)
 
--- Whatever a leader has in its log, visible or not, it still has wherever it leads in the same term later.
+-- A leader keeps its log: each entry, visible or not, is still there wherever it leads in the same term
+-- later.
 abbrev pub LeadersKeep : Sizes → List Event → Type 0
 LeadersKeep sizes events =
     (i j number term : ℕ) (old new : Node) → i ≤ j → Leads sizes events i number term old
     → Leads sizes events j number term new → (entry : Entry) → In entry old.log → In entry new.log
 
--- Whatever a leader has of earlier terms it has wherever it leads in that term, sooner or later: while it
--- leads, it adds only entries of its own term.
+-- A leader's entries of earlier terms are in its log wherever it leads in that term, sooner or later: while
+-- it leads, it adds entries of its own term alone.
 abbrev pub LeadersAddTheirOwn : Sizes → List Event → Type 0
 LeadersAddTheirOwn sizes events =
     (i j number term : ℕ) (one two : Node) → Leads sizes events i number term one
     → Leads sizes events j number term two
     → (entry : Entry) → In entry two.log → entry.optime.term < term → In entry one.log
 
--- Where an entry is committed at a node, its log has nothing of earlier terms that a leader of the entry's
--- term lacks.
+-- Where an entry is committed at a node, the node's log has no entry of an earlier term that a leader of the
+-- entry's term lacks.
 abbrev pub LeadersHadWhatIsBefore : Sizes → List Event → Type 0
 LeadersHadWhatIsBefore sizes events =
     (i j n m : ℕ) (node leader : Node) (entry before : Entry) → IsAt sizes events i n node

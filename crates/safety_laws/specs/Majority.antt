@@ -1,5 +1,5 @@
--- What a majority read shows is something that a new node may begin with (MongoDB's replication architecture
--- guide, initial sync).
+-- What a majority read shows, as the start of a new node (MongoDB's replication architecture guide, initial
+-- sync).
 use Rattle.std.specs.Prelude.{◌≡◌, ◌≢◌, ℕ, All, List, Some, false}
 use Rattle.std.specs.FinMap.{get}
 use Rattle.bson_doc.specs.Place.{Place}
@@ -32,8 +32,8 @@ pub record IsFitLog (at : OpTime) (log : List Entry) : Type 0 where
   pub documents : (place : Place) (document : Fields) → get (docs log) place ≡ Some document
       → IsFitDocument place document
 
--- What a majority read shows at a node that is up is such a log, up to the earlier of its commit point and
--- what it has applied.
+-- A majority read at a node that is up shows such a log, up to the lesser of its commit point and what it has
+-- applied.
 abbrev pub MajorityLogsAreFit : Sizes → List Event → Type 0
 MajorityLogsAreFit sizes events =
     (place number : ℕ) (node : Node) → IsAt sizes events place number node

@@ -1,5 +1,4 @@
--- Which events leave the world as it was, and what remains of an event whose store fails. Nothing is assumed
--- about the world.
+-- Which events leave the world as it was, and what remains of one whose store fails. This holds in any world.
 use Rattle.std.specs.Prelude.{◌≡◌, ◌≤◌, ℕ, zero, suc, Bool, true, false, not, ◌&&◌, nat_lt, List, ◌∷◌, ◌++◌, fold, length, None, Some, slice_get, slice_set, if◌then◌else◌}
 use Rattle.oplog_entry.specs.declared.entry.Session.{Session}
 use Rattle.doc_update.specs.declared.write.WriteOp.{WriteOp}
@@ -37,8 +36,8 @@ abbrev pub is_disk_failure : Refusal → Bool
 is_disk_failure DiskFailed = true
 is_disk_failure _ = false
 
--- a refusal, unless a disk failed; a reply that shows something of the node; that there was nothing to write;
--- that a vote wasn't given; or that a disk will fail
+-- it is a refusal other than that a disk failed; it shows something of the node; there was nothing to write;
+-- a vote wasn't given; or a disk will fail
 abbrev pub is_quiet : Reply → Bool
 is_quiet (reply.Refused why) = not (is_disk_failure why)
 is_quiet (reply.Acked at) = true
@@ -109,7 +108,7 @@ pub record IgnoredMessagesBringTerms : Type 0 where
       → IsHanded world event message node → (step world event).reply ≡ reply.Ignored why
       → message.term ≤ node.term → Stays world event
 
--- Where a node is asked for its vote in a term that isn't higher than its own, and doesn't give it, no node
+-- Where a node is asked for its vote in a term that isn't higher than its own, and refuses it, no node
 -- changes. (The answer is sent.)
 abbrev pub RefusedVotesChangeNoNode : Type 0
 RefusedVotesChangeNoNode =
@@ -120,12 +119,12 @@ RefusedVotesChangeNoNode =
 
 -- ---- a store that fails
 
--- these are stored on the node's disks, one after another
+-- these are on the node's disks, one after another
 abbrev pub with_stores : Node → List Store → Node
 with_stores node stores = fold stored node stores
 
--- Of what was to be stored from `start` on, this many are on the node's disks, the next is in doubt, and the
--- node is down. `whole` is the node if nothing fails.
+-- Of what was to be stored from `start` on, this many are on the node's disks, the next one is in doubt, and
+-- the node is down. `whole` is the node if nothing fails.
 pub record IsCutOff (number : ℕ) (start new whole : Node) : Type 0 where
   pub earlier : List Store
   pub failing : Store
@@ -135,8 +134,8 @@ pub record IsCutOff (number : ℕ) (start new whole : Node) : Type 0 where
   pub records : whole.records ≡ (with_stores start (earlier ++ failing ∷ later)).records
   pub stable : whole.stable ≡ (with_stores start (earlier ++ failing ∷ later)).stable
 
--- For a restart, opening the disks counts as the first store: where it fails, the node stays as it was, with
--- its store in doubt; otherwise that store was settled.
+-- At a restart, opening the disks counts as the first store. Where it fails, the node stays as it was, with
+-- its doubt; otherwise the doubt was settled.
 abbrev pub IsStopped : (restart : Bool) (number : ℕ) (there : Bool) (old new whole : Node) → Type 0
 IsStopped false number there old new whole = IsCutOff number old new whole
 IsStopped true zero there old new whole = new ≡ old
@@ -162,7 +161,7 @@ pub record BreaksOff (world : World) (event : Event) : Type 0 where
   pub left : (step world event).world
       ≡ record world { nodes = slice_set world.nodes (touched_node world event.command) new }
 
--- A disk's failure is reported only for an event whose store failed.
+-- Only an event whose store failed is answered that a disk failed.
 abbrev pub FailedStoresStop : Type 0
 FailedStoresStop =
     (world : World) (event : Event) → (step world event).reply ≡ reply.Refused DiskFailed

@@ -1,4 +1,4 @@
--- What the next step of a node that is up may rely on.
+-- What the next step of a node that is up can rely on.
 use Rattle.std.specs.Prelude.{◌≡◌, ◌≤◌, ℕ, All, List, length, None, Some}
 use Rattle.std.specs.FinMap as maps
 use Rattle.oplog_entry.specs.declared.entry.Op.{Op}
@@ -12,8 +12,8 @@ use Rattle.set_model.specs.Safety.{IsAt}
 use Rattle.set_model.specs.declared.command.Event.{Event}
 use Rattle.set_model.specs.declared.writer.Writer.TheVariants.{Open}
 
--- No store is in doubt. The log is in order, within the node's term and what it has seen. So is the state
--- that its records add up to, even with the next record of entries. Each open slot is a place for its entry.
+-- No store is in doubt. The log is in order, within the node's term and what it has seen. So is the log that
+-- its records give, also with the next record of entries. Each open slot is a place for its entry.
 pub record IsSoundNode (node : Node) : Type 0 where
   pub doubt : node.doubt ≡ None
   pub oplog : IsOplog node.log

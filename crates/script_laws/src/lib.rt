@@ -1,4 +1,4 @@
-//! What holds of generated scripts.
+//! Laws of generated scripts.
 #![tactic(auto)]
 
 mod laws;

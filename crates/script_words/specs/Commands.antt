@@ -34,7 +34,7 @@ write_kind word =
     else if bytes_eq word (codes "delete") then Some Delete
     else None
 
--- what a node is asked for by a word
+-- what a word asks a node for
 abbrev pub other_verb : List ℕ → Option NodeVerb
 other_verb word =
     if bytes_eq word (codes "heartbeat") then Some asks.Heartbeat
@@ -81,7 +81,7 @@ as_verb None = None
 abbrev pub verb_of : List ℕ → Option Verb
 verb_of word = if bytes_eq word (codes "deliver") then Some verbs.Deliver else as_verb (node_verb word)
 
--- how many words a line with this first word has after it
+-- how many words follow this first word on a line
 abbrev pub node_shape : NodeVerb → Shape
 node_shape (asks.Write kind) = Value 2
 node_shape asks.Retry = Value 5
@@ -359,7 +359,7 @@ deliver_latest nodes left = do
   receiver ← other_node_at nodes sender.0 sender.1
   ended receiver.1 (commands.DeliverLatest sender.0 receiver.0)
 
--- by how many words there are
+-- a message's or two nodes', by the number of words
 abbrev pub deliver_at : ℕ → Left → Left → Result Command ScriptRule
 deliver_at nodes None left = deliver_one left
 deliver_at nodes (Some text) left = deliver_latest nodes left
@@ -379,7 +379,7 @@ verb_at text = do
   verb ← known (verb_of first.0)
   if has_shape (shape_of verb) first.1 then Ok (verb, first.1) else Err WordCount
 
--- the command that a text is, in a set of so many nodes
+-- the command that a text is, in a set of this size
 unfoldable pub command_at : ℕ → List ℕ → Result Command ScriptRule
 command_at nodes text = do
   verb ← verb_at text

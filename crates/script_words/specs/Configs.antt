@@ -1,4 +1,4 @@
--- The configuration that the rest of a line is, as JSON.
+-- The rest of a line as a configuration in JSON.
 use Rattle.std.specs.Prelude.{ℕ, List, Option, None, Some, Result, Ok, Err}
 use Rattle.member_config.specs.declared.config.Config.{Config}
 use Rattle.member_config.specs.Json.{config_in}

@@ -1,4 +1,4 @@
--- What a function returned, seen by a view, is what reading gives.
+-- What a function returned, as a view sees it, is what reading gives.
 use Rattle.std.specs.Prelude.{◌≡◌, Result, Ok, Err}
 use Rattle.doc_text.specs.declared.errors.TextError.{TextError}
 use Rattle.doc_text.specs.declared.errors.TextError.TheVariants as texts
@@ -17,12 +17,12 @@ abbrev pub Fails : {Y : Type 0} → LineError → Result Y ScriptRule → Type 0
 Fails errors.Memory read = Unit {0}
 Fails (errors.Rule rule) read = read ≡ Err rule
 
--- such a result of a function that may run out of memory
+-- the same for a function that may run out of memory
 abbrev pub Gives : {X Y : Type 0} → (X → Y) → Result X LineError → Result Y ScriptRule → Type 0
 Gives view (Ok x) read = read ≡ Ok (view x)
 Gives view (Err error) read = Fails error read
 
--- the error of a line for one of the notation
+-- a line's error, made of one of the notation
 abbrev pub line_error : TextError → LineError
 line_error texts.Memory = errors.Memory
 line_error error = errors.Rule (BadText (text_rule error))

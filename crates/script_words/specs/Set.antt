@@ -1,6 +1,6 @@
 -- The line that names the sizes of the set: `set NODES [VOTERS [MEMBERS]]`, with up to 50 nodes. Up to seven
--- of them vote, and just these are members where nothing follows. With the nodes alone all are members, and
--- as many of them vote as may.
+-- of them vote, and without MEMBERS only these are members. With NODES alone all nodes are members, and as
+-- many vote as may.
 use Rattle.std.specs.Prelude.{ℕ, nat_lt, List, codes, None, Some, Result, Err, if◌then◌else◌}
 use Rattle.std.specs.Str.{bytes_eq}
 use Rattle.bson_doc.specs.Bind.{◌>>=◌}
@@ -10,11 +10,11 @@ use Rattle.script_words.specs.declared.set.SetLine.{SetLine}
 use Rattle.script_words.specs.declared.shape.Shape.TheVariants.{Words}
 use Rattle.script_words.specs.Words.{Left, has_shape, word_at, ended, number_at, optional_at}
 
--- of so many nodes up to seven vote
+-- up to seven of the nodes vote
 abbrev pub most_voters : ℕ → ℕ
 most_voters nodes = if nat_lt nodes 7 then nodes else 7
 
--- how many members there are where the line doesn't say: all nodes, or where it names the voters just these
+-- how many members there are if the line doesn't say: all nodes, or only the voters if it names them
 abbrev pub members_or : Left → ℕ → ℕ → ℕ
 members_or None nodes voters = nodes
 members_or (Some left) nodes voters = voters

@@ -13,7 +13,7 @@ use Rattle.script_words.specs.declared.rule.TextRule.{TextRule}
 use Rattle.script_words.specs.declared.rule.TextRule.TheVariants.{Unexpected, Number, Escape, Hex, DuplicateName, TooDeep, NameZero}
 use Rattle.script_words.specs.Words.{Left}
 
--- the value that a tree is seen of
+-- the value that is seen as this tree
 abbrev pub value_of : Tree → Value
 value_of null = Null
 value_of (int32 number) = Int32 number
@@ -30,7 +30,7 @@ value_of (timestamp ts) = Timestamp ts
 abbrev pub unexpected : {A : Type 0} → Result A ScriptRule
 unexpected = Err (BadText Unexpected)
 
--- the rule that an error tells. The definition of reading never runs out of memory.
+-- the rule that an error names; reading never runs out of memory in the definition
 abbrev pub text_rule : TextError → TextRule
 text_rule (errors.Unexpected place) = Unexpected
 text_rule (errors.Number place) = Number
@@ -57,12 +57,12 @@ value_at bytes = do
   value ← or_bad_text (answer_at bytes 0)
   Ok (value.0, drop value.1 bytes)
 
--- after a value that another follows stands one space
+-- one space separates a value from another that follows
 abbrev pub after_space : List ℕ → Result (List ℕ) ScriptRule
 after_space [] = unexpected
 after_space (c ∷ rest) = if c == 32 then Ok rest else unexpected
 
--- after the last value stands nothing
+-- nothing follows the last value
 abbrev pub only_value : Tree × List ℕ → Result Tree ScriptRule
 only_value (tree, []) = Ok tree
 only_value (tree, c ∷ rest) = unexpected

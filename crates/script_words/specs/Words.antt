@@ -25,13 +25,13 @@ use Rattle.script_words.specs.declared.shape.Shape.TheVariants.{Words, Value}
 abbrev pub Left : Type 0
 Left = Option (List ℕ)
 
--- what is read, with what is left then
+-- what was read, and what is left after it
 abbrev pub Read : Type 0 → Type 0
 Read A = Result (A × Left) ScriptRule
 
 -- ---- how many words there are
 
--- what follows the first space, where there is one
+-- what follows the first space, if there is one
 abbrev pub left_after : List ℕ → Left
 left_after text = if list_any is_space text then Some (after_first is_space text) else None
 
@@ -39,7 +39,7 @@ abbrev pub after_word : Left → Left
 after_word None = None
 after_word (Some text) = left_after text
 
--- what is left after so many words
+-- what is left after this many words
 abbrev pub skip : ℕ → Left → Left
 skip zero left = left
 skip (suc words) left = after_word (skip words left)
@@ -54,7 +54,7 @@ abbrev pub word_count : Left → ℕ
 word_count None = 0
 word_count (Some text) = count_by is_space text + 1
 
--- after its first word a line has as many words as its form asks for
+-- a line has as many words after its first one as its form asks for
 abbrev pub has_shape : Shape → Left → Bool
 has_shape (Words least most) left = nat_le least (word_count left) && nat_le (word_count left) most
 has_shape (Value before) left = has_text (skip before left)
@@ -71,8 +71,8 @@ abbrev pub ended : {A : Type 0} → Left → A → Result A ScriptRule
 ended None value = Ok value
 ended (Some text) value = Err WordCount
 
--- One or more decimal digits, whose number is in this range. The first rule is that of other words, and the
--- second that of other numbers.
+-- One or more decimal digits, a number in this range. Other words break the first rule, other numbers the
+-- second.
 abbrev pub number_of : ScriptRule → ScriptRule → ℕ → ℕ → List ℕ → Result ℕ ScriptRule
 number_of form range least most word =
     if nat_lt 0 (length word) && list_all is_ascii_digit word
@@ -93,26 +93,26 @@ number_at least most left = do
   number ← number_of BadWord BadNumber least most word.0
   Ok (number, word.1)
 
--- a number in a range, or what stands for it where no word is left
+-- a number in a range, or its default if no word is left
 abbrev pub optional_at : ℕ → ℕ → ℕ → Left → Read ℕ
 optional_at default least most None = Ok (default, None)
 optional_at default least most (Some text) = number_at least most (Some text)
 
--- any number, or none where no word is left
+-- any number, or none if no word is left
 unfoldable pub pick_at : Left → Read (Option ℕ)
 pick_at None = Ok (None, None)
 pick_at (Some text) = do
   pick ← number_at 0 18446744073709551615 (Some text)
   Ok (Some pick.0, pick.1)
 
--- `n` and a number: a node of a set of so many
+-- `n` and a number: a node of a set of this size
 unfoldable pub node_at : ℕ → Left → Read ℕ
 node_at nodes left = do
   word ← word_at left
   number ← numbered BadNode 110 4294967295 word.0
   if nat_lt number nodes then Ok (number, word.1) else Err BadNode
 
--- another node than this one
+-- a node other than this one
 unfoldable pub other_node_at : ℕ → ℕ → Left → Read ℕ
 other_node_at nodes node left = do
   other ← node_at nodes left
@@ -140,7 +140,7 @@ collection_at left = do
 abbrev pub is_slash : ℕ → Bool
 is_slash c = c == 47
 
--- what stands before the first slash, and what follows it
+-- what comes before the first slash, and what follows it
 abbrev pub cut_at_slash : List ℕ → Result (List ℕ × List ℕ) ScriptRule
 cut_at_slash text =
     if list_any is_slash text then Ok (before_first is_slash text, after_first is_slash text) else Err BadWord

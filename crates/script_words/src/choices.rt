@@ -1,4 +1,4 @@
-// Words that are one of some forms.
+// Words that have one of several forms.
 ghost use Rattle.std.specs.Prelude.{◌≡◌};
 ghost use Rattle.std.specs.Option.{option_copied};
 ghost use Rattle.script_words.specs.declared.rule.ScriptRule.TheVariants.{BadWord};
@@ -10,7 +10,7 @@ use crate::words::{Left, Read, long_of, number_of, word};
 use rs_optime::OpTime;
 use set_model::{AckConcern, DiskName, ReadLevel, Target};
 
-/// What stands before the first slash, and what follows it.
+/// What comes before the first slash, and what follows it.
 fn cut_at_slash(text: &str) -> Result<(&str, &str), ScriptRule>
     ensures { Reads (λ x. (x.0.now, x.1.now)) result (cut_at_slash text.now) }
 {

@@ -53,7 +53,7 @@ pub fn command_verb(text: &str) -> Result<(Verb, Left<'_>), ScriptRule>
     }
 }
 
-/// The command with this first word, from the words that are left, in a set of so many nodes.
+/// The command with this first word, from the words that are left, in a set of this size.
 pub fn command(alloc: Global, nodes: u32, verb: Verb, left: Left<'_>) -> Result<Command, LineError>
     ensures { Gives (λ command. command) result (words_at nodes verb (option_copied left.entry)) }
 {
@@ -115,7 +115,7 @@ fn of_node(
     }
 }
 
-/// The command where its words bring no value. It takes no memory.
+/// The command if its words hold no value. It takes no memory.
 fn of_words(nodes: u32, verb: NodeVerb, node: u32, left: Left<'_>) -> Result<Command, ScriptRule>
     requires { ends_in_value (node_shape verb) ≡ false }
     ensures { result ≡ of_node nodes verb node (option_copied left.entry) }
@@ -148,7 +148,7 @@ fn of_words(nodes: u32, verb: NodeVerb, node: u32, left: Left<'_>) -> Result<Com
     }
 }
 
-/// The command, where nothing is left. It is inlined, so that the command is moved once less.
+/// The command, if nothing is left. It is inlined, which saves a move of the command.
 #[inline(always)]
 fn ended(left: Left<'_>, command: Command) -> Result<Command, ScriptRule>
     ensures { result ≡ ended (option_copied left.entry) command }
@@ -341,7 +341,7 @@ fn begin(alloc: Global, node: u32, left: Left<'_>) -> Result<Command, LineError>
     Ok(Command::Begin { node, writer, op })
 }
 
-/// A write that is reserved and committed at once. It is inlined, so that the write is moved once less.
+/// A write that is reserved and committed at once. It is inlined, which saves a move of the write.
 #[inline(always)]
 fn write_command(node: u32, op: WriteOp) -> Command
     ensures { result ≡ write_command node op }

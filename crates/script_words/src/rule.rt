@@ -8,23 +8,23 @@ use std::alloc::AllocError;
 pub enum ScriptRule {
     /// The line has more than 1,048,576 bytes.
     LineTooLong,
-    /// The line is no UTF-8.
+    /// The line isn't UTF-8.
     NotUtf8,
     /// The first command isn't `set`, or there is none.
     NoSetLine,
-    /// The first word names no command.
+    /// The first word isn't a command's.
     UnknownCommand,
     /// The line has too few words, or too many.
     WordCount,
-    /// A word names no node of the set, or the node that the line has named before.
+    /// A word doesn't name a node of the set, or names the node that the line has named before.
     BadNode,
     /// A number is outside its range.
     BadNumber,
-    /// A word isn't of its form.
+    /// A word doesn't have its form.
     BadWord,
     /// A value isn't in the notation of documents.
     BadText(TextRule),
-    /// The rest of the line is no configuration.
+    /// The rest of the line isn't a configuration.
     BadConfigText,
     /// A block begins inside a block.
     NestedPar,
@@ -41,7 +41,7 @@ pub enum ScriptRule {
 /// The rule of the notation that a value breaks.
 #[derive(Clone, Copy, Debug, PartialEq, Eq)]
 pub enum TextRule {
-    /// A character stands where it can't go on, or the text ends too early.
+    /// A character isn't possible where it is, or the text ends too early.
     Unexpected,
     /// A number is outside its kind's range.
     Number,
@@ -49,7 +49,7 @@ pub enum TextRule {
     Escape,
     /// No hexadecimal digits, or a wrong number of them.
     Hex,
-    /// A name stands twice in a document.
+    /// A document has a name twice.
     DuplicateName,
     /// There are more than 100 levels.
     TooDeep,

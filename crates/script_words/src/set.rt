@@ -24,8 +24,8 @@ pub struct SetLine {
     pub members: u32,
 }
 
-/// The sizes that a `set` line names: `set NODES VOTERS MEMBERS`. Without `MEMBERS` just the voters are
-/// members. With `NODES` alone all nodes are, and as many of them vote as may.
+/// The sizes that a `set` line names: `set NODES VOTERS MEMBERS`. Without `MEMBERS` only the voters are
+/// members. With `NODES` alone all nodes are members, and as many vote as may.
 #[tactic(auto, unfolding(crate::specs::Set::set_line))]
 pub fn set_line(text: &str) -> Result<SetLine, ScriptRule>
     ensures { result ≡ set_line text.now }
@@ -59,7 +59,7 @@ fn sizes(left: Left<'_>) -> Result<SetLine, ScriptRule>
     }
 }
 
-/// How many members there are where the line doesn't say: all nodes, or where it names the voters just these.
+/// How many members there are if the line doesn't say: all nodes, or only the voters if it names them.
 fn members_or(left: Left<'_>, nodes: u32, voters: u32) -> u32
     ensures { result ≡ members_or (option_copied left.entry) nodes voters }
 {
@@ -69,7 +69,7 @@ fn members_or(left: Left<'_>, nodes: u32, voters: u32) -> u32
     }
 }
 
-/// How many of so many nodes may vote.
+/// How many of these nodes may vote.
 pub fn most_voters(nodes: u32) -> u32
     ensures { result ≡ most_voters nodes }
 {

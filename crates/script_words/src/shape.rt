@@ -1,8 +1,8 @@
 /// How many words a line has after the first one.
 #[derive(Clone, Copy, Debug, PartialEq, Eq)]
 pub enum Shape {
-    /// From so many to so many.
+    /// At least the first number, at most the second.
     Words { least: u32, most: u32 },
-    /// So many, and then a value up to the line's end.
+    /// This many, and then a value up to the line's end.
     Value { before: u32 },
 }

@@ -29,7 +29,7 @@ pub fn value(alloc: Global, text: &str) -> Result<(Value, &str), LineError>
     Ok((value, &text[end..]))
 }
 
-/// The text after the single space that parts a value from the one that follows it.
+/// The text after the single space that separates a value from the next one.
 pub fn after_space(text: &str) -> Result<&str, ScriptRule>
     ensures { Reads (λ rest. rest.now) result (after_space text.now) }
 {
@@ -39,7 +39,7 @@ pub fn after_space(text: &str) -> Result<&str, ScriptRule>
     }
 }
 
-/// The value that the whole text spells. This and the next one are inlined, so that values are moved less.
+/// The value that the whole text spells. This and the next one are inlined, which saves moves of values.
 #[inline(always)]
 #[tactic(auto, unfolding(crate::specs::Values::last_value))]
 pub fn last_value(alloc: Global, text: &str) -> Result<Value, LineError>

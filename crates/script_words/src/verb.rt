@@ -127,8 +127,8 @@ impl NodeVerb {
     }
 }
 
-/// What a node is asked for by a word that names no write. They are compared in turn, so those of which
-/// scripts have most come first.
+/// What a word that isn't a write's asks a node for. Words are compared in turn, so the most frequent ones
+/// come first.
 fn other_verb(word: &str) -> Option<NodeVerb>
     ensures { result ≡ other_verb word.now }
 {
@@ -164,7 +164,7 @@ fn other_verb(word: &str) -> Option<NodeVerb>
     }
 }
 
-/// What a node is asked for by a first word.
+/// What a first word asks a node for.
 fn asked_of_node(word: &str) -> Option<Verb>
     ensures { result ≡ as_verb (node_verb word.now) }
 {
@@ -197,7 +197,7 @@ impl Verb {
 }
 
 impl Keyword {
-    /// What a first word says, where it is known.
+    /// What a first word says, if it is known.
     pub fn named(word: &str) -> Option<Keyword>
         ensures { result ≡ keyword_of word.now }
     {

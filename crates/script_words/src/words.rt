@@ -14,7 +14,7 @@ use crate::shape::Shape;
 /// What is left of a line: what follows the last space, or nothing after the last word.
 pub type Left<'a> = Option<&'a str>;
 
-/// What was read of a line, with what is left then.
+/// What was read of a line, and what is left after it.
 pub type Read<'a, T> = Result<(T, Left<'a>), ScriptRule>;
 
 /// What is left after the next word.
@@ -27,7 +27,7 @@ pub fn after_word(left: Left<'_>) -> Left<'_>
     }
 }
 
-/// What is left after so many words.
+/// What is left after this many words.
 fn skip(left: Left<'_>, words: u32) -> Left<'_>
     ensures { option_copied result ≡ skip words (option_copied left.entry) }
 {
@@ -70,7 +70,7 @@ pub fn has_shape(left: Left<'_>, shape: Shape) -> bool
     }
 }
 
-/// The place of the first space. Words are short, so that the bytes are tested one by one.
+/// The place of the first space. Words are short, so the bytes are tested one by one.
 fn first_space(text: &str) -> Option<usize>
     ensures { result ≡ position is_space text.now }
 {
@@ -104,7 +104,7 @@ fn are_digits(word: &str) -> bool
     word.as_bytes().iter().all(|byte| byte.is_ascii_digit())
 }
 
-/// A number in a range; `form` is the rule of words that are no numbers, and `range` that of other numbers.
+/// A number in a range; words that aren't numbers break the rule `form`, and other numbers the rule `range`.
 pub fn number_of(
     word: &str,
     least: u32,
@@ -178,7 +178,7 @@ fn long_number(left: Left<'_>) -> Read<'_, u64>
     Ok((number, rest))
 }
 
-/// A number in a range, or `default` where no word is left.
+/// A number in a range, or `default` if no word is left.
 pub fn optional(left: Left<'_>, default: u32, least: u32, most: u32) -> Read<'_, u32>
     ensures { Reads (λ x. (x.0, option_copied x.1)) result
         (optional_at default least most (option_copied left.entry)) }
@@ -189,7 +189,7 @@ pub fn optional(left: Left<'_>, default: u32, least: u32, most: u32) -> Read<'_,
     }
 }
 
-/// Any number, or none where no word is left.
+/// Any number, or none if no word is left.
 #[tactic(auto, unfolding(crate::specs::Words::pick_at))]
 pub fn pick(left: Left<'_>) -> Read<'_, Option<u64>>
     ensures { Reads (λ x. (x.0, option_copied x.1)) result (pick_at (option_copied left.entry)) }
@@ -201,7 +201,7 @@ pub fn pick(left: Left<'_>) -> Read<'_, Option<u64>>
     Ok((Some(pick), rest))
 }
 
-/// `n` and a number: a node of a set of so many.
+/// `n` and a number: a node of a set of this size.
 #[tactic(auto, unfolding(crate::specs::Words::node_at))]
 pub fn node(left: Left<'_>, nodes: u32) -> Read<'_, u32>
     ensures { Reads (λ x. (x.0, option_copied x.1)) result (node_at nodes (option_copied left.entry)) }
@@ -215,7 +215,7 @@ pub fn node(left: Left<'_>, nodes: u32) -> Read<'_, u32>
     }
 }
 
-/// Another node than this one.
+/// A node other than this one.
 #[tactic(auto, unfolding(crate::specs::Words::other_node_at))]
 pub fn other_node(left: Left<'_>, nodes: u32, first: u32) -> Read<'_, u32>
     ensures { Reads (λ x. (x.0, option_copied x.1)) result

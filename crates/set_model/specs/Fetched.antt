@@ -1,4 +1,4 @@
--- What a log that is continued by fetched entries has to satisfy.
+-- What fetched entries, and the log that they continue, have to meet.
 use Rattle.std.specs.Prelude.{◌≡◌, ◌<◌, ◌≤◌, false, List, All}
 use Rattle.std.specs.FinMap as maps
 use Rattle.rs_optime.specs.declared.optime.OpTime.{OpTime}
@@ -11,6 +11,6 @@ pub record Follows (base : OpTime) (entry : Entry) : Type 0 where
   pub later : base.ts < entry.optime.ts
   pub term : base.term ≤ entry.optime.term
 
--- no document of the log is too large
+-- no document that the log leaves is too large
 abbrev pub AreWithinDocument : List Entry → Type 0
 AreWithinDocument log = All (λ e. is_too_large e.1 ≡ false) (maps.entries (docs log))

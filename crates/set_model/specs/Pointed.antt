@@ -14,7 +14,7 @@ committed node = if node.up then length (log_up_to node.commit node.log) else 0
 abbrev pub committed_among : List Node → ℕ → ℕ
 committed_among nodes number = option_map_or committed (slice_get nodes number) 0
 
--- the most that a node has committed in a world, and in the worlds after each of some events
+-- the most that a node has committed in a world and in each that follows it, event by event
 abbrev pub most_from : World → List Event → ℕ → ℕ
 most_from world [] number = committed_among world.nodes number
 most_from world (event ∷ events) number =

@@ -37,8 +37,8 @@ common next node to = sending (Sent next) node to (bodies.CommonAsk node.commit)
 abbrev pub optimes_of : List Entry → List OpTime
 optimes_of log = map (λ entry. entry.optime) log
 
--- the entries that are visible once a message of this term is taken: all entries, where it makes the
--- node step down
+-- the entries that are visible after a message of this term is taken: all of them where it makes the node
+-- step down
 abbrev pub shown_in : Node → ℕ → List Entry
 shown_in node term = if nat_lt node.term term then node.log else visible_log node
 
@@ -69,7 +69,7 @@ rollback_reason node term after optimes visible =
     else if is_common after optimes (last_point node) then Some SameBranch
     else None
 
--- the places that some entries touch, each once, in order, with the document that is there now, or none
+-- the places that some entries touch, each once and in order, with the document here or none
 abbrev pub lost_documents : Documents → List Entry → List (Place × Option Fields)
 lost_documents documents entries = touched_documents (maps.get documents) entries
 

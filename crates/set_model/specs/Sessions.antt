@@ -26,7 +26,7 @@ last_write id log = fold (λ last entry. later_write id last entry.optime entry.
 
 -- ---- each write once
 
--- where both are writes of the same session, the later one has the greater number
+-- where both are writes of one session, the later one has the greater number
 abbrev pub GoesUp : Entry → Entry → Type 0
 GoesUp one two =
     (a b : Session) → one.session ≡ Some a → two.session ≡ Some b → a.id ≡ b.id → a.number < b.number

@@ -1,4 +1,4 @@
--- Which messages a node can receive (MongoDB's replication architecture guide; RaftMongo; MongoRaftReconfig).
+-- Which messages a node can take (MongoDB's replication architecture guide; RaftMongo; MongoRaftReconfig).
 use Rattle.std.specs.Prelude.{◌≡◌, ◌<◌, ◌≤◌, ◌^◌, ℕ, ◌++◌, List, None, IfSome, take, All}
 use Rattle.rs_optime.specs.declared.optime.OpTime.{OpTime}
 use Rattle.oplog_store.specs.Log.{IsOplog}
@@ -15,7 +15,7 @@ use Rattle.set_model.specs.Points.{last_point}
 use Rattle.set_model.specs.Rollback.{common_point, rollback_reason}
 use Rattle.set_model.specs.Safety.{AtMost}
 
--- The entries of an answer follow its base, each fits into a record, and a log that ends at the base can be
+-- The entries of an answer continue its base, each fits into a record, and a log that ends at the base can be
 -- continued by them.
 pub record CanTakeEntries (node : Node) (term : ℕ) (fetched : FetchReply) : Type 0 where
   pub order : IsOplog fetched.entries
@@ -25,8 +25,8 @@ pub record CanTakeEntries (node : Node) (term : ℕ) (fetched : FetchReply) : Ty
   pub documents : last_point node ≡ fetched.base
       → (many : ℕ) → AreWithinDocument (node.log ++ take many fetched.entries)
 
--- Its numbers are within bounds, its configuration breaks no rule, its entries continue a log, and no
--- rollback goes back before the commit point.
+-- Its numbers are within their bounds, its configuration breaks no rule, its entries continue its base, and
+-- no rollback goes back before the commit point.
 pub record CanTake (node : Node) (message : Message) : Type 0 where
   pub sender : message.from < 50
   pub term : message.term < 2 ^ 63

@@ -31,7 +31,7 @@ impl Records {
         Records {}
     }
 
-    /// The records once this is stored too. Stored documents are not a record.
+    /// The records after this is stored too. A checkpoint isn't a record.
     pub fn with(&self, _item: &Store) -> Records
         ensures { result ≡ with_stored self.now _item.now }
     {

@@ -1,4 +1,4 @@
--- What happened to the node that a command is for, with its disks.
+-- What a command did to the node that it is for, and to its disks.
 use Rattle.std.specs.Prelude.{◌≡◌, ◌<◌, ◌≤◌, ℕ, true, Contains, List, Some, length, slice_get, slice_set}
 use Rattle.repl_msg.specs.declared.message.Message.{Message}
 use Rattle.rs_disk.specs.State.{State}
@@ -14,7 +14,7 @@ use Rattle.node_core.specs.Stands.{Stands}
 use Rattle.set_world.specs.Pool.{Pool}
 use Rattle.set_world.specs.World.{nodes_in}
 
--- what is at this place changed in this way, and nothing else in the list did
+-- the item at this place changed so, and nothing else in the list did
 pub record ChangesAt {A : Type 0} (number : ℕ) (So : A → A → Type 0) (old new : List A) : Type 0 where
   pub before : A
   pub after : A
@@ -27,7 +27,7 @@ abbrev pub NodeDisks : {D : Type 0} → (D → State) → (State → State → S
     → Node × D × D → Type 0
 NodeDisks state Changed old new = Changed (state old.1) (state new.1) (state old.2) (state new.2)
 
--- a node of a set of this many nodes did a command
+-- a node of a set of this size did a command
 abbrev pub NodeActed : {D : Type 0} → (D → State) → ℕ → ℕ → Command → Done → Node × D × D
     → Node × D × D → Type 0
 NodeActed state size next command done old new =
@@ -39,17 +39,17 @@ abbrev pub NodeTook : {D : Type 0} → (D → State) → ℕ → Message → Don
 NodeTook state next message done old new =
     Took (deliver next old.0 message) new.0 (state old.1) (state new.1) (state old.2) (state new.2) done
 
--- a node is as it was, and its disks are left in this way
+-- a node is as it was, and its disks are as a command that wasn't done leaves them
 abbrev pub NodeUnchanged : {D : Type 0} → (D → State) → (State → State → State → State → Type 0)
     → Node × D × D → Node × D × D → Type 0
 NodeUnchanged state Disks old new =
     Unchanged Disks old.0 new.0 (state old.1) (state new.1) (state old.2) (state new.2)
 
--- the node's disks have what the node is
+-- its disks have what the node is
 abbrev pub NodeStands : {D : Type 0} → (D → State) → Node × D × D → Type 0
 NodeStands state node = Stands node.0 (state node.1) (state node.2)
 
--- the same for each of these nodes
+-- so it is for each of these nodes
 abbrev pub EachNodeStands : {D : Type 0} → (D → State) → List (Node × D × D) → Type 0
 EachNodeStands {D} state nodes =
     (number : ℕ) (node : Node × D × D) → slice_get nodes number ≡ Some node → NodeStands state node

@@ -39,7 +39,7 @@ AtTouchedNode (acts number) failed old new At = At number
 AtTouchedNode (takes message) failed old new At = At message.to
 AtTouchedNode nothing failed old new At = (failed ≡ None) × (new ≡ old)
 
--- the two disks of the node with this number have what the node is
+-- the two disks of the node of this number have what the node is
 pub record StandsAtNumber {D : Type 0} (state : D → State) (number : ℕ) (node : Node)
     (disks : List D) : Type 0 where
   pub journal : D
@@ -48,7 +48,7 @@ pub record StandsAtNumber {D : Type 0} (state : D → State) (number : ℕ) (nod
   pub checkpoints_at : slice_get disks (2 * number + 1) ≡ Some checkpoints
   pub stands : Stands node (state journal) (state checkpoints)
 
--- the disks of each node have what the node is in the last world
+-- the disks of each node have what it is in the last world
 abbrev pub AllStand : {D : Type 0} → (D → State) → Set D → Type 0
 AllStand state set =
     (number : ℕ) (node : Node) → slice_get (run set.sizes set.history).world.nodes number ≡ Some node
@@ -70,8 +70,8 @@ DisksStep state world event old new =
     AtTouchedNode (task world event.command) event.failed old new
     (λ number. OneChanged state (DisksTouched world event) number old new)
 
--- The history has one more event, of this line and command. It is answered as the model says, and the disks
--- are as it leaves them.
+-- The history has one more event, of this line and command. Its reply is the model's, and the disks are as it
+-- leaves them.
 pub record IsStep {D : Type 0} (state : D → State) (old new : Set D) (line : ℕ) (command : Command)
     (reply : Reply) : Type 0 where
   pub event : Event
@@ -81,8 +81,8 @@ pub record IsStep {D : Type 0} (state : D → State) (old new : Set D) (line : �
   pub reply_is : reply ≡ (step (run old.sizes old.history).world event).reply
   pub disks : DisksStep state (run old.sizes old.history).world event old.disks new.disks
 
--- A command that wasn't done used at most the disks of the node that it would have touched, and leaves them
--- as a command that isn't done does.
+-- A command that wasn't done used at most the disks of the node that it would have touched, and left them as
+-- such a command does.
 abbrev pub DisksUndone : {D : Type 0} → (D → State) → World → Command → List D → List D → Type 0
 DisksUndone state world command old new =
     (new ≡ old)
@@ -106,7 +106,7 @@ pub record TwoDisksRan {D : Type 0} (state : D → State) (ended : Result (Unit 
   pub runs : RunsWithoutOrders (HasFailed ended) (state journal) (state journal') (state checkpoints)
       (state checkpoints')
 
--- They are in their places again, and have this node on them.
+-- They are in their places again, and this node is on them.
 pub record TwoDisksReturned {D : Type 0} (state : D → State) (node : Node)
     (ended : Result (Unit {0}) FileError) (old new : List D) : Type 0 where
   pub journal' : D
@@ -125,8 +125,8 @@ pub record WasUsed (old new : State) : Type 0 where
   pub armed : IsTrue new.is_armed → IsTrue old.is_armed
   pub orders : new.orders ≡ old.orders
 
--- the disks of each of this many nodes have what it is when a set with this configuration begins, except that
--- its journal may lack the record of its form
+-- the disks of each of these nodes have what it is at the opening of a set with this configuration, except
+-- that its journal may lack the record of its form
 abbrev pub AllBegin : {D : Type 0} → (D → State) → Config → ℕ → List D → Type 0
 AllBegin state config count disks =
     (number : ℕ) → number < count → StandsAtNumber state number (unopened_node config number) disks
@@ -155,9 +155,9 @@ pub record OpenedAt {D : Type 0} (state : D → State) (ended : Result (Unit {0}
 abbrev pub AllOpened : {D : Type 0} → (D → State) → ℕ → List D → List D → Type 0
 AllOpened state count old new = (number : ℕ) → number < count → OpenedAt state (Ok tt) number old new
 
--- The nodes were opened in order of number. Where that ended in an error, memory ran out before the first
--- opening, or all nodes below one were opened and the error came at that one: the disks after its own are
--- as they were.
+-- The nodes were opened in order of number. If that ended in an error, memory ran out before the first
+-- opening, or all nodes below one were opened, and the error came at that one: the disks after its own are as
+-- they were.
 abbrev pub OpenedInTurn : {D : Type 0} → (D → State) → ℕ → Result (Unit {0}) FileError → List D → List D
     → Type 0
 OpenedInTurn state nodes (Ok done) old new = AllOpened state nodes old new

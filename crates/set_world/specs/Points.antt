@@ -1,4 +1,4 @@
--- The counts that a set keeps of what its nodes have had committed.
+-- The numbers by which a set counts what its nodes have had committed.
 use Rattle.std.specs.Prelude.{◌≡◌, ◌≢◌, ◌≤◌, ℕ, max, List, length, slice_index}
 use Rattle.set_model.specs.declared.command.Event.{Event}
 use Rattle.set_model.specs.Node.{Node}
@@ -16,7 +16,7 @@ pub record IsRaised (number : ℕ) (nodes : List Node) (old new : List ℕ) : Ty
   pub here : slice_index new number ≡ max (slice_index old number) (committed_among nodes number)
   pub others : (other : ℕ) → other ≢ number → slice_index new other ≡ slice_index old other
 
--- From these events to those, no count but this node's changed, and none fell.
+-- From these events to those, only this node's number changed, and none fell.
 pub record RaisesOnly (touched : ℕ) (sizes : Sizes) (old new : List Event) : Type 0 where
   pub others : (number : ℕ) → number ≢ touched → pointed sizes new number ≡ pointed sizes old number
   pub none_falls : (number : ℕ) → pointed sizes old number ≤ pointed sizes new number

@@ -1,4 +1,4 @@
--- What a step says to its caller, who steps the set alone or in turns with others.
+-- What a step tells its caller, who steps the set alone or in turns with others.
 use Rattle.std.specs.Prelude.{◌≡◌, ℕ, Bool, true, List, [], ◌∷◌, ◌++◌}
 use Rattle.set_model.specs.declared.command.Command.{Command}
 use Rattle.set_model.specs.declared.command.Event.{Event}
@@ -7,19 +7,18 @@ use Rattle.set_model.specs.Limits.{IsRun}
 use Rattle.set_model.specs.Run.{Sizes, AreSizes, run}
 use Rattle.set_model.specs.World.{step}
 
--- the events are a run of a set of these sizes, and the run is defined
+-- the events are a defined run of a set of these sizes
 pub record IsDefined (sizes : Sizes) (events : List Event) : Type 0 where
   pub sizes_are : AreSizes sizes
   pub run : IsRun sizes events
 
--- Events of others came after those that were known; none, where no one else steps the set.
+-- Events of others came after those that were known; none where no one else steps the set.
 pub record Learns (alone : Bool) (old new : List Event) : Type 0 where
   pub others : List Event
   pub new_is : new ≡ old ++ others
   pub none : alone ≡ true → others ≡ []
 
--- One event of this line and command comes last, after those that were there when it came. The reply is that
--- of the event.
+-- One event of this line and command comes last, after those that it met. The reply is the event's.
 pub record StepsOnce (alone : Bool) (sizes : Sizes) (old new : List Event) (line : ℕ) (command : Command)
     (reply : Reply) : Type 0 where
   pub met : List Event

@@ -31,14 +31,14 @@ DisksRun {D} state world (event ∷ later) old new =
     (undone : List Command) × (before : List D) × (after : List D) × AllUndone state world undone old before
     × DisksStep state world event before after × DisksRun state (step world event).world later after new
 
--- The disks of a set are what its events make of those that the opening left. A set that isn't whole has run
--- out of memory in some step, so commands that weren't done may have used disks too.
+-- The disks of a set are what its events leave of what the opening left. A set that isn't whole has run out
+-- of memory in some step, so commands that weren't done may have used disks too.
 pub record DisksWent {D : Type 0} (state : D → State) (set : Set D) : Type 0 where
   pub ran : DisksRun state (opening set.sizes).world set.history set.opened set.disks
   pub played : set.whole ≡ true → DisksPlay state (opening set.sizes).world set.history set.opened set.disks
 
--- A set from one moment to a later one: these events were added. Its disks are what the events make of the
--- earlier ones; where the later set isn't whole, commands that weren't done may have used disks too.
+-- A set from one moment to a later one: these events were added. Its disks are what they leave of the earlier
+-- ones; where the later set isn't whole, commands that weren't done may have used disks too.
 pub record WentOn {D : Type 0} (state : D → State) (old new : Set D) : Type 0 where
   pub sizes : new.sizes ≡ old.sizes
   pub opened : new.opened ≡ old.opened
@@ -47,6 +47,6 @@ pub record WentOn {D : Type 0} (state : D → State) (old new : Set D) : Type 0 
   pub ran : DisksRun state (run old.sizes old.history).world added old.disks new.disks
   pub played : new.whole ≡ true → DisksPlay state (run old.sizes old.history).world added old.disks new.disks
 
--- whatever earlier moment a set has gone on from, it still does
+-- the new set went on from each moment that the old one went on from
 abbrev pub GoesOn : {D : Type 0} → (D → State) → Set D → Set D → Type 0
 GoesOn {D} state old new = (begun : Set D) → WentOn state begun old → WentOn state begun new

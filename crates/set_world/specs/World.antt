@@ -1,4 +1,4 @@
--- The current set, the events that led there, and its disks.
+-- The current set, the events that led to it, and its disks.
 use Rattle.std.specs.Prelude.{Bool, ◌≡◌, ◌≤◌, ◌+◌, ◌*◌, ℕ, Vec, vec_len, vec_capacity, true, not, ◌||◌, List, [], ◌∷◌, ◌++◌, length, map}
 use Rattle.std.specs.declared.alloc.Global.{Global}
 use Rattle.set_model.specs.declared.command.Command.{Command}
@@ -14,7 +14,7 @@ use Rattle.set_world.specs.Pool.{Pool}
 pub record Set (D : Type 0) : Type 0 where
   pub sizes : Sizes
   pub history : List Event
-  -- those of the nodes, for each its journal and then its checkpoints, followed by those without a node
+  -- the disks of the nodes, for each its journal and then its checkpoints, and then the disks without a node
   pub disks : List D
   -- the same, as the opening left them
   pub opened : List D
@@ -52,7 +52,7 @@ pub record Acts (world : World) (command : Command) (nodes : List Node) (done : 
   pub reached : (line : ℕ) → plan_reaches (event_plan world (event_of line command done)) done.failed ≡ true
   pub settled : (line : ℕ) → (not done.kept || settles_doubt world (event_of line command done)) ≡ true
 
--- a current set: its history leads there, and its pool is between its nodes
+-- a set as it is now: its history leads there, and its pool is between its nodes
 pub record IsStanding (sizes : Sizes) (history : List Event) (nodes : List Node) (pool : Pool) : Type 0 where
   pub reached : IsReached sizes history nodes pool.messages
   pub size : pool.nodes ≡ sizes.nodes

@@ -6,7 +6,7 @@ use crate::pool::Pool;
 use repl_msg::Message;
 use set_model::Command;
 
-/// The message that a command delivers; none, where no such message was sent.
+/// The message that a command delivers; none where no such message was sent.
 pub(crate) fn delivered<'a>(pool: &'a Pool, command: &Command) -> Option<&'a Message>
     ensures some { IfSome result (λ message. (world : World) → world.messages ≡ pool.now.messages
         → is_delivery command.now ≡ true → task world command.now ≡ takes message.now) }
@@ -21,7 +21,7 @@ pub(crate) fn delivered<'a>(pool: &'a Pool, command: &Command) -> Option<&'a Mes
     }
 }
 
-/// What a command brings is sound at every level: a fact for proofs, which costs nothing.
+/// The documents of a command are sound at every level: a fact for proofs, which costs nothing.
 pub(crate) fn recall_sound_write(command: &Command)
     ensures { IfSome (write_of command.now) IsSoundWrite }
 {

@@ -17,7 +17,7 @@ use record_file::FileError;
 use rs_disk::Disk;
 use std::alloc::Global;
 
-/// Puts the disks of some nodes before other disks, which have room for them.
+/// Puts the disks of some nodes before others, which have room for them.
 pub(crate) fn give_back<D: Disk>(nodes: Vec<Node<D>>, disks: &mut Vec<D>)
     requires room { CanTakeBack (vec_len nodes) disks.old }
     ensures items { disks.new.items ≡ disks_in nodes.items ++ disks.old.items }
@@ -45,8 +45,7 @@ fn put_first<D: Disk>(disks: &mut Vec<D>, disk: D)
 }
 
 /// Opens nodes on the first disks, two for each. Where one can't be opened, all disks are in their places
-/// again, and have the nodes as they are when the set begins, except that a journal may lack the record
-/// of its form.
+/// again, with the nodes as at the opening of the set, except that a journal may lack the record of its form.
 pub(crate) fn open_nodes<D: Disk>(
     alloc: Global,
     count: u32,
@@ -125,7 +124,7 @@ fn keep<D: Disk>(nodes: &mut Vec<Node<D>>, node: Node<D>)
     }
 }
 
-/// The configuration that a set with `members` members begins with, of whom the first `voters` vote.
+/// The configuration that a set begins with, by the number of its members and of those that vote.
 pub(crate) fn first_config(alloc: Global, voters: u32, members: u32) -> Mem<Config>
     requires { members ≤ 50 }
     ensures { IfOk result (λ config. config ≡ begins_with voters members) }
@@ -142,7 +141,7 @@ pub(crate) fn first_config(alloc: Global, voters: u32, members: u32) -> Mem<Conf
     })
 }
 
-/// A member when a set begins with `voters` voters: those vote, with priority 1, and no other can be elected.
+/// A member of that configuration: the first ones vote, with priority 1, and no other can be elected.
 fn first_member(voters: u32, number: u32) -> Member
     ensures { result ≡ first_member voters number }
 {

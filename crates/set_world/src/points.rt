@@ -35,7 +35,7 @@ impl Model for Points {
 }
 
 impl Points {
-    /// 0 for each of `nodes` nodes.
+    /// 0 for each node.
     pub(crate) fn new(alloc: Global, nodes: u32) -> Mem<Self>
         ensures size { IfOk result (λ points. length points ≡ nodes) }
         ensures zeros { IfOk result (λ points. All (λ number. number ≡ 0) points) }
@@ -45,7 +45,7 @@ impl Points {
         Ok(Points { numbers })
     }
 
-    /// The count of a node; 0 if there is no such node.
+    /// The number of a node; 0 if there is no such node.
     pub(crate) fn of(&self, node: u32) -> u64
         ensures { result ≡ slice_index self.now node }
     {
@@ -100,7 +100,7 @@ pub(crate) fn touched(pool: &Pool, command: &Command) -> u32
     }
 }
 
-/// What a command does, as `acting::act` says. The count of the node that it touches is raised.
+/// Does a command, as `acting::act` does. The number of the node that it touches is raised.
 pub(crate) fn act<D: Disk, R: Threads + Sync>(
     nodes: &mut [Node<D>],
     points: &mut Points,

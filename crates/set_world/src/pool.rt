@@ -13,7 +13,7 @@ use std::marker::Model;
 pub(crate) struct Pool {
     nodes: u32,
     messages: Vec<Message>,
-    /// Where the newest from one node to another is, if there is one.
+    /// The place of the newest from one node to another, if there is one.
     newest: HashMap<(u32, u32), usize>,
 }
 
@@ -40,7 +40,7 @@ impl Model for Pool {
 }
 
 impl Pool {
-    /// No message, between `nodes` nodes.
+    /// No message yet, between this many nodes.
     pub(crate) fn new(alloc: Global, nodes: u32) -> Self
         ensures nodes { result.nodes ≡ nodes }
         ensures messages { result.messages ≡ [] }

@@ -32,7 +32,7 @@ pub trait Stepper {
     // How a step leaves what isn't known, apart from the sizes.
     ghost stays: { Self → Self → Type 0 };
 
-    // No step has run out of memory while it used disks, as far as this is known.
+    // No step has run out of memory while it used disks, as far as this one can know.
     ghost is_whole: { Self → Type 0 };
 
     /// Does one command, whose event gets this line, and returns the event's reply.
@@ -45,7 +45,7 @@ pub trait Stepper {
         line: u32,
         command: &Command,
     ) -> Result<Reply, StepError>
-        // The proof of an `impl` doesn't know of the bound `Sync`.
+        // The proof of an `impl` doesn't see the bound `Sync`.
         requires sync { IsSync R.row }
         requires command { is_for (sizes self.old).nodes command.now ≡ true }
         ensures step { IfOk result (λ reply.

@@ -30,7 +30,7 @@ use std::thread::Threads;
 /// A history has at most this many events.
 const MOST_EVENTS: usize = 4_294_967_295;
 
-/// The most messages that one event sends.
+/// No event sends more messages than this.
 const MOST_SENT: usize = 7;
 
 /// A replica set: its nodes on their disks, every message that was sent, and the events that led there.
@@ -99,14 +99,14 @@ impl<D: Disk> Model for World<D> {
 }
 
 impl<D: Disk> World<D> {
-    /// A set of up to 50 nodes on 100 empty disks. The first `members` nodes are members, and the first
-    /// `voters` of them, up to seven, vote. The nodes are opened in order of number, each on the next two
-    /// disks: its journal, then its checkpoints.
+    /// A set of up to 50 nodes on 100 empty disks. The first ones vote, up to seven, and the next ones are
+    /// members without a vote. Its nodes are opened in order of number, each on the next two disks: its
+    /// journal, and then its checkpoints.
     ///
     /// # Errors
     /// `Disk` where a disk of one of the nodes failed, and `Memory` where memory ran out. Either hands back
-    /// the disks, each in its place. They have the nodes as they are when the set begins, except that a
-    /// journal may lack the record of its form.
+    /// the disks, each in its place, with the nodes as at the opening, except that a journal may lack the
+    /// record of its form.
     #[tactic(auto, using(crate::proofs::OpenLemmas::begins, crate::proofs::PointedLemmas::pointed_first))]
     pub fn open(
         alloc: Global,
@@ -189,7 +189,7 @@ impl<D: Disk> World<D> {
         ensures unused { OnErr result (self.new.whole ≡ true →
             (self.old.whole ≡ true) × (self.new.disks ≡ self.old.disks)) }
     {
-        // Before the copy, for which memory may run out.
+        // Before the copy, which can run out of memory.
         if self.history.len() >= MOST_EVENTS {
             return Err(StepError::HistoryFull);
         }
@@ -197,7 +197,7 @@ impl<D: Disk> World<D> {
         self.take(rt, line, copied)
     }
 
-    /// Does one command, which becomes a part of its event.
+    /// Does one command, which its event then owns.
     ///
     /// # Errors
     /// Those of `step`, which copies its command.
@@ -301,7 +301,7 @@ impl<D: Disk> World<D> {
     }
 
     /// The most entries that a node has had committed in any world so far: those of its log up to its commit
-    /// point. It is 0 for a number that isn't a node of the set.
+    /// point. It is 0 for a number that isn't a node's.
     pub fn point_of(&self, node: u32) -> u64
         ensures { result ≡ pointed self.now.sizes self.now.history node }
     {
@@ -319,8 +319,8 @@ impl<D: Disk> World<D> {
         touched(&self.pool, command)
     }
 
-    /// Whether no step has run out of memory while it used its node's disks. If so, the disks are exactly as
-    /// the events leave them.
+    /// Whether no step has run out of memory while it used its node's disks. The disks are then exactly what
+    /// the events leave.
     pub fn is_whole(&self) -> bool
         ensures { result ≡ self.now.whole }
     {
@@ -335,8 +335,8 @@ impl<D: Disk> World<D> {
         let _ = &self.nodes;
     }
 
-    /// The nodes' disks have what the nodes are in the last world: a fact for callers' proofs,
-    /// which costs nothing.
+    /// The nodes' disks have what they are in the last world: a fact for callers' proofs, which costs
+    /// nothing.
     pub fn recall_stands(&self)
         ensures { AllStand D.state self.now }
     {

@@ -1,4 +1,4 @@
--- What the turns at a shared set came to: an event, or a command that wasn't done.
+-- What each turn at a shared set did: an event, or a command that wasn't done.
 use Rattle.std.specs.Prelude.{◌≡◌, ◌⊎◌, ◌++◌, ◌∷◌, [], ℕ, true, List, length, drop}
 use Rattle.std.specs.List.{AllByRecursion, Contains}
 use Rattle.rs_disk.specs.State.{State}
@@ -14,7 +14,7 @@ use Rattle.shared_set.specs.declared.attempts.Attempts.{Attempts}
 use Rattle.shared_set.specs.declared.attempts.Turn.{Turn}
 use Rattle.shared_set.specs.declared.attempt.Attempt.TheVariants.{Done, Undone}
 
--- what a turn came to with which these events were added
+-- what a turn did that added these events
 abbrev pub came_to : List Event → ℕ → Command → Attempt
 came_to [] line command = Undone line command
 came_to (event ∷ more) line command = Done event
@@ -23,7 +23,7 @@ came_to (event ∷ more) line command = Done event
 abbrev pub none_tried : Attempts
 none_tried = record { list = [] }
 
--- a turn more
+-- one more turn
 abbrev pub more_tried : Turn → Attempts → Attempts
 more_tried turn tried = record {
   list = tried.list ++ came_to (drop turn.before turn.history.now) turn.line turn.command.now ∷ [];
@@ -52,12 +52,12 @@ abbrev pub done_calls : List (ℕ × List Attempt) → List (ℕ × List Event)
 done_calls [] = []
 done_calls (own ∷ others) = (own.0, done_in own.1) ∷ done_calls others
 
--- what each pass tried in vain
+-- what each pass tried without success
 abbrev pub undone_calls : List (ℕ × List Attempt) → List (List (ℕ × Command))
 undone_calls [] = []
 undone_calls (own ∷ others) = undone_in own.1 ∷ undone_calls others
 
--- the first pass tried one more in vain
+-- the first pass tried one more without success
 abbrev pub one_more : ℕ × Command → List (List (ℕ × Command)) → List (List (ℕ × Command))
 one_more line [] = []
 one_more line (own ∷ others) = (own ++ line ∷ []) ∷ others
@@ -67,7 +67,7 @@ abbrev pub IsInSome : {A : Type 0} → List (List A) → A → Type 0
 IsInSome [] item = ⊥
 IsInSome (own ∷ others) item = Contains own item ⊎ IsInSome others item
 
--- What attempts leave of disks, each at the world that it meets.
+-- What attempts leave of the disks, each from the world that it meets.
 abbrev pub AttemptsLeave : {D : Type 0} → (D → State) → World → List Attempt → List D → List D → Type 0
 AttemptsLeave state world [] old new = new ≡ old
 AttemptsLeave {D} state world (Done event ∷ later) old new =
@@ -83,7 +83,7 @@ pub record WentBy {D : Type 0} (state : D → State) (old new : Set D) (all : Li
   pub history : new.history ≡ old.history ++ done_in all
   pub disks : AttemptsLeave state (run old.sizes old.history).world all old.disks new.disks
 
--- A set went on by what was tried on it. What wasn't done is among what passes tried in vain.
+-- A set went on by what was tried on it. What wasn't done is among what passes tried without success.
 pub record WentOnBy {D : Type 0} (state : D → State) (undone : List (List (ℕ × Command))) (old new : Set D)
     : Type 0 where
   pub all : List Attempt

@@ -1,5 +1,5 @@
--- What the calls on a shared set tell a pass. A turn is an event, with the number of the pass whose call it
--- was.
+-- What a pass learns from its calls on a shared set. A turn is an event, with the number of the pass whose
+-- call it was.
 use Rattle.std.specs.Prelude.{◌≡◌, ◌≤◌, ◌++◌, ◌∷◌, [], ℕ, List, Result, Ok, Err, drop, length}
 use Rattle.std.proofs.Common.{◌∙◌, ap, sym, append_assoc}
 use mathlib.Core.List.{IsPrefix}
@@ -20,8 +20,8 @@ use Rattle.turn_board.specs.declared.view.Stage.TheVariants.{Free}
 use Rattle.turn_board.specs.History.{AtMost, NoneAbove, Stand, calls_by, events, names, times}
 use Rattle.turn_board.specs.Views.{at_stage, called, in_turn}
 
--- The history up to some turn: it begins with all that the pass had seen, the calls of the pass stand in
--- it, and no node's number is below one that the pass saw.
+-- The history up to some turn: it begins with all that the pass had seen, it has the calls of the pass, and
+-- no node's number is below one that the pass saw.
 pub record Meets {F : Type 0} (sizes : Sizes) (v : View Event F) (turns : List (ℕ × Event)) : Type 0 where
   pub begins : IsPrefix v.turns turns
   pub calls : Stand turns v.calls
@@ -31,9 +31,8 @@ pub record Meets {F : Type 0} (sizes : Sizes) (v : View Event F) (turns : List (
 abbrev pub saw : {F : Type 0} → View Event F → List (ℕ × Event) → View Event F
 saw v turns = at_stage (in_turn v 0 turns) Free
 
--- One event of this line and command stands in the history, after the turns that it met. It is a call of
--- the pass, which has seen the history up to it. The reply is that of the event in the run, and the place
--- is where the event stands.
+-- The history has one event of this line and command, after the turns that it met. It is a call of the pass,
+-- which has seen the history up to it. The reply is the event's in the run, and the place is the event's.
 pub record Steps {F : Type 0} (sizes : Sizes) (v w : View Event F) (line : ℕ) (command : Command) (place : ℕ)
     (reply : Reply) : Type 0 where
   pub turns : List (ℕ × Event)
@@ -73,7 +72,7 @@ pub record Keeps {F : Type 0} (v w : View Event F) : Type 0 where
   pub begins : IsPrefix v.turns w.turns
   pub answers : w.answers ≡ v.answers
 
--- what two steps keep
+-- two steps in a row keep this
 pub keeps_on : {F : Type 0} (one two three : View Event F) → Keeps one two → Keeps two three → Keeps one three
 keeps_on one two three first second = record {
   parts = second.parts ∙ first.parts;
@@ -87,8 +86,8 @@ keeps_on one two three first second = record {
   answers = second.answers ∙ first.answers;
 }
 
--- the number is that of the node after some history which begins with all that the pass has seen and whose
--- run is defined, and no number that the pass saw of it was above
+-- The number is the node's after some history that begins with all that the pass has seen, and whose run is
+-- defined. The pass saw no greater number of the node before.
 pub record Looks {F : Type 0} (sizes : Sizes) (v : View Event F) (node number : ℕ) : Type 0 where
   pub later : List (ℕ × Event)
   pub defined : IsRun sizes (v.begun ++ events (v.turns ++ later))
@@ -104,7 +103,7 @@ pub record Closes {F : Type 0} (sizes : Sizes) (v : View Event F) (history : Lis
   pub once : (pass : ℕ) → times pass (names v.calls) ≤ 1
   pub no_others : (pass : ℕ) → times pass (names v.calls) ≡ 0 → calls_by pass turns ≡ []
 
--- what a turn came to on the set: one event more, at the place after the others, or none
+-- what a turn did to the set: one more event, at the place after the others, or none
 abbrev pub Went : {D : Type 0} → (D → State) → Set D → Set D → ℕ → Command
     → Result (ℕ × Reply) StepError → Type 0
 Went state old new line command (Ok (place, reply)) =

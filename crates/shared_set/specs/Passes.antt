@@ -23,7 +23,7 @@ module _ {D : Type 0} where
   abbrev pub IsPass : SharedSet D → Known Attempt (Set D) → Type 0
   IsPass shared pass = IsPassOf attempts_kept first_of shared.board pass
 
-  -- what the turns have of events
+  -- the events among the turns
   abbrev pub heard : View Attempt (Set D) → View Event (Set D)
   heard v = record {
     parts = v.parts;
@@ -40,6 +40,6 @@ module _ {D : Type 0} where
   abbrev pub view : Known Attempt (Set D) → View Event (Set D)
   view pass = heard pass.view
 
-  -- the lines that a pass tried in vain, and those of each that was joined into it
+  -- the lines that a pass tried without success, and those of each pass that was joined into it
   abbrev pub undone : Known Attempt (Set D) → List (List (ℕ × Command))
   undone pass = undone_calls pass.view.calls

@@ -1,7 +1,7 @@
-// What a turn at a shared set came to, for proofs alone.
+// What a turn at a shared set did, for proofs alone.
 use set_model::{Command, Event};
 
-/// What one turn came to. No value of this type is made.
+/// What one turn did. No value of this type is ever made.
 pub enum Attempt {
     /// The event of a command that was done.
     Done(Event),

@@ -1,4 +1,4 @@
-// What the turns at a shared set came to. It exists in proofs alone and takes no memory.
+// What the turns at a shared set did. It exists in proofs alone and takes no memory.
 ghost use Rattle.std.specs.Prelude.{◌≡◌, List};
 ghost use Rattle.std.specs.Borrow.{ftrue};
 ghost use Rattle.std.specs.Coded.{coded_list};
@@ -8,7 +8,7 @@ ghost use Rattle.shared_set.specs.declared.attempt.Attempt.{Attempt as AnAttempt
 use set_model::{Command, Event};
 use std::marker::Model;
 
-/// What the turns came to, oldest first. It takes no memory.
+/// What each turn did, oldest first. It takes no memory.
 #[derive(Drop)]
 pub(crate) struct Attempts {
     pub(crate) ghost list: { List AnAttempt } by { coded_list attempt.the_row.coded },
@@ -21,7 +21,7 @@ impl Model for Attempts {
 // A struct with `also_owns` isn't `Send` by itself. This one owns nothing.
 unsafe impl Send for Attempts {}
 
-/// A turn, before which the history had so many events.
+/// A turn, and how many events the history had before it.
 #[derive(Clone, Copy, Drop)]
 pub(crate) struct Turn<'a> {
     pub(crate) before: usize,

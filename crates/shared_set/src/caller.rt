@@ -11,8 +11,8 @@ use set_world::{StepError, Stepper};
 use std::sync::Wait;
 use std::thread::Threads;
 
-/// A shared set with the pass of one thread, which waits for no turn and has none. Its own events are the
-/// calls of the pass, which keeps its parts: with all of them it closes the set later.
+/// A shared set with the pass of one thread, between two turns. Its own events are the calls of the pass. The
+/// pass keeps its parts: with all of them it can close the set later.
 pub struct Caller<'a, D: Disk> {
     pub set: &'a SharedSet<D>,
     pub pass: &'a mut Pass<D>,
@@ -56,7 +56,7 @@ impl<'a, D: Disk> Stepper for Caller<'a, D> {
     }
 }
 
-/// What a step answers, without the place of its event.
+/// The answer of a step, without the place of its event.
 fn reply_in(answer: Result<(u32, Reply), StepError>) -> Result<Reply, StepError>
     ensures { result ≡ reply_in answer }
 {

@@ -1,5 +1,5 @@
-//! A replica set that threads step in turns. There is one history of all their steps, and how many entries
-//! a node has had committed is read without waiting.
+//! A replica set that threads step in turns. There is one history of all their steps. How many entries a node
+//! has had committed can be read without waiting.
 #![tactic(auto)]
 
 mod attempt;

@@ -23,7 +23,7 @@ use std::thread::Threads;
 use turn_board::Board;
 
 impl<D: Disk> SharedSet<D> {
-    /// Shares a set. The pass has all 65,536 parts of the right to close it.
+    /// Shares a set. The pass gets all 65,536 parts of the right to close it.
     ///
     /// # Errors
     /// Out of memory, which hands the set back.
@@ -42,7 +42,7 @@ impl<D: Disk> SharedSet<D> {
         }
     }
 
-    /// Waits for its turn and does one command, whose event gets this line. It gives the place of the event
+    /// Waits for its turn and does one command, whose event gets this line. It returns the place of the event
     /// in the history, counted from 0, and the event's reply.
     ///
     /// # Errors
@@ -76,8 +76,8 @@ impl<D: Disk> SharedSet<D> {
         answer
     }
 
-    /// The most entries that a node has had committed: those of its log up to its commit point. It waits
-    /// for nobody, and no later look of this pass gives less.
+    /// The most entries that a node has had committed: those of its log up to its commit point. It never
+    /// waits, and this pass never gets a smaller number later.
     pub fn peek_commit(&self, pass: &mut Pass<D>, node: u32) -> u64
         requires pass { IsPass self.now pass.old × IsFree pass.old }
         requires node { node < (sizes_of self.now).nodes }
@@ -89,8 +89,8 @@ impl<D: Disk> SharedSet<D> {
         self.board.peek(pass, node)
     }
 
-    /// Gives one part to a new pass, which has seen what this one has. No event among these is a call of the
-    /// new pass's number.
+    /// Gives one part to a new pass, which has seen what this one has. None of the events that it has seen is
+    /// a call with the new pass's number.
     pub fn split(&self, pass: &mut Pass<D>) -> Pass<D>
         requires pass { IsPass self.now pass.old × IsFree pass.old }
         requires parts { 1 < (view pass.old).parts }
@@ -119,8 +119,8 @@ impl<D: Disk> SharedSet<D> {
         self.board.join(pass, other)
     }
 
-    /// The set, with the calls of all passes in its history. It needs a pass with all 65,536 parts, so
-    /// every other one was joined into it.
+    /// The set, with the calls of all passes in its history. It needs a pass with all 65,536 parts, so every
+    /// other pass was joined into it.
     pub fn close(self, pass: Pass<D>) -> World<D>
         requires pass { IsPass self pass × IsFree pass }
         requires parts { (view pass).parts ≡ 65536 }

@@ -13,6 +13,6 @@ pub struct SharedSet<D: Disk> {
     ghost fresh: { board.value.tried ≡ [] },
 }
 
-/// The right of one thread to step a set. It has no bytes. Contracts see what it has seen of the history,
+/// The right of one thread to step a set. It takes no memory. Contracts see what it has seen of the history,
 /// and its calls.
 pub type Pass<D> = turn_board::Pass<Turning<D>>;

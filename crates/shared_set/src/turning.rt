@@ -18,8 +18,8 @@ use std::snapshot::Snapshot;
 use std::thread::Threads;
 use turn_board::Turned;
 
-/// A set on a board: its entries are what was tried on it, and its points are its nodes. What goes from turn
-/// to turn is a pointer. Contracts see the set as it is, and as it was when it was shared.
+/// A set on a board: its entries are what was tried on it, and its points are its nodes. A turn hands on a
+/// pointer. Contracts see the set as it is, and as it was when it was shared.
 #[derive(Drop)]
 pub struct Turning<D: Disk> {
     world: Box<World<D>>,
@@ -70,7 +70,7 @@ impl<D: Disk> Turned for Turning<D> {
 }
 
 impl<D: Disk> Turning<D> {
-    /// Out of memory hands the set back.
+    /// If memory runs out, it hands the set back.
     pub(crate) fn new(alloc: Global, world: World<D>) -> Result<Turning<D>, World<D>>
         ensures ok { IfOk result (λ turning. (turning.begun ≡ world) × (turning.set ≡ world)
             × (turning.tried ≡ [])) }
@@ -109,7 +109,7 @@ impl<D: Disk> Turning<D> {
         let _ = &self.world;
     }
 
-    /// Does one command. It gives the node that this touches, and the place and the reply of the event.
+    /// Does one command. It returns the node that this touches, and the event's place and reply.
     pub(crate) fn step<R: Threads + Sync>(
         &mut self,
         rt: &R,

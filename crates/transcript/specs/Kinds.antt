@@ -1,11 +1,11 @@
--- Kinds of replies and of refusals, by which those that print them are parted.
+-- Kinds of replies and of refusals, which separate functions print.
 use Rattle.std.specs.Prelude.{Bool, true, false}
 use Rattle.set_model.specs.declared.reply.Refusal.{Refusal}
 use Rattle.set_model.specs.declared.reply.Refusal.TheVariants as refusals
 use Rattle.set_model.specs.declared.reply.Reply.{Reply}
 use Rattle.set_model.specs.declared.reply.Reply.TheVariants.{Won, Primary, Candidate, DryRun, Secondary, State, Sent, SentTo, Replied, Votes, VoteRefused, DryVotes, Heard, Took, Counted, RolledBack, Ignored, Applied, Flushed, Checkpoint, Config, Down, Up, Armed, Clock}
 
--- the reply tells of an election or of a message
+-- the reply is about an election or a message
 abbrev pub is_of_protocol : Reply → Bool
 is_of_protocol (Won term) = true
 is_of_protocol (Primary term noop) = true
@@ -24,7 +24,7 @@ is_of_protocol (Counted commit) = true
 is_of_protocol (Ignored reason) = true
 is_of_protocol _ = false
 
--- the reply tells of what a node keeps, or of the node itself
+-- the reply is about what a node stores, or about the node itself
 abbrev pub is_of_node : Reply → Bool
 is_of_node (State role term vote last durable applied commit config rollback) = true
 is_of_node (RolledBack to removed) = true
@@ -38,7 +38,7 @@ is_of_node Armed = true
 is_of_node (Clock seconds) = true
 is_of_node _ = false
 
--- a new configuration is refused so
+-- a new configuration can be refused with this
 abbrev pub is_of_configs : Refusal → Bool
 is_of_configs refusals.WrongVersion = true
 is_of_configs (refusals.ConfigRule rule) = true

@@ -7,14 +7,14 @@ use bson_doc::Mem;
 use itoa::Buffer;
 use rs_optime::OpTime;
 
-/// Appends a number. Most replies have some, and the buffer costs less than a format.
+/// Appends a number. Most replies have some, and a buffer costs less than formatting.
 pub fn write_number(number: u64, out: &mut String) -> Mem<()>
     ensures { OnOk result (string_bytes out.new ≡ string_bytes out.old ++ decimal number) }
 {
     out.push_str(Buffer::new().format(number))
 }
 
-/// Appends an optime, as its `Display` has it.
+/// Appends an optime, as its `Display` does.
 pub fn write_optime(at: OpTime, out: &mut String) -> Mem<()>
     ensures { OnOk result (string_bytes out.new ≡ string_bytes out.old ++ optime_text at) }
 {

@@ -1,4 +1,4 @@
-// Replies as they are printed.
+// The text of replies.
 ghost use Rattle.std.specs.Prelude.{◌≡◌, ◌++◌, true, codes, OnOk, OnErr, string_bytes};
 ghost use Rattle.std.specs.Fmt.{decimal};
 ghost use Rattle.transcript.specs.Kinds.{is_of_node, is_of_protocol};
@@ -24,8 +24,8 @@ pub fn write_reply(line: u32, reply: &Reply, out: &mut String) -> Mem<()>
     out.push_str(&text)
 }
 
-/// Writes that line into `text` in place of what stood there, and uses its memory again. After out of memory
-/// `text` is of no use.
+/// Writes that line into `text` in place of what was there, reusing its memory. If memory runs out, `text` is
+/// of no use.
 pub fn set_reply(line: u32, reply: &Reply, text: &mut String) -> Mem<()>
     ensures { OnOk result (string_bytes text.new ≡ line_text (line, reply.now)) }
 {
@@ -33,7 +33,7 @@ pub fn set_reply(line: u32, reply: &Reply, text: &mut String) -> Mem<()>
     push_reply(line, reply, text)
 }
 
-/// Appends that line. After out of memory a part may be appended.
+/// Appends that line. If memory runs out, a part may have been appended.
 pub fn push_reply(line: u32, reply: &Reply, out: &mut String) -> Mem<()>
     ensures { OnOk result (string_bytes out.new ≡ string_bytes out.old ++ line_text (line, reply.now)) }
 {
@@ -43,7 +43,7 @@ pub fn push_reply(line: u32, reply: &Reply, out: &mut String) -> Mem<()>
     out.push_str("\n")
 }
 
-/// A reply as it is printed. Those about documents and writes stand here.
+/// Appends a reply. Those about documents and writes are here.
 fn write_text(reply: &Reply, out: &mut String) -> Mem<()>
     ensures { OnOk result (string_bytes out.new ≡ string_bytes out.old ++ reply_text reply.now) }
 {
@@ -81,7 +81,7 @@ fn write_text(reply: &Reply, out: &mut String) -> Mem<()>
     }
 }
 
-/// Appends a reply that tells of an election or a message.
+/// Appends a reply about an election or a message.
 fn write_protocol(reply: &Reply, out: &mut String) -> Mem<()>
     requires { is_of_protocol reply.now ≡ true }
     ensures { OnOk result (string_bytes out.new ≡ string_bytes out.old ++ reply_text reply.now) }
@@ -116,7 +116,7 @@ fn write_protocol(reply: &Reply, out: &mut String) -> Mem<()>
     }
 }
 
-/// Appends a reply that tells of what a node keeps, or of the node itself.
+/// Appends a reply about what a node stores, or about the node itself.
 fn write_node(reply: &Reply, out: &mut String) -> Mem<()>
     requires { is_of_node reply.now ≡ true }
     ensures { OnOk result (string_bytes out.new ≡ string_bytes out.old ++ reply_text reply.now) }
