@@ -60,7 +60,7 @@ fn other_bytes_are_refused(rt: HostRuntime) -> Result<(), Fail> {
     Ok(())
 }
 
-/// The bytes of documents within each other, so many in all.
+/// The bytes of nested documents, this many in all.
 fn nested(alloc: Global, levels: u32) -> Result<Vec<u8>, Fail> {
     let mut length = 5_u32;
     let mut bytes = Vec::from_slice(alloc, b"\x05\0\0\0\0")?;
@@ -86,14 +86,15 @@ fn a_document_has_a_hundred_levels(rt: HostRuntime) -> Result<(), Fail> {
     Ok(())
 }
 
-/// A document with a value of every kind, as the standard has its bytes.
+/// A document with a value of every kind, with its bytes by the standard.
 const EVERY_KIND: &[u8] =
     b"}\0\0\0\x10_id\0\x01\0\0\0\x12n\0\x05\0\0\0\0\0\0\0\x02s\0\x03\0\0\0hi\0\
     \x03d\0\x0c\0\0\0\x10x\0\x02\0\0\0\0\x04a\0\x11\0\0\0\x0a0\0\x021\0\x02\0\0\0y\0\0\
     \x05b\0\x02\0\0\0\0\x0a\xff\x07i\0\0\x01\x02\x03\x04\x05\x06\x07\x08\x09\x0a\x0b\x08t\0\x01\
     \x09w\0\xff\xff\xff\xff\xff\xff\xff\xff\x0az\0\x11ts\0\x03\0\0\0\x07\0\0\0\0";
 
-/// The least length up to which the bytes are taken as a document, or refused otherwise than as too few.
+/// The shortest prefix of the bytes that is taken as a document, or refused for another reason than being too
+/// short.
 fn first_not_short(alloc: Global, bytes: &[u8]) -> usize {
     (0..bytes.len())
         .find(|len| refusal(alloc, &bytes[..*len]) != Some(DecodeError::Short))

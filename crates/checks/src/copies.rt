@@ -1,5 +1,5 @@
 // Copies of documents, keys, entries, configurations, records and messages: memory suffices for each, and it
-// says what was copied, also when what was copied has changed or is gone.
+// has what was copied, even after the original has changed or is gone.
 use bson_doc::{Bytes, Doc, IdKey, Items, Text, Value};
 use member_config::{Config, Member, MemberList};
 use oplog_entry::{Entry, Op, Session, SharedOp};
@@ -13,10 +13,10 @@ const AT: OpTime = OpTime { term: 1, ts: 2 };
 
 const LATER: OpTime = OpTime { term: 1, ts: 3 };
 
-/// A text too long to stand in a value itself: it lies in a box.
+/// A text too long to be stored in a value itself: it is in a box.
 const LONG: &str = "a text of more than sixteen bytes";
 
-/// A document with an array in which bytes stand.
+/// A document with an array that has bytes in it.
 fn nested(alloc: Global) -> Result<Doc, Fail> {
     let mut items = Items::new(alloc);
     items.push(Value::Binary(0, Bytes::new(b"ab".to_vec(alloc)?)))?;

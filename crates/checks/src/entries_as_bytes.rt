@@ -29,7 +29,7 @@ const INSERT: &[u8] =
 const REPLACEMENT: &[u8] =
     b"\x82\0\0\0\x11ts\0\x02\0\0\0\0\0\0\0\x12t\0\x01\0\0\0\0\0\0\0\x10v\0\x02\0\0\0\x02op\0\x02\0\0\0u\0\x02ns\0\x02\0\0\0t\0\x03o\0\x15\0\0\0\x10_id\0\x05\0\0\0\x10a\0\x01\0\0\0\0\x03o2\0\x0e\0\0\0\x10_id\0\x05\0\0\0\0\x12lsid\0\xff\xff\xff\xff\0\0\0\0\x12txnNumber\0\x03\0\0\0\0\0\0\0\0";
 
-// The same with another `_id` in the document than of the one that is replaced.
+// The same, with an `_id` in the document other than that of the one replaced.
 const OF_ANOTHER: &[u8] =
     b"\x82\0\0\0\x11ts\0\x02\0\0\0\0\0\0\0\x12t\0\x01\0\0\0\0\0\0\0\x10v\0\x02\0\0\0\x02op\0\x02\0\0\0u\0\x02ns\0\x02\0\0\0t\0\x03o\0\x15\0\0\0\x10_id\0\x05\0\0\0\x10a\0\x01\0\0\0\0\x03o2\0\x0e\0\0\0\x10_id\0\x06\0\0\0\0\x12lsid\0\xff\xff\xff\xff\0\0\0\0\x12txnNumber\0\x03\0\0\0\0\0\0\0\0";
 
@@ -37,7 +37,7 @@ const OF_ANOTHER: &[u8] =
 const NOTE_OF_SESSION: &[u8] =
     b"m\0\0\0\x11ts\0\x02\0\0\0\0\0\0\0\x12t\0\x01\0\0\0\0\0\0\0\x10v\0\x02\0\0\0\x02op\0\x02\0\0\0n\0\x02ns\0\x01\0\0\0\0\x03o\0\x13\0\0\0\x02msg\0\x05\0\0\0note\0\0\x12lsid\0\x07\0\0\0\0\0\0\0\x12txnNumber\0\x01\0\0\0\0\0\0\0\0";
 
-// The bytes of the entry that is read of some.
+// The bytes of the entry that is read from these bytes.
 fn again(alloc: Global, bytes: &[u8]) -> Result<Vec<u8>, Fail> {
     let entry = of_bytes(alloc, bytes)?;
     Ok(to_bytes(alloc, &entry)?)

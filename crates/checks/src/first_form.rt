@@ -103,7 +103,7 @@ fn is_of_one(config: &Config) -> bool {
     config.term == 3 && config.version == 1 && config.members.as_slice().len() == 1
 }
 
-// Whether this is what the records come to with the form after them.
+// Whether this is what the records give, with the form after them.
 fn is_whole(kept: &Kept) -> bool {
     let vote = Vote {
         term: 3,
@@ -155,7 +155,7 @@ fn a_journal_of_the_first_form_gets_the_newest(rt: HostRuntime) -> Result<(), Fa
     Ok(())
 }
 
-// What a second opening gives, where the first one fails at this call.
+// What a second opening gives, if the first one fails at this call.
 fn open_again(alloc: Global, call: u32, pick: Option<u64>) -> Result<Opened, Fail>
     ensures { IfOk result (λ again. IsJournalDisk (state_of again.disk)) }
 {

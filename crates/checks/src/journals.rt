@@ -19,7 +19,7 @@ const CUT: OpTime = OpTime { term: 2, ts: 7 };
 #[derive(Drop)]
 struct Run {
     disk: MemDisk,
-    // How many records the opening found, and the term that they keep.
+    // How many records the opening found, and the term in them.
     found: u64,
     term: u64,
     added: u64,

@@ -1,4 +1,5 @@
-// A copy of what a rollback takes: memory suffices, and it says what was copied, also when that is gone.
+// A copy of what a rollback takes: memory suffices, and it has what was copied, even after the original is
+// gone.
 use bson_doc::{Doc, IdKey, Text, Value};
 use rollback_core::LostDocument;
 use std::test::Fail;

@@ -26,7 +26,7 @@ const THIRD: OpTime = OpTime { term: 2, ts: 3 };
 
 // ---- texts of configurations
 
-/// What `to_json` gives of the configuration that a text spells.
+/// What `to_json` gives for the configuration that a text spells.
 fn again(alloc: Global, text: &str) -> Result<String, Fail> {
     let config = Config::from_json(alloc, text)?;
     Ok(config.to_json(alloc)?)

@@ -1,5 +1,5 @@
-// Copies of writes, commands, scripts, replies and summaries: memory suffices for each, and it says what was
-// copied, also when that is gone.
+// Copies of writes, commands, scripts, replies and summaries: memory suffices for each, and it has what was
+// copied, even after the original is gone.
 use crate::found::is_text;
 use bson_doc::{Doc, IdKey, Mem, Text, Value};
 use doc_text::write_document;
@@ -22,7 +22,7 @@ fn five(alloc: Global) -> Result<Doc, Fail> {
     Ok(document)
 }
 
-/// Fails where a document isn't `{a: 5}`, and says what it is.
+/// Fails if a document isn't `{a: 5}`, and says what it is.
 fn is_five(alloc: Global, document: &Doc) -> Result<(), Fail> {
     let mut text = String::new(alloc);
     write_document(document, &mut text)?;
@@ -107,7 +107,7 @@ fn an_event_is_copied_with_its_command(rt: HostRuntime) -> Result<(), Fail> {
     }
 }
 
-/// Whether a command reads what has the `_id` "five" in `t`, as a majority has it, at the third node.
+/// Whether a command reads the document with the `_id` "five" in `t`, at majority, at the third node.
 fn reads(command: &Command) -> bool {
     match command {
         Command::Read {
@@ -227,7 +227,7 @@ fn a_script_is_copied_with_its_blocks(rt: HostRuntime) -> Result<(), Fail> {
     Ok(())
 }
 
-/// Fails where the copy of a reply to line 7 has another text, and says which.
+/// Fails if the copy of a reply to line 7 has another text, and says which.
 fn tells(alloc: Global, reply: Reply, text: &str) -> Result<(), Fail> {
     let copy = reply_again(reply)?;
     let mut found = String::new(alloc);

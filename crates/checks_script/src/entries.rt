@@ -1,4 +1,4 @@
-// The entries of a log, as they are printed: of a session's write nothing shows but the write.
+// The text of a log's entries: a session's write shows only the write.
 ghost use Rattle.std.specs.Prelude.{All, IfOk, IsSome};
 ghost use Rattle.oplog_entry.specs.Lawful.{IsLawful, IsLawfulOp};
 ghost use Rattle.oplog_entry.specs.Step.{place_of};

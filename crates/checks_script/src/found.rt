@@ -1,7 +1,7 @@
-// What is found, beside what is wanted.
+// Compares what was found with what was expected.
 use std::test::Fail;
 
-/// Fails where a text is another one, and says what it is.
+/// Fails if a text isn't the expected one, and says what it is.
 pub fn is_text(found: String, wanted: &str) -> Result<(), Fail> {
     if found.as_str() == wanted {
         return Ok(());

@@ -1,6 +1,6 @@
 // The rules of the grammar, by a line for each way in which one of them is kept or broken.
 
-/// Lines of a script with three nodes, each with what is told of it: a rule of the grammar, or nothing.
+/// Lines of a script with three nodes, each with the rule of the grammar that it breaks, or nothing.
 pub const LINES: &str = r##"# no command|
 #|
 |

@@ -14,7 +14,7 @@ fn printed(alloc: Global, text: &str) -> Result<String, TextError> {
     }
 }
 
-/// Why a text begins with no value.
+/// Why a text doesn't begin with a value.
 fn refusal(alloc: Global, text: &str) -> Option<TextError> {
     printed(alloc, text).err()
 }

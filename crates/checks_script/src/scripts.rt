@@ -1,4 +1,4 @@
-// Scripts with what is told of their first fault, and replies with their texts.
+// Scripts with the text of their first fault, and replies with their texts.
 use crate::found::is_text;
 use crate::lines::LINES;
 use fault_script::{ScriptError, parse};
@@ -9,7 +9,7 @@ use std::fmt::Write;
 use std::test::Fail;
 use transcript::{write_fault, write_reply};
 
-/// The line that is printed for bytes that are no script, or nothing.
+/// The line that is printed for bytes that aren't a script, or nothing.
 fn told(alloc: Global, script: &[u8]) -> Result<String, Fail> {
     let mut text = String::new(alloc);
     match parse(alloc, script) {
@@ -20,7 +20,7 @@ fn told(alloc: Global, script: &[u8]) -> Result<String, Fail> {
     Ok(text)
 }
 
-/// Fails where another line is printed, and says which.
+/// Fails if another line is printed, and says which.
 fn tells(alloc: Global, script: &[u8], line: &str) -> Result<(), Fail> {
     is_text(told(alloc, script)?, line)
 }
@@ -38,7 +38,7 @@ fn the_first_command_is_set(rt: HostRuntime) -> Result<(), Fail> {
     tells(alloc, b"set 1\r\n\r\n# set\nlog n0", "")
 }
 
-/// First lines, each with what is told of it, or nothing.
+/// First lines, each with the fault that is reported, or nothing.
 const FIRST_LINES: &str = r#"set 1|
 set 7|
 set 50|
@@ -91,7 +91,7 @@ fn each_line_has_its_fault(rt: HostRuntime) -> Result<(), Fail> {
     Ok(())
 }
 
-/// Fails where another rule is told of the line after these first bytes, which has this number.
+/// Fails if another rule is reported for the line after these first bytes, which has this number.
 fn tells_of(alloc: Global, front: &str, number: u32, line: &str, rule: &str) -> Result<(), Fail> {
     let mut script = String::from_str(alloc, front)?;
     script.push_str(line)?;
@@ -131,7 +131,7 @@ fn blocks_have_their_faults(rt: HostRuntime) -> Result<(), Fail> {
     tells(alloc, b"set 1\npar\nthread\n", "line 4: OpenPar\n")
 }
 
-/// These first bytes, and after them so many times a byte.
+/// These first bytes, and after them a byte, this many times.
 fn padded(alloc: Global, front: &[u8], count: usize, byte: u8) -> Result<Vec<u8>, Fail> {
     let mut script = Vec::from_slice(alloc, front)?;
     let line = Vec::from_elem(alloc, byte, count)?;
@@ -139,7 +139,7 @@ fn padded(alloc: Global, front: &[u8], count: usize, byte: u8) -> Result<Vec<u8>
     Ok(script)
 }
 
-/// `set 1`, and after it a line with so many times this byte.
+/// `set 1`, and after it a line of this byte, this many times.
 fn long(alloc: Global, count: usize, byte: u8) -> Result<Vec<u8>, Fail> {
     padded(alloc, b"set 1\n", count, byte)
 }
@@ -161,7 +161,7 @@ fn lines_have_limits(rt: HostRuntime) -> Result<(), Fail> {
     )
 }
 
-/// A block with so many threads.
+/// A block with this many threads.
 fn block(alloc: Global, threads: u32) -> Result<Vec<u8>, Fail> {
     let mut script = Vec::from_slice(alloc, b"set 1\npar\n")?;
     for _ in 0..threads {

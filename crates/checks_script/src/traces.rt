@@ -11,7 +11,7 @@ use std::alloc::Global;
 use std::fmt::Write;
 use std::test::Fail;
 
-/// Event lines in a set of three nodes, each as it is written.
+/// Event lines in a set of three nodes, each as a trace has it.
 const EVENTS: &str = r#"event 2 - 0 campaign n2
 event 3 0 0 drain n1
 event 4 - 0 insert n0 t {_id: 1, a: "b c"}
@@ -59,7 +59,7 @@ event 38 - 0 diskfail n1 checkpoint 1000 0
 event 38 - 0 clock n0 0
 event 0 4294967295 0 clock n1 2147483647"#;
 
-/// Other lines, each with what is written of its event; `BadEvent` stands for a line that is none.
+/// Other lines, each with what is written for its event; `BadEvent` marks a line that isn't one.
 const OTHERS: &str = r#"event 040 00 01 restart n02|event 40 0 1 restart n2
 event 41 - 0 apply n0|event 41 - 0 apply n0 4
 event 41 - 0 drain n01|event 41 - 0 drain n1
@@ -123,7 +123,7 @@ trace 3 3 x$|
 $trace 3 3 3$|
 |";
 
-/// Texts that are no command, each with the rule that it breaks.
+/// Texts that aren't commands, each with the rule that it breaks.
 const REFUSED: &str = r"|UnknownCommand
 # log n0|UnknownCommand
 set 3|UnknownCommand
@@ -145,8 +145,8 @@ read n0 snapshot t 1|BadWord
 reconfig n0 {}|BadConfigText
 delete n0 t 1 |BadText(Unexpected)";
 
-/// Texts of events and replies after a header, after what is printed of a check of them. `$` stands for a
-/// line feed.
+/// What a check prints, and then the text of events and replies after a header that it checks. `$` stands for
+/// a line feed.
 const CHECKED: &str =
     r"yes 4|trace 1 1 1$event 2 - 0 campaign n0$2: won 1$event 3 - 0 drain n0$3: primary 1 noop 1/0/1$event 4 - 0 insert n0 t {_id: 1}$4: written 1/0/2$event 5 - 0 read n0 local t 1$5: found {_id: 1}$
 line 7: OtherReply|trace 1 1 1$event 2 - 0 campaign n0$2: won 1$event 3 - 0 drain n0$3: primary 1 noop 1/0/1$event 4 - 0 insert n0 t {_id: 1}$4: written 1/0/3$event 5 - 0 read n0 local t 1$5: found {_id: 1}$
@@ -154,7 +154,7 @@ line 3: OtherReply|trace 1 1 1$event 2 0 0 campaign n0$2: won 1$event 3 - 0 drai
 line 2: NoFit|trace 1 1 1$event 2 1 0 campaign n0$2: won 1$event 3 - 0 drain n0$3: primary 1 noop 1/0/1$
 line 1: BadHeader|";
 
-/// What is written of the event that a line is, with a reply after it, or `BadEvent`.
+/// What is written for the event that a line is, with a reply after it, or `BadEvent`.
 fn written(alloc: Global, line: &[u8]) -> Result<String, Fail> {
     let mut text = String::new(alloc);
     match read_event(alloc, 3, line) {
@@ -164,7 +164,7 @@ fn written(alloc: Global, line: &[u8]) -> Result<String, Fail> {
     Ok(text)
 }
 
-/// Fails where something else is written of the event of a line, and says what.
+/// Fails if something else is written for the event of a line, and says what.
 fn comes_to(alloc: Global, line: &str, wanted: &str) -> Result<(), Fail> {
     let found = written(alloc, line.as_bytes())?;
     if found.lines().next() == Some(wanted) {
@@ -191,7 +191,7 @@ fn other_lines_are_read_by_the_grammar(rt: HostRuntime) -> Result<(), Fail> {
     Ok(())
 }
 
-/// The trace of one event, which is answered `down`.
+/// The trace of one event, with the reply `down`.
 fn trace_of(alloc: Global, line: &[u8]) -> Result<String, Fail> {
     let mut text = String::from_str(alloc, "before ")?;
     if let Ok(event) = read_event(alloc, 3, line) {
@@ -259,7 +259,7 @@ fn other_texts_are_no_command(rt: HostRuntime) -> Result<(), Fail> {
     Ok(())
 }
 
-/// What is printed of a check, without a line feed.
+/// What a check prints, without a line feed.
 fn verdict_of(alloc: Global, text: &str) -> Result<String, Fail> {
     let bytes = text.replace(alloc, "$", "\n")?;
     let mut out = String::new(alloc);

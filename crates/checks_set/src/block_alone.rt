@@ -68,7 +68,7 @@ fn told_of_block<R: Threads + Wait + Sync>(
     run_only_block(rt, alloc, &set, &mut pass, script.parts.as_slice(), held)
 }
 
-// Each line of the block is told of once, by place.
+// Each line of the block is reported once, by place.
 #[test]
 fn a_block_runs_its_lists_side_by_side(rt: HostRuntime) -> Result<(), Fail> {
     let held = Held::new();

@@ -7,13 +7,13 @@ use std::sync::atomic::{AtomicU64, Ordering};
 use std::test::Fail;
 use std::thread;
 
-/// As many lists as a block can have.
+/// The most lists that a block can have.
 pub const LISTS: u32 = 16;
 
 /// How many lines each has.
 pub const LINES: u32 = 50;
 
-// A bit for the place of each.
+// A bit for each one's place.
 const PLACES: u64 = 0xffff;
 
 // How often a list looks for the others.
@@ -74,8 +74,8 @@ pub fn block(alloc: Global) -> Result<String, AllocError> {
     Ok(script)
 }
 
-/// Whether as many events as there are lists are each of the line that some list begins with: the first of
-/// them comes after `set 1`, `par` and `thread`, and each list has a line `thread` of its own.
+/// Whether the first events, one for each list, are all of lines that lists begin with: the first such line
+/// comes after `set 1`, `par` and `thread`, and each list has a line `thread` of its own.
 fn are_first(events: &[Event]) -> bool {
     for event in events.iter().take(LISTS as usize) {
         if event.line % (LINES + 1) != 4 {
@@ -85,8 +85,8 @@ fn are_first(events: &[Event]) -> bool {
     true
 }
 
-// Where two lists run one after another the first never sees that all have passed. Where a list passed the
-// gate after its first line, those of all lists would be done before any second one.
+// If two lists ran one after another, the first would never see that all have passed. If a list passed the
+// gate after its first line, the first lines of all lists would be done before any second one.
 #[test]
 fn lists_run_side_by_side(rt: HostRuntime) -> Result<(), Fail> {
     let held = Held::new();

@@ -1,4 +1,4 @@
-// Disks that fail: each of a run's, in each of its calls in turn and in each way.
+// Disks that fail: each disk of a run, in each of its calls in turn and in each way.
 use crate::restarts::{are_answered, is_brought_back};
 use crate::running::{Failing, NOTHING, RUN, WRITTEN, ended};
 use std::alloc::Global;
@@ -6,8 +6,8 @@ use std::sync::Wait;
 use std::test::Fail;
 use std::thread::Threads;
 
-/// How many of a disk's calls come before all else, and how a run ends where one of these fails: its status,
-/// and what is put.
+/// How many calls of a disk come before everything else, and how a run ends if one of these fails: its
+/// status, and its output.
 #[derive(Clone, Copy, Drop)]
 struct Opening {
     calls: u32,
@@ -29,8 +29,8 @@ const CHECKPOINTS: Opening = Opening {
     put: "",
 };
 
-/// A new member is copied in all calls of its disks: two records are stored on the journal beside that of its
-/// form, and three on the checkpoints, and both are read again.
+/// All calls of a new member's disks are part of the copy: the journal gets two records besides that of its
+/// form, the checkpoints get three, and both are read again.
 const MEMBER: Opening = Opening {
     calls: 19,
     status: 8,
@@ -40,7 +40,7 @@ const MEMBER: Opening = Opening {
 /// A write that isn't flushed.
 const FIRST: &str = "set 1\ncampaign n0\ndrain n0\ninsert n0 t {_id: 1}\nrestart n0\nlog n0\n";
 
-/// A crash while a write of an earlier optime than another is open.
+/// A crash while a write is open that has an earlier optime than another.
 const HOLE_AND_CRASH: &str = "set 1\ncampaign n0\ndrain n0\nbegin n0 w1 insert t {_id: 1}
 begin n0 w2 insert t {_id: 2}\ncommit n0 w2\nflush n0\ncrash n0\nrestart n0\ncampaign n0\ndrain n0\nflush n0
 crash n0\nrestart n0\nrestart n0\nlog n0\n";
@@ -59,9 +59,9 @@ checkpoint n0\ncrash n0\nrestart n0\nread n0 majority t 1\nrestart n0\nlog n0\n"
 
 const SYNC: &[&str] = &["sync", "n0"];
 
-/// Words, a script, one of the set's disks, its opening, and how many calls it gets where none fails: a
-/// record that is stored takes four, and so does opening a file that has one. The nodes' journals and
-/// checkpoints come in turn, and after them those of a new member.
+/// Words, a script, one of the set's disks, its opening, and how many calls it gets if none fails: storing a
+/// record takes four, and so does opening a file that has one. The nodes' journals and checkpoints come in
+/// turn, and after them those of a new member.
 type OnDisk = (&'static [&'static str], &'static str, usize, Opening, u32);
 
 const DISKS: [OnDisk; 15] = [
@@ -85,8 +85,8 @@ const DISKS: [OnDisk; 15] = [
 /// How a call fails: as in a crash, and in power cuts that leave what these picks name.
 const PICKS: [Option<u64>; 4] = [None, Some(0), Some(1), Some(2)];
 
-/// Whether a run in which a call of a disk failed is as one in which none did, up to the command whose call
-/// it was: that one alone is refused for it.
+/// Whether a run in which a call of a disk failed is like one in which none did, up to the command whose call
+/// it was: only that command is refused for it.
 fn is_refused_once(put: &str, whole: &str) -> bool {
     match put.split_once(": refused 29 DiskFailed\n") {
         Some((before, after)) => whole.starts_with(before) && !after.contains("DiskFailed"),
@@ -109,7 +109,7 @@ fn is_refused<R: Threads + Wait + Sync>(
     is_brought_back(rt, alloc, script, put, failing)
 }
 
-/// Whether the run ends as it is to, whichever of the disk's calls fails, and in whichever way. After the
+/// Whether the run ends as it should, whichever of the disk's calls fails, and in whichever way. After the
 /// last call there is none to fail.
 fn is_borne<R: Threads + Wait + Sync>(rt: &R, alloc: Global, on: OnDisk) -> Result<bool, Fail> {
     let (words, script, disk, opening, calls) = on;

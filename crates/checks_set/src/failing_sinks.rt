@@ -1,4 +1,4 @@
-// Sinks and a source that fail in a call of theirs.
+// Sinks and a source that fail in one of their calls.
 use crate::failing_disks::TWO_LOST;
 use crate::running::{Failing, NOTHING, RUN, WRITTEN, ended};
 use std::alloc::Global;
@@ -103,7 +103,7 @@ const SINKS: [IntoSink; 7] = [
     ),
 ];
 
-/// Whether the first call that fails ends the run, and what was put is what comes before. After the last
+/// Whether the first call that fails ends the run, with the output of the calls before it. After the last
 /// call there is none to fail.
 fn is_borne<R: Threads + Wait + Sync>(rt: &R, alloc: Global, into: IntoSink) -> Result<bool, Fail> {
     let (words, script, told) = into;

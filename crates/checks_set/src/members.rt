@@ -1,4 +1,4 @@
-// A new member after a script: what is told of it, and of one that can't be made.
+// A new member after a script: the lines about it, and about one that can't be made.
 use crate::running::{Failing, NOTHING, WRITTEN, ended};
 use std::test::Fail;
 

@@ -1,4 +1,4 @@
-// What a node has that comes back after one of its disks failed.
+// What a node has when it comes back after one of its disks failed.
 use crate::running::{Failing, NOTHING, RUN, ended};
 use std::alloc::{AllocError, Global};
 use std::fmt::Write;
@@ -6,8 +6,8 @@ use std::sync::Wait;
 use std::test::Fail;
 use std::thread::Threads;
 
-/// Whether each `restart` of a script without blocks brings its node up, or is told that it isn't down, but
-/// for one in which a disk fails.
+/// Whether each `restart` of a script without blocks brings its node up, or is answered that it isn't down,
+/// except for one in which a disk fails.
 pub fn are_answered(script: &str, put: &str) -> bool {
     script
         .lines()
@@ -22,8 +22,8 @@ fn is_of_restart(reply: &str) -> bool {
         || reply.ends_with(": refused 29 DiskFailed")
 }
 
-/// Whether the node whose disk fails comes back as if it had crashed after the command whose call it was, or
-/// before it: with the log that was being stored, or with the one that was durable.
+/// Whether the node whose disk fails comes back as if it had crashed before the command whose call it was, or
+/// after it: with the log that was durable, or with the one that was being stored.
 pub fn is_brought_back<R: Threads + Wait + Sync>(
     rt: &R,
     alloc: Global,
@@ -45,7 +45,7 @@ pub fn is_brought_back<R: Threads + Wait + Sync>(
     Ok(back == log_after(rt, alloc, &durable, NOTHING)?)
 }
 
-/// The first lines of a script, and so many crashes of a node, then its restart and its log.
+/// The first lines of a script, and this many crashes of a node, then its restart and its log.
 fn cut_short(
     alloc: Global,
     script: &str,
@@ -65,7 +65,7 @@ fn cut_short(
     Ok(text)
 }
 
-/// What a script puts from the optime on with which its last restart brings a node up.
+/// The output of a script from the optime on with which its last restart brings a node up.
 fn log_after<R: Threads + Wait + Sync>(
     rt: &R,
     alloc: Global,

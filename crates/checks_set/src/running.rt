@@ -1,4 +1,4 @@
-// A script that is run on disks in memory.
+// Runs a script on disks in memory.
 ghost use Rattle.std.specs.Prelude.{◌≡◌, All, vec_len, IfOk};
 ghost use Rattle.rs_disk.specs.File.{IsEmpty};
 ghost use Rattle.rs_disk.specs.Memory.{state_of};
@@ -13,7 +13,7 @@ use std::sync::Wait;
 use std::test::Fail;
 use std::thread::Threads;
 
-/// The words that ask for a script to be run.
+/// The words that ask for a run of a script.
 pub const RUN: &[&str] = &["run"];
 
 /// A write that a set of one node has committed.
@@ -31,7 +31,7 @@ pub struct Failing<'a> {
     pub disk: usize,
     /// Which of its calls, from 1.
     pub call: u32,
-    /// What a power cut within the call leaves, where it is one.
+    /// What a power cut within the call leaves, if it is one.
     pub pick: Option<u64>,
 }
 
@@ -44,7 +44,7 @@ pub const NOTHING: Failing<'_> = Failing {
     pick: None,
 };
 
-/// How a run ends, and what it put, where the lists of a block pass a gate.
+/// How a run ends, and its output, where the lists of a block pass a gate.
 pub fn ran<G: Gate + Sync, R: Threads + Wait + Sync>(
     rt: &R,
     alloc: Global,
@@ -65,7 +65,7 @@ pub fn ran<G: Gate + Sync, R: Threads + Wait + Sync>(
     Ok((outcome, sink))
 }
 
-/// The status in which a run ends, and what it put.
+/// The status that a run ends with, and its output.
 pub fn ended<R: Threads + Wait + Sync>(
     rt: &R,
     alloc: Global,
@@ -85,7 +85,7 @@ fn text_of(alloc: Global, sink: &MemSink) -> Result<String, Fail> {
     }
 }
 
-/// As many empty disks as a set is given, of which one may fail.
+/// As many empty disks as a set is given, one of which may fail.
 fn disks_with(alloc: Global, failing: Failing<'_>) -> Result<Vec<MemDisk>, AllocError>
     ensures len { IfOk result (λ disks. vec_len disks ≡ 100) }
     ensures empty { IfOk result (λ disks.
@@ -98,7 +98,7 @@ fn disks_with(alloc: Global, failing: Failing<'_>) -> Result<Vec<MemDisk>, Alloc
     Ok(disks)
 }
 
-/// An empty disk, which fails in that call if it is to.
+/// An empty disk, which fails in that call if it should.
 fn disk(alloc: Global, is_armed: bool, call: u32, pick: Option<u64>) -> MemDisk
     ensures { IsEmpty (state_of result).file }
 {

@@ -1,4 +1,4 @@
-// A run is traced, and the trace checked.
+// Traces a run, and checks the trace.
 use crate::running::{NOTHING, ended};
 use std::test::Fail;
 
@@ -19,7 +19,7 @@ event 5 - 0 read n0 local t 1
 5: found {_id: 1}
 ";
 
-/// The same run, of which a reply is another one.
+/// The same run, with another reply in one place.
 const ANSWERED_OTHERWISE: &str = "trace 1 1 1\nevent 2 - 0 campaign n0\n2: won 2\n";
 
 #[test]

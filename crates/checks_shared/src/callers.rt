@@ -13,10 +13,10 @@ use std::sync::Wait;
 use std::test::Fail;
 use std::thread::{Threads, join, yield_now};
 
-// How many steps a caller does at most, to see one of the other.
+// The most steps that a caller does to see one of the other.
 const STEPS: u32 = 100_000;
 
-// Sets the clock of the only node to a time that no other step sets, and gives the place of the event.
+// Sets the clock of the only node to a time that no other step sets, and returns the place of the event.
 fn set_clock<R: Threads + Wait + Sync>(
     rt: &R,
     set: &SharedSet<MemDisk>,
@@ -36,7 +36,7 @@ fn set_clock<R: Threads + Wait + Sync>(
     }
 }
 
-// The place of the event and the time that is told, where a command sets a clock.
+// The event's place and the time in its reply, if the command sets a clock.
 fn clock_told<R: Threads + Wait + Sync>(
     rt: &R,
     set: &SharedSet<MemDisk>,
@@ -54,7 +54,7 @@ fn clock_told<R: Threads + Wait + Sync>(
     }
 }
 
-// Whether something stands between the place before and this one.
+// Whether there is something between the place before and this one.
 fn is_after_another(before: Option<u32>, place: u32) -> bool {
     match before {
         Some(before) => place.saturating_sub(before) > 1,
@@ -62,8 +62,8 @@ fn is_after_another(before: Option<u32>, place: u32) -> bool {
     }
 }
 
-// Does steps until one of the other caller stands between two of its own, each of which is answered by the
-// time that it sets.
+// Does steps until one of the other caller's is between two of its own, each answered with the time that it
+// sets.
 fn meets<R: Threads + Wait + Sync>(
     rt: &R,
     set: &SharedSet<MemDisk>,

@@ -1,4 +1,4 @@
-// Threads that step one set, read it linearly and follow its changes, each by a pass of its own. Once it is
+// Threads that step one set, read it linearly and follow its changes, each by a pass of its own. After it is
 // closed, its history has the calls of each in their order, and nothing else.
 ghost use Rattle.std.specs.Prelude.{◌≡◌, true};
 ghost use Rattle.set_model.specs.Limits.{is_for};
@@ -19,10 +19,10 @@ use std::sync::Wait;
 use std::test::Fail;
 use std::thread::{Threads, join};
 
-// So often they meet.
+// How often they meet.
 const MEETINGS: u32 = 100;
 
-// What one does with a set of two nodes, of which the first is the only member.
+// What a thread does with a set of two nodes, of which the first is the only member.
 #[derive(Clone, Copy, Debug, PartialEq, Eq)]
 enum Task {
     Elect,
@@ -35,7 +35,7 @@ fn both(one: bool, two: bool) -> bool {
     one && two
 }
 
-// Does two commands, which stand on the same line.
+// Does two commands, on the same line.
 fn steps<R: Threads + Wait + Sync, S: Stepper>(
     rt: &R,
     set: &mut S,
@@ -111,7 +111,7 @@ fn does<R: Threads + Wait + Sync, S: Stepper>(
     }
 }
 
-// The same by a pass, which keeps its parts. Whether each step was done.
+// The same with a pass, which keeps its parts. The result is whether each step was done.
 fn calls<R: Threads + Wait + Sync>(
     rt: &R,
     alloc: Global,
@@ -150,7 +150,7 @@ fn call_by<R: Threads + Wait + Sync>(
     (done, pass)
 }
 
-// One thread reads, and another one follows the changes. They hand their passes back as one.
+// One thread reads, and another one follows the changes. They hand their passes back, joined into one.
 fn read_and_follow<R: Threads + Wait + Sync>(
     rt: &R,
     alloc: Global,
@@ -181,7 +181,7 @@ fn read_and_follow<R: Threads + Wait + Sync>(
     (read && followed, reader)
 }
 
-// Whose an event of the history is, by its line and command.
+// The thread whose event this is, by its line and command.
 fn task_of(event: &Event) -> Task {
     match event.line {
         1 => Task::Elect,

@@ -1,4 +1,4 @@
-// A copy of what a node did: memory suffices, and it says what was copied, also when that is gone.
+// A copy of what a node did: memory suffices, and it has what was copied, even after the original is gone.
 use node_core::Done;
 use repl_msg::{Body, Message};
 use rs_optime::OpTime;
@@ -7,7 +7,7 @@ use std::test::Fail;
 
 const AT: OpTime = OpTime { term: 1, ts: 2 };
 
-/// Whether one message was sent, which asks what comes after an optime.
+/// Whether exactly one message was sent, which asks what comes after an optime.
 fn asks(sent: &[Message]) -> bool {
     let [message] = sent else {
         return false;

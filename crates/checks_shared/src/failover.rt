@@ -17,7 +17,7 @@ use std::sync::Wait;
 use std::test::Fail;
 use std::thread::Threads;
 
-// An entry of an older term comes to stand on a majority: it is committed with the next term's first one.
+// An entry of an older term reaches a majority: it is committed together with the next term's first one.
 const FAILOVER: &str = "set 3\ncampaign n0\ndeliver m0\ndeliver m2\ndrain n0\ninsert n0 t {_id: 1}
 heartbeat n0 n1\ndeliver n0 n1\nfetch n1\ndeliver n1 n0\ndeliver n0 n1\nflush n1
 campaign n1\ndeliver m8\ndeliver m9
@@ -61,7 +61,7 @@ fn follow<R: Threads + Wait + Sync>(
     Ok(())
 }
 
-// The set after the script, and all that the stream gave.
+// The set after the script, and everything that the stream gave.
 fn followed<R: Threads + Wait + Sync>(
     rt: &R,
     alloc: Global,
@@ -95,7 +95,7 @@ fn is_insert(op: &Op, collection: &Text, document: &Doc) -> bool {
     }
 }
 
-// Whether two ops are one. This script logs only inserts and no-ops.
+// Whether two ops are the same. This script logs only inserts and no-ops.
 fn does_the_same(one: &Op, other: &Op) -> bool {
     match one {
         Op::Insert { ns, o } => is_insert(other, ns, o),

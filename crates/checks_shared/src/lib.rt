@@ -1,5 +1,5 @@
 //! What no clause says of one set that callers and readers step: that they run side by side, and that a
-//! stream is told all that is committed.
+//! stream gets everything that is committed.
 #![tactic(auto)]
 
 #[cfg(test)]

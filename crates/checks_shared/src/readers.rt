@@ -17,16 +17,16 @@ use std::sync::Wait;
 use std::test::Fail;
 use std::thread::{Threads, join};
 
-// So often they meet.
+// How often they meet.
 const MEETINGS: u32 = 100;
 
 // The first of three nodes becomes primary.
 const ELECTED: &str = "set 3\ncampaign n0\ndeliver m0\ndeliver m2\ndrain n0\n";
 
-// A writer of it writes a document.
+// One of its writers writes a document.
 const WRITTEN: &str = "set 3\nbegin n0 w1 insert t {_id: 1}\ncommit n0 w1\n";
 
-// A read that waits is tried again so often: it does so only while others are in its way.
+// How often a read that has to wait is tried again: it waits only while others are in its way.
 const TRIES: u32 = 1000;
 
 // Plays a script without blocks on a set of three nodes.
@@ -60,7 +60,7 @@ fn answer<R: Threads + Wait + Sync, S: Stepper>(
     linear_read(alloc, rt, set, 0, 3, "t", &Value::Int32(1))
 }
 
-// The same, of one who has a pass.
+// The same, with a pass.
 fn read<R: Threads + Wait + Sync>(
     rt: &R,
     alloc: Global,
@@ -79,7 +79,8 @@ fn read<R: Threads + Wait + Sync>(
     answer
 }
 
-// Whether too few have a read's note: beside others it may be so, since each may take what another fetched.
+// Whether too few have a read's note: that can happen next to other reads, since each can take what another
+// fetched.
 fn waits(answer: &Result<LinearAnswer, StepError>) -> bool {
     match answer {
         Ok(LinearAnswer::Refused(why)) => matches!(why, Refusal::Waiting { .. }),
@@ -91,12 +92,12 @@ fn is_found(answer: &Result<LinearAnswer, StepError>) -> bool {
     matches!(answer, Ok(LinearAnswer::Found(_)))
 }
 
-// Whether a read is answered as one may be beside others.
+// Whether a read's answer is possible next to other reads.
 fn may_be(answer: &Result<LinearAnswer, StepError>) -> bool {
     matches!(answer, Ok(LinearAnswer::Found(_) | LinearAnswer::Missing)) || waits(answer)
 }
 
-// A reader: whether its read is answered as it may be.
+// A reader: whether its read's answer is possible.
 fn reads<R: Threads + Wait + Sync>(
     rt: &R,
     alloc: Global,
@@ -109,7 +110,7 @@ fn reads<R: Threads + Wait + Sync>(
     may_be(&read(rt, alloc, set, &mut pass))
 }
 
-// Whether a read shows the document, once others let it end: one that misses it shows that it isn't there.
+// Whether a read shows the document, after others let it end: one that misses it shows that it isn't there.
 fn is_shown<R: Threads + Wait + Sync, S: Stepper>(rt: &R, alloc: Global, set: &mut S) -> bool
     requires nodes { (S.sizes set.old).nodes ≡ 3 }
     ensures sizes { S.sizes set.new ≡ S.sizes set.old }
@@ -136,7 +137,7 @@ fn is_acked<R: Threads + Wait + Sync, S: Stepper>(rt: &R, set: &mut S) -> bool
     is_answered_so(rt, set, &ack)
 }
 
-// Whether a command is answered by an acknowledgement.
+// Whether the reply to a command is an acknowledgement.
 fn is_answered_so<R: Threads + Wait + Sync, S: Stepper>(
     rt: &R,
     set: &mut S,
@@ -148,7 +149,7 @@ fn is_answered_so<R: Threads + Wait + Sync, S: Stepper>(
     matches!(set.step(rt, 0, command), Ok(Reply::Acked(_)))
 }
 
-// The writer: whether it writes and a read brings that to the others, a majority then acknowledges it, and a
+// The writer: whether it writes, a read brings that to the others, a majority then acknowledges it, and a
 // read that begins after this answer shows it.
 fn writes<R: Threads + Wait + Sync>(
     rt: &R,
@@ -179,7 +180,7 @@ fn writes<R: Threads + Wait + Sync>(
     holds
 }
 
-// Two readers: whether the reads of both are answered as they may be.
+// Two readers: whether the answers of both reads are possible.
 fn two_read<R: Threads + Wait + Sync>(
     rt: &R,
     alloc: Global,
@@ -203,7 +204,7 @@ fn two_read<R: Threads + Wait + Sync>(
     first && second
 }
 
-// Whether all are answered as they may be, and a read after them shows the document.
+// Whether all answers are possible, and a read after them shows the document.
 fn meet<R: Threads + Wait + Sync>(rt: &R, alloc: Global) -> Result<bool, Fail> {
     let (set, mut pass) = shared(alloc, 3, 3, 3)?;
     let one = set.split(&mut pass);

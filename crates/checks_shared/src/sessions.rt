@@ -1,4 +1,4 @@
-// A write of a session that is asked for again, and once more where it was rolled back.
+// A session's write that is asked for again, and once more after it was rolled back.
 ghost use Rattle.std.specs.Prelude.{◌≡◌, true};
 ghost use Rattle.std.specs.List.{list_all};
 ghost use Rattle.fault_script.specs.Script.{is_part_for};
@@ -13,7 +13,8 @@ use std::alloc::Global;
 use std::test::Fail;
 use std::thread::Threads;
 
-// The first node writes it, and is asked again. It rolls the write back, is elected anew, and is asked twice.
+// The first node writes it, and is asked again. It rolls the write back, is elected again, and is asked
+// twice.
 const ASKED_AGAIN: &str =
     "set 3\ncampaign n0\ndeliver n0 n1\ndeliver n1 n0\ndrain n0\nheartbeat n0 n1\ndeliver n0 n1
 fetch n1\ndeliver n1 n0\ndeliver n0 n1\nretry n0 7 1 insert t {_id: 1}\nretry n0 7 1 insert t {_id: 1}
@@ -22,7 +23,7 @@ common n0 n1\ndeliver n0 n1\ndeliver n1 n0\nfetch n0\ndeliver n0 n1\ndeliver n1 
 campaign n0\ndeliver n0 n2\ndeliver n2 n0\ndrain n0
 retry n0 7 1 insert t {_id: 1}\nretry n0 7 1 insert t {_id: 1}\n";
 
-// Where the write stands by each answer.
+// The optime of the write in each answer.
 const EXPECTED: [OpTime; 4] = [
     OpTime { term: 1, ts: 2 },
     OpTime { term: 1, ts: 2 },
@@ -30,7 +31,7 @@ const EXPECTED: [OpTime; 4] = [
     OpTime { term: 3, ts: 4 },
 ];
 
-// Does each line, and keeps the optimes of what is answered to be written.
+// Does each line, and keeps the optimes that are answered as written.
 fn written<R: Threads + Sync>(
     rt: &R,
     alloc: Global,

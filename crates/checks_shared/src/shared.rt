@@ -15,7 +15,7 @@ use std::sync::Wait;
 use std::test::Fail;
 use std::thread::Threads;
 
-// A set of so many nodes on empty disks.
+// A set of this many nodes on empty disks.
 pub fn set_of(alloc: Global, nodes: u32, voters: u32, members: u32) -> Result<World<MemDisk>, Fail>
     requires sizes { AreSizes (record { nodes = nodes; voters = voters; members = members }) }
     ensures sizes { IfOk result (λ world.
@@ -29,7 +29,7 @@ pub fn set_of(alloc: Global, nodes: u32, voters: u32, members: u32) -> Result<Wo
 
 pub type Shared = (SharedSet<MemDisk>, Pass<MemDisk>);
 
-// A set of so many nodes on empty disks, which is shared.
+// A shared set of this many nodes on empty disks.
 pub fn shared(alloc: Global, nodes: u32, voters: u32, members: u32) -> Result<Shared, Fail>
     requires sizes { AreSizes (record { nodes = nodes; voters = voters; members = members }) }
     ensures pass { IfOk result (λ shared. IsPass shared.0 shared.1 × IsFree shared.1) }
@@ -43,7 +43,7 @@ pub fn shared(alloc: Global, nodes: u32, voters: u32, members: u32) -> Result<Sh
     Ok(shared)
 }
 
-// Whether each part that is a line is answered.
+// Whether each part that is a line has a reply.
 pub fn are_stepped<R: Threads + Wait + Sync>(
     rt: &R,
     set: &SharedSet<MemDisk>,
@@ -64,7 +64,7 @@ pub fn are_stepped<R: Threads + Wait + Sync>(
     true
 }
 
-// A write that two of three nodes have, and that the one which wrote it knows to be committed.
+// A write that two of three nodes have, and that its writer knows to be committed.
 const COMMITTED: &str =
     "set 3\ncampaign n0\ndeliver m0\ndeliver m2\ndrain n0\ninsert n0 t {_id: 1}\nflush n0
 heartbeat n0 n1\ndeliver n0 n1\nfetch n1\ndeliver n1 n0\ndeliver n0 n1\nflush n1\nreport n1 n0\ndeliver n1 n0\n";

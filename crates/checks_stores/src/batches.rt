@@ -17,7 +17,7 @@ use version_store::VersionStore;
 // How often the first worker looks for the second.
 const TURNS: u32 = 1_000_000;
 
-// Entries so few that workers take no threads, and enough for four.
+// So few entries that workers take no threads, and enough for four.
 const FEW: u32 = 300;
 
 const MANY: u32 = 4000;
@@ -36,7 +36,7 @@ fn insert(alloc: Global, id: i32) -> Result<Op, Fail>
     Ok(Op::Insert { ns, o })
 }
 
-// `n` is set in a document that is there.
+// `n` is set in an existing document.
 fn update(alloc: Global, id: i32, n: i32) -> Result<Op, Fail>
     ensures { IfOk result (λ op.
         (ts : ℕ) → IsLawful (record { optime = record { term = 1; ts = ts }; op = op; session = None })) }
@@ -139,8 +139,7 @@ fn applied<R: Threads + Sync, G: Gate + Sync>(
     Ok(store)
 }
 
-// What a read at an optime shows of a document's `n`: none where there is no document, and 0 where
-// it has none.
+// What a read at an optime shows of a document's `n`: none if there is no document, and 0 if it has no `n`.
 fn n_at(store: &VersionStore, id: i64, ts: u64) -> Option<i32> {
     let document = store.read_at("t", &IdKey::Number(id), OpTime { term: 1, ts })?;
     match document.get("n") {
@@ -192,7 +191,7 @@ impl Gate for Held {
     }
 }
 
-// So many changes of one document.
+// This many changes of one document.
 fn of_one_document(alloc: Global, count: u32) -> Result<Vec<Change>, Fail>
     requires { count ≤ 5000 }
 {
@@ -204,7 +203,8 @@ fn of_one_document(alloc: Global, count: u32) -> Result<Vec<Change>, Fail>
     Ok(changes)
 }
 
-// A thread has nothing to do where all entries are on one document. Each worker passes the gate all the same.
+// If all entries are on one document, all threads but one have nothing to do. Each worker passes the gate all
+// the same.
 #[test]
 fn workers_without_a_shard_pass_the_gate(rt: HostRuntime) -> Result<(), Fail> {
     for count in [MANY, FEW] {
@@ -257,7 +257,8 @@ fn workers_run_side_by_side(rt: HostRuntime) -> Result<(), Fail> {
     Ok(())
 }
 
-// So many entries, each on one of forty documents, in turns that `first` begins. A third of them deletes.
+// This many entries, each on one of forty documents, in turns that `first` begins. A third of them are
+// deletes.
 fn in_turns(alloc: Global, first: u32, count: u32) -> Result<Vec<Change>, Fail>
     requires { (first ≤ 200) × (count ≤ 5000) }
 {
@@ -273,7 +274,7 @@ fn in_turns(alloc: Global, first: u32, count: u32) -> Result<Vec<Change>, Fail>
     Ok(changes)
 }
 
-// At each of so many optimes each of the forty documents is the same in both.
+// At each of this many optimes, each of the forty documents is the same in both.
 fn are_same(one: &VersionStore, other: &VersionStore, count: u32) -> bool {
     for id in 0..40 {
         for ts in 1..=u64::from(count) {
@@ -285,7 +286,7 @@ fn are_same(one: &VersionStore, other: &VersionStore, count: u32) -> bool {
     true
 }
 
-// Whether 1, 2, 7 and 16 workers leave the same of such a batch.
+// Whether 1, 2, 7 and 16 workers leave the same after such a batch.
 fn leave_the_same<R: Threads + Sync>(
     rt: &R,
     alloc: Global,

@@ -8,7 +8,7 @@ use std::test::Fail;
 use std::thread::{Threads, join, yield_now};
 use turn_board::{Board, Pass, Turned};
 
-// How many turns a caller takes at most, to see the other.
+// The most turns that a caller takes to see the other.
 const TURNS: u32 = 2_000_000;
 
 // The marks that callers left. Point 0 counts them.
@@ -41,7 +41,7 @@ impl Turned for Marks {
     fn recall_sound(&self) {}
 }
 
-// Leaves its mark unless it is there or memory is short, and says whether the other's is there.
+// Leaves its mark unless it is there or memory is short. The result is whether the other's is there.
 fn take_turn<R: Wait>(
     rt: &R,
     board: &Board<Marks>,

@@ -78,7 +78,7 @@ fn copied(alloc: Global, pinned: &Pinned, target: Target) -> Target
     }
 }
 
-// What a journal and checkpoints have that are opened on the disks.
+// What the journal and the checkpoints have, opened on the disks.
 #[derive(Clone, Copy, Debug, PartialEq, Eq)]
 struct Contents {
     records: u64,
@@ -218,7 +218,7 @@ fn a_copy_of_documents_goes_on_where_it_was_cut_off(rt: HostRuntime) -> Result<(
     Ok(())
 }
 
-// What a copy of this many entries answers where another one stands, with what is there then.
+// The result of a copy of this many entries onto disks that have another one, and what is there then.
 fn over_another(alloc: Global, term: u64, count: u64) -> Result<(Option<CopyError>, Contents), Fail>
     requires some { 0 < count }
     requires few { count < 2 ^ 32 }

@@ -1,4 +1,4 @@
-// What a node of a running set pins of a log of 1,001 documents, which a checkpoint has in two pieces.
+// What a node of a running set pins of a log of 1,001 documents, which a checkpoint stores in two pieces.
 ghost use Rattle.std.specs.Prelude.{◌≡◌, true, IfOk};
 ghost use Rattle.std.specs.List.{list_all};
 ghost use Rattle.fault_script.specs.Script.{is_part_for};

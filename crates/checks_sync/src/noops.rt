@@ -7,7 +7,7 @@ use oplog_entry::{Entry, SharedOp};
 use rs_optime::{Mem, OpTime};
 use std::alloc::Global;
 
-/// So many entries of term 1, pinned at the last, by a member in this term.
+/// This many entries of term 1, pinned at the last one, by a member in this term.
 pub(crate) fn noops(alloc: Global, term: u64, count: u64) -> Mem<Pinned>
     requires some { 0 < count }
     requires few { count < 2 ^ 32 }

@@ -1,5 +1,5 @@
-// A copy of the documents as of an optime: memory suffices, and it says what was copied, also when
-// that is gone.
+// A copy of the documents as of an optime: memory suffices, and it has what was copied, even after the
+// original is gone.
 use bson_doc::{Doc, IdKey, Text, Value};
 use checkpoint_store::{DocumentMap, Stable};
 use rs_optime::OpTime;

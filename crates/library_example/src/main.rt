@@ -24,7 +24,7 @@ fn main(rt: HostRuntime) -> Result<()> {
     Ok(())
 }
 
-/// Does one event more in the set, and gives the text of its reply.
+/// Does one more event in the set, and returns the text of its reply.
 fn tell<R: Threads + Sync>(
     rt: &R,
     alloc: Global,

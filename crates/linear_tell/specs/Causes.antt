@@ -1,4 +1,4 @@
--- Why a linear read stops where the sink refuses.
+-- Why a linear read stops when the sink fails.
 use Rattle.rs_io.specs.declared.sink.SinkError.{SinkError}
 use Rattle.rs_io.specs.declared.sink.SinkError.TheVariants.{Failed, Memory as NoRoom}
 use Rattle.linear_tell.specs.declared.stop.LinearStop.{LinearStop}

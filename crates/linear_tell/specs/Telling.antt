@@ -1,4 +1,4 @@
--- What a linear read that words ask for asks, and what is put of it.
+-- What a linear read, asked for by words, asks the set, and what it puts.
 use Rattle.std.specs.Prelude.{◌≡◌, ◌⊎◌, ◌≤◌, ◌<◌, ℕ, Bool, true, false, List, length, take, Option, Result, Ok, Err}
 use Rattle.std.specs.Io.KnownBytes.{Appends, Keeps}
 use Rattle.set_model.specs.declared.command.Event.{Event}
@@ -20,7 +20,7 @@ told_of (answers.Found o) = Found o
 told_of answers.Missing = Missing
 told_of (answers.Refused why) = IsRefused why
 
--- all of a text is put, or a prefix of it where the sink fails; out of memory, nothing
+-- all of a text is put, or a prefix of it if the sink fails; nothing if memory runs out
 abbrev pub PutsText : Option (List ℕ) → Option (List ℕ) → List ℕ → Result (Unit {0}) LinearStop → Type 0
 PutsText held now text (Ok done) = Appends held now text
 PutsText held now text (Err Refused) = ⊥
@@ -28,15 +28,14 @@ PutsText held now text (Err WriteFault) = (count : ℕ) × Appends held now (tak
 PutsText held now text (Err Memory) = Keeps held now
 
 module _ (alone : Bool) (sizes : Sizes) (linear : Linear) (old new : List Event) where
-  -- the set has got the node, which answers the five points so, and what it shows is the answer of a linear
-  -- read of this call
+  -- the set has the node, the five points get this answer, and it is that of a linear read in this call
   abbrev pub Answers : LinearAnswer → Type 0
   Answers answer =
       (linear.node < sizes.nodes)
       × IsHeld alone sizes old new (points linear.node sizes.nodes linear.collection linear.id) answer
       × IsShown sizes new (length old) linear.node linear.collection linear.id answer
 
-  -- The result of the read. A set that hasn't got the node is asked nothing.
+  -- The result of the read. A set that doesn't have the node is asked nothing.
   abbrev pub Comes : LinearTold → Type 0
   Comes (Found o) = Answers (answers.Found o)
   Comes Missing = Answers answers.Missing
@@ -49,8 +48,8 @@ module _ (alone : Bool) (sizes : Sizes) (linear : Linear) (old new : List Event)
       (linear.node < sizes.nodes)
       × IsBrokenOff alone sizes old new (points linear.node sizes.nodes linear.collection linear.id)
 
-  -- The line that tells the result of the read is put. Where the sink fails, a prefix of it; out of memory,
-  -- nothing, and the read may be broken off.
+  -- The line of the read's result is put. If the sink fails, a prefix of it is; if memory runs out, nothing
+  -- is, and the read may be broken off.
   abbrev pub Tells : Option (List ℕ) → Option (List ℕ) → Result (Unit {0}) LinearStop → Type 0
   Tells held now (Ok done) =
       (told : LinearTold) × Comes told × (is_refusal told ≡ false) × Appends held now (told_text told)

@@ -1,4 +1,4 @@
-//! A linear read that words ask for is done, and the line that tells its result is put.
+//! Does a linear read that words ask for, and puts the line of its result.
 #![tactic(auto)]
 
 mod stop;

@@ -1,4 +1,4 @@
-// Why a linear read tells no document.
+// Why a linear read gives no answer.
 ghost use Rattle.std.specs.Prelude.{◌≡◌};
 ghost use Rattle.linear_tell.specs.Causes.{of_sink};
 ghost use Rattle.linear_tell.specs.declared.stop.LinearStop.TheVariants.{Memory as IsMemory};
@@ -7,10 +7,10 @@ use rs_io::SinkError;
 use set_world::StepError;
 use std::alloc::AllocError;
 
-/// Why a linear read that words ask for came to nothing.
+/// Why a linear read that words ask for has no answer.
 #[derive(Clone, Copy, Debug, PartialEq, Eq)]
 pub enum LinearStop {
-    /// It was refused, and that was told.
+    /// It was refused, and the line that says so was put.
     Refused,
     /// The sink failed.
     WriteFault,
@@ -40,7 +40,7 @@ impl From<SinkError> for LinearStop {
 impl From<StepError> for LinearStop {
     ghost from_gives = { λ _ s. s ≡ IsMemory };
 
-    // A history that is full has no room for one event more.
+    // A full history has no room for one more event.
     fn from(_: StepError) -> Self {
         LinearStop::Memory
     }

@@ -13,11 +13,10 @@ use std::alloc::Global;
 use std::sync::Wait;
 use std::thread::Threads;
 
-/// Does a linear read, and puts the line that tells its result by one call. `size` is how many nodes the
-/// set has.
+/// Does a linear read, and puts the line of its result by one call. `size` is how many nodes the set has.
 ///
 /// # Errors
-/// `Refused` where the read was refused or the set hasn't got the node; `WriteFault` where the sink failed;
+/// `Refused` where the read was refused or the set doesn't have the node; `WriteFault` where the sink failed;
 /// `Memory` also where the history is full.
 pub fn tell<R: Threads + Wait + Sync, S: Stepper, K: Sink>(
     rt: &R,
@@ -45,7 +44,7 @@ pub fn tell<R: Threads + Wait + Sync, S: Stepper, K: Sink>(
     }
 }
 
-/// Does a linear read, where the set has got the node.
+/// Does a linear read, if the set has the node.
 fn read<R: Threads + Wait + Sync, S: Stepper>(
     rt: &R,
     alloc: Global,

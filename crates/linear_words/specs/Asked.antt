@@ -17,7 +17,7 @@ use Rattle.linear_words.specs.declared.asked.Linear.{Linear}
 abbrev pub collection_of : List ℕ → Option (List ℕ)
 collection_of word = if is_collection word then Some word else None
 
--- a value that ends so far
+-- a value that ends here
 abbrev pub if_ends : ℕ → Result (Tree × ℕ) TextError → Option Value
 if_ends end (Ok value) = if value.1 == end then Some (value_of value.0) else None
 if_ends end (Err error) = None

@@ -1,4 +1,4 @@
--- The line that tells the result of a linear read.
+-- The line of a linear read's result.
 use Rattle.std.specs.Prelude.{ℕ, Bool, true, false, List, ◌++◌, codes}
 use Rattle.bson_doc.specs.Tree.{document}
 use Rattle.doc_text.specs.Printing.{printed}
@@ -6,7 +6,7 @@ use Rattle.transcript.specs.Refusals.{refusal_text}
 use Rattle.linear_words.specs.declared.told.LinearTold.{LinearTold}
 use Rattle.linear_words.specs.declared.told.LinearTold.TheVariants.{Found, Missing, Refused, NoSuchNode}
 
--- a refusal is told as in a transcript
+-- a refusal reads as in a transcript
 abbrev pub told_text : LinearTold → List ℕ
 told_text (Found o) = codes "linear found " ++ printed (document o) ++ codes "\n"
 told_text Missing = codes "linear missing\n"

@@ -1,4 +1,4 @@
-// Which document is to be read.
+// The document to be read.
 ghost use Rattle.std.specs.Prelude.{◌≡◌, true, IfOk};
 ghost use Rattle.set_model.specs.Limits.{is_collection};
 ghost use Rattle.linear_words.specs.Asked.{collection_of, id_of, linear_of, whole_value};
@@ -44,7 +44,7 @@ impl Model for Collection {
 }
 
 impl Collection {
-    /// The collection that a word names; none, where it names none.
+    /// The collection that a word names; none for another word.
     fn read(alloc: Global, word: &str) -> Mem<Option<Self>>
         ensures { IfOk result (λ collection. collection ≡ collection_of word.now) }
     {
@@ -64,7 +64,7 @@ impl Collection {
     }
 }
 
-/// The linear read that some words ask for; none where they ask for nothing.
+/// The linear read that some words ask for; none where the words are wrong.
 pub fn read_linear(alloc: Global, node: &str, collection: &str, id: &str) -> Mem<Option<Linear>>
     ensures { IfOk result (λ linear. linear ≡ linear_of node.now collection.now id.now) }
 {
@@ -84,7 +84,7 @@ pub fn read_linear(alloc: Global, node: &str, collection: &str, id: &str) -> Mem
     }))
 }
 
-/// The value that a word spells, where it doesn't begin with `-`.
+/// The value that a word spells, if it doesn't begin with `-`.
 fn read_id(alloc: Global, word: &str) -> Mem<Option<Value>>
     ensures { IfOk result (λ id. id ≡ id_of word.now) }
 {

@@ -1,4 +1,4 @@
-//! The words that ask for a linear read, and the line that tells its result.
+//! The words that ask for a linear read, and the line of its result.
 #![tactic(auto)]
 
 mod asked;

@@ -1,4 +1,4 @@
-// The line that tells the result of a linear read.
+// The line of a linear read's result.
 ghost use Rattle.std.specs.Prelude.{◌≡◌, OnOk, string_bytes};
 ghost use Rattle.linear_words.specs.Texts.{told_text};
 
@@ -7,7 +7,7 @@ use bson_doc::Mem;
 use doc_text::write_document;
 use transcript::write_refusal;
 
-/// Writes the line into `text` in place of what stood there. After out of memory `text` is of no use.
+/// Writes the line into `text` in place of what was there. If memory runs out, `text` is of no use.
 pub fn set_told(told: &LinearTold, text: &mut String) -> Mem<()>
     ensures { OnOk result (string_bytes text.new ≡ told_text told.now) }
 {

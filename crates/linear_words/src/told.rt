@@ -13,7 +13,7 @@ pub enum LinearTold {
     Missing,
     /// The node refused.
     Refused(Refusal),
-    /// The set hasn't got the node.
+    /// The set doesn't have the node.
     NoSuchNode,
 }
 

@@ -185,7 +185,7 @@ impl Verb {
         }
     }
 
-    /// How many words a line with this first word has after it.
+    /// How many words follow this first word on a line.
     pub fn shape(self) -> Shape
         ensures { result ≡ shape_of self }
     {
@@ -209,7 +209,7 @@ impl Keyword {
         }
     }
 
-    /// How many words a line with this first word has after it.
+    /// How many words follow this first word on a line.
     pub fn shape(self) -> Shape
         ensures { result ≡ keyword_shape self }
     {

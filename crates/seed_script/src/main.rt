@@ -6,7 +6,7 @@ use std::io::Write;
 use std::process::ExitCode;
 use task_words::read_wanted;
 
-/// The status of a run that finds no memory.
+/// The status of a run out of memory.
 const NO_MEMORY: u8 = 1;
 
 /// The status of a run whose words ask for no script.

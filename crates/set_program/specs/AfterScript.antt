@@ -20,7 +20,7 @@ pub record AfterScript {D : Type 0} (parts : List Part) (old : Option (List ℕ)
   pub transcript : Appends old told (text (run set.sizes scripted))
   pub work : Holds scripted told
 
--- How a task ends whose work comes after a script: the script stopped, or this holds of the work.
+-- How a task with work after its script ends: the script stopped, or this holds of the work.
 abbrev pub EndsAfterScript : {D : Type 0} → List Part → Option (List ℕ) → Option (List ℕ)
     → (Result (Unit {0}) Stop → List Event → Option (List ℕ) → Type 0) → Result (Unit {0}) Stop → Set D
     → Type 0

@@ -1,4 +1,4 @@
--- What a block comes to: each of its lists is run with a pass of its own, and the passes are joined.
+-- What a block does: each of its lists is run with a pass of its own, and the passes are joined.
 use Rattle.std.specs.Prelude.{ℕ, ◌≡◌, ◌<◌, ◌≤◌, ◌==◌, Bool, All, List, [], ◌∷◌, ◌++◌, Result, Ok, Err, Vec, length, map, take, if◌then◌else◌}
 use Rattle.std.specs.List.{AllByRecursion, AllZip, Contains}
 use Rattle.std.specs.List.Sorted.{IsNonDecreasingBy}
@@ -25,7 +25,7 @@ AreOf lines events = map line_of events ≡ lines
 abbrev pub AreOfSome : List (ℕ × Command) → List Event → Type 0
 AreOfSome lines events = IsPrefix (map line_of events) lines
 
--- the calls come first among those that the turns have of their pass
+-- the calls are the first ones of their pass among the turns
 abbrev pub IsSeen : List (ℕ × Event) → ℕ × List Event → Type 0
 IsSeen turns calls = IsPrefix calls.1 (calls_by calls.0 turns)
 
@@ -38,7 +38,8 @@ told_of sizes is_one before (turn ∷ later) =
     ∷ told_of sizes is_one (before ++ turn.1 ∷ []) later
     else told_of sizes is_one (before ++ turn.1 ∷ []) later
 
--- this is told of the calls of a pass among the turns after these events, one after another
+-- these are the places, lines and replies of a pass's calls among the turns after these events, one after
+-- another
 abbrev pub IsToldOf : Sizes → List Event → List (ℕ × Event) → ℕ × List Event → List (ℕ × ℕ × Reply) → Type 0
 IsToldOf sizes before later calls told =
     told ≡ take (length calls.1) (told_of sizes (λ pass. calls.0 == pass) before later)
@@ -68,7 +69,7 @@ pub record RanBlock {F : Type 0} (So : List (ℕ × Command) → List Event → 
   pub parts : w.parts ≡ v.parts
   pub answers : IsPrefix v.answers w.answers
 
--- What the calls of all lists are told, by rising place.
+-- The places, lines and replies of all lists' calls, by rising place.
 pub record TellsBlock {F : Type 0} (sizes : Sizes) (lists : List (List (ℕ × Command))) (v w : View Event F)
     (told : List (ℕ × ℕ × Reply)) : Type 0 where
   pub ran : RanBlock AreOf lists v w
@@ -77,7 +78,8 @@ pub record TellsBlock {F : Type 0} (sizes : Sizes) (lists : List (List (ℕ × C
   pub merged : IsMerge each told
   pub rises : Rises told
 
--- What passes tried in vain before and after a block: those that were joined tried lines of its lists.
+-- What passes tried without success before and after a block: those that were joined tried lines of its
+-- lists.
 abbrev pub TriedBlock : List (List (ℕ × Command)) → List (List (ℕ × Command)) → List (List (ℕ × Command))
     → Type 0
 TriedBlock lists before after = (joined : List (List (ℕ × Command))) × (after ≡ before ++ joined)
@@ -87,7 +89,7 @@ TriedBlock lists before after = (joined : List (List (ℕ × Command))) × (afte
 abbrev pub KeepsShort : {F : Type 0} → View Event F → View Event F → Type 0
 KeepsShort v w = length (seen v) ≤ HISTORY_LIMIT → length (seen w) ≤ HISTORY_LIMIT
 
--- a whole run goes on as one
+-- a defined run stays defined
 abbrev pub KeepsRun : {F : Type 0} → Sizes → View Event F → View Event F → Type 0
 KeepsRun sizes v w = IsRun sizes (seen v) → IsRun sizes (seen w)
 
@@ -118,11 +120,11 @@ pub record RanList {F : Type 0} (So : List Event → Type 0) (v w : View Event F
   pub parts : w.parts ≡ v.parts
   pub answers : w.answers ≡ v.answers
 
--- what a new pass tried in vain, each a line of the list
+-- what a new pass tried without success, each a line of the list
 abbrev pub TriedList : List (ℕ × Command) → List (List (ℕ × Command)) → Type 0
 TriedList lines after = (own : List (ℕ × Command)) × (after ≡ own ∷ []) × AllByRecursion (Contains lines) own
 
--- and was told this
+-- and got these places, lines and replies
 pub record TellsList {F : Type 0} (sizes : Sizes) (lines : List (ℕ × Command)) (v w : View Event F)
     (told : List (ℕ × ℕ × Reply)) : Type 0 where
   pub ran : RanList (AreOf lines) v w

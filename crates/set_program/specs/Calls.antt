@@ -1,4 +1,4 @@
--- What a call is of: which task, which script, and which disks.
+-- What a call is about: which task, which script, and which disks.
 use Rattle.std.specs.Prelude.{ℕ, true, ◌≡◌, ◌≤◌, Option, None, Some, Ok, Err, List, [], String, string_bytes, length, map, IfSome}
 use Rattle.std.specs.declared.alloc.Global.{Global}
 use Rattle.fault_script.specs.declared.fault.ScriptFault.{ScriptFault}
@@ -10,8 +10,8 @@ use Rattle.task_words.specs.declared.words.Task.TheVariants.{Run, Trace, Chaos, 
 use Rattle.task_words.specs.Tasks.{is_check, task_of}
 use Rattle.set_program.specs.Tasks.{is_of_source}
 
--- The task that the words ask for, the script that is played for it, and the disks as the script's set was
--- opened on them. Nothing is said by what a call didn't come to.
+-- The task that the words ask for, the script that is played for it, and the disks after the script's set was
+-- opened on them. Where a call didn't get that far, these have no meaning.
 pub record Call (D : Type 0) : Type 0 where
   pub task : Task
   pub read : Script
@@ -36,11 +36,11 @@ AsksNothing words = task_of (map string_bytes words) ≡ None
 
 -- ---- the script
 
--- how many bytes a script may have
+-- the most bytes that a script may have
 abbrev pub limit : ℕ
 limit = 8388608
 
--- The bytes are what was read of a source. One that tells its bytes was read to its end.
+-- The bytes are what was read of a source. A source whose bytes are known was read to its end.
 pub record WasRead (left rest : Option (List ℕ)) (bytes : List ℕ) : Type 0 where
   pub within : length bytes ≤ limit
   pub whole : IfSome left (λ told. (bytes ≡ told) × (rest ≡ Some []))
@@ -49,7 +49,7 @@ pub record WasRead (left rest : Option (List ℕ)) (bytes : List ℕ) : Type 0 w
 abbrev pub IsRead : Option (List ℕ) → Option (List ℕ) → Script → Type 0
 IsRead left rest read = (bytes : List ℕ) × WasRead left rest bytes × (script bytes ≡ Ok read)
 
--- what was read is no script, and this is its fault
+-- what was read isn't a script, and this is its fault
 abbrev pub IsFaulty : Option (List ℕ) → Option (List ℕ) → ScriptFault → Type 0
 IsFaulty left rest fault = (bytes : List ℕ) × WasRead left rest bytes × (script bytes ≡ Err fault)
 

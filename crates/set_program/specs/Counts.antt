@@ -1,5 +1,5 @@
--- What the events of a run tell of the disks that it leaves: how often they failed, and which orders
--- they were given.
+-- What the events of a run say about the disks that it leaves: how often they failed, and which orders they
+-- were given.
 use Rattle.std.specs.Prelude.{ℕ, ◌≡◌, ◌⊎◌, ◌<◌, ◌≤◌, ◌+◌, ◌*◌, ◌-◌, ◌^◌, ◌==◌, ◌&&◌, List, [], ◌∷◌, Some, is_some, slice_get, if◌then◌else◌}
 use Rattle.rs_disk.specs.Orders.{Orders}
 use Rattle.rs_disk.specs.State.{State}
@@ -15,7 +15,7 @@ use Rattle.set_model.specs.World.{World, step, touched_node}
 use Rattle.node_core.specs.Acting.{orders_after}
 use Rattle.set_world.specs.World.{Set}
 
--- This holds of the two disks of a node, as they were handed in and as they are left.
+-- This holds of the two disks of a node, before the call and after it.
 pub record OfNode {D : Type 0} (state : D → State) (handed left : List D) (number : ℕ)
     (So : State → State → State → State → Type 0) : Type 0 where
   pub journal : D
@@ -30,14 +30,14 @@ pub record OfNode {D : Type 0} (state : D → State) (handed left : List D) (num
 
 -- ---- stores that failed
 
--- so many of the events failed to store something at the node of this number
+-- how many of the events failed to store something at the node of this number
 abbrev pub failures_at : ℕ → World → List Event → ℕ
 failures_at number world [] = 0
 failures_at number world (event ∷ later) =
     (if is_some event.failed && touched_node world event.command == number then 1 else 0)
     + failures_at number (step world event).world later
 
--- two disks failed at least so often, unless a count stands at its last value
+-- two disks failed at least this often, unless a count is at its last value
 abbrev pub FailedAtLeast : ℕ → State → State → State → State → Type 0
 FailedAtLeast count j j' c c' = (count + j.faults + c.faults ≤ j'.faults + c'.faults)
     ⊎ (2 ^ 64 - 1 ≤ j'.faults) ⊎ (2 ^ 64 - 1 ≤ c'.faults)
@@ -52,14 +52,14 @@ FailuresCount state handed set =
 abbrev pub EitherFaultCounted : State → State → State → State → Type 0
 EitherFaultCounted j j' c c' = CountRose j.faults j'.faults ⊎ CountRose c.faults c'.faults
 
--- `DiskFailed` is answered only at a node one of whose disks failed.
+-- `DiskFailed` is the reply only at a node one of whose disks failed.
 abbrev pub FaultsHaveCauses : {D : Type 0} → (D → State) → List D → Set D → Type 0
 FaultsHaveCauses state handed set =
     (place number : ℕ) (event : Event) → number < set.sizes.nodes
     → Answers set.sizes set.history place number event (Refused DiskFailed)
     → OfNode state handed set.disks number EitherFaultCounted
 
--- `DiskFailed` is answered only at a node one of whose disks was armed by an earlier event.
+-- `DiskFailed` is the reply only at a node one of whose disks was armed by an earlier event.
 abbrev pub FaultsAreArmed : Sizes → List Event → Type 0
 FaultsAreArmed sizes events =
     (place number : ℕ) (event : Event) → number < sizes.nodes
@@ -68,7 +68,7 @@ FaultsAreArmed sizes events =
 
 -- ---- orders
 
--- The orders of a node's disk after these events: each event at the node that is answered `down`, or `armed`
+-- The orders of a node's disk after these events: each event at the node whose reply is `down`, or `armed`
 -- for this disk, gives it one, and nothing else does.
 abbrev pub orders_since : DiskName → ℕ → World → List Event → Orders → Orders
 orders_since name number world [] orders = orders

@@ -14,11 +14,11 @@ use Rattle.shared_set.specs.Attempts.{AttemptsLeave, done_in}
 abbrev pub IsUnarmed : State → Type 0
 IsUnarmed disk = IsTrue disk.is_steady × (¬ IsTrue disk.is_armed)
 
--- from these disks a set came by its events to those that it has
+-- a set's events led from these disks to those that it has
 abbrev pub DisksPlayed : {D : Type 0} → (D → State) → List D → Set D → Type 0
 DisksPlayed state first set = DisksPlay state (opening set.sizes).world set.history first set.disks
 
--- from them by its events, and then by a command of the next line, which wasn't done
+-- its events led from them, and then a command of the next line, which wasn't done
 pub record DisksBegan {D : Type 0} (state : D → State) (IsNext : ℕ → Command → Type 0) (first : List D)
     (set : Set D) : Type 0 where
   pub last : List D
@@ -28,7 +28,8 @@ pub record DisksBegan {D : Type 0} (state : D → State) (IsNext : ℕ → Comma
   pub next : IsNext line command
   pub undone : DisksUndone state (run set.sizes set.history).world command last set.disks
 
--- By the events before a block, and then by what was tried in it: events, and commands that weren't done.
+-- The events before a block led from them, and then what was tried in it: events, and commands that weren't
+-- done.
 pub record DisksBroke {D : Type 0} (state : D → State) (IsBlock : List Event → List Attempt → Type 0)
     (first : List D) (set : Set D) : Type 0 where
   pub earlier : List Event
@@ -39,8 +40,8 @@ pub record DisksBroke {D : Type 0} (state : D → State) (IsBlock : List Event �
   pub played : DisksPlay state (opening set.sizes).world earlier first begun
   pub ran : AttemptsLeave state (run set.sizes earlier).world tried begun set.disks
 
--- By its events alone. Where memory ran out at a line, maybe by one command more; where it ran out in a
--- block, maybe by lines of it that weren't done.
+-- Its events alone led from them. If memory ran out at a line, one more command may have used them; if it ran
+-- out in a block, lines of it that weren't done may have.
 abbrev pub DisksRan : {D : Type 0} → (D → State) → Type 0 → (ℕ → Command → Type 0)
     → (List Event → List Attempt → Type 0) → List D → Set D → Type 0
 DisksRan state OutOfMemory IsNext IsBlock first set =

@@ -5,12 +5,12 @@ use Rattle.set_world.specs.World.{Set}
 use Rattle.set_program.specs.declared.outcome.Left.{Left}
 use Rattle.set_program.specs.declared.outcome.Left.TheVariants.{World, Parts}
 
--- this holds of the set, where there is one
+-- this holds of the set, if there is one
 abbrev pub IfSet : {D : Type 0} → Left D → (Set D → Type 0) → Type 0
 IfSet (World set) Holds = Holds set
 IfSet (Parts events disks) Holds = ⊤
 
--- this holds of the events and the disks, where they are all that is left
+-- this holds of the events and the disks, if they are all that is left
 abbrev pub IfParts : {D : Type 0} → Left D → (List Event → List D → Type 0) → Type 0
 IfParts (World set) Holds = ⊤
 IfParts (Parts events disks) Holds = Holds events.items disks.items

@@ -1,4 +1,4 @@
--- Which events follow a script, and what is put of their replies.
+-- Which events a script leads to, and what is put of their replies.
 use Rattle.std.specs.Prelude.{ℕ, ◌≡◌, ◌≤◌, ◌++◌, ◌⊎◌, Option, Some, List, [], ◌∷◌, length, map, take, drop, slice_get}
 use Rattle.std.specs.List.{AllByRecursion, flat_map}
 use Rattle.std.specs.Io.KnownBytes.{Appends}
@@ -21,7 +21,7 @@ abbrev pub IsOrderOf : Part → List (ℕ × Command) → Type 0
 IsOrderOf (parts.Line number command) lines = lines ≡ (number, command) ∷ []
 IsOrderOf (parts.Par threads) lines = IsMerge threads lines
 
--- the same of several parts, one after another
+-- the same for several parts, one after another
 abbrev pub AreOrdersOf : List Part → List (ℕ × Command) → Type 0
 AreOrdersOf [] lines = lines ≡ []
 AreOrdersOf (part ∷ later) lines = (own others : List (ℕ × Command)) × (lines ≡ own ++ others)
@@ -68,7 +68,7 @@ NoPrefix cut = cut ≡ 0
 abbrev pub AnyPrefix : ℕ → Type 0
 AnyPrefix cut = Unit {0}
 
--- what was to be put whole was put, and after it a prefix of the next text, of a length that may be
+-- what had to be put whole was put, and after it a prefix of the next text, of an allowed length
 abbrev pub PutsPrefix : (ℕ → Type 0) → Option (List ℕ) → Option (List ℕ) → List ℕ → List ℕ → Type 0
 PutsPrefix MayBe old new whole next = (cut : ℕ) × MayBe cut × Appends old new (whole ++ take cut next)
 

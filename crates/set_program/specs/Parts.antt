@@ -1,4 +1,4 @@
--- What playing a part, or several, does to a set.
+-- What playing one part or several does to a set.
 use Rattle.std.specs.Prelude.{ℕ, Bool, ◌≡◌, ◌++◌, ◌⊎◌, ◌&&◌, nat_le, List, [], Result, Ok, Err, length, map, take, true, ⊤}
 use Rattle.std.specs.List.{AllByRecursion}
 use Rattle.std.specs.declared.alloc.AllocError.{AllocError}
@@ -22,22 +22,22 @@ use Rattle.set_program.specs.Orders.{ComesNext, Follows, FollowsInPart, IsInBloc
 use Rattle.set_program.specs.Steps.{GoesOn, line_of}
 use Rattle.task_words.specs.declared.words.Task.{Task}
 
--- a block has at most so many threads
+-- a block has at most this many threads
 abbrev pub has_few_threads : Part → Bool
 has_few_threads (Line number command) = true
 has_few_threads (Par threads) = nat_le (length threads) 16
 
--- a part for a set of so many nodes
+-- a part for a set of this size
 abbrev pub can_be_run : ℕ → Part → Bool
 can_be_run nodes part = has_few_threads part && is_part_for nodes part
 
--- the lines and replies of what a block tells
+-- the lines and replies of a block's events
 abbrev pub unplaced : List (ℕ × ℕ × Reply) → List (ℕ × Reply)
 unplaced told = map (λ t. (t.1, t.2)) told
 
 -- ---- one part
 
--- all its lines are played, and their replies kept after earlier ones
+-- all its lines are played, and their replies appended to earlier ones
 pub record Stepped {D : Type 0} (state : D → State) (part : Part) (old new : Set D)
     (before after : List (ℕ × Reply)) : Type 0 where
   pub sizes : new.sizes ≡ old.sizes
@@ -68,7 +68,7 @@ pub record SteppedSome {D : Type 0} (state : D → State) (part : Part) (old new
   pub front : map line_of added ≡ take (length added) lines
   pub disks : DisksCut state part (run old.sizes old.history).world added old.disks new.disks
 
--- all of them, or with no memory left some
+-- all of them, or some of them if memory ran out
 abbrev pub Steps : {D : Type 0} → (D → State) → Part → Set D → Set D → List (ℕ × Reply) → List (ℕ × Reply)
     → Result (Unit {0}) AllocError → Type 0
 Steps state part old new before after (Ok done) = Stepped state part old new before after
@@ -81,12 +81,12 @@ abbrev pub DisksGo : {D : Type 0} → (D → State) → List Part → List D →
 DisksGo state parts first set OutOfMemory =
     DisksRan state OutOfMemory (ComesNext parts set.history) (IsInBlock parts) first set
 
--- the same of a task: memory may run out in the work after the parts, too
+-- the same for a task: memory may also run out in the work after the parts
 abbrev pub DisksEnd : {D : Type 0} → (D → State) → Task → List Part → List D → Set D → Type 0 → Type 0
 DisksEnd state task parts first set OutOfMemory =
     DisksRan state OutOfMemory (ComesNext parts set.history) (BreaksIn task parts) first set
 
--- the same of each task whose work comes after the parts
+-- the same for each task with work after the parts
 abbrev pub DisksAfterScript : {D : Type 0} → (D → State) → List Part → List D → Set D → Type 0 → Type 0
 DisksAfterScript state parts first set OutOfMemory =
     DisksRan state OutOfMemory (ComesNext parts set.history) (IsInBlockOrAfter parts) first set

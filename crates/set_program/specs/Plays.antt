@@ -21,7 +21,7 @@ use Rattle.set_program.specs.Steps.{GoesOn, line_of}
 
 -- ---- texts
 
--- a text is put, or a prefix of it where the sink fails
+-- a text is put, or a prefix of it if the sink fails
 abbrev pub PutsText : Option (List ℕ) → Option (List ℕ) → List ℕ → Result (Unit {0}) Stop → Type 0
 PutsText held now piece (Ok done) = Appends held now piece
 PutsText held now piece (Err Memory) = Keeps held now
@@ -118,7 +118,7 @@ PlaysPart part held now old new (Err DiskFault) = ⊥
 PlaysPart part held now old new (Err CopyFault) = ⊥
 PlaysPart part held now old new (Err Refused) = ⊥
 
--- the disks are those that its events leave; out of memory, more may have used them
+-- the disks are those that its events leave; if memory ran out, other commands may have used them
 abbrev pub DisksGoBy : {D : Type 0} → (D → State) → Part → Set D → Set D → Type 0 → Type 0
 DisksGoBy state part old new OutOfMemory =
     ((added : List Event) × (new.history ≡ old.history ++ added)

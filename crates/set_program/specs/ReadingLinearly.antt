@@ -8,8 +8,8 @@ use Rattle.linear_tell.specs.Telling.{Tells}
 use Rattle.set_program.specs.declared.stop.Stop.{Stop}
 use Rattle.set_program.specs.declared.stop.Stop.TheVariants.{Memory, Usage, Script as NoScript, ReadFault, WriteFault, TooLong, DiskFault, CopyFault, Refused}
 
--- Its commands are those from the script's events to those that the set has, and the line that tells the
--- result is put after what the sink held.
+-- Its commands come after the script's events and up to the set's last one, and the line of the result is put
+-- after what the sink held.
 abbrev pub ReadsLinearly : Linear → Sizes → List Event → Option (List ℕ) → Result (Unit {0}) Stop → List Event
     → Option (List ℕ) → Type 0
 ReadsLinearly linear sizes events new (Ok done) scripted told =

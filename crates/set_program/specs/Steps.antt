@@ -1,4 +1,4 @@
--- What the lines of a script are answered.
+-- The replies to the lines of a script.
 use Rattle.std.specs.Prelude.{ℕ, ◌≡◌, ◌++◌, List, map}
 use Rattle.set_model.specs.declared.command.Command.{Command}
 use Rattle.set_model.specs.declared.command.Event.{Event}
@@ -10,11 +10,11 @@ use Rattle.set_model.specs.World.{step}
 abbrev pub line_of : Event → ℕ × Command
 line_of event = (event.line, event.command)
 
--- what an event is answered after these events
+-- the reply to an event after these events
 abbrev pub reply_to : Sizes → List Event → Event → Reply
 reply_to sizes history event = (step (run sizes history).world event).reply
 
--- the replies to the first events go on so
+-- the replies to the first events continue like this
 pub record GoesOn (sizes : Sizes) (old new : List Event) (replies : List (ℕ × Reply)) : Type 0 where
   pub longer : (run sizes new).replies ≡ (run sizes old).replies ++ replies
 

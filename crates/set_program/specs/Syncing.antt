@@ -28,7 +28,7 @@ use Rattle.set_program.specs.Disks.{DisksPlayed, IsUnarmed}
 use Rattle.set_program.specs.Orders.{Follows}
 use Rattle.set_program.specs.Written.{NoFaultCounted, NothingFailed}
 
--- how a member was made, or that none was, as the end of a call
+-- how a member was made, or why none was, as the end of a call
 abbrev pub ended_so : Result (Unit {0}) SyncStop → Result (Unit {0}) Stop
 ended_so (Ok done) = Ok tt
 ended_so (Err stop) = Err (of_sync stop)
@@ -38,14 +38,14 @@ abbrev pub left_so : {D : Type 0} → Result (Vec Event Global × Vec D Global) 
 left_so (Ok (events, disks)) = Parts events disks
 left_so (Err set) = World set
 
--- The set is still there: the node was asked, from the script's events to those that the set has, and there
--- is nothing to begin with, or that couldn't be told.
+-- The set is still there: the node was asked after the script's events, up to the set's last one, and there
+-- is nothing to begin with, or the line that says so couldn't be put.
 abbrev pub MakesNoMember : ℕ → Sizes → List Event → Option (List ℕ) → Result (Unit {0}) Stop → List Event
     → Option (List ℕ) → Type 0
 MakesNoMember node sizes events new ended scripted told =
     (stop : SyncStop) × (ended ≡ Err (of_sync stop)) × Pins sizes node scripted events told new (Err stop)
 
--- The script was played to its end on the disks with which its set was opened, and its transcript put. Then a
+-- The script was played to its end on the disks that its set was opened on, and its transcript put. Then a
 -- node was asked, the set closed, and a new member made.
 pub record MakesMember {D : Type 0} (state : D → State) (node : ℕ) (parts : List Part) (sizes : Sizes)
     (first : List D) (old new : Option (List ℕ)) (ended : Result (Unit {0}) Stop) (events : List Event)
@@ -87,10 +87,10 @@ pub record EndsWithMember {D : Type 0} (state : D → State) (handed : List D) (
   pub member :
       MakesMember state node call.read.parts (sizes_of call.read) call.opened old new ended events disks
   pub sound : IsRunSafely state handed member.adds.set
-  -- those without a node, of which the new member gets two, are then as they were handed in
+  -- the disks without a node, of which the new member gets two, are then as they were before the call
   pub idle : drop (2 * call.read.nodes) member.adds.set.disks ≡ drop (2 * call.read.nodes) handed
 
--- the count of one of the two disks after those of so many nodes rose
+-- the count of one of the two disks after those of the nodes rose
 abbrev pub MemberFaultCounted : {D : Type 0} → (D → State) → ℕ → List D → List D → Type 0
 MemberFaultCounted {D} state nodes old new =
     (place : ℕ) × (before : D) × (after : D) × (2 * nodes ≤ place) × (place < 2 * nodes + 2)

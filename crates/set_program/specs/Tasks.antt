@@ -1,4 +1,4 @@
--- What a task reads, and how it may end.
+-- What a task reads, and how it can end.
 use Rattle.std.specs.Prelude.{ℕ, Bool, true, false, List, [], ◌∷◌}
 use Rattle.task_words.specs.declared.words.Task.{Task}
 use Rattle.task_words.specs.declared.words.Task.TheVariants.{Run, Trace, Chaos, Sync, Linear as ReadsLinear, Watch as Watches}
@@ -21,7 +21,7 @@ is_script_alone (Watches watch) = false
 is_script_alone (Sync node) = false
 is_script_alone (Chaos seed events nodes) = true
 
--- the statuses in which a task may end where the source and the sink have no fault and a script is read
+-- the statuses that a task can end with if the source and the sink have no fault and a script is read
 abbrev pub may_end_in : Task → List ℕ
 may_end_in Run = 0 ∷ 1 ∷ 7 ∷ []
 may_end_in Trace = 0 ∷ 1 ∷ 7 ∷ []

@@ -9,8 +9,8 @@ use Rattle.change_watch.specs.Following.{Follows}
 use Rattle.set_program.specs.declared.stop.Stop.{Stop}
 use Rattle.set_program.specs.declared.stop.Stop.TheVariants.{Memory, Usage, Script as NoScript, ReadFault, WriteFault, TooLong, DiskFault, CopyFault, Refused}
 
--- It asks its nodes, from the script's events to those that the set has, and what it tells is put after what
--- the sink held.
+-- It asks its nodes after the script's events, up to the set's last one, and its lines are put after what the
+-- sink held.
 abbrev pub Watches : Watch → Sizes → List Event → Option (List ℕ) → Result (Unit {0}) Stop → List Event
     → Option (List ℕ) → Type 0
 Watches watch sizes events new (Ok done) scripted told =

@@ -23,17 +23,17 @@ pub record NothingFailed (event : Event) : Type 0 where
   pub failed : event.failed ≡ None
   pub kept : event.kept ≡ false
 
--- the event of a line and its command, where nothing failed
+-- the event of a line and its command, if nothing failed
 abbrev pub event_of_line : ℕ × Command → Event
 event_of_line line = record { line = line.0; command = line.1; failed = None; kept = false }
 
--- a part is a line, and no block
+-- a part is a line, not a block
 abbrev pub is_line : Part → Bool
 is_line (Line number command) = true
 is_line (Par threads) = false
 
--- In no event did anything fail. Where a script without blocks was played to its end, and nothing comes
--- after it, the events are exactly its lines and their commands.
+-- Nothing failed in any event. If a script without blocks was played to its end, and no work comes after it,
+-- the events are exactly its lines and their commands.
 pub record GoesAsWritten {D : Type 0} (call : Call D) (status : ℕ) (set : Set D) : Type 0 where
   pub unfailed : AllByRecursion NothingFailed set.history
   pub lines : status ≡ 0 → is_script_alone call.task ≡ true → list_all is_line call.read.parts ≡ true

@@ -23,13 +23,13 @@ use std::alloc::{AllocError, Global};
 use task_words::{Task, read_task};
 use transcript::write_fault;
 
-/// How many bytes a script may have.
+/// The most bytes that a script may have.
 const MAX_SCRIPT: usize = 8_388_608;
 
 const USAGE: &str = "usage: replset run | replset chaos SEED EVENTS NODES | replset sync NODE \
     | replset linear NODE COLL ID | replset watch COLL TOKEN NODE... | replset trace | replset check\n";
 
-/// The task that the words ask for, and the script that is to be run. Where there is none, it is said why.
+/// The task that the words ask for, and the script to run; or why there is none.
 pub fn read_script<S: Source, K: Sink>(
     alloc: Global,
     words: &[String],
@@ -83,7 +83,7 @@ pub fn read_script<S: Source, K: Sink>(
     }
 }
 
-/// The script of the source. Its bytes are let go before it is run.
+/// The script of the source. Its bytes are freed before it is run.
 fn source_script<S: Source, K: Sink>(
     alloc: Global,
     source: &mut S,

@@ -9,7 +9,7 @@ pub trait Job {
     // When it may be done.
     ghost ready: { Self → Type 0 };
 
-    // What it comes to.
+    // What it results in.
     ghost ends: { Self → Self.End → Type 0 };
 
     fn run(self) -> Self::End
@@ -17,8 +17,8 @@ pub trait Job {
         ensures { ends self result };
 }
 
-/// Does the job on a thread of its own, if that is wanted, and the rest in this one. Where no thread is
-/// wanted, or none can be started, the job is done last.
+/// Does the job on a thread of its own, if that is wanted, and the rest in this one. If no thread is wanted,
+/// or none can be started, the job is done last.
 pub fn beside<R: Threads, J: Job<End = E> + Send + Drop, F: FnOnce() -> B, E: Send, B>(
     rt: &R,
     wants_thread: bool,

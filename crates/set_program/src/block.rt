@@ -24,13 +24,13 @@ use std::sync::Wait;
 use std::thread::Threads;
 
 /// Runs each list with a pass that is split from this one and joined into it at the end. The caller runs one
-/// list, and each other of two lines and more runs on a thread of its own; the caller runs those that are
-/// shorter, and those for which no thread can be started. Each list passes the gate, with its place counted
-/// from 0, before its first line. It gives the place in the history, the line and the reply of each event, by
+/// list, and each other list of at least two lines runs on a thread of its own; the caller also runs shorter
+/// ones, and those for which no thread can be started. Each list passes the gate, with its place counted from
+/// 0, before its first line. The result is the place in the history, the line and the reply of each event, by
 /// rising place.
 ///
 /// # Errors
-/// Those of `SharedSet::step`, and out of memory for what it gives. Each list was then run up to some line.
+/// Those of `SharedSet::step`, and out of memory for the result. Each list was then run up to some line.
 pub fn run_block<D: Disk + Send, G: Gate + Sync, R: Threads + Wait + Sync>(
     rt: &R,
     alloc: Global,
@@ -112,7 +112,7 @@ fn run_lists<'a, D: Disk + Send, G: Gate + Sync, R: Threads + Wait + Sync>(
     (pass, both(alloc, earlier, told))
 }
 
-/// Whether a list is worth a thread of its own: it has two lines, and others have any.
+/// Whether a list is worth a thread of its own: it has at least two lines, and others have some.
 fn pays_for_thread(lines: &Lines, others: &[Lines]) -> bool {
     lines.as_slice().len() >= 2 && others.iter().any(|other| !other.as_slice().is_empty())
 }
@@ -127,7 +127,7 @@ fn place_of_last(lists: &[Lines]) -> u32 {
     lists.len().saturating_sub(1).min(u32::MAX as usize) as u32
 }
 
-/// A list that is to be run, with a pass of its own.
+/// A list to run, with a pass of its own.
 #[derive(Drop)]
 struct ListJob<'a, D: Disk, G: Gate, R: Threads + Wait + Sync> {
     rt: &'a R,
@@ -139,7 +139,7 @@ struct ListJob<'a, D: Disk, G: Gate, R: Threads + Wait + Sync> {
     gate: &'a G,
 }
 
-/// The pass of a list that was run, and what was told.
+/// The pass of a list that was run, and its events' places, lines and replies.
 #[derive(Drop)]
 struct ListEnd<D: Disk> {
     pass: Pass<D>,

@@ -18,7 +18,7 @@ pub struct Outcome<D: Disk> {
     pub left: Left<D>,
 }
 
-/// The set as far as it was run; or its events and disks, where it wasn't run or a new member was made.
+/// The set as far as it was run; or its events and disks, if it wasn't run or a new member was made.
 #[derive(Drop)]
 pub enum Left<D: Disk> {
     /// The set, as far as it was run.

@@ -65,8 +65,7 @@ pub fn play<K: Sink, D: Disk + Send, G: Gate + Sync, R: Threads + Wait + Sync>(
     (Ok(()), world)
 }
 
-/// Plays a line on the set where it lies, and puts its reply. `replies` and `text` serve all parts with their
-/// memory.
+/// Plays a line on the set in place, and puts its reply. All parts use the memory of `replies` and `text`.
 fn play_line<K: Sink, D: Disk, R: Threads + Sync>(
     rt: &R,
     line: u32,
@@ -92,7 +91,7 @@ fn play_line<K: Sink, D: Disk, R: Threads + Sync>(
     }
 }
 
-/// The replies of a block are put after it, when all its lines are played.
+/// The replies of a block are put after all its lines are played.
 fn play_block<K: Sink, D: Disk + Send, G: Gate + Sync, R: Threads + Wait + Sync>(
     rt: &R,
     gate: &G,

@@ -9,7 +9,7 @@ use rs_io::Sink;
 use set_model::Reply;
 use transcript::set_reply;
 
-/// Puts replies one after another. Each is written into `text` first, whose memory serves them all.
+/// Puts replies one after another. Each is first written into `text`, whose memory they all use.
 pub fn put_replies<K: Sink>(
     replies: &[(u32, Reply)],
     sink: &mut K,

@@ -1,4 +1,4 @@
-// The lines of a part, played in an order in which they may be.
+// Plays the lines of a part, in an order that the script allows.
 ghost use Rattle.std.specs.Prelude.{◌≡◌, ◌+◌, ◌≤◌, ◌<◌, ◌++◌, true, [], length, OnOk};
 ghost use Rattle.std.specs.List.{AllPass};
 ghost use Rattle.fault_script.specs.Script.{lines_in, lines_of};
@@ -74,8 +74,7 @@ pub fn step_line<D: Disk, R: Threads + Sync>(
     }
 }
 
-/// Plays a block, and keeps its replies in the order in which they are given, when all its lines are played.
-/// The set is shared for the block alone.
+/// Plays a block, and keeps its replies in the order of their events. The set is shared only for the block.
 pub fn step_block<D: Disk + Send, G: Gate + Sync, R: Threads + Wait + Sync>(
     rt: &R,
     gate: &G,

@@ -37,7 +37,7 @@ impl Kind {
     }
 }
 
-/// The summary of a set's run, of which these are the replies.
+/// The summary of a set's run, given its replies.
 pub fn summary<D: Disk>(alloc: Global, replies: &[(u32, Reply)], world: &World<D>) -> Mem<Summary>
     requires few { length replies.now ≤ MOST_LINES }
     requires told { replies.now ≡ (run world.now.sizes world.now.history).replies }

@@ -35,9 +35,10 @@ use std::thread::Threads;
 use task_words::Task;
 use transcript::{Summary, write_summary};
 
-/// Plays a script as a task asks: it puts each reply, or each and then what a new member begins with, what a
-/// linear read shows or which changes nodes tell, or the trace of the run, or only its summary. An error says
-/// why it stopped before the end. The set is left, or, where a new member was made, its events and its disks.
+/// Plays a script as a task asks: it puts each reply, and after them, if asked for, what a new member begins
+/// with, what a linear read shows or which changes nodes have; or the trace of the run, or only its summary.
+/// An error says why it stopped before the end. The set is left, or, if a new member was made, its events and
+/// its disks.
 pub fn play_task<K: Sink, D: Disk + Send, G: Gate + Sync, R: Threads + Wait + Sync>(
     rt: &R,
     alloc: Global,
@@ -116,7 +117,7 @@ fn play_told<K: Sink, D: Disk + Send, G: Gate + Sync, R: Threads + Wait + Sync>(
     }
 }
 
-/// Puts the summary of a set's run, of which these are the replies.
+/// Puts the summary of a set's run, given its replies.
 fn put_summary<K: Sink, D: Disk>(
     alloc: Global,
     replies: &[(u32, Reply)],

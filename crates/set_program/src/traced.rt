@@ -55,8 +55,8 @@ pub fn play_traced<K: Sink, D: Disk + Send, G: Gate + Sync, R: Threads + Wait + 
     }
 }
 
-/// Puts the trace of a set's run, of which these are the replies. Each call of `put` has one text: first the
-/// header, and then each event with its reply.
+/// Puts the trace of a set's run, given its replies. Each call of `put` has one text: first the header, and
+/// then each event with its reply.
 fn put_trace<K: Sink, D: Disk>(
     alloc: Global,
     sizes: Sizes,
@@ -86,7 +86,7 @@ fn put_header<K: Sink>(sizes: Sizes, sink: &mut K, text: &mut String) -> Result<
     Ok(())
 }
 
-/// Puts events one after another, each with its reply. `text` serves them all with its memory.
+/// Puts events one after another, each with its reply, using the memory of `text` for all of them.
 fn put_entries<K: Sink>(
     events: &[Event],
     replies: &[(u32, Reply)],

@@ -13,7 +13,7 @@ use Rattle.sync_words.specs.Texts.{synced_text}
 use Rattle.sync_words.specs.declared.stop.SyncStop.{SyncStop}
 use Rattle.sync_words.specs.declared.stop.SyncStop.TheVariants.{DiskFault, WriteFault, Memory}
 
--- why no member is made where no copy is
+-- why no member is made if no copy is
 abbrev pub of_copy : CopyError → SyncStop
 of_copy Disk = DiskFault
 of_copy OtherCopy = DiskFault
@@ -23,13 +23,13 @@ abbrev pub of_file : FileError → SyncStop
 of_file FileDisk = DiskFault
 of_file FileMemory = Memory
 
--- what is told of a member of this number
+-- the lines about the member of this number
 abbrev pub pinned_text : ℕ → Pinned → List ℕ
 pinned_text number pinned =
     synced_text number pinned.at (length pinned.entries.items) (listed_of pinned.documents.items)
 
 -- Two empty disks become a copy, and are read. At each moment a crash leaves a part of the copy, or the
--- whole; at the end it leaves the whole, also where the sink then failed.
+-- whole; at the end it leaves the whole, even if the sink then failed.
 pub record BecomesMember (copy : Copy) (ended : Result (Unit {0}) SyncStop) (j j' c c' : State)
     : Type 0 where
   pub journal : State

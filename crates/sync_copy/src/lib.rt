@@ -1,4 +1,4 @@
-//! Two empty disks become those of a new member: a copy of what is pinned, which is read back and told.
+//! Makes two empty disks those of a new member: a copy of what is pinned, which is read back and described.
 #![tactic(auto)]
 
 mod making;

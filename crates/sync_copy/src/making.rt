@@ -1,4 +1,4 @@
-// Two empty disks become a new member's.
+// Makes two empty disks a new member's.
 ghost use Rattle.std.specs.Prelude.{◌≡◌, ◌≢◌, Err, IsErrOf};
 ghost use Rattle.rs_disk.specs.File.{IsEmpty};
 ghost use Rattle.rs_io.specs.Fault.{HasCause};
@@ -18,11 +18,11 @@ use std::alloc::Global;
 use sync_words::SyncStop;
 
 /// Makes two empty disks a copy of what is pinned, the journal and the checkpoints of a new member of this
-/// number; reads it back, and tells what was read.
+/// number; reads it back, and puts the lines about what was read.
 ///
 /// # Errors
 /// `DiskFault` where one of the disks failed, `WriteFault` where the sink failed, and `Memory`. Both disks
-/// are handed back, and on them stands a part of the copy, or the whole.
+/// are handed back, with a part of the copy on them, or the whole.
 pub fn make<D: Disk, K: Sink>(
     alloc: Global,
     number: u32,
@@ -48,7 +48,7 @@ pub fn make<D: Disk, K: Sink>(
     }
 }
 
-/// Reads back a copy that is whole, and tells what was read.
+/// Reads back a whole copy, and puts the lines about what was read.
 fn tell<D: Disk, K: Sink>(
     alloc: Global,
     number: u32,
@@ -79,7 +79,8 @@ fn tell<D: Disk, K: Sink>(
     }
 }
 
-/// Empty disks have no other copy, so a copy onto them fails by a disk's fault alone, or as memory runs out.
+/// Empty disks have no other copy, so copying onto them fails only by a disk's fault, or when memory runs
+/// out.
 fn of_copy(error: CopyError) -> SyncStop
     ensures { result ≡ of_copy error }
 {

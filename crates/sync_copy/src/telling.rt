@@ -1,4 +1,4 @@
-// What stands on the disks of a new member is told.
+// Puts the lines about what the disks of a new member have.
 ghost use Rattle.std.specs.Prelude.{◌≡◌, ◌≢◌, Err, IfOk, IsErrOf, length};
 ghost use Rattle.rs_io.specs.Fault.{HasCause};
 ghost use Rattle.set_model.specs.Reads.{listed};
@@ -13,7 +13,7 @@ use set_model::DocumentList;
 use std::alloc::Global;
 use sync_words::{SyncStop, put_text, set_synced};
 
-/// Tells what stands on the disks of a new member of this number.
+/// Puts the lines about what the disks of the new member of this number have.
 pub(crate) fn put_synced<K: Sink>(
     alloc: Global,
     number: u32,

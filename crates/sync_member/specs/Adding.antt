@@ -16,14 +16,14 @@ use Rattle.sync_words.specs.Putting.{PutsText}
 use Rattle.sync_words.specs.declared.stop.SyncStop.{SyncStop}
 use Rattle.sync_words.specs.declared.stop.SyncStop.TheVariants.{DiskFault, Memory}
 
--- Two disks become a new member's, and the making fails for them only where a count of theirs rises.
+-- Two disks become a new member's. They are the reason for a failure only if a count of theirs rises.
 abbrev pub DisksOfMember : Copy → Result (Unit {0}) SyncStop → State → State → State → State → Type 0
 DisksOfMember copy made j j' c c' =
     BecomesMember copy made j j' c c' × RanBoth (made ≡ Err DiskFault) j j' c c'
 
--- A node of the set was asked, and the set was closed after these events. Of its disks the next two after
--- those of its nodes became a member's with what the node showed, which was told, and the others are as the
--- set left them.
+-- A node of the set was asked, and the set was closed after these events. Of its disks, the next two after
+-- those of its nodes became a member's with what the node showed, and its lines were put; the others are as
+-- the set left them.
 pub record AddsMember {D : Type 0} (state : D → State) (node : ℕ) (old : Set D) (held now : Option (List ℕ))
     (made : Result (Unit {0}) SyncStop) (events : List Event) (disks : List D)
     : Type 0 where
@@ -41,7 +41,8 @@ pub record AddsMember {D : Type 0} (state : D → State) (node : ℕ) (old : Set
   pub member : OneChanged state (DisksOfMember (copy_of pinned) made) old.sizes.nodes set.disks disks
   pub puts : PutsText asked now (pinned_text old.sizes.nodes pinned) made
 
--- The set is still there: a node was asked, and there is nothing to begin with, or that couldn't be told.
+-- The set is still there: a node was asked, and there is nothing to begin with, or the line that says so
+-- couldn't be put.
 pub record AddsNoMember {D : Type 0} (state : D → State) (node : ℕ) (old left : Set D)
     (held now : Option (List ℕ)) (ended : Result (Unit {0}) SyncStop)
     : Type 0 where

@@ -1,4 +1,4 @@
-// A set is closed, and gets a new member.
+// Closes a set, and adds a new member.
 ghost use Rattle.std.specs.Prelude.{◌≡◌, ◌≢◌, ◌<◌, ◌≤◌, ◌+◌, ◌*◌, All, Err, IfErr, IfOk, IsErrOf, drop, length, true};
 ghost use Rattle.rs_disk.specs.File.{IsEmpty};
 ghost use Rattle.rs_io.specs.Fault.{HasCause};
@@ -17,9 +17,9 @@ use std::thread::Threads;
 use sync_pin::pin;
 use sync_words::SyncStop;
 
-/// Asks a node of a set what a new member is to begin with, and closes the set. The next two disks after
-/// those of its nodes become the member's, and what stands on them is told. Hands back the set's events and
-/// its disks; or the set, where the node wasn't asked to the end or has nothing to begin with.
+/// Asks a node of a set what a new member begins with, and closes the set. The next two disks after those of
+/// its nodes become the member's, and the lines about what they have are put. Hands back the set's events and
+/// its disks; or the set, if the node wasn't asked to the end or has nothing to begin with.
 ///
 /// # Errors
 /// Those of `pin`, which leave the set, and those of `make`, which leave its events and disks.

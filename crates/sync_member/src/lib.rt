@@ -1,4 +1,5 @@
-//! A set gets a new member: one of its nodes is asked, the set is closed, and two disks become the member's.
+//! Adds a new member to a set: one of its nodes is asked, the set is closed, and two disks become the
+//! member's.
 #![tactic(auto)]
 
 mod adding;

@@ -1,4 +1,4 @@
-// The disks of a node stand in a list of all disks.
+// The disks of a node in the list of all disks.
 ghost use Rattle.std.specs.Prelude.{◌≡◌, ◌≢◌, ◌<◌, ◌≤◌, ◌+◌, ◌*◌, All, Err, IsErrOf, drop, insert, vec_capacity, vec_len};
 ghost use Rattle.rs_disk.specs.File.{IsEmpty};
 ghost use Rattle.rs_io.specs.Fault.{HasCause};

@@ -24,7 +24,7 @@ use Rattle.sync_words.specs.declared.stop.SyncStop.{SyncStop}
 use Rattle.sync_words.specs.declared.stop.SyncStop.TheVariants.{Refused, DiskFault, WriteFault, Memory}
 use Rattle.sync_pin.specs.Showing.{shown_point}
 
--- a set has at most so many nodes
+-- a set has at most this many nodes
 abbrev pub MOST : ℕ
 MOST = 50
 
@@ -35,7 +35,7 @@ module _ (sizes : Sizes) where
     pub there : slice_get (run sizes events).world.nodes node ≡ Some is
     pub up : is.up ≡ true
 
-  -- a command of no line came next, and was answered so
+  -- a command without a line came next, with this reply
   abbrev pub Tells : List Event → List Event → Command → Reply → Type 0
   Tells old new command answered = Does true sizes old new command answered
 
@@ -46,11 +46,11 @@ module _ (sizes : Sizes) where
       (between : List Event) × (answered : Reply) × Tells old between command answered
       × AreDone between commands new
 
--- the node is of the set, and there is room for one node more
+-- the node is in the set, and there is room for one more node
 abbrev pub HasRoom : Sizes → ℕ → Type 0
 HasRoom sizes node = (node < sizes.nodes) × (sizes.nodes < MOST)
 
--- whoever leads in a later term has a log that begins with these entries
+-- each node that leads in a later term has a log that begins with these entries
 abbrev pub HaveLeaders : Sizes → List Event → Pinned → Type 0
 HaveLeaders sizes events pinned =
     (place number term : ℕ) (leader : Node) → Leads sizes events place number term leader
@@ -95,8 +95,8 @@ module _ (sizes : Sizes) (node : ℕ) (old new : List Event) where
   IsRefused NodeDown = HasRoom sizes node × Tells sizes old new (commands.State node) (reply.Refused IsDown)
   IsRefused NothingCommitted = HasRoom sizes node × ShowsNothing
 
-  -- its first event shows that something that it has applied is committed, and of the other two events some
-  -- first ones were done
+  -- its first event shows that something that it has applied is committed, and of the other two events none,
+  -- the first or both were done
   pub record GoesOn : Type 0 where
     pub first : List Event
     pub state : Reply
@@ -110,7 +110,7 @@ module _ (sizes : Sizes) (node : ℕ) (old new : List Event) where
     pub all : asked ++ unasked ≡ commands.Log node ∷ commands.Dump node Majority ∷ []
     pub done : AreDone sizes first asked new
 
-  -- a node that can be asked was asked nothing, or not to the end
+  -- a node that can be asked wasn't asked, or at least its first event was done
   abbrev pub IsBrokenOff : Type 0
   IsBrokenOff = HasRoom sizes node × ((new ≡ old) ⊎ GoesOn)
 

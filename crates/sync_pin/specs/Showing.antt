@@ -1,4 +1,4 @@
--- What a node shows of what a new member is to begin with.
+-- What a node shows as the start of a new member.
 use Rattle.std.specs.Prelude.{ℕ, List, Option, None, Some}
 use Rattle.bson_doc.specs.Tree.{Fields}
 use Rattle.rs_optime.specs.declared.optime.OpTime.{OpTime}

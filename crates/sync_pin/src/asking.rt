@@ -1,4 +1,4 @@
-// A node is asked for what a new member is to begin with.
+// Asks a node for what a new member begins with.
 ghost use Rattle.std.specs.Prelude.{◌≡◌, ◌≢◌, ◌⊎◌, ◌<◌, All, Err, IfErr, IfOk, IsErrOf, List, Some, true};
 ghost use Rattle.oplog_entry.specs.Lawful.{IsLawful};
 ghost use Rattle.oplog_entry.specs.Step.{id_key};
@@ -28,15 +28,16 @@ use std::sync::Wait;
 use std::thread::Threads;
 use sync_words::{SyncRefusal, SyncStop, put_refusal};
 
-/// A set has at most so many nodes.
+/// A set has at most this many nodes.
 const MOST_NODES: u32 = 50;
 
-/// Asks a node for its state, its log and its documents at `majority`. They tell what a new member begins
+/// Asks a node for its state, its log and its documents at `majority`. They give what a new member begins
 /// with: the node's term, its log up to the lesser of its commit point and what it has applied, and the
-/// documents of that. A refusal is told. `size` is how many nodes the set has, and no one else may step it.
+/// documents of that. The line of a refusal is put. `size` is how many nodes the set has, and no one else may
+/// step it.
 ///
 /// # Errors
-/// `Refused` where the set hasn't got the node, or has 50 nodes, the node is down, or nothing that it has
+/// `Refused` where the set doesn't have the node, or has 50 nodes, the node is down, or nothing that it has
 /// applied is committed, whichever comes first; `WriteFault` where the sink failed; `Memory` also where the
 /// history is full.
 pub fn pin<R: Threads + Wait + Sync, S: Stepper, K: Sink>(
@@ -71,7 +72,7 @@ pub fn pin<R: Threads + Wait + Sync, S: Stepper, K: Sink>(
     }
 }
 
-/// Asks a node, where it can be asked.
+/// Asks a node, if it can be asked.
 fn ask<R: Threads + Wait + Sync, S: Stepper>(
     rt: &R,
     alloc: Global,

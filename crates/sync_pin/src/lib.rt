@@ -1,4 +1,4 @@
-//! A node is asked for what a new member of its set is to begin with.
+//! Asks a node for what a new member of its set begins with.
 #![tactic(auto)]
 
 mod asking;

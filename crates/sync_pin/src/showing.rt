@@ -1,4 +1,4 @@
-// What a node shows of what a new member is to begin with.
+// What a node shows as the start of a new member.
 ghost use Rattle.std.specs.Prelude.{◌≡◌, All, IfOk, IsSome, Some};
 ghost use Rattle.oplog_entry.specs.Lawful.{IsLawful};
 ghost use Rattle.oplog_entry.specs.Log.{IsOplog};
@@ -30,7 +30,7 @@ pub(crate) fn point_shown(reply: &Reply) -> Option<(u64, OpTime)>
     }
 }
 
-/// The documents that were shown; none, where the reply shows no documents.
+/// The documents that were shown; none where the reply shows no documents.
 pub(crate) fn documents_shown(reply: Reply) -> Option<DocumentList>
     ensures { result ≡ shown_documents reply }
 {

@@ -1,4 +1,4 @@
-// One command of no line, where no one else steps the set.
+// One command without a line, in a set that no one else steps.
 ghost use Rattle.std.specs.Prelude.{◌≡◌, ◌≢◌, Err, IfErr, IfOk, true};
 ghost use Rattle.set_model.specs.Limits.{is_for};
 ghost use Rattle.set_world.specs.Stepper.{IsDefined};
@@ -10,10 +10,10 @@ use std::sync::Wait;
 use std::thread::Threads;
 use sync_words::SyncStop;
 
-/// The events stand on no line of a script.
+/// The events aren't on a line of a script.
 const NO_LINE: u32 = 0;
 
-/// Does one command. A history that is full has no memory for its event.
+/// Does one command. A full history counts as out of memory.
 pub(crate) fn step<R: Threads + Wait + Sync, S: Stepper>(
     rt: &R,
     set: &mut S,

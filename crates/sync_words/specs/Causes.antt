@@ -1,4 +1,4 @@
--- Why no member is made where the sink refuses.
+-- Why no member is made when the sink fails.
 use Rattle.rs_io.specs.declared.sink.SinkError.{SinkError}
 use Rattle.rs_io.specs.declared.sink.SinkError.TheVariants.{Failed, Memory as NoRoom}
 use Rattle.sync_words.specs.declared.stop.SyncStop.{SyncStop}

@@ -4,7 +4,7 @@ use Rattle.std.specs.Io.KnownBytes.{Appends, Keeps}
 use Rattle.sync_words.specs.declared.stop.SyncStop.{SyncStop}
 use Rattle.sync_words.specs.declared.stop.SyncStop.TheVariants.{Refused, DiskFault, WriteFault, Memory}
 
--- all of it; where the sink fails, a prefix; and nothing where it is never reached
+-- all of it; a prefix if the sink fails; nothing if it is never reached
 abbrev pub PutsText : Option (List ℕ) → Option (List ℕ) → List ℕ → Result (Unit {0}) SyncStop → Type 0
 PutsText held now text (Ok done) = Appends held now text
 PutsText held now text (Err (Refused why)) = ⊥

@@ -1,4 +1,4 @@
--- What is told of a new member.
+-- The lines about a new member.
 use Rattle.std.specs.Prelude.{ℕ, List, ◌++◌, codes}
 use Rattle.std.specs.Fmt.{decimal}
 use Rattle.bson_doc.specs.Tree.{Fields}

@@ -1,4 +1,4 @@
-//! Why no new member is made, and the lines that tell this, or what the member begins with.
+//! Why no new member is made, and the lines that say this, or what the member begins with.
 #![tactic(auto)]
 
 mod putting;

@@ -1,4 +1,4 @@
-// A text is put by one call.
+// Puts a text by one call.
 ghost use Rattle.std.specs.Prelude.{◌≢◌, Err, IsErrOf};
 ghost use Rattle.rs_io.specs.Fault.{HasCause};
 ghost use Rattle.sync_words.specs.Putting.{PutsText};
@@ -8,7 +8,7 @@ use crate::texts::refusal_line;
 use crate::{SyncRefusal, SyncStop};
 use rs_io::Sink;
 
-/// Tells why no member is made.
+/// Puts the line that says why no member is made.
 ///
 /// # Errors
 /// Those of `put_text`.

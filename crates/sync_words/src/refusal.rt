@@ -1,7 +1,7 @@
 /// Why no member was added.
 #[derive(Clone, Copy, Debug, PartialEq, Eq)]
 pub enum SyncRefusal {
-    /// The set hasn't got the node that was asked.
+    /// The set doesn't have the node that was asked.
     NoSuchNode,
     /// The set has 50 nodes.
     NoNumberLeft,

@@ -9,7 +9,7 @@ use std::alloc::AllocError;
 /// Why no new member was made.
 #[derive(Clone, Copy, Debug, PartialEq, Eq)]
 pub enum SyncStop {
-    /// None can be made, or not of what this node has.
+    /// None can be made, or not from what this node has.
     Refused(SyncRefusal),
     /// A disk of the new member failed.
     DiskFault,

@@ -6,8 +6,8 @@ use bson_doc::{Doc, Mem, Text};
 use rs_optime::OpTime;
 use transcript::{write_documents, write_number, write_optime};
 
-/// Writes into `text`, in place of what stood there, with how many entries and which documents a new member
-/// of this number begins, and the optime of its last entry. After out of memory `text` is of no use.
+/// Writes into `text`, in place of what was there, with how many entries and which documents the new member
+/// of this number begins, and the optime of its last entry. If memory runs out, `text` is of no use.
 pub fn set_synced(
     number: u32,
     at: OpTime,

@@ -48,7 +48,7 @@ wanted_of seed events nodes =
 
 -- ---- each word, by those after it
 
--- a word that stands alone
+-- a word on its own
 abbrev pub alone : Task → List (List ℕ) → Option Task
 alone task [] = Some task
 alone task (word ∷ words) = None

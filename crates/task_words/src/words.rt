@@ -10,12 +10,12 @@ use change_words::{Watch, node_of, read_watch};
 use linear_words::{Linear, read_linear};
 use std::alloc::Global;
 
-/// The events of a generated script times the nodes of its set are at most so many, so that its lines are
-/// fewer than a script may have.
+/// The events of a generated script times the nodes of its set are at most this many, so that it has fewer
+/// lines than a script may have.
 const MOST_PRODUCT: u32 = 50_000;
 
-/// A script that is to be generated: that of a seed, with at most so many events, up to 5,000, in a set of
-/// so many nodes, 1 to 50. The product of the two is at most 50,000.
+/// A script to generate: its seed, its number of events, up to 5,000, and the number of its set's nodes, 1 to
+/// 50. The product of the two is at most 50,000.
 #[derive(Clone, Copy)]
 pub struct Wanted {
     pub seed: u64,
@@ -34,7 +34,7 @@ pub enum Task {
     Chaos { seed: u64, events: u32, nodes: u32 },
     /// The script of the source is run, and then a document is read linearly.
     Linear(Linear),
-    /// The script of the source is run, and then it is told which changes nodes have after a token.
+    /// The script of the source is run, and then the changes are put that nodes have after a token.
     Watch(Watch),
     /// The script of the source is run, and then a new member is made of what this node has committed.
     Sync { node: u32 },
@@ -50,7 +50,7 @@ pub fn asks_check(words: &[String]) -> bool
     }
 }
 
-/// The task that some words ask for; none where they ask for nothing.
+/// The task that some words ask for; none where the words are wrong.
 pub fn read_task(alloc: Global, words: &[String]) -> Mem<Option<Task>>
     ensures asked { IfOk result (λ task. task ≡ task_of (map string_bytes words.now)) }
     ensures bounds { IfOk result (λ task. IfSome task IsBounded) }
@@ -61,7 +61,7 @@ pub fn read_task(alloc: Global, words: &[String]) -> Mem<Option<Task>>
     }
 }
 
-/// The task that one word asks for, by those after it.
+/// The task that one word asks for, given the words after it.
 fn word_task(alloc: Global, name: &str, words: &[String]) -> Mem<Option<Task>>
     ensures asked { IfOk result (λ task. task ≡ word_task name.now (map string_bytes words.now)) }
     ensures bounds { IfOk result (λ task. IfSome task IsBounded) }
@@ -77,7 +77,7 @@ fn word_task(alloc: Global, name: &str, words: &[String]) -> Mem<Option<Task>>
     }
 }
 
-/// The task of a word that stands alone.
+/// The task of a word on its own.
 fn alone(task: Task, words: &[String]) -> Option<Task>
     requires bounds { IsBounded task }
     ensures asked { result ≡ alone task (map string_bytes words.now) }
@@ -141,7 +141,7 @@ fn chaos_task(words: &[String]) -> Option<Task>
     }
 }
 
-/// The generated script that SEED, EVENTS and NODES ask for; none where they ask for nothing.
+/// The generated script that SEED, EVENTS and NODES ask for; none where the words are wrong.
 pub fn read_wanted(seed: &str, events: &str, nodes: &str) -> Option<Wanted>
     ensures asked { result ≡ wanted_of seed.now events.now nodes.now }
     ensures bounds { IfSome result (λ wanted. IsBounded (Chaos wanted.seed wanted.events wanted.nodes)) }

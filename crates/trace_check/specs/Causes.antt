@@ -1,4 +1,4 @@
--- Why a check stops where the source or the sink does.
+-- Why a check stops when the source or the sink fails.
 use Rattle.rs_io.specs.declared.reading.ReadAllError.{ReadAllError}
 use Rattle.rs_io.specs.declared.reading.ReadAllError.TheVariants as reads
 use Rattle.rs_io.specs.declared.sink.SinkError.{SinkError}

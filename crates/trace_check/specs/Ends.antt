@@ -7,27 +7,27 @@ use Rattle.run_checker.specs.Verdicts.{count_text, no_trace_text}
 use Rattle.trace_check.specs.declared.stop.CheckStop.{CheckStop}
 use Rattle.trace_check.specs.declared.stop.CheckStop.TheVariants.{NoTrace, ReadFault, TooLong, WriteFault, Memory}
 
--- how many bytes are checked at most
+-- the most bytes that are checked
 abbrev pub limit : ℕ
 limit = 67108864
 
 -- ---- what is said of bytes
 
--- they are a trace of so many events
+-- they are a trace of this many events
 abbrev pub IsCounted : ℕ → List ℕ → Type 0
 IsCounted count bytes = (checked bytes ≡ Ok count) × Shows count bytes
 
--- they are none, for this reason
+-- they aren't a trace, for this reason
 abbrev pub IsRefused : CheckError → List ℕ → Type 0
 IsRefused why bytes = (checked bytes ≡ Err why) × RulesOut why bytes
 
--- a source that tells its bytes was read to its end, they are within the limit, and this holds of them
+-- a source whose bytes are known was read to its end, they are within the limit, and this holds of them
 abbrev pub IfRead : Option (List ℕ) → Option (List ℕ) → (List ℕ → Type 0) → Type 0
 IfRead left rest Holds = IfSome left (λ bytes. (length bytes ≤ limit) × (rest ≡ Some []) × Holds bytes)
 
 -- ---- what is put
 
--- all of a text is put, or a prefix of it where the sink fails; out of memory, nothing
+-- all of a text is put, or a prefix of it if the sink fails; nothing if memory runs out
 abbrev pub PutsText : Option (List ℕ) → Option (List ℕ) → List ℕ → Result (Unit {0}) CheckStop → Type 0
 PutsText old new text (Ok done) = Appends old new text
 PutsText old new text (Err WriteFault) = (count : ℕ) × Appends old new (take count text)
@@ -36,8 +36,8 @@ PutsText old new text (Err NoTrace) = ⊥
 PutsText old new text (Err ReadFault) = ⊥
 PutsText old new text (Err TooLong) = ⊥
 
--- How a check ends, by the bytes that the source had left and has now, and those that the sink held and
--- holds. Where the sink fails, a prefix of the line is put; else the line or nothing.
+-- How a check ends, by what the source had left before and has left now, and what the sink held before and
+-- holds now. If the sink fails, a prefix of the line is put; otherwise the line or nothing.
 abbrev pub Ends : Option (List ℕ) → Option (List ℕ) → Option (List ℕ) → Option (List ℕ)
     → Result (Unit {0}) CheckStop → Type 0
 Ends left rest old new (Ok done) =

@@ -1,4 +1,4 @@
-// A source's bytes, checked.
+// Checks a source's bytes.
 ghost use Rattle.std.specs.Prelude.{◌≢◌, Err, IsErrOf};
 ghost use Rattle.rs_io.specs.Fault.{HasCause};
 ghost use Rattle.run_checker.specs.Verdicts.{count_text, no_trace_text};
@@ -9,14 +9,14 @@ use rs_io::{Sink, Source, read_all};
 use run_checker::{CheckError, check, write_count, write_no_trace};
 use std::alloc::Global;
 
-/// How many bytes are checked at most.
+/// The most bytes that are checked.
 const MOST_BYTES: usize = 67_108_864;
 
 /// Reads a source to its end, and puts whether its bytes are a trace, by one call: `yes` with the number of
-/// events, or the first line that shows that they are none, with the reason.
+/// events, or the first line that shows that they aren't, with the reason.
 ///
 /// # Errors
-/// `NoTrace` where they are none; `TooLong` where there are more than 67,108,864; `ReadFault` and
+/// `NoTrace` where they aren't one; `TooLong` where there are more than 67,108,864; `ReadFault` and
 /// `WriteFault` where the source or the sink failed. Nothing else is put.
 pub fn check_source<S: Source, K: Sink>(
     alloc: Global,

@@ -1,4 +1,4 @@
-//! A source's bytes are checked whether they are a trace, and the line that tells so is put.
+//! Checks whether a source's bytes are a trace, and puts the line that says so.
 #![tactic(auto)]
 
 mod checking;

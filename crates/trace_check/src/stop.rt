@@ -9,7 +9,7 @@ use std::alloc::AllocError;
 /// Why a check counts no events.
 #[derive(Clone, Copy, Debug, PartialEq, Eq)]
 pub enum CheckStop {
-    /// The bytes are no trace, and the line that shows it was told.
+    /// The bytes aren't a trace, and the line that says so was put.
     NoTrace,
     /// The source failed.
     ReadFault,

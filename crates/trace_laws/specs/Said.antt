@@ -18,7 +18,7 @@ use Rattle.set_model.specs.declared.reply.Reply.{Reply}
 use Rattle.set_model.specs.Limits.{is_for}
 use Rattle.set_model.specs.Run.{run}
 
--- a value that a text can spell: it is sound, and of at most 100 levels
+-- a value that a text can spell: it is sound, and has at most 100 levels
 pub record CanBeSpelled (tree : Tree) : Type 0 where
   pub lawful : IsLawful tree
   pub shallow : value_levels tree ≤ 100
@@ -29,12 +29,12 @@ CanBeWritten (ops.Replace ns id doc) = CanBeSpelled (tree_of id) × CanBeSpelled
 CanBeWritten (ops.Update ns id operators) = CanBeSpelled (tree_of id) × CanBeSpelled (document operators)
 CanBeWritten (ops.Delete ns id) = CanBeSpelled (tree_of id)
 
--- its numbers have so many bits as their types
+-- its numbers fit their types
 abbrev pub IsNumbered : Target → Type 0
 IsNumbered (targets.At at) = (at.term < 2 ^ 64) × (at.ts < 2 ^ 64)
 IsNumbered (targets.Writer writer) = ⊤
 
--- what a command owes beside the bounds of `is_for`
+-- what must hold of a command besides the bounds of `is_for`
 abbrev pub IsSayable : Command → Type 0
 IsSayable (Insert node collection doc) = CanBeWritten (ops.Insert collection doc)
 IsSayable (Replace node collection id doc) = CanBeWritten (ops.Replace collection id doc)
@@ -54,7 +54,7 @@ IsSayable (Crash node pick) = pick < 2 ^ 64
 IsSayable (DiskFail node disk call pick) = IfSome pick (λ p. p < 2 ^ 64)
 IsSayable _ = ⊤
 
--- a command of a set of so many nodes that a script can name
+-- a command of a set of this size that a script can name
 pub record CanBeSaid (nodes : ℕ) (command : Command) : Type 0 where
   pub within : is_for nodes command ≡ true
   pub sayable : IsSayable command
@@ -74,6 +74,6 @@ pub record CanBePrinted (nodes : ℕ) (event : Event) : Type 0 where
   pub command : CanBeSaid nodes event.command
   pub plain : IsPlain event
 
--- what the events of a set are answered, without their lines
+-- the replies to the events of a set, without their lines
 abbrev pub replies_of : ℕ × ℕ × ℕ → List Event → List Reply
 replies_of sizes events = map (λ reply. reply.1) (run (set_of sizes) events).replies

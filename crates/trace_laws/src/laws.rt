@@ -37,26 +37,26 @@ pub fn header_is_read_back()
         → header_in (header_text sizes ++ rest) ≡ Some (sizes, rest) }
 {}
 
-/// A command that is read can be said.
+/// A command that was read can be written.
 pub fn command_can_be_said()
     ensures { (nodes : ℕ) (text : List ℕ) (command : Command)
         → command_at nodes text ≡ Ok command → CanBeSaid nodes command }
 {}
 
-/// So can each command of a script that is read.
+/// So can each command of a script that was read.
 pub fn script_can_be_said()
     ensures { (bytes : List ℕ) (read : Script) → script bytes ≡ Ok read
         → AreSaid read.nodes (lines_in read.parts) }
 {}
 
-/// The trace of a run, as it is written, is a trace of its events, where each can be printed.
+/// The trace that is written of a run is a trace of its events, if each of them can be printed.
 pub fn trace_is_read_back()
     ensures { (sizes : ℕ × ℕ × ℕ) (events : List Event) → AreSizes (set_of sizes)
         → IsRun (set_of sizes) events → AllByRecursion (CanBePrinted sizes.0) events
         → IsTrace sizes events (trace_text sizes events (replies_of sizes events)) }
 {}
 
-/// So it is answered with the number of them.
+/// So a check of it gives the number of them.
 pub fn trace_is_counted()
     ensures { (sizes : ℕ × ℕ × ℕ) (events : List Event) → AreSizes (set_of sizes)
         → IsRun (set_of sizes) events → AllByRecursion (CanBePrinted sizes.0) events

@@ -1,4 +1,4 @@
-//! What holds of traces: what is written is read back, and what is read can be written.
+//! Laws of traces: what is written is read back, and what is read can be written.
 #![tactic(auto)]
 
 mod laws;
