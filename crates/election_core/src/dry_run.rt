@@ -61,4 +61,15 @@ impl DryRun {
     {
         self.term
     }
+
+    /// The same dry run once more.
+    pub fn copy(&self) -> Mem<Self>
+        ensures { IfOk result (λ d. d ≡ self.now) }
+    {
+        Ok(DryRun {
+            term: self.term,
+            config: self.config.copy()?,
+            tally: self.tally.copy()?,
+        })
+    }
 }

@@ -1,4 +1,4 @@
-ghost use Rattle.std.specs.Prelude.{◌≡◌, ◌<◌, OnOk};
+ghost use Rattle.std.specs.Prelude.{◌≡◌, ◌<◌, IfOk, OnOk};
 ghost use Rattle.std.specs.FinMap as maps;
 ghost use Rattle.member_config.specs.Numbers.{lowest};
 ghost use Rattle.repl_msg.specs.Sources as words;
@@ -81,5 +81,14 @@ impl KnownTable {
         ensures { result ≡ words.goes_further config.now last (maps.get self.now.heard member) }
     {
         is_further(config, last, self.known.get(&member).copied())
+    }
+
+    /// The same once more. What room there is for more isn't said.
+    pub fn copy(&self) -> Mem<Self>
+        ensures { IfOk result (λ table. table.heard ≡ self.now.heard) }
+    {
+        Ok(KnownTable {
+            known: self.known.clone()?,
+        })
     }
 }
