@@ -3,5 +3,5 @@ pub mod LinesCut
 mod ListsLast
 pub mod MergeLemmas
 mod WholeCounts
-mod WholeFits
+pub mod WholeFits
 mod WholeRead

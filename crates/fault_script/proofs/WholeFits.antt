@@ -36,7 +36,7 @@ abbrev threads_in : Option (List Thread) → List Thread
 threads_in None = []
 threads_in (Some threads) = threads
 
-abbrev line_sizes : SetLine → Sizes
+abbrev pub line_sizes : SetLine → Sizes
 line_sizes set = record { nodes = set.nodes; voters = set.voters; members = set.members }
 
 -- after the `set` line all commands are the set's, and before it there is none
@@ -162,7 +162,7 @@ sizes_sized left =
     (optional_within (members_or nodes.1 nodes.0 voters.0) voters.0 nodes.0 voters.1 (default_within nodes.1 nodes.0 voters.0 (some_voters nodes.0 voters.0 few).2)) (λ members within.
     ended_gets members.1 _ (λ set. AreSizes (line_sizes set)) (sized nodes.0 voters.0 members.0 some few within))))
 
-set_sized : (text : List ℕ) → Gets (set_line text) (λ set. AreSizes (line_sizes set))
+pub set_sized : (text : List ℕ) → Gets (set_line text) (λ set. AreSizes (line_sizes set))
 unfolding set_line
 set_sized text =
     bind_any (word_at (Some text)) _ (λ set. AreSizes (line_sizes set)) (λ first.

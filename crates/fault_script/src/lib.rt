@@ -13,7 +13,7 @@ mod whole;
 pub use chance_script::generate;
 pub use command::parse_command;
 pub use fault::{ScriptError, ScriptFault};
-pub use lines::{as_text, line_feed};
+pub use lines::{as_text, is_passed_over, line_feed, next_line, text_of};
 pub use lists::{Lines, Threads};
 pub use script::{Part, Parts, Rest, Script};
 pub use script_words::{LineError as CommandError, ScriptRule, TextRule};

@@ -51,16 +51,16 @@ pub optional_within : (default least most : ℕ) (left : Left) → IsIn least mo
 optional_within default least most None fine = fine
 optional_within default least most (Some text) fine = number_within least most (Some text)
 
-abbrev IsOurs : ℕ → ℕ → Type 0
+abbrev pub IsOurs : ℕ → ℕ → Type 0
 IsOurs nodes node = nat_lt node nodes ≡ true
 
-node_within : (nodes : ℕ) (left : Left) → Gets (node_at nodes left) (λ x. IsOurs nodes x.0)
+pub node_within : (nodes : ℕ) (left : Left) → Gets (node_at nodes left) (λ x. IsOurs nodes x.0)
 unfolding node_at
 node_within nodes left =
     bind_any (word_at left) _ (λ x. IsOurs nodes x.0) (λ word. bind_any (numbered BadNode 110 4294967295 word.0) _ (λ x. IsOurs nodes x.0) (λ number.
     tested (nat_lt number nodes) _ BadNode (λ x. IsOurs nodes x.0) (λ passed. passed)))
 
-other_within : (nodes node : ℕ) (left : Left) → Gets (other_node_at nodes node left) (λ x. IsOurs nodes x.0)
+pub other_within : (nodes node : ℕ) (left : Left) → Gets (other_node_at nodes node left) (λ x. IsOurs nodes x.0)
 unfolding other_node_at
 other_within nodes node left =
     bind_gets (node_at nodes left) _ (λ x. IsOurs nodes x.0) (λ x. IsOurs nodes x.0) (node_within nodes left) (λ other ours.
@@ -75,7 +75,7 @@ writer_within left =
     bind_any (word_at left) _ (λ x. nat_lt x.0 1000 ≡ true) (λ word.
     bind_gets (numbered BadWord 119 999 word.0) _ (IsIn 0 999) (λ x. nat_lt x.0 1000 ≡ true) (numbered_gets BadWord 119 999 word.0) (λ number within. small number within))
 
-collection_within : (left : Left) → Gets (collection_at left) (λ x. is_collection x.0 ≡ true)
+pub collection_within : (left : Left) → Gets (collection_at left) (λ x. is_collection x.0 ≡ true)
 unfolding collection_at
 collection_within left = bind_any (word_at left) _ (λ x. is_collection x.0 ≡ true) (λ word. tested (is_collection word.0) _ BadWord (λ x. is_collection x.0 ≡ true) (λ passed. passed))
 
@@ -94,7 +94,7 @@ target_within : (left : Left) → Gets (target_at left) (λ x. IsTargetIn x.0)
 unfolding target_at
 target_within left = bind_any (word_at left) _ (λ x. IsTargetIn x.0) (λ word. bind_gets (target_of word.0) _ IsTargetIn (λ x. IsTargetIn x.0) (target_gets word.0) (λ target within. within))
 
-concern_within : (left : Left) → Gets (concern_at left) (λ x. is_within_concern x.0 ≡ true)
+pub concern_within : (left : Left) → Gets (concern_at left) (λ x. is_within_concern x.0 ≡ true)
 unfolding concern_at concern_of
 concern_within left =
     bind_any (word_at left) _ (λ x. is_within_concern x.0 ≡ true) (λ word.
@@ -127,7 +127,7 @@ write_within Delete left =
 
 -- ---- commands
 
-abbrev Fit : ℕ → Command → Type 0
+abbrev pub Fit : ℕ → Command → Type 0
 Fit nodes command = is_for nodes command ≡ true
 
 -- one node is named, and the rest is within its bounds
@@ -251,7 +251,7 @@ clock_within nodes node left ours =
     early : (seconds : ℕ) → IsIn 0 2147483647 seconds → nat_lt seconds 2147483648 ≡ true
     early seconds low = grind arith
 
-node_words : (nodes : ℕ) (verb : NodeVerb) (node : ℕ) (left : Left) → IsOurs nodes node → Gets (of_node nodes verb node left) (Fit nodes)
+pub node_words : (nodes : ℕ) (verb : NodeVerb) (node : ℕ) (left : Left) → IsOurs nodes node → Gets (of_node nodes verb node left) (Fit nodes)
 node_words nodes (asks.Write kind) node left ours = bind_gets (write_at kind left) _ IsNamed (Fit nodes) (write_within kind left) (λ op named. our_write nodes node op ours named)
 node_words nodes asks.Retry node left ours = retry_within nodes node left ours
 node_words nodes asks.Note node left ours = ended_gets left _ (Fit nodes) (alone nodes node ours)

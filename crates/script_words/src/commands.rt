@@ -96,7 +96,7 @@ fn deliver_latest(nodes: u32, left: Left<'_>) -> Result<Command, ScriptRule>
 }
 
 /// The command whose words after the node are left.
-fn of_node(
+pub fn of_node(
     alloc: Global,
     nodes: u32,
     verb: NodeVerb,

@@ -13,10 +13,11 @@ mod verb;
 mod words;
 mod writes;
 
-pub use commands::{command, command_verb, keyword};
+pub use choices::concern;
+pub use commands::{command, command_verb, keyword, of_node};
 pub use rule::{LineError, ScriptRule, TextRule};
 pub use set::{MAX_NODES, SetLine, most_voters, set_line};
 pub use shape::Shape;
-pub use values::text;
+pub use values::{last_value, text};
 pub use verb::{Keyword, NodeVerb, Verb, WriteKind};
-pub use words::{Left, Read, is_collection, number, number_of, word};
+pub use words::{Left, Read, collection, is_collection, node, number, number_of, other_node, word};
