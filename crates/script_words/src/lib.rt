@@ -20,4 +20,6 @@ pub use set::{MAX_NODES, SetLine, most_voters, set_line};
 pub use shape::Shape;
 pub use values::{last_value, text};
 pub use verb::{Keyword, NodeVerb, Verb, WriteKind};
-pub use words::{Left, Read, collection, is_collection, node, number, number_of, other_node, word};
+pub use words::{
+    Left, Read, collection, has_shape, is_collection, node, number, number_of, other_node, word,
+};
