@@ -13,7 +13,7 @@ mod verb;
 mod words;
 mod writes;
 
-pub use choices::concern;
+pub use choices::{concern, level, target};
 pub use commands::{command, command_verb, keyword, of_node};
 pub use rule::{LineError, ScriptRule, TextRule};
 pub use set::{MAX_NODES, SetLine, most_voters, set_line};
