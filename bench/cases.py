@@ -333,6 +333,31 @@ def dumps_collections(n):
     return OPENING + [f"insert n0 c{k} {{_id: {k}}}" for k in range(n)] + ["dump n0 majority"] * n
 
 
+def asked_again(n, asking, again):
+    """Inserts at the only voter of two, what is asked about them, and a message that is delivered again and again."""
+    return ["set 2 1", *OPENING[1:], *[f"insert n0 t {{_id: {k}}}" for k in range(n)], *asking, *[again] * n]
+
+
+def fetches_again(n):
+    """A fetch of 5,000 entries that is answered again and again."""
+    return asked_again(n, pulled(1, 0)[:3], "deliver m2")
+
+
+def answers_again(n):
+    """Its answer, which comes again and again once it is taken."""
+    return asked_again(n, pulled(1, 0)[:4], "deliver m3")
+
+
+def commons_again(n):
+    """A question for common entries, which is answered again and again."""
+    return asked_again(n, ["common n1 n0"], "deliver m0")
+
+
+def inserts_of_50(n):
+    """Inserts at the primary of fifty."""
+    return ["set 50", *elected(0, 50), *inserts(n)[len(OPENING):]]
+
+
 def listed(lists, n):
     """The inserts of a block's lists, and the same without a block."""
     each = [[f"insert n0 items {{_id: {own * n + k}}}" for k in range(n)] for own in range(lists)]
@@ -403,6 +428,10 @@ CASES = {
     "blocks_of_one": Case(blocks_of_one, 24_000, 24_000),
     "empty_blocks": Case(empty_blocks, 5_500, 5_500),
     # a set
+    "fetches_again": Case(fetches_again, 5_000, 5_000, bound=(80, 12)),
+    "answers_again": Case(answers_again, 5_000, 5_000, bound=(80, 12)),
+    "commons_again": Case(commons_again, 9_000, 9_000),
+    "linear_of_50": Case(inserts_of_50, 190_000, 20_000, words=lambda n: ["linear", "n0", "items", "1"], bound=(2_600, 260)),
     "pulls": Case(pulls, 10_000, 2_000),
     "pulls_of_one": Case(pulls_of_one, 2_000, 4_000),
     "batches_of_500": Case(batches_of_500, 20, 40),

@@ -31,11 +31,11 @@ const MOST_OPTIMES: usize = 20_000;
 fn optimes_of(alloc: Global, entries: &[Entry]) -> Mem<OptimeList>
     ensures { IfOk result (λ list. list ≡ rollbacks.optimes_of entries.now) }
 {
-    let mut optimes = OptimeList::new(alloc);
+    let mut optimes = Vec::with_capacity(alloc, entries.len())?;
     for entry in entries {
         optimes.push(entry.optime)?;
     }
-    Ok(optimes)
+    OptimeList::new(alloc, optimes)
 }
 
 /// These places, each with the document that is there, or with none.

@@ -3,7 +3,9 @@
 use bson_doc::{Bytes, Doc, IdKey, Items, Text, Value};
 use member_config::{Config, Member, MemberList};
 use oplog_entry::{Entry, Op, Session, SharedOp};
-use repl_msg::{Beat, Body, EntryList, FetchReply, Kept, Message, OptimeList, Record};
+use repl_msg::{
+    Beat, Body, EntryList, FetchReply, Kept, Message, OptimeList, Record, SharedEntries,
+};
 use rs_optime::OpTime;
 use std::alloc::Global;
 use std::test::Fail;
@@ -206,7 +208,7 @@ fn a_record_is_copied_with_its_configuration(rt: HostRuntime) -> Result<(), Fail
 /// Whether a record is of the one deletion, with this point.
 fn is_deletion_up_to(record: &Record, at: OpTime) -> bool {
     match record {
-        Record::Entries { list, point } => is_deletion(list) && *point == at,
+        Record::Entries { list, point } => is_deletion(list.as_slice()) && *point == at,
         _ => false,
     }
 }
@@ -214,7 +216,7 @@ fn is_deletion_up_to(record: &Record, at: OpTime) -> bool {
 #[test]
 fn a_record_is_copied_with_its_entries(rt: HostRuntime) -> Result<(), Fail> {
     let record = Record::Entries {
-        list: deletion(rt.alloc())?,
+        list: EntryList::new(deletion(rt.alloc())?),
         point: LATER,
     };
     let copy = record.copy()?;
@@ -260,8 +262,9 @@ fn is_of_one_optime(body: &Body) -> bool {
 
 #[test]
 fn an_answer_is_copied_with_its_optimes(rt: HostRuntime) -> Result<(), Fail> {
-    let mut optimes = OptimeList::new(rt.alloc());
+    let mut optimes = Vec::new(rt.alloc());
     optimes.push(AT)?;
+    let optimes = OptimeList::new(rt.alloc(), optimes)?;
     let body = Body::CommonReply {
         after: OpTime::ZERO,
         optimes,
@@ -275,17 +278,17 @@ fn an_answer_is_copied_with_its_optimes(rt: HostRuntime) -> Result<(), Fail> {
 
 #[test]
 fn optimes_are_copied(rt: HostRuntime) -> Result<(), Fail> {
-    let mut optimes = OptimeList::new(rt.alloc());
+    let mut optimes = Vec::new(rt.alloc());
     optimes.push(AT)?;
+    let optimes = OptimeList::new(rt.alloc(), optimes)?;
     let copy = optimes.copy()?;
-    optimes.push(LATER)?;
-    assert_eq!(rt; optimes.as_slice().len(), 2);
+    drop(optimes);
     assert_eq!(rt; copy.as_slice(), [AT].as_slice());
     Ok(())
 }
 
 /// One entry, which deletes a document.
-fn deletion(alloc: Global) -> Result<EntryList, Fail> {
+fn deletion(alloc: Global) -> Result<Vec<Entry>, Fail> {
     let mut entries = Vec::new(alloc);
     let op = Op::Delete {
         ns: Text::from_str(alloc, LONG)?,
@@ -296,12 +299,12 @@ fn deletion(alloc: Global) -> Result<EntryList, Fail> {
         op: SharedOp::new(alloc, op)?,
         session: None,
     })?;
-    Ok(EntryList::new(entries))
+    Ok(entries)
 }
 
 /// Whether there is one entry, which deletes from the collection with the long name.
-fn is_deletion(entries: &EntryList) -> bool {
-    match entries.as_slice() {
+fn is_deletion(entries: &[Entry]) -> bool {
+    match entries {
         [entry] => deletes(entry.op.or(&Op::Noop)),
         _ => false,
     }
@@ -319,14 +322,14 @@ fn fetched_entries_are_copied(rt: HostRuntime) -> Result<(), Fail> {
     let reply = FetchReply {
         base: OpTime::ZERO,
         holds: true,
-        entries: deletion(rt.alloc())?,
+        entries: SharedEntries::new(rt.alloc(), deletion(rt.alloc())?)?,
         visible: LATER,
         commit: AT,
         primary: false,
     };
     let copy = reply.copy()?;
     drop(reply);
-    assert!(rt; is_deletion(&copy.entries));
+    assert!(rt; is_deletion(copy.entries.as_slice()));
     assert!(rt; copy.holds && !copy.primary);
     assert_eq!(rt;
         (copy.base, copy.visible, copy.commit),
@@ -346,13 +349,13 @@ fn what_a_journal_keeps_is_copied(rt: HostRuntime) -> Result<(), Fail> {
         form: 2,
         vote,
         config: Some(of_one(alloc)?),
-        entries: deletion(alloc)?,
+        entries: EntryList::new(deletion(alloc)?),
         point: AT,
         count: 4,
     };
     let copy = kept.copy()?;
     drop(kept);
-    assert!(rt; is_deletion(&copy.entries));
+    assert!(rt; is_deletion(copy.entries.as_slice()));
     let found = match &copy.config {
         Some(config) => is_of_one(config),
         None => false,

@@ -18,6 +18,7 @@ pub mod ShownLemmas
 pub mod SizeLemmas
 pub mod SoundLemmas
 pub mod StoreLemmas
+pub mod ToldLemmas
 pub mod VersionLemmas
 pub mod VisibleLemmas
 pub mod WriterLemmas

@@ -3,5 +3,6 @@ pub mod Kept
 pub mod NodeData
 pub mod SessionLog
 pub mod Sound
+pub mod Told
 pub mod Versions
 pub mod Writers

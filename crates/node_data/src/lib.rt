@@ -9,6 +9,7 @@ mod restoring;
 mod session_log;
 mod sharing;
 mod slots;
+mod told;
 mod writable;
 mod writer_map;
 mod writing;

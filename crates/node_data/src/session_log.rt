@@ -1,14 +1,20 @@
-// The log of a node, with the last write of each session in it.
+// The log of a node, with the last write of each session in it, and with what was told of it.
 ghost use Rattle.std.specs.Prelude.{◌≡◌, ◌-◌, ◌<◌, ◌≤◌, ℕ, true, [], All, IfOk, IsSome, OnErr, OnOk};
 ghost use Rattle.std.specs.FinMap as maps;
 ghost use Rattle.oplog_entry.specs.Visible.{log_up_to};
+ghost use Rattle.oplog_fetcher.specs.Fetch.{reply_to as answered};
 ghost use Rattle.oplog_store.specs.Log.{IsOplog, with_entry};
+ghost use Rattle.repl_msg.specs.Logs.{log_after};
+ghost use Rattle.set_model.specs.Rollback.{optimes_of};
 ghost use Rattle.set_model.specs.Sessions.{is_past, last_write, later_write};
 ghost use Rattle.node_data.specs.SessionLog.{HasLastWrites};
 
+use crate::told::{Told, optimes_of, told_again};
 use bson_doc::Mem;
 use oplog_entry::{Entry, Session};
+use oplog_fetcher::{log_after, reply_to};
 use oplog_store::OpenLog;
+use repl_msg::{FetchReply, OptimeList};
 use rs_optime::OpTime;
 use set_model::LastWrite;
 use std::alloc::Global;
@@ -16,6 +22,8 @@ use std::collections::BTreeMap;
 use std::marker::Model;
 
 /// A log whose slots may be open. Contracts see only the log.
+///
+/// It keeps the lists that it gave until it changes, so that whoever asks again gets the same list.
 ///
 /// A primary has a table of sessions, and follows its writes in it. Another node drops the table when a
 /// session's write comes or goes, and builds it again when it becomes primary. Where there is no memory for
@@ -25,6 +33,7 @@ pub(crate) struct SessionLog {
     alloc: Global,
     log: OpenLog,
     last: Option<SessionTable>,
+    told: Told,
 }
 
 impl Model for SessionLog {
@@ -37,10 +46,12 @@ impl Model for SessionLog {
 
     ghost use Rattle.std.specs.Prelude.{IfSome};
     ghost use Rattle.node_data.specs.SessionLog.{HasLastWrites};
+    ghost use Rattle.node_data.specs.Told.{IsTold};
 
     ghost view = { λ l. l.log };
 
-    ghost invariant = { λ l. IfSome l.last (λ table. HasLastWrites table l.log.entries) };
+    ghost invariant = { λ l. IfSome l.last (λ table. HasLastWrites table l.log.entries)
+        × IsTold l.log.entries l.told };
 }
 
 /// The last write of each session.
@@ -160,6 +171,7 @@ impl SessionLog {
             alloc,
             log: OpenLog::new(alloc),
             last: Some(SessionTable::new(alloc)),
+            told: Told::new(alloc),
         }
     }
 
@@ -216,6 +228,7 @@ impl SessionLog {
         ensures spare { self.new.spare ≡ self.old.spare - 1 }
     {
         let (at, session) = (entry.optime, entry.session);
+        self.told.clear();
         self.log.insert(entry);
         if let Some(table) = &mut self.last {
             if table.add(at, session).is_err() {
@@ -232,6 +245,7 @@ impl SessionLog {
         ensures spare { self.new.spare ≡ self.old.spare - 1 }
     {
         let session = entry.session;
+        self.told.clear();
         self.log.insert(entry);
         if session.is_some() {
             self.last = None;
@@ -275,11 +289,52 @@ impl SessionLog {
         ensures entries { self.new.entries ≡ log_up_to to self.old.entries }
         ensures spare { self.new.spare ≡ self.old.spare }
     {
+        self.told.clear();
         self.log.cut(to);
         if let Some(table) = &self.last {
             if !table.is_empty() {
                 self.last = None;
             }
         }
+    }
+
+    /// The answer to a fetch, as `oplog_fetcher` gives it. Out of memory is the one error.
+    pub(crate) fn fetched(
+        &mut self,
+        visible: OpTime,
+        base: OpTime,
+        commit: OpTime,
+        primary: bool,
+    ) -> Mem<FetchReply>
+        ensures reply { IfOk result (λ reply.
+            reply ≡ answered self.old.entries visible base commit primary) }
+        ensures entries { self.new.entries ≡ self.old.entries }
+        ensures spare { self.new.spare ≡ self.old.spare }
+    {
+        if let Some(kept) = self.told.reply(visible, base) {
+            return told_again(kept, commit, primary);
+        }
+        self.log.gather_up_to(visible);
+        let settled = self.log.settled();
+        let reply = reply_to(self.alloc, settled, visible, base, commit, primary)?;
+        self.told.keep_reply(reply.copy()?);
+        Ok(reply)
+    }
+
+    /// The optimes of the entries after an optime, up to another one. Out of memory is the one error.
+    pub(crate) fn optimes_between(&mut self, after: OpTime, to: OpTime) -> Mem<OptimeList>
+        ensures list { IfOk result (λ list.
+            list ≡ optimes_of (log_after after (log_up_to to self.old.entries))) }
+        ensures entries { self.new.entries ≡ self.old.entries }
+        ensures spare { self.new.spare ≡ self.old.spare }
+    {
+        if let Some(kept) = self.told.optimes(after, to) {
+            return kept.copy();
+        }
+        self.log.gather_up_to(to);
+        let entries = log_after(self.log.settled().up_to(to), after);
+        let optimes = optimes_of(self.alloc, entries)?;
+        self.told.keep_optimes(after, to, optimes.copy()?);
+        Ok(optimes)
     }
 }

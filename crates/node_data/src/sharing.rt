@@ -17,22 +17,10 @@ ghost use Rattle.std.specs.FinMap as maps;
 use crate::NodeData;
 use bson_doc::Mem;
 use oplog_entry::Entry;
-use oplog_fetcher::{log_after, reply_to};
+use oplog_fetcher::log_after;
 use repl_msg::{EntryList, FetchReply, OptimeList};
 use rollback_core::{LostDocument, RollbackRefusal, lost_documents, plan};
 use rs_optime::OpTime;
-use std::alloc::Global;
-
-/// The optimes of some entries.
-fn optimes_of(alloc: Global, entries: &[Entry]) -> Mem<OptimeList>
-    ensures { IfOk result (λ list. list ≡ optimes_of entries.now) }
-{
-    let mut optimes = OptimeList::new(alloc);
-    for entry in entries {
-        optimes.push(entry.optime)?;
-    }
-    Ok(optimes)
-}
 
 impl NodeData {
     /// The entry with an optime.
@@ -72,15 +60,7 @@ impl NodeData {
             reply ≡ answered self.old.node.log visible base commit primary) }
         ensures same { self.new ≡ self.old }
     {
-        self.log.gather_up_to(visible);
-        reply_to(
-            self.alloc,
-            self.log.written().settled(),
-            visible,
-            base,
-            commit,
-            primary,
-        )
+        self.log.fetched(visible, base, commit, primary)
     }
 
     /// How many entries come after an optime, up to another one.
@@ -107,11 +87,7 @@ impl NodeData {
             list ≡ optimes_of (log_after after (log_up_to to self.old.node.log))) }
         ensures same { self.new ≡ self.old }
     {
-        self.log.gather_up_to(to);
-        optimes_of(
-            self.alloc,
-            log_after(self.log.written().settled().up_to(to), after),
-        )
+        self.log.optimes_between(after, to)
     }
 
     /// The point to which the log is rolled back for a source that has these optimes later than `after`, as

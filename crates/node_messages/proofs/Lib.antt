@@ -6,6 +6,7 @@ pub mod FetchedLemmas
 pub mod ForeseenLemmas
 pub mod FrontLemmas
 pub mod HearLemmas
+pub mod IgnoredLemmas
 pub mod JoinedLemmas
 pub mod RollLemmas
 pub mod TakenLemmas

@@ -1,4 +1,5 @@
 pub mod Ahead
+pub mod Fetched
 pub mod HeardBeats
 pub mod Rolling
 pub mod Trying

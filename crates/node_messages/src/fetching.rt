@@ -9,16 +9,18 @@ ghost use Rattle.set_model.specs.Points.{last_point, learnt};
 ghost use Rattle.set_model.specs.Stores.{finished};
 ghost use Rattle.set_model.specs.declared.reply.Reply.TheVariants.{Took};
 ghost use Rattle.set_model.specs.declared.role.Role.TheVariants.{Secondary};
-ghost use Rattle.node_messages.specs.Ahead.{IsPreparedFor, view_in_term};
+ghost use Rattle.node_messages.specs.Ahead.{IsInTerm, IsPreparedFor, view_in_term};
+ghost use Rattle.node_messages.specs.Fetched.{ignored_for};
 ghost use Rattle.node_state.specs.Ready.{IsFetched, IsReadyMessage, IsReadyTurn};
 ghost use Rattle.set_model.specs.Taking.{CanTakeEntries};
 ghost use Rattle.node_state.specs.Turns.{Means};
 
+use crate::preparing::InTerm;
 use bson_doc::Mem;
 use commit_point::learn;
-use node_state::{MessageContinuation, State, Turn};
+use node_state::{MessageContinuation, State, TakenReply, Turn};
 use oplog_entry::Entry;
-use oplog_fetcher::accept;
+use oplog_fetcher::{OtherPlace, accept};
 use oplog_store::Unjournaled;
 use repl_msg::{FetchReply, Message};
 use rs_optime::OpTime;
@@ -37,9 +39,44 @@ fn note_all(unjournaled: &mut Unjournaled, entries: &[Entry])
     }
 }
 
-/// Prepares to take the entries of an answer to a fetch: memory for them is reserved before
-/// anything else changes.
+/// Prepares to take an answer to a fetch. One that the node ignores isn't copied.
 pub(crate) fn prepare_entries(
+    state: &mut State,
+    message: &Message,
+    reply: &FetchReply,
+    own: InTerm,
+) -> Mem<MessageContinuation>
+    requires fetched { CanTakeEntries state.old.node message.now.term reply.now }
+    requires own { IsInTerm own message.now.term state.old.node }
+    ensures told { IfOk result (λ told.
+        IsPreparedFor told (nat_lt state.old.node.term message.now.term) message.now.term
+        (λ node. finished (rows.entries_told node message.now.from reply.now))
+        state.old.node state.new.node) }
+    ensures ready { IfOk result (λ told. IsReadyMessage told
+        (view_in_term (nat_lt state.old.node.term message.now.term) message.now.term state.new)) }
+    ensures err { OnErr result (state.new.node ≡ state.old.node) }
+{
+    if let Some(why) = ignored_for(own.role, state.node_data.last(), reply) {
+        return Ok(MessageContinuation::Ignored(why));
+    }
+    prepare_taking(state, message, reply)
+}
+
+/// Why a node of this role whose log ends there ignores an answer.
+fn ignored_for(role: Role, last: OpTime, reply: &FetchReply) -> Option<Ignored>
+    ensures { result ≡ ignored_for role last reply.now }
+{
+    if role != Role::Secondary {
+        return Some(Ignored::NotSecondary);
+    }
+    match accept(last, reply) {
+        Ok(_) => None,
+        Err(OtherPlace) => Some(Ignored::OtherPlace),
+    }
+}
+
+/// Prepares to take the entries of an answer: memory for them is reserved before anything else changes.
+fn prepare_taking(
     state: &mut State,
     message: &Message,
     reply: &FetchReply,
@@ -53,8 +90,8 @@ pub(crate) fn prepare_entries(
         (view_in_term (nat_lt state.old.node.term message.now.term) message.now.term state.new)) }
     ensures err { OnErr result (state.new.node ≡ state.old.node) }
 {
-    let reply = reply.copy()?;
-    make_room(state, reply.entries.as_slice().len())?;
+    let reply = TakenReply::of(state.alloc, reply)?;
+    make_room(state, reply.as_slice().len())?;
     Ok(MessageContinuation::Fetched {
         from: message.from,
         reply,
@@ -74,7 +111,7 @@ fn make_room(state: &mut State, count: usize) -> Mem<()>
 
 /// Appends the entries if they continue a secondary's log, and replies with their number and the
 /// log's last optime.
-pub(crate) fn take_entries(state: &mut State, from: u32, reply: FetchReply) -> Turn
+pub(crate) fn take_entries(state: &mut State, from: u32, reply: TakenReply) -> Turn
     requires ready { IsFetched reply state.old }
     ensures turn { Means result state.new.node (finished (rows.entries_told state.old.node from reply)) }
     ensures ready { IsReadyTurn result state.new }
@@ -82,13 +119,13 @@ pub(crate) fn take_entries(state: &mut State, from: u32, reply: FetchReply) -> T
     if state.role != Role::Secondary {
         return state.answered(Reply::Ignored(Ignored::NotSecondary));
     }
-    let Ok(_) = accept(state.node_data.last(), &reply) else {
+    let Ok(_) = accept(state.node_data.last(), reply.reply()) else {
         return state.answered(Reply::Ignored(Ignored::OtherPlace));
     };
     follow(state, from, reply)
 }
 
-fn follow(state: &mut State, from: u32, reply: FetchReply) -> Turn
+fn follow(state: &mut State, from: u32, reply: TakenReply) -> Turn
     requires ready { IsFetched reply state.old }
     requires role { state.old.node.role ≡ Secondary }
     requires base { continues (last_point state.old.node) reply ≡ true }
@@ -97,8 +134,9 @@ fn follow(state: &mut State, from: u32, reply: FetchReply) -> Turn
         (rows.taken state.old.node from reply))) }
     ensures ready { IsReadyTurn result state.new }
 {
-    let count = reply.entries.as_slice().len() as u64;
-    let (visible, commit, primary) = (reply.visible, reply.commit, reply.primary);
+    let count = reply.as_slice().len() as u64;
+    let told = reply.reply();
+    let (visible, commit, primary) = (told.visible, told.commit, told.primary);
     append(state, reply);
     learn_from(state, from, visible, commit, primary);
     state.answered(Reply::Took {
@@ -117,7 +155,7 @@ fn learn_from(state: &mut State, from: u32, visible: OpTime, commit: OpTime, pri
 }
 
 /// Its entries are appended to the log.
-fn append(state: &mut State, reply: FetchReply)
+fn append(state: &mut State, reply: TakenReply)
     requires fetched { CanTakeEntries state.old.node state.old.node.term reply }
     requires room { length reply.entries ≤ state.old.spare }
     requires role { state.old.node.role ≡ Secondary }
@@ -126,7 +164,7 @@ fn append(state: &mut State, reply: FetchReply)
     ensures places { state.new.places ≡ state.old.places }
 {
     state.node_data.recall_sound();
-    note_all(&mut state.unjournaled, reply.entries.as_slice());
-    state.node_data.append(reply.entries.into_entries());
+    note_all(&mut state.unjournaled, reply.as_slice());
+    state.node_data.append(reply.into_entries());
     state.node_data.recall_sound();
 }

@@ -76,7 +76,7 @@ pub(crate) fn prepare<R: Threads + Sync>(
     let own = in_term(state, message.term);
     match &message.body {
         Body::Fetch { base } => prepare_fetch(state, next, message, *base, own),
-        Body::FetchReply(reply) => prepare_entries(state, message, reply),
+        Body::FetchReply(reply) => prepare_entries(state, message, reply, own),
         Body::Heartbeat(beat) => {
             make_place(state)?;
             prepare_beat(state, next, message, beat, own)

@@ -12,6 +12,7 @@ mod leading;
 mod points;
 mod sending;
 mod state;
+mod taken_reply;
 mod turn;
 
 pub use changes::vote_record;
@@ -19,4 +20,5 @@ pub use coming::Coming;
 pub use leading::in_term;
 pub use points::earlier;
 pub use state::State;
+pub use taken_reply::TakenReply;
 pub use turn::{Answer, Continuation, HeardBeat, MessageContinuation, NewConfig, Turn};

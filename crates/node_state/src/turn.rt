@@ -4,9 +4,10 @@
 // All memory that the later steps need is reserved here beforehand, since a node mustn't run out of memory
 // between two stores.
 
+use crate::TakenReply;
 use election_core::Tally;
 use member_config::Config;
-use repl_msg::{FetchReply, Message, VoteAsk, VoteRefusal};
+use repl_msg::{Message, VoteAsk, VoteRefusal};
 use rs_optime::OpTime;
 use set_model::{Ignored, LostList, Reply, Store};
 
@@ -90,7 +91,7 @@ pub enum MessageContinuation {
     /// The answer's entries are appended to the log.
     Fetched {
         from: u32,
-        reply: FetchReply,
+        reply: TakenReply,
     },
     /// A heartbeat is heard, with its configuration if the node installs that.
     Heard {

@@ -9,7 +9,7 @@ ghost use Rattle.oplog_fetcher.specs.Fetch.{reply_to as answered};
 use member_config::Mem;
 use oplog_entry::Entry;
 use oplog_store::Oplog;
-use repl_msg::{EntryList, FetchReply};
+use repl_msg::{FetchReply, SharedEntries};
 use rs_optime::OpTime;
 use std::alloc::Global;
 
@@ -31,9 +31,9 @@ pub fn reply_to(
 {
     let holds = holds(log, visible, base);
     let entries = if holds {
-        EntryList::of_slice(alloc, next_entries(log, visible, base))?
+        SharedEntries::of_slice(alloc, next_entries(log, visible, base))?
     } else {
-        EntryList::new(Vec::new(alloc))
+        SharedEntries::new(alloc, Vec::new(alloc))?
     };
     Ok(FetchReply {
         base,

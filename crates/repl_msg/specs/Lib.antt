@@ -6,5 +6,6 @@ pub mod Logs
 pub mod Parts
 pub mod Points
 pub mod Rollback
+pub mod Shared
 pub mod Sources
 pub mod Votes

@@ -31,7 +31,9 @@ use Rattle.optime_slots.specs.contracts.slots.Slots as slots
 use Rattle.member_config.specs.contracts.config.Config as config
 use Rattle.repl_msg.specs.contracts.lists.EntryList as entry_list
 use Rattle.repl_msg.specs.contracts.lists.OptimeList as optime_list
+use Rattle.repl_msg.specs.contracts.lists.SharedEntries as shared_entries
 use Rattle.repl_msg.specs.contracts.message.Body as body
+use Rattle.repl_msg.specs.contracts.message.FetchReply as fetch_reply
 use Rattle.repl_msg.specs.contracts.message.Message as message
 use Rattle.repl_msg.specs.contracts.record.Record as record_kept
 use Rattle.set_model.specs.contracts.store.Store as stored
@@ -51,6 +53,8 @@ use Rattle.node_data.specs.contracts.writer_map.WriterMap as writer_map
 use Rattle.node_data.specs.contracts.keeping.NodeData as node_data
 use Rattle.node_data.specs.contracts.session_log.SessionLog as session_log
 use Rattle.node_data.specs.contracts.session_log.SessionTable as session_table
+use Rattle.node_data.specs.contracts.told.Told as told
+use Rattle.node_data.specs.contracts.told.ToldOptimes as told_optimes
 use Rattle.node_state.specs.contracts.state.State as state
 use Rattle.node_core.specs.contracts.disks.Disks as disks
 use Rattle.node_core.specs.contracts.node.Node as node
@@ -118,8 +122,14 @@ op_sync = search (sendable, heap.crosses, text_sync, bytes_sync, doc_sync, items
 shared_op_send : IsSend shared_op.the_row
 shared_op_send = search (sendable, heap.crosses, op_send, op_sync) depth 40 fits 20000
 
+shared_op_sync : IsSync shared_op.the_row
+shared_op_sync = search (sendable, heap.crosses, op_send, op_sync) depth 40 fits 20000
+
 entry_send : IsSend entry.the_row
 entry_send = search (sendable, heap.crosses, shared_op_send) depth 40 fits 20000
+
+entry_sync : IsSync entry.the_row
+entry_sync = search (sendable, heap.crosses, shared_op_sync) depth 40 fits 20000
 
 oplog_send : IsSend oplog.the_row
 oplog_send = search (sendable, heap.crosses, entry_send) depth 40 fits 20000
@@ -142,14 +152,17 @@ config_sync = search (sendable, heap.crosses) depth 40 fits 20000
 entry_list_send : IsSend entry_list.the_row
 entry_list_send = search (sendable, heap.crosses, entry_send) depth 40 fits 20000
 
+shared_entries_send : IsSend shared_entries.the_row
+shared_entries_send = search (sendable, heap.crosses, entry_send, entry_sync) depth 40 fits 20000
+
 optime_list_send : IsSend optime_list.the_row
 optime_list_send = search (sendable, heap.crosses) depth 40 fits 20000
 
 body_send : IsSend body.the_row
-body_send = search (sendable, heap.crosses, config_send, entry_list_send, optime_list_send) depth 40 fits 20000
+body_send = search (sendable, heap.crosses, config_send, shared_entries_send, optime_list_send) depth 40 fits 20000
 
 message_send : IsSend message.the_row
-message_send = search (sendable, heap.crosses, entry_list_send, optime_list_send) depth 60 fits 20000
+message_send = search (sendable, heap.crosses, shared_entries_send, optime_list_send) depth 60 fits 20000
 
 record_send : IsSend record_kept.the_row
 record_send = search (sendable, heap.crosses, config_send, entry_list_send) depth 40 fits 20000
@@ -230,8 +243,17 @@ writer_map_send = search (sendable, heap.crosses, maps.crosses, held_send, write
 session_table_send : IsSend session_table.the_row
 session_table_send = search (sendable, heap.crosses, maps.crosses) depth 40 fits 20000
 
+fetch_reply_send : IsSend fetch_reply.the_row
+fetch_reply_send = search (sendable, heap.crosses, shared_entries_send) depth 40 fits 20000
+
+told_optimes_send : IsSend told_optimes.the_row
+told_optimes_send = search (sendable, heap.crosses, optime_list_send) depth 40 fits 20000
+
+told_send : IsSend told.the_row
+told_send = search (sendable, heap.crosses, fetch_reply_send, told_optimes_send) depth 40 fits 20000
+
 session_log_send : IsSend session_log.the_row
-session_log_send = search (sendable, heap.crosses, open_log_send, session_table_send) depth 40 fits 20000
+session_log_send = search (sendable, heap.crosses, open_log_send, session_table_send, told_send) depth 40 fits 20000
 
 node_data_send : IsSend node_data.the_row
 node_data_send = search (sendable, heap.crosses, session_log_send, slots_send, writer_map_send, store_send) depth 40 fits 20000

@@ -1,24 +1,16 @@
-use Rattle.std.proofs.Common.{◌≤◌, ap, length, nat_lt, refl, subst, List}
-use Rattle.oplog_entry.specs.declared.entry.Entry.{Entry}
-use Rattle.repl_msg.specs.declared.message.FetchReply.{FetchReply}
-use Rattle.set_model.specs.Fetching.{entries_told}
-use Rattle.set_model.specs.Stores.{finished}
-use Rattle.node_messages.proofs.ForeseenLemmas.{there}
-use Rattle.node_messages.proofs.TakenLemmas.{foretold, ready_fetched}
+use Rattle.std.proofs.Common.{◌∙◌, ap, nat_lt, refl}
+use Rattle.rs_optime.specs.declared.optime.OpTime.{OpTime}
+use Rattle.set_model.specs.Points.{last_point}
+use Rattle.node_messages.specs.Fetched.{ignored_for}
+use Rattle.node_state.specs.StateView.{StateView}
+use Rattle.node_messages.proofs.IgnoredLemmas.{ignored_tells}
 use Rattle.node_messages.proofs.fetching.prepare_entries.Goals as goal
 
-pub returns-clause-told : goal.returns-clause-told
-returns-clause-told c =
+pub returns-in-Some-clause-told : goal.returns-in-Some-clause-told
+returns-in-Some-clause-told c =
+    let old = c.args.state.now.node in
     let term = c.args.message.now.term in
-    let from = c.args.message.now.from in
-    let raised = nat_lt c.args.state.now.node.term term in
-    foretold _ raised term _ c.args.state.now.node c.make_room.new.state.node
-    (λ items. ap (λ (r : FetchReply). finished (entries_told (there raised term c.args.state.now.node items) from r)) c.in_ok-reply.ensures) c.make_room.ensures.node
-
-pub returns-clause-ready : goal.returns-clause-ready
-returns-clause-ready c =
-    let term = c.args.message.now.term in
-    let raised = nat_lt c.args.state.now.node.term term in
-    ready_fetched raised c.args.state.now.node c.make_room.new.state term c.in_ok-reply.reply c.args.reply.now c.make_room.ensures.node c.in_ok-reply.ensures
-    refl c.in_ok-make_room.ensures.place c.requires.fetched
-    (subst (λ (list : List Entry). length list ≤ c.make_room.new.state.spare) c.as_slice.ensures.entries c.in_ok-make_room.ensures.room)
+    ignored_tells (nat_lt old.term term) term c.args.message.now.from old old c.args.reply.now c.args.own.role c.in-Some.why c.requires.own.role_is
+    (c.in-Some.ensures
+    ∙ ap (λ (last : OpTime). ignored_for c.args.own.role last c.args.reply.now) (c.last.ensures ∙ ap (λ (s : StateView). last_point s.node) c.state.view_is))
+    refl

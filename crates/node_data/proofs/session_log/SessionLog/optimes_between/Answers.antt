@@ -3,8 +3,8 @@ use Rattle.oplog_entry.specs.Visible.{is_before}
 use Rattle.oplog_entry.specs.declared.entry.Entry.{Entry}
 use Rattle.oplog_store.specs.Log.{IsOplog}
 use Rattle.oplog_store.proofs.LogLemmas.{oplog_filter}
-use Rattle.node_data.proofs.keeping.NodeData.optimes_between.Goals as goal
+use Rattle.node_data.proofs.session_log.SessionLog.optimes_between.Goals as goal
 
-pub log_after-requires : goal.log_after-requires
-log_after-requires c =
+pub log_after-entries-requires : goal.log_after-entries-requires
+log_after-entries-requires c =
     subst IsOplog (sym c.up_to.ensures.entries) (oplog_filter (λ (e : Entry). not (is_before c.args.to e.optime)) c.settled.result.now.entries c.up_to.ensures.oplog)

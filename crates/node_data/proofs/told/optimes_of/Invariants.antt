@@ -1,6 +1,6 @@
 use Rattle.std.proofs.Common.{◌≡◌, take}
 use Rattle.set_model.specs.Rollback.{optimes_of}
-use Rattle.node_data.proofs.sharing.optimes_of.Given as goal
+use Rattle.node_data.proofs.told.optimes_of.Given as goal
 
 abbrev pub invariant-loop-entry : goal.invariant-loop-entry
-invariant-loop-entry l = l.optimes ≡ optimes_of (take l.entry-index l.entries)
+invariant-loop-entry l = l.optimes.items ≡ optimes_of (take l.entry-index l.entries)
