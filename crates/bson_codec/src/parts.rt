@@ -1,4 +1,4 @@
-// The parts of an element, read from the front of what is left of its document.
+// The parts of an element, read from the start of what is left of its document.
 ghost use Rattle.std.specs.Prelude.{◌≡◌, ◌≤◌, IfOk, Contains, is_some, drop, position, ◌==◌};
 ghost use Rattle.std.specs.Str.Lossy.{utf8_valid_len, utf8_error_len};
 ghost use Rattle.bson_doc.specs.View.{tree_of};
@@ -90,7 +90,7 @@ fn first_zero(bytes: &[u8]) -> Option<usize>
     bytes.iter().position(|byte| *byte == 0)
 }
 
-/// Whether a byte before the end can't go on as UTF-8.
+/// Whether a byte before the end can't continue UTF-8.
 fn breaks_utf8(bytes: &[u8]) -> bool
     ensures { result ≡ is_some (utf8_error_len (drop (utf8_valid_len bytes.now) bytes.now)) }
 {

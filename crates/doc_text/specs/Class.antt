@@ -14,7 +14,7 @@ is_in HexDigit = is_hex_digit
 is_in Name = is_name_byte
 is_in Plain = is_plain
 
--- what follows the longest prefix in the class
+-- what follows the longest prefix of bytes in the class
 abbrev pub after_front : Class → List ℕ → List ℕ
 after_front kind text = drop (prefix_len (is_in kind) text) text
 

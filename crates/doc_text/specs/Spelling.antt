@@ -43,7 +43,7 @@ written (itself byte) = byte ∷ []
 written (named letter) = 92 ∷ letter ∷ []
 written (coded a b c d) = 92 ∷ 117 ∷ a ∷ b ∷ c ∷ d ∷ []
 
--- four digits make this code, which is no surrogate, and in a name not zero
+-- four digits make this code, which isn't a surrogate, nor zero in a name
 pub record IsCode (in_name : Bool) (a b c d code : ℕ) : Type 0 where
   pub first : ℕ
   pub second : ℕ
@@ -192,7 +192,7 @@ abbrev pub continues_number : List ℕ → Bool
 continues_number [] = false
 continues_number (c ∷ rest) = is_ascii_digit c || c == 76
 
--- A number is read as far as it goes. No other value's text begins another's.
+-- A number is read as far as it goes. No other value's text is a prefix of another's.
 abbrev pub EndsThere : Tree → List ℕ → Type 0
 EndsThere (int32 number) rest = continues_number rest ≡ false
 EndsThere _ rest = Unit {0}

@@ -44,7 +44,7 @@ members_at more close (suc most) so_far text = do
     rest ← spaced_at 44 grown.1
     members_at more close most grown.0 rest)
 
--- members after their opening mark, of which there are fewer than bytes
+-- members after their opening mark; there are fewer of them than bytes
 unfoldable pub inside_at : {A : Type 0} → (A → List ℕ → Read A) → ℕ → A → List ℕ → Read A
 inside_at more close none text =
     if begins_with close text then Ok (none, drop 1 text)

@@ -1,5 +1,5 @@
--- What a write logs: a lawful op of the place that the write names, which leaves a document that begins with its `_id` and
--- isn't too large, and which is itself no longer than such documents.
+-- What a write logs: a lawful op on the place that the write names. It leaves a document that begins with its
+-- `_id` and isn't too large, and it is itself no longer than such a document.
 use Rattle.std.proofs.Common.{◌≡◌, ◌≤◌, ◌+◌, ◌*◌, ◌∙◌, ℕ, length, Bool, true, false, not, ◌||◌, nat_lt, List, Option, None, Some, IsSome, Result, Ok, Err, IfOk, refl, sym, ap, subst, arith, codes}
 use Rattle.std.specs.Prelude.{⊤, cond}
 use Rattle.bson_doc.specs.Tree.{Tree, Fields, no_fields, field, found, IsDocument}

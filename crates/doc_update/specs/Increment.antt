@@ -1,4 +1,4 @@
--- What `$inc` makes of numbers.
+-- What `$inc` does to numbers.
 use Rattle.std.specs.Prelude.{◌≡◌, ⊤, ℕ, ℤ, pos, neg_ℤ, ◌+ℤ◌, ◌^◌, ◌-◌, Bool, true, false, not, ◌&&◌, ◌||◌, int_le, Option, None, Some, is_some, unwrap_or, Result, Ok, Err, if◌then◌else◌}
 use Rattle.bson_doc.specs.View.{tree_of}
 use Rattle.doc_update.specs.declared.increment.Sum.{Sum}

@@ -14,8 +14,7 @@ use Rattle.entry_bytes.specs.Answer.{Reads}
 use Rattle.entry_bytes.specs.Layout.{letter_of, collection_of, body_of, target_of, changes, marks, only_id, part}
 use Rattle.entry_bytes.specs.declared.error.EntryError.{EntryError}
 
--- ---- as they are written
--- one part more, unless it is empty
+-- ---- as they are written with one more part, unless it is empty
 abbrev pub with_part : Fields → List ℕ → Fields → Fields
 with_part before name no_fields = before
 with_part before name (field first value others) =

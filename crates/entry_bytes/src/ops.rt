@@ -251,7 +251,7 @@ fn idle_of(ns: &Text, o: &Doc) -> Result<Op, EntryError>
     Err(EntryError::Shape)
 }
 
-/// An op that is no update.
+/// An op other than an update.
 pub(crate) fn other_of(letter: &str, ns: Text, o: Doc) -> Result<Op, EntryError>
     ensures { ReadsOp letter.now ns o None result }
 {

@@ -43,7 +43,7 @@ pub record IsContinued (copy : Copy) (j c : State) (image : List ℕ) : Type 0 w
 abbrev pub IsBefore : State → State → List ℕ → List ℕ → Type 0
 IsBefore j c journal checkpoints = IsOneOfRenewed j journal × IsOneCheckpoint c checkpoints
 
--- that, or a part or the whole of the copy, after what is there now
+-- that, or part or all of the copy after what is there now
 abbrev pub IsBeforeOrContinued : State → State → Copy → List ℕ → List ℕ → Type 0
 IsBeforeOrContinued j c copy journal checkpoints =
     IsBefore j c journal checkpoints

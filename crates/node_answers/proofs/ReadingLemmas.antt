@@ -1,4 +1,4 @@
--- As of which optime a read shows documents.
+-- The optime at which a read shows documents.
 use Rattle.std.proofs.Common.{◌≡◌, ◌∙◌, sym, subst, refl, Bool, true, false, cond}
 use Rattle.read_concern.specs.Shown.{shown_at}
 use Rattle.read_concern.specs.declared.reads.ReadAt.TheVariants.{Latest, At}

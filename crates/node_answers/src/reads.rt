@@ -37,7 +37,7 @@ fn is_primary(state: &State) -> bool
     }
 }
 
-/// The optime as of which a read shows documents.
+/// The optime at which a read shows documents.
 fn shown_point(state: &State, level: ReadLevel) -> OpTime
     ensures readable { IsReadable state.now.node result }
     ensures shown { log_up_to result state.now.node.log ≡ shown_log state.now.node level }

@@ -1,4 +1,4 @@
--- The documents stay those of the log as its entries are applied.
+-- The documents stay those of the log while its entries are applied.
 use Rattle.std.proofs.Common.{◌≡◌, ◌∙◌, ◌<◌, ◌≤◌, ◌-◌, ap, sym, refl, subst, arith, Bool, true, false, cond, not, ℕ, zero, suc, List, [], ◌∷◌, ◌++◌, Option, Some, append_assoc, append-nil, length, take, drop}
 use Rattle.std.specs.Prelude.{slice_get, slice_index_or}
 use Rattle.std.specs.List.{All, AllPairs}

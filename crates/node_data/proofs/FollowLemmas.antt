@@ -1,4 +1,4 @@
--- The documents stay those of the log as it is cut, and as versions are pruned.
+-- The documents stay those of the log when it is cut, and when versions are pruned.
 use Rattle.std.proofs.Common.{◌≡◌, ◌⊎◌, inl, inr, ◌<◌, ◌≤◌, ◌^◌, ◌∙◌, ℕ, Bool, true, false, not, List, [], ◌∷◌, None, refl, sym, ap, subst, arith}
 use Rattle.std.specs.Prelude.{slice_index_or}
 use Rattle.std.specs.List.{All, AllPairs, list_any}

@@ -1,4 +1,4 @@
--- The documents stay those of the log as entries come after it, and as it is closed to writers.
+-- The documents stay those of the log when entries are appended, and when it is closed to writers.
 use Rattle.std.proofs.Common.{◌≡◌, inl, inr, ◌≤◌, ◌∙◌, ℕ, Bool, true, false, List, [], ◌∷◌, ◌++◌, None, refl, sym, ap, subst, arith}
 use Rattle.std.specs.Prelude.{max}
 use Rattle.std.specs.List.{All, AllPairs}

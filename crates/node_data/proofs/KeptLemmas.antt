@@ -1,4 +1,4 @@
--- The documents stay those of the log as it is written.
+-- The documents stay those of the log while it is written.
 use Rattle.std.proofs.Common.{◌≡◌, ◌≢◌, max, ◌<◌, arith, ◌⊎◌, inl, inr, ◌∙◌, ℕ, Bool, true, false, List, [], ◌∷◌, ◌++◌, Option, None, Some, IfSome, IsSome, refl, sym, ap, subst, rules}
 use Rattle.std.specs.FinMap.{get, entries, insert, remove}
 use Rattle.std.specs.Prelude.{All}

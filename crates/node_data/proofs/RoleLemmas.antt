@@ -1,4 +1,4 @@
--- The documents stay those of the log as it is opened to writers.
+-- The documents stay those of the log when it is opened to writers.
 use Rattle.std.proofs.Common.{◌≡◌, ◌∙◌, ℕ, false, not, List, [], None, Some, refl, sym, ap, subst, arith}
 use Rattle.std.specs.FinMap as maps
 use Rattle.std.specs.FinSet as sets

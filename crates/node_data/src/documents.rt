@@ -32,7 +32,7 @@ impl NodeData {
         &self.store
     }
 
-    /// The optime as of which a read at `local` shows documents: one later than every entry where the log is
+    /// The optime at which a read at `local` shows documents: one later than every entry where the log is
     /// writable, and otherwise how far it is applied.
     pub fn local_point(&self) -> OpTime
         ensures readable { IsReadable self.now.node result }

@@ -116,7 +116,7 @@ impl NodeData {
         self.applied
     }
 
-    /// The optime as of which the checkpoint has the documents. No read may go back further.
+    /// The optime of the checkpoint's documents. No read may go back further.
     pub fn stable(&self) -> OpTime
         ensures { result ≡ self.now.node.stable }
     {

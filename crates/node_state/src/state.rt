@@ -253,7 +253,7 @@ impl State {
         self.term < term
     }
 
-    /// The optime as of which the checkpoint has the documents.
+    /// The optime of the checkpoint's documents.
     pub fn stable(&self) -> OpTime
         ensures { result ≡ self.now.node.stable }
     {

@@ -15,7 +15,7 @@ pub record Reserved : Type 0 where
 abbrev pub IsOpen : Reserved → OpTime → Type 0
 IsOpen reserved at = IsTrue (contains reserved.slots at)
 
--- no slot is past the mark, and none has the timestamp of ZERO
+-- no slot is later than the mark, and none has the timestamp of ZERO
 pub record IsSeen (mark : ℕ) (at : OpTime) : Type 0 where
   pub positive : 0 < at.ts
   pub seen : at.ts ≤ mark
@@ -32,7 +32,7 @@ pub record IsLeast (reserved : Reserved) (at : OpTime) : Type 0 where
 abbrev pub none_reserved : Reserved
 none_reserved = record { slots = empty; mark = 0 }
 
--- the slot that a reservation gives: past every timestamp seen
+-- the slot that a reservation gives: later than every timestamp seen
 abbrev pub next_slot : Reserved → (term clock : ℕ) → OpTime
 next_slot reserved term clock = record { term = term; ts = timestamp_after clock reserved.mark }
 

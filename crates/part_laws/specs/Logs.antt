@@ -32,7 +32,7 @@ use Rattle.set_model.specs.Rollback as rollback
 
 -- ---- sources
 
--- a list says of each member what a node has heard of it
+-- a list says about each member what a node has heard of it
 abbrev pub AreKnown : Node → List Known → Type 0
 AreKnown node known = (member : ℕ) → heard_of known member ≡ maps.get node.known member
 

@@ -1,4 +1,4 @@
--- What a run of calls keeps of a disk.
+-- What a run of calls preserves of a disk.
 use Rattle.std.proofs.Common.{◌≤◌, refl, ap, subst, sym, ◌∙◌, arith}
 use Rattle.std.specs.Prelude.{IsTrue}
 use Rattle.rs_disk.specs.State.{State, Keeps, SameButRoom}

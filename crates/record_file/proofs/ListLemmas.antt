@@ -1,4 +1,4 @@
--- Lists of open records, and lists of which a prefix is known.
+-- Lists of open records, and lists with a known prefix.
 use Rattle.std.proofs.Common.{◌≡◌, ◌≢◌, ℕ, ◌^◌, ◌<◌, ◌≤◌, List, [], ◌∷◌, ◌++◌, length, take, drop, refl, sym, ◌∙◌, ap, arith, length-take, take-append-drop}
 use Rattle.std.specs.Prelude.{slice_index}
 use Rattle.std.proofs.lemmas.List.{append_assoc, append-nil, drop_at, ext_get_or, get_or-take, take_at}

@@ -7,7 +7,7 @@ use Rattle.repl_msg.specs.declared.message.Body.TheVariants as bodies
 use Rattle.repl_msg.specs.declared.record.Record.{Record}
 use Rattle.repl_msg.specs.declared.record.Record.TheVariants as records
 
--- the configuration that a record keeps
+-- the configuration in a record
 abbrev pub config_kept : Record → Option Config
 config_kept (records.Vote vote) = None
 config_kept (records.Config config) = Some config
@@ -15,7 +15,7 @@ config_kept (records.Entries list point) = None
 config_kept (records.Cut at) = None
 config_kept (records.Form form) = None
 
--- the entries that a record keeps
+-- the entries in a record
 abbrev pub entries_kept : Record → List Entry
 entries_kept (records.Vote vote) = []
 entries_kept (records.Config config) = []
@@ -23,7 +23,7 @@ entries_kept (records.Entries list point) = list
 entries_kept (records.Cut at) = []
 entries_kept (records.Form form) = []
 
--- the configuration that a message carries
+-- the configuration in a message
 abbrev pub config_carried : Body → Option Config
 config_carried (bodies.Fetch base) = None
 config_carried (bodies.FetchReply reply) = None
@@ -35,7 +35,7 @@ config_carried (bodies.HeartbeatReply beat) = Some beat.config
 config_carried (bodies.CommonAsk commit) = None
 config_carried (bodies.CommonReply after optimes visible) = None
 
--- the entries that a message carries
+-- the entries in a message
 abbrev pub entries_carried : Body → List Entry
 entries_carried (bodies.Fetch base) = []
 entries_carried (bodies.FetchReply reply) = reply.entries

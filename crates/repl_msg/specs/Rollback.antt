@@ -1,4 +1,4 @@
--- What a rollback keeps of a log, and which documents it takes (MongoDB's replication architecture
+-- What a rollback keeps of a log, and which documents it undoes (MongoDB's replication architecture
 -- guide, rollback; RaftMongo).
 use Rattle.std.specs.Prelude.{ℕ, ◌==◌, Bool, not, ◌&&◌, ◌||◌, nat_lt, List, map, filter, Option}
 use Rattle.std.specs.List.{list_any, filter_map}

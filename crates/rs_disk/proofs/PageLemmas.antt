@@ -1,4 +1,4 @@
--- How the work on pages keeps what they hold.
+-- How work on pages preserves what they hold.
 use Rattle.std.proofs.Common.{◌≡◌, ℕ, zero, suc, ◌+◌, ◌-◌, ◌%◌, ◌<◌, ◌≤◌, min, max, Bool, true, false, List, [], ◌∷◌, length, get_or, take, drop, replicate, refl, sym, ◌∙◌, ap, inl, inr, ⊎_elim, arith, length-take, length-drop, length-append, append_assoc, append-nil, drop-drop, ◌++◌}
 use Rattle.std.specs.Prelude.{◌⊎◌, ◌≢◌, ◌==◌, ◌&&◌, ◌||◌, nat_le, nat_lt, if◌then◌else◌, slice_index, slice_index_or, slice_range, vec_capacity, Vec}
 use Rattle.std.specs.declared.alloc.Global.{Global}

@@ -100,7 +100,7 @@ pub(crate) fn mark_part(marks: &mut Vec<bool>, start: usize, end: usize, mark: b
     marks[start..end].fill(mark);
 }
 
-// Puts other bytes at those places between two that are marked, or lie at or after the least end. The marks
+// Puts other bytes at those places between two that are marked, or are at or after the least end. The marks
 // begin at the first of the two.
 pub(crate) fn fill_open(
     bytes: &mut Vec<u8>,

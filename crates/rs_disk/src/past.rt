@@ -1,4 +1,4 @@
-// What a file in memory was at each moment so far. It exists in proofs alone and takes no memory.
+// What a file in memory was at each moment so far. It exists only in proofs and takes no memory.
 ghost use Rattle.std.specs.Prelude.{◌≡◌, List};
 ghost use Rattle.std.specs.Borrow.{ftrue};
 ghost use Rattle.rs_disk.specs.File.{File};

@@ -1,4 +1,4 @@
--- A list in two parts, of which one passes a test and the other doesn't.
+-- A list in two parts: one passes a test, and the other doesn't.
 use Rattle.std.proofs.Common.{◌≡◌, ap, refl, arith, Bool, true, false, List, [], ◌∷◌, ℕ, suc, zero, length, take, drop}
 use Rattle.std.specs.List.{filter, AllWithin}
 

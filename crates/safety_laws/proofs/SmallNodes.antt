@@ -1,4 +1,5 @@
--- What keeps the numbers and the configurations of a node within limits, and what the changes of a node leave of it.
+-- What keeps the numbers and the configurations of a node within limits, and what a node's changes
+-- preserve of that.
 use Rattle.std.proofs.Common.{◌≡◌, ◌≤◌, ◌<◌, ◌+◌, arith, inl, inr, subst, refl, ℕ, zero, suc, Bool, true, false, not, nat_lt, ltb-true, ltb-false, cond, filter, length, map, max, take, fold, unwrap_or, Option, None, Some, List, [], ◌∷◌, ◌++◌}
 use Rattle.std.proofs.lemmas.Bool.{or_parts}
 use Rattle.std.proofs.lemmas.List.{length-append}

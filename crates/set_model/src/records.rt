@@ -1,4 +1,4 @@
-// The records that a node stored. They exist in proofs alone and take no memory.
+// The records that a node stored. They exist only in proofs and take no memory.
 ghost use Rattle.std.specs.Prelude.{◌≡◌, List};
 ghost use Rattle.std.specs.Borrow.{ftrue};
 ghost use Rattle.std.specs.Coded.{coded_list};
