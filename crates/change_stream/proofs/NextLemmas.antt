@@ -1,4 +1,4 @@
--- What a call comes to once both its events are answered, or one isn't.
+-- The result of a call, if both its events are answered or one isn't.
 use Rattle.std.proofs.Common.{◌≡◌, ◌∙◌, ap, sym, subst, refl, inl, inr, Bool, true, false, ℕ, List, Result, Ok, Err, take, if◌then◌else◌}
 use Rattle.std.specs.Result.{IsErrAnd, IfErr}
 use Rattle.rs_optime.specs.declared.optime.OpTime.{OpTime}

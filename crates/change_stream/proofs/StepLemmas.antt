@@ -1,4 +1,4 @@
--- What the two steps of a call tell.
+-- What the two steps of a call show.
 use Rattle.std.proofs.Common.{◌≡◌, ◌∙◌, ◌<◌, ◌+◌, ap, sym, subst, refl, arith, Bool, true, false, ℕ, zero, suc, Option, None, Some, List, [], ◌∷◌, ◌++◌, length, append_assoc, length-append, lt-ltb, slice_get, if◌then◌else◌}
 use Rattle.std.proofs.Math.Seq.{take-append_seam}
 use Rattle.std.proofs.lemmas.Option.{same_Some}

@@ -1,4 +1,4 @@
--- The newest message from one node to another, with one message more.
+-- The newest message from one node to another, with one more message.
 use Rattle.std.proofs.Common.{◌≡◌, ◌∙◌, ◌<◌, ◌==◌, inl, inr, ap, sym, subst, refl, arith, eqb-true, ℕ, zero, suc, Bool, true, false, cond, filter, length, Option, None, Some, List, [], ◌∷◌, ◌++◌, slice_get}
 use Rattle.std.specs.FinMap as maps
 use Rattle.std.specs.Ordering.{nat_cmp}

@@ -1,4 +1,4 @@
--- What a plan comes to on a node that is up, what a message comes to, and what is delivered.
+-- What a plan does at a node that is up, what a message does, and what is delivered.
 use Rattle.std.proofs.Common.{◌≡◌, ◌∙◌, ℕ, true, false, cond, List, [], Option, None, Some, Result, Ok, Err, IfOk, refl, sym, ap, subst}
 use Rattle.std.specs.Prelude.{Contains}
 use Rattle.std.specs.declared.alloc.AllocError.{AllocError}

@@ -1,4 +1,4 @@
--- What a command comes to on a node that is down.
+-- What a command does at a node that is down.
 use Rattle.std.proofs.Common.{◌≡◌, ℕ, Bool, true, false, cond, Option, ap, refl, subst, sym}
 use Rattle.set_model.specs.declared.command.Command.TheVariants.{Deliver, DeliverLatest, Restart, DiskFail, Clock}
 use Rattle.set_model.specs.declared.command.Command.{Command}

@@ -1,4 +1,4 @@
--- What a heartbeat comes to, where its configuration is stored first or not.
+-- What a heartbeat does, whether its configuration is stored first or not.
 use Rattle.std.proofs.Common.{◌≡◌, ◌∙◌, ◌≤◌, arith, ℕ, zero, suc, Bool, true, false, cond, ◌&&◌, Option, None, Some, Result, Ok, Err, IfOk, [], ap, sym, subst, refl}
 use Rattle.std.specs.Prelude.{nat_lt}
 use Rattle.member_config.specs.Config.{is_newer}

@@ -1,4 +1,4 @@
--- What is known of a node's journal and of its log once the log has one entry more.
+-- What is known of a node's journal and of its log after one more entry.
 use Rattle.std.proofs.Common.{◌≡◌, ◌<◌, ◌≤◌, inl, ℕ, Ok, Err, Option, List, length, sym, subst, arith, filter}
 use Rattle.std.specs.Prelude.{Result, OnOk, OnErr}
 use Rattle.oplog_entry.specs.Visible.{is_before}

@@ -1,4 +1,4 @@
--- What a plan comes to, store by store.
+-- What a plan does, store by store.
 use Rattle.std.proofs.Common.{◌≡◌, ℕ, zero, suc, true, false, [], Option, None, Some, refl, sym, subst}
 use Rattle.set_model.specs.declared.reply.Refusal.TheVariants.{DiskFailed}
 use Rattle.set_model.specs.declared.reply.Reply.{Reply}

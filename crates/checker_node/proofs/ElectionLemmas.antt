@@ -1,4 +1,4 @@
--- What draining comes to, once the configuration of the node in its term stands on its disk.
+-- What draining does, after the node's configuration in its term is on its disk.
 use Rattle.std.proofs.Common.{◌≡◌, ◌∙◌, ℕ, Bool, true, None, Option, cond, [], ap, sym, subst}
 use Rattle.member_config.specs.Config.{in_term}
 use Rattle.member_config.specs.declared.config.Config.{Config}

@@ -1,4 +1,4 @@
--- What a rollback comes to, once its cut stands on the node's disk.
+-- What a rollback does, after its cut is on the node's disk.
 use Rattle.std.proofs.Common.{◌≡◌, ℕ, List, [], true, Option, Ok, length, refl, sym, subst}
 use Rattle.rs_optime.specs.declared.optime.OpTime.{OpTime}
 use Rattle.node_messages.specs.Rolling.{point_or}

@@ -1,4 +1,4 @@
--- What stands beside a log is still that of its prefix, once the log changes after it.
+-- What is kept of a prefix of a log is still right when the log changes after that prefix.
 use Rattle.std.proofs.Common.{◌≡◌, ◌∙◌, ◌≤◌, ℕ, List, ◌++◌, length, take, ap, sym, subst, refl, arith}
 use Rattle.std.specs.Prelude.{filter, insert}
 use Rattle.std.specs.List.{AllPairs}

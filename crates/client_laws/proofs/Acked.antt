@@ -1,4 +1,4 @@
--- What an acknowledgement at majority tells, and that acknowledged logs form one chain.
+-- What an acknowledgement at majority means, and that acknowledged logs form one chain.
 use Rattle.std.proofs.Common.{◌≡◌, ◌≤◌, ◌∙◌, inl, inr, ap, sym, subst, arith, ℕ, suc, not, length, List, [], ◌∷◌, Some, filter}
 use Rattle.rs_optime.specs.Membership.{In}
 use Rattle.rs_optime.specs.declared.optime.OpTime.{OpTime}

@@ -1,4 +1,4 @@
--- What a retry of a write that was acknowledged is told.
+-- The answer to a retry of an acknowledged write.
 use Rattle.std.proofs.Common.{◌≡◌, ◌≤◌, ◌<◌, ◌∙◌, ◌==◌, inl, inr, ap, sym, subst, arith, refl, ltb-true, ltb-false, eq-eqb, ℕ, suc, Bool, true, false, nat_lt, map, filter, Option, None, Some, List, [], ◌∷◌, slice_get}
 use Rattle.std.proofs.lemmas.Option.{same_Some}
 use Rattle.std.specs.Prelude.{◌⊎◌, option_and_then, if◌then◌else◌}

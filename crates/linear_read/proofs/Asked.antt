@@ -1,4 +1,4 @@
--- What the event after a place of a run tells of the node that answered it.
+-- What the reply to the event after a place says about the node.
 use Rattle.std.proofs.Common.{◌≡◌, ◌∙◌, ap, sym, refl, ℕ, suc, None, Some, List, slice_get}
 use Rattle.rs_optime.specs.declared.optime.OpTime.{OpTime}
 use Rattle.oplog_entry.specs.declared.entry.Entry.{Entry}

@@ -1,4 +1,4 @@
--- What a note and an acknowledgement at majority tell of the node that answered them.
+-- What the replies to a note and to an acknowledgement at majority say about the node.
 use Rattle.std.proofs.Common.{◌≡◌, ◌∙◌, ap, sym, subst, refl, ℕ, Bool, true, false, not, ◌==◌, eqb-true, if◌then◌else◌, Option, None, Some, Result, Ok, Err, slice_get, length, []}
 use Rattle.std.proofs.lemmas.Bool.{not-false}
 use Rattle.std.specs.Prelude.{option_and_then}

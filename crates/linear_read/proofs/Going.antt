@@ -1,4 +1,4 @@
--- How a talk goes on: what was held of it, what was left of it, and how it ends.
+-- How a talk proceeds: what was done of it, what was left of it, and how it ends.
 use Rattle.std.proofs.Common.{◌≡◌, ◌∙◌, inl, inr, ap, sym, subst, refl, append-nil, append_assoc, ℕ, Bool, List, [], ◌∷◌, ◌++◌, Option, None, Some, length}
 use Rattle.std.specs.Prelude.{◌≢◌, Result, Ok, Err, IfOk, IsErr, IsErrAnd, IsErrOf, OnErr}
 use Rattle.set_model.specs.declared.command.Command.{Command}

@@ -1,4 +1,4 @@
--- What happens to a node whose disks lose power, or are told to fail.
+-- A node whose disks lose their power, or are ordered to fail.
 use Rattle.std.proofs.Common.{◌≡◌, ◌∙◌, [], inl, ap, sym, subst, refl, ℕ, Bool, true, false, Option, None, List, if◌then◌else◌, arith}
 use Rattle.std.specs.Prelude.{IsSome, IsTrue}
 use Rattle.record_file.proofs.CutLemmas.{cut_leaves}

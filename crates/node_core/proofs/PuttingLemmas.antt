@@ -1,4 +1,4 @@
--- What is put on a node's disks: their state afterwards, and that they were given no orders.
+-- What is put on a node's disks: what they have then, and that no orders were given to them.
 use Rattle.std.proofs.Common.{◌≡◌, ◌∙◌, ⊎_elim, inl, inr, ap, sym, subst, refl, ℕ, ◌+◌, List, [], ◌∷◌, ◌++◌, length, length-append, arith}
 use Rattle.std.specs.Prelude.{◌⊎◌, ◌≤◌, Result, Ok, Err, OnOk}
 use Rattle.std.specs.FinMap.{get}

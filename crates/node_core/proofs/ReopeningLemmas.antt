@@ -1,4 +1,4 @@
--- What is on a node's two disks while they are opened again, and what is then known of the store in doubt.
+-- What a node's two disks have while they are opened again, and what is then known of what was in doubt.
 use Rattle.std.proofs.Common.{◌≡◌, ◌∙◌, ⊎_elim, inl, inr, ap, sym, subst, refl, ℕ, ◌+◌, Bool, true, false, nat_lt, List, [], ◌∷◌, ◌++◌, Option, Some, None, Ok, Err, IfSome, length, length-append, arith}
 use Rattle.std.specs.Prelude.{◌⊎◌, ◌↔◌}
 use Rattle.rs_disk.specs.File.{LeavesOnly, contents}

@@ -1,4 +1,4 @@
--- What the body of a message says about how the message is taken.
+-- How the body of a message decides how the message is taken.
 use Rattle.std.proofs.Common.{◌≡◌, ◌∙◌, ◌<◌, ap, sym, refl, arith, ℕ, Bool, true, false, cond, ◌&&◌, List, Option, None}
 use Rattle.std.specs.Prelude.{nat_lt}
 use Rattle.std.proofs.lemmas.Bool.Decides.{nat_tests}

@@ -1,4 +1,4 @@
--- What is prepared for a message is its effect.
+-- What is prepared for a message is what it does.
 use Rattle.std.proofs.Common.{◌≡◌, ◌∙◌, ap, sym, refl, ℕ, nat_lt, Bool, true, false, List, [], ◌∷◌, None}
 use Rattle.std.specs.List.{AllPairs}
 use Rattle.rs_optime.specs.Order.{optime_cmp}

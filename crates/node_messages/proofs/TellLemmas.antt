@@ -1,4 +1,4 @@
--- What a node sends another one of its visible log.
+-- What a node sends another of its visible log.
 use Rattle.std.proofs.Common.{◌≡◌, ◌∙◌, ◌<◌, ◌≤◌, arith, inl, inr, ap, sym, refl, ℕ, Bool, true, false, not, nat_lt, cond, filter, length, Option, None, Some, List}
 use Rattle.std.specs.FinSet as sets
 use Rattle.std.proofs.lemmas.Bool.Decides.{nat_tests}

@@ -1,4 +1,4 @@
--- A commit point that advances keeps a node coherent.
+-- A commit point that moves on keeps a node coherent.
 use Rattle.std.proofs.Common.{◌≡◌, sym, subst, refl, arith, inl, inr, ℕ, Bool, true, false, cond, Option, None, Some, List}
 use Rattle.rs_optime.specs.Later.{earlier_of, later_of}
 use Rattle.rs_optime.specs.Order.{is_before}

@@ -1,4 +1,4 @@
--- What a node in memory has beside its data.
+-- What a node in memory has besides its data.
 use Rattle.node_state.specs.Seen.{BesideData}
 use Rattle.node_state.specs.declared.state.State.TheInside.{Inside}
 

@@ -1,4 +1,4 @@
--- A node's data and what it has beside it are of the same role and term.
+-- A node's data and the rest of the node are of one role and of one term.
 use Rattle.std.proofs.Common.{◌≡◌, ◌≤◌, ◌<◌, ◌∙◌, ◌^◌, ◌++◌, inl, inr, ap, sym, subst, refl, arith, ℕ, Bool, filter, List}
 use Rattle.std.specs.FinSet as sets
 use Rattle.std.specs.List.{All}

@@ -1,4 +1,4 @@
--- How far a trace was told: some events, whose run is defined, and what follows them.
+-- How far a trace was read: some events, whose run is defined, and what follows them.
 use Rattle.std.proofs.Common.{◌≡◌, ℕ, zero, suc, ◌+◌, ◌<◌, ◌≤◌, Bool, true, false, cond, List, [], ◌∷◌, ◌++◌, length, take, None, Some, Result, Ok, Err, refl, sym, ap, subst, arith, append_assoc, ◌∙◌}
 use Rattle.std.specs.Prelude.{IfErr, IfOk, IfSome, not, ◌||◌, ◌≢◌}
 use Rattle.std.proofs.lemmas.Bool.{and_parts}

@@ -1,4 +1,4 @@
--- What each message leaves of a node that leads once it has taken it: its log is fit, where it was before.
+-- A node that leads after it took a message has a fit log, if it had one before.
 use Rattle.std.proofs.Common.{◌≡◌, refl, ℕ, Bool, true, false, not, ◌&&◌, cond, nat_lt, ◌==◌, is_some, length, Option, None, Some, if◌then◌else◌, List}
 use Rattle.rs_optime.specs.declared.optime.OpTime.{OpTime}
 use Rattle.member_config.specs.Config.{is_newer}

@@ -1,4 +1,4 @@
--- What each row leaves of a node that leads after it: its log is fit, where it was before.
+-- A node that leads after a row has a fit log, if it had one before.
 use Rattle.std.proofs.Common.{◌≡◌, ◌≢◌, ◌<◌, ◌&&◌, inl, inr, ap, sym, subst, refl, arith, ltb-true, ℕ, zero, suc, Bool, true, false, nat_lt, ◌+◌, Option, None, Some, if◌then◌else◌, Result, Ok, Err, List, [], ◌∷◌}
 use Rattle.std.proofs.lemmas.Bool.{and_parts, cases_Bool}
 use Rattle.std.specs.Prelude.{IfSome, nat_le}

@@ -1,4 +1,4 @@
--- What leaders write is fit for a log: in each world of a run every leader's log is fit.
+-- What leaders write is fit for a log: in each world of a run each leader's log is fit.
 use Rattle.std.proofs.Common.{◌≡◌, ◌∙◌, ◌<◌, inl, inr, ap, sym, subst, refl, arith, ℕ, true, false, Option, None, Some, slice_get, slice_set, List, [], ◌∷◌}
 use Rattle.std.specs.Prelude.{option_and_then}
 use Rattle.std.specs.List.{list_all}

@@ -1,4 +1,4 @@
--- Whatever a leader has written it still has wherever it leads in that term later.
+-- A leader still has what it has written wherever it leads in that term later.
 use Rattle.std.proofs.Common.{ℕ, List, []}
 use Rattle.set_model.specs.declared.command.Event.{Event}
 use Rattle.set_model.specs.Limits.{IsRun}

@@ -1,4 +1,4 @@
--- What a majority read shows is fit for a new node: it is a part of what is visible, which leaders wrote.
+-- What a majority read shows is fit for a new node: it is a part of the visible log, which leaders wrote.
 use Rattle.std.proofs.Common.{◌≡◌, ◌≢◌, inl, inr, sym, subst, refl, arith, ℕ, false, not, Option, None, Some, List}
 use Rattle.std.specs.FinMap as maps
 use Rattle.bson_doc.specs.Place.{Place}

@@ -1,4 +1,4 @@
--- A node that is primary in a term, and leads in it later, is primary in it all the time in between.
+-- A node that is primary in a term and leads in it later is primary in it at every place in between.
 use Rattle.std.proofs.Common.{◌≡◌, ◌∙◌, ◌⊎◌, ◌≤◌, inl, inr, ap, sym, subst, refl, arith, ℕ, zero, suc, Some, slice_get, List, [], ◌∷◌}
 use Rattle.std.proofs.lemmas.Bool.{cases_eq}
 use Rattle.std.proofs.lemmas.Option.{same_Some}

@@ -1,4 +1,4 @@
--- What the reply to a message says about what the message changes.
+-- What the reply to a message says about what it changed.
 use Rattle.std.proofs.Common.{◌≡◌, ◌∙◌, ◌≤◌, ◌<◌, arith, ltb-true, ap, sym, subst, refl, ℕ, Bool, true, false, not, ◌&&◌, nat_lt, ◌==◌, is_some, Option, None, Some, if◌then◌else◌, List, [], ◌∷◌, ◌++◌, length}
 use Rattle.std.proofs.lemmas.List.Sums.{fold-append}
 use Rattle.member_config.specs.Config.{is_newer}

@@ -1,5 +1,5 @@
--- What each row's reply says about what it changes: with a quiet reply it leaves the node as it was, what is
--- on its disks is what it stored, and where a store fails that one is in doubt.
+-- What the reply to each row says about what it changed: with a quiet reply it leaves the node as it was, its
+-- disks have what it stored, and if a store fails that one is in doubt.
 use Rattle.std.proofs.Common.{◌≡◌, ◌⊎◌, inl, inr, arith, eq-eqb, ltb-false, ap, sym, subst, refl, ℕ, zero, suc, Bool, true, false, not, ◌&&◌, nat_lt, ◌==◌, ◌+◌, Option, None, Some, if◌then◌else◌, Result, Ok, Err, List, [], ◌∷◌, ◌++◌, length}
 use Rattle.std.specs.Prelude.{⊤, nat_le, ◌≤◌}
 use Rattle.std.specs.FinMap as maps

@@ -1,5 +1,4 @@
--- Each retried write happens once: what a client is told about its write is where the log has it,
--- and nowhere else.
+-- Each retried write once: a client is told the only optime at which the log has its write.
 use Rattle.std.proofs.Common.{◌≡◌, ◌∙◌, ap, sym, subst, refl, ℕ, suc, Bool, true, false, if◌then◌else◌, Option, None, Some, Result, Ok, Err, slice_get, List, [], ◌∷◌}
 use Rattle.std.specs.Prelude.{option_and_then}
 use Rattle.std.proofs.lemmas.Option.{same_Some}

@@ -1,4 +1,4 @@
--- Each message of a run was sent by an event, and what it says is known of the world after that event.
+-- Each message of a run was sent by an event, and what it says is true of the world after that event.
 use Rattle.std.proofs.Common.{◌≡◌, ◌<◌, ◌≤◌, inl, inr, ap, sym, subst, refl, arith, length, ℕ, zero, suc, take, Option, None, Some, slice_get, List, [], ◌∷◌}
 use Rattle.repl_msg.specs.declared.message.Message.{Message}
 use Rattle.set_model.specs.declared.command.Event.{Event}

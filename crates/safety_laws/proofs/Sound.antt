@@ -1,4 +1,4 @@
--- What the next step of a node that is up may rely on holds in every run.
+-- What the next step of a node that is up can rely on holds in every run.
 use Rattle.std.proofs.Common.{◌≡◌, ◌≤◌, inl, inr, refl, sym, subst, arith, ℕ, true, Some, None, List, length}
 use Rattle.std.specs.FinMap as maps
 use Rattle.std.proofs.lemmas.Bool.{cases_Bool}

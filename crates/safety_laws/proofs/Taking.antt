@@ -1,4 +1,4 @@
--- Each message that was sent can be taken by the node that it is for.
+-- Each message that was sent can be taken by its receiver.
 use Rattle.std.proofs.Common.{◌≡◌, ◌≤◌, ◌<◌, ◌^◌, arith, ap, sym, subst, refl, length, ℕ, Bool, true, false, ◌&&◌, nat_lt, if◌then◌else◌, Option, None, Some, List}
 use Rattle.std.proofs.Math.Seq.{take-length}
 use Rattle.std.specs.Prelude.{IfSome, Contains}

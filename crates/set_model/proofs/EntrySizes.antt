@@ -1,5 +1,5 @@
--- The document of an entry is no longer and no deeper than an oplog allows, where its op's documents
--- may be stored.
+-- The document of an entry is no longer and no deeper than an oplog takes, if its op's documents may be
+-- stored.
 use Rattle.std.proofs.Common.{◌≡◌, ◌≤◌, ◌+◌, ◌*◌, ℕ, length, List, [], Option, None, Some, refl, ap, arith, codes, max}
 use Rattle.rs_optime.specs.declared.optime.OpTime.{OpTime}
 use Rattle.bson_doc.specs.Key.{key_of}

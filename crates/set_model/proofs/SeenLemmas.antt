@@ -1,4 +1,4 @@
--- The greatest timestamp seen doesn't fall, and the next one is later.
+-- The greatest timestamp seen never falls, and the next one is past it.
 use Rattle.std.proofs.Common.{◌<◌, ◌≤◌, arith, List, [], ◌∷◌, ℕ}
 use Rattle.std.specs.Prelude.{max}
 use Rattle.oplog_entry.specs.declared.entry.Entry.{Entry}

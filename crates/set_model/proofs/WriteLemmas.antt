@@ -1,4 +1,4 @@
--- What a write brings: operators that may be stored, and a collection's name that is short.
+-- A write has operators that may be stored, and a collection's name that is short.
 use Rattle.std.proofs.Common.{◌≡◌, ◌≤◌, ◌<◌, codes, ℕ, Bool, true, false, cond, ◌&&◌, List, [], ◌∷◌, length, nat_lt, Option, None, Some, Result, Ok, Err, ap, subst, arith, ltb-true}
 use Rattle.std.proofs.lemmas.Bool.{and_parts}
 use Rattle.std.specs.Char.{is_ascii_alphabetic}

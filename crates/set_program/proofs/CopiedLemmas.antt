@@ -1,4 +1,4 @@
--- What a fault of a new member's disks tells.
+-- What a fault of a new member's disks means.
 use Rattle.std.proofs.Common.{◌≡◌, ◌≢◌, ◌∙◌, ◌+◌, ◌*◌, ap, sym, subst, refl, arith, inl, inr, ℕ, zero, suc, List, [], ◌∷◌, Option, Some, Result, Ok, Err, String, drop, slice_get, slice_set}
 use Rattle.std.specs.Prelude.{All}
 use Rattle.std.specs.declared.alloc.Global.{Global}

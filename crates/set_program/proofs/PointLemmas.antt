@@ -1,4 +1,4 @@
--- Where nodes stand, one more after those before it.
+-- The points of nodes, one more after those before it.
 use Rattle.std.proofs.Common.{◌≡◌, ◌∙◌, ◌<◌, ◌+◌, ap, sym, arith, ℕ, suc, Bool, true, false, Option, None, Some, List, [], ◌∷◌, ◌++◌, length, take, get_or}
 use Rattle.std.specs.Prelude.{MatchOption, map, if◌then◌else◌}
 use Rattle.std.proofs.Math.Seq.{take-suc}

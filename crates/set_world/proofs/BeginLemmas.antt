@@ -1,4 +1,4 @@
--- The disks of a set that couldn't be opened have what its nodes are when it begins.
+-- The disks of a set that couldn't be opened have its nodes as at its opening.
 use Rattle.std.proofs.Common.{◌≡◌, ◌∙◌, ◌<◌, ◌≤◌, ◌+◌, ◌*◌, ◌-◌, inl, inr, ap, sym, subst, refl, arith, ℕ, zero, suc, Some, length, List, [], ◌∷◌, ◌++◌, slice_get}
 use Rattle.std.specs.Prelude.{All, Result}
 use Rattle.std.proofs.lemmas.Bool.{cases_order}

@@ -1,4 +1,4 @@
--- What a step of a set says to its caller: no events of others come in between.
+-- What a step of a set tells its caller: no events of others come between.
 use Rattle.std.proofs.Common.{◌≡◌, ◌≢◌, ◌∙◌, ◌+◌, ap, arith, drop, length, length-append, refl, sym, true, Bool, List, [], ◌∷◌, ◌++◌, ℕ}
 use Rattle.std.proofs.lemmas.List.{append-nil}
 use Rattle.std.specs.Prelude.{IfOk, IsErrOf, OnOk, Result, Ok, Err, slice_index_or}

@@ -1,4 +1,4 @@
--- One more event, and what the laws of every run say of the set as it stands.
+-- One more event, and what the laws of every run say of the current set.
 use Rattle.std.proofs.Common.{◌≡◌, ◌∙◌, ◌<◌, ◌≤◌, ◌+◌, ◌*◌, ap, sym, subst, refl, arith, length-append, ℕ, zero, suc, true, None, Some, length, fold, List, [], ◌∷◌, ◌++◌, slice_get}
 use Rattle.std.proofs.Math.Seq.{take-length, take-append_seam}
 use Rattle.std.specs.Prelude.{All, Contains, IfSome, slice_index_or}

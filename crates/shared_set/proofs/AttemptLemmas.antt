@@ -1,4 +1,4 @@
--- How a set goes on by what is tried on it.
+-- How a set changes by what is tried on it.
 use Rattle.std.proofs.Common.{◌≡◌, ◌∙◌, ap, sym, subst, refl, append_assoc, append-nil, ℕ, true, List, [], ◌∷◌, ◌++◌, drop, fold, length}
 use Rattle.std.specs.Prelude.{IfOk, OnErr, Result, Ok, Err}
 use Rattle.std.proofs.lemmas.List.Sums.{fold-append}

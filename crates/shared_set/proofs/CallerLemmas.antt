@@ -1,4 +1,4 @@
--- What a call tells of the events that a pass has seen.
+-- What a call shows of the events that a pass has seen.
 use Rattle.std.proofs.Common.{◌≡◌, ◌∙◌, ap, drop, length, sym, subst, ℕ, false, List, [], ◌∷◌, ◌++◌, append_assoc}
 use Rattle.std.specs.Prelude.{Result, Ok, Err, IfOk, IsErrOf, OnErr}
 use mathlib.Core.List.{IsPrefix}

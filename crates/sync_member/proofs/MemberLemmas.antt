@@ -1,4 +1,4 @@
--- A set goes on to the moment at which it is closed.
+-- A set from an earlier moment to its closing.
 use Rattle.std.proofs.Common.{◌≡◌, arith, ℕ, ◌≤◌, ◌+◌, ◌*◌, ◌⊎◌, inl, inr, sym, subst, true, length, drop}
 use Rattle.std.specs.Prelude.{All}
 use Rattle.rs_io.specs.Fault.{CountRose, HasCause}

@@ -1,4 +1,4 @@
--- What the events of a node that is asked tell, where no one else steps the set.
+-- What the events at a node that is asked show, if no one else steps the set.
 use Rattle.std.proofs.Common.{◌≡◌, ◌∙◌, ◌⊎◌, ◌<◌, inl, inr, ap, sym, subst, refl, arith, ℕ, Bool, true, false, Option, None, Some, List, [], ◌∷◌, ◌++◌, append-nil, lt-ltb, length, take, slice_get, if◌then◌else◌}
 use Rattle.std.proofs.Math.Seq.{take-append_seam}
 use Rattle.std.proofs.lemmas.List.Sums.{fold-append}
