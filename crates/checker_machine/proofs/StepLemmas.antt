@@ -46,7 +46,7 @@ does_reply reply failed answer new replies = record { outcome = says reply answe
 
 -- ---- a command on a node that is up
 
--- a command that stores and sends nothing comes to the same in every set
+-- a command that stores and sends nothing does the same in every set
 plain_row : (nodes next : ℕ) (node : Node) (command : Command) → is_plain command ≡ true → row nodes next false node command ≡ row 0 0 false node command
 plain_row nodes next node (Campaign number) plain = absurd (cc plain)
 plain_row nodes next node (Drain number) plain = absurd (cc plain)
@@ -125,7 +125,7 @@ deliver_taken next node message up is = deliver_so next node message None up is
 
 pub ruleset deliveries = (deliver_down, deliver_refused, deliver_taken)
 
--- a body that stores and sends nothing comes to the same whatever the number of the next message
+-- a body that stores and sends nothing does the same, whatever the number of the next message
 told_alike : (next from term : ℕ) (node : Node) (body : Body) → ((base : OpTime) → body ≡ bodies.Fetch base → ⊥) → ((ask : VoteAsk) → body ≡ bodies.VoteAsk ask → ⊥) → ((beat : Beat) → body ≡ bodies.Heartbeat beat → ⊥)
     → ((beat : Beat) → body ≡ bodies.HeartbeatReply beat → ⊥) → ((commit : OpTime) → body ≡ bodies.CommonAsk commit → ⊥)
     → ((after : OpTime) (optimes : List OpTime) (visible : OpTime) → body ≡ bodies.CommonReply after optimes visible → ⊥) → told next from term body node ≡ told 0 from term body node

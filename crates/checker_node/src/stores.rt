@@ -98,7 +98,7 @@ impl Node {
         self.store(item, failed)
     }
 
-    /// What the records come to is in order.
+    /// The log that the records give is in order.
     pub(crate) fn recall_kept(&self)
         ensures { IsOplog (kept self.now.records).entries }
     {

@@ -242,7 +242,7 @@ module _ (P : Entry → Type 0) where
   pub doubt_holds : (node : Node) (store : Store) → Holds P node → StoreHas P store → Holds P (in_doubt node store)
   doubt_holds node store has new = ((down_holds node has).0, record { each = has.1.each; doubted = new })
 
-  -- what the records come to
+  -- what the records give
   kept_with : (found : Kept) (item : Record) → AreSuch P found.entries → RecordHas P item → AreSuch P (with_record found item).entries
   kept_with found (records.Vote vote) such new = such
   kept_with found (records.Config config) such new = such

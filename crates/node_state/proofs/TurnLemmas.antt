@@ -9,11 +9,11 @@ use Rattle.node_state.specs.declared.turn.Turn.{Turn}
 use Rattle.node_state.specs.declared.turn.Turn.TheVariants.{Finished, Storing}
 use Rattle.node_state.specs.Turns.{Means, FinishesWith}
 
--- what a command comes to on a node that is up
+-- what a command does at a node that is up
 pub while_up : (node : Node) (plan : Plan) → node.up ≡ true → if_up node plan ≡ plan
 while_up node plan up = ap (λ b. cond b plan (finished (refused NodeDown node))) up
 
--- a turn that says what a plan comes to
+-- a turn that does what a plan does
 pub says_means : (turn : Turn) (reply : Reply) (node : Node) (plan : Plan) → FinishesWith turn reply [] → plan ≡ finished (replied reply node) → Means turn node plan
 says_means (Finished answer sent) reply node plan says is = cc
 says_means (Storing item then) reply node plan says is = absurd says

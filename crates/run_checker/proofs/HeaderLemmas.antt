@@ -21,7 +21,7 @@ up_to_most least most n within = let high = (and_parts (nat_le least n) (nat_le 
 abbrev AreOfSet : ℕ × ℕ × ℕ → Type 0
 AreOfSet sizes = AreSizes (set_of sizes)
 
--- of so many nodes up to seven vote
+-- up to seven of the nodes vote
 seven_vote : (b : Bool) (nodes voters : ℕ) → nat_lt nodes 7 ≡ b → voters ≤ cond b nodes 7 → voters ≤ 7
 seven_vote true nodes voters is within = grind arith
 seven_vote false nodes voters is within = within

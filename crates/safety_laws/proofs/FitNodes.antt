@@ -161,7 +161,7 @@ written_ready term log writers at op session rises stored ready new free = (
         old : IsStored place (document_after other (doc_at place log)) × AreEarlier place by.ts log
         old = (ready.open_ops number by other is).newest place here
 
--- ---- what a write comes to
+-- ---- the effect of a write
 
 abbrev pub IsAdmitted : Node → Op → Option Session → Type 0
 IsAdmitted node op session = IsReady node.log (next_optime node) op session × IsFree node.writers op

@@ -321,7 +321,7 @@ doubt_fine l node store ok new =
     let fallen : NodeFine l (down node) = down_fine l node ok in
     (fallen.0, fallen.1, record { each = ok.2.each; doubted = new }, fallen.3)
 
--- what the records come to
+-- what the records give
 pub record FineKept (nodes time : ℕ) (found : Kept) : Type 0 where
   pub voted : IfSome found.vote.candidate (λ candidate. candidate < nodes)
   pub config : IfSome found.config (IsLawfulConfig nodes)

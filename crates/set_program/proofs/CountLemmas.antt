@@ -358,7 +358,7 @@ orders_told number world (event ∷ later) j j' c c' (jb, cb, jm, cm, used, one,
 
 -- ---- refusals
 
--- the event after so many, at the world that it meets
+-- the event after a number of others, at the world that it meets
 pub record AnswersHere (so_far : Run) (events : List Event) (place number : ℕ) (event : Event) (answer : Reply) : Type 0 where
   pub event_is : slice_get events place ≡ Some event
   pub touches : touched_node (fold after so_far (take place events)).world event.command ≡ number

@@ -58,7 +58,7 @@ module _ {D : Type 0} (state : D → State) (begun old new : Set D) (tried : Lis
         (subst (λ (w : World). DisksUndone state w command old.disks new.disks) (sym here) is.disks);
   }
 
--- after so many comes what was added
+-- what was added comes after these
 pub drop_first : {A : Type 0} (xs ys : List A) → drop (length xs) (xs ++ ys) ≡ ys
 drop_first [] ys = refl
 drop_first (x ∷ xs) ys = drop_first xs ys

@@ -47,7 +47,7 @@ pub record AddedOne {F : Type 0} (v mid new : View Attempt F) (one : Attempt) : 
   pub calls : v.calls ≡ (pass, past) ∷ others
   pub ends : new ≡ at_stage (called mid pass one past others) Free
 
--- after so many comes what was added
+-- what was added comes after these
 module _ {D : Type 0} (state : D → State) (sizes : Sizes) (v mid : View Attempt (Set D)) (old : SetOnBoard D) (enters : Enters attempts_kept first_of point_in v old mid) (fixed : sizes_in v.fixed ≡ sizes)
     (fresh : v.begun ≡ []) (went : WentBy state old.begun old.set old.tried) where
   abbrev turns : List (ℕ × Attempt)

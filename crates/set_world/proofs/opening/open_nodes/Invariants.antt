@@ -7,7 +7,7 @@ use Rattle.set_world.specs.Disks.{Opens}
 use Rattle.set_world.specs.World.{disks_in, nodes_in}
 use Rattle.set_world.proofs.opening.open_nodes.Given as goal
 
--- so many nodes are opened, on the first disks
+-- this many nodes are opened, on the first disks
 abbrev pub invariant-loop-number : goal.invariant-loop-number
 invariant-loop-number g l =
     (nodes_in l.nodes.items ≡ nodes_from l.config 0 l.number)
