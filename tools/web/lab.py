@@ -31,7 +31,10 @@ WANTED = {
 }
 
 #: What `given.js` has in their place.
-GIVEN = {("program", "run_program"), ("reference", "PAGE"), ("reference", "TERMS"), ("reference", "_page"), ("show", "Progress")}
+GIVEN = {
+    ("inside", "Follower"), ("inside", "played"), ("program", "run_program"), ("reference", "PAGE"), ("reference", "TERMS"),
+    ("reference", "_page"), ("show", "Progress"),
+}
 
 
 def lab_modules(folder: Path) -> "dict[str, str]":

@@ -19,13 +19,16 @@ SYSCALL_HEAD = (
     "@rattle_syscall(i64 noundef, ptr noundef, i64 noundef, i64 noundef, ptr noundef)",
 )
 
+# Which processor of the kit's own target a function is for.
+CPU = re.compile(r' "target-cpu"="[^"]*"')
+
 STACK = 8 << 20
 
 
 def for_browser(text):
     """The text of a module, with the target of a browser in place of its own."""
     text = re.sub(r'target datalayout = ".*"', f'target datalayout = "{LAYOUT}"', text)
-    text = text.replace("x86_64-unknown-linux-gnu", TARGET).replace(' "target-cpu"="x86-64"', "")
+    text = CPU.sub("", text.replace("x86_64-unknown-linux-gnu", TARGET))
     text = text.replace('{ sanitize_address "frame-pointer"="all" }', "{ nounwind }")
     return text.replace(*SYSCALL).replace(*SYSCALL_HEAD)
 

@@ -55,6 +55,9 @@ test("patterns mean what they mean in Python", () => {
   assert.equal(re.sub(String.raw`\[([^\]]*)\]\([^)]*\)`, String.raw`\1`, "[a](b) c"), "a c");
   assert.equal(re.match("[0-9a-f]{32}$", "0".repeat(32)).group().length, 32);
   assert.equal(re.fullmatch("(?s)[^-].*", "a\nb").group(), "a\nb");
+  assert.deepEqual(re.compile("a+").findall("aab a"), ["aa", "a"]);
+  assert.deepEqual(re.compile("a(b?)").findall("ab a"), ["b", ""]);
+  assert.deepEqual(re.compile("(a)(b)?").findall("ab a"), [["a", "b"], ["a", ""]]);
 });
 
 test("texts have Python's methods", () => {

@@ -124,6 +124,11 @@ def is_decorated(statement: ast.stmt, name: str) -> bool:
     return any(isinstance(mark, ast.Name) and mark.id == name for mark in marks)
 
 
+def is_named_tuple(statement: ast.ClassDef) -> bool:
+    """Whether a class is a named tuple."""
+    return any(isinstance(base, ast.Name) and base.id == "NamedTuple" for base in statement.bases)
+
+
 def fields_of(statement: ast.ClassDef) -> List[ast.AnnAssign]:
     """The fields of a dataclass, or of a named tuple."""
     return [one for one in statement.body if isinstance(one, ast.AnnAssign)]

@@ -5,7 +5,7 @@ import ast
 from typing import Callable, List, Optional, Set
 
 from .expressions import OPERATORS, Expressions
-from .modules import fields_of, is_decorated, parameters_of
+from .modules import fields_of, is_decorated, is_named_tuple, parameters_of
 from .names import named
 
 STEP = "  "
@@ -49,9 +49,9 @@ class Statements:
     # Classes.
 
     def _class(self, node: ast.ClassDef) -> None:
-        base = next((self._say.value(one) for one in node.bases), None)
+        base = None if is_named_tuple(node) else next((self._say.value(one) for one in node.bases), None)
         self._open(f"class {named(node.name)}" + (f" extends {base}" if base else ""))
-        if is_decorated(node, "dataclass"):
+        if is_decorated(node, "dataclass") or is_named_tuple(node):
             self._fields(node)
         for part in node.body:
             if isinstance(part, ast.FunctionDef) and part.name == "__init__":
@@ -63,7 +63,7 @@ class Statements:
         self._close()
 
     def _fields(self, node: ast.ClassDef) -> None:
-        """What a dataclass has of itself: the names of its fields, and what makes one of their values."""
+        """What a dataclass or a named tuple has of itself: the names of its fields, and what makes one of their values."""
         names = [one.target.id for one in fields_of(node) if isinstance(one.target, ast.Name)]
         given = []
         for name, field in zip(names, fields_of(node)):

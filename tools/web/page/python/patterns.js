@@ -84,7 +84,11 @@ class Pattern {
     return found && new Match(text, found);
   }
   finditer(text) { return [...text.matchAll(this.any)].map((found) => new Match(text, found)); }
-  findall(text) { return this.finditer(text).map((found) => found.group(found.found.length > 1 ? 1 : 0) ?? ""); }
+  /** Of each match its groups, or all of it where the pattern has none; one group stands for itself. */
+  findall(text) {
+    const partsOf = ({ found }) => (found.length > 1 ? found.slice(1) : [found[0]]).map((part) => part ?? "");
+    return this.finditer(text).map(partsOf).map((parts) => (parts.length > 1 ? parts : parts[0]));
+  }
   sub(other, text) {
     const filled = (found) => other.replace(/\\(\d)/g, (_, number) => found.group(Number(number)) ?? "");
     const made = typeof other === "function" ? other : filled;
