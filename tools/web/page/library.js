@@ -7,7 +7,10 @@ export class Library {
     this.dialog = document.getElementById("questions");
     this.text = document.getElementById("text-of");
     this.fill();
-    document.getElementById("library").addEventListener("click", () => this.dialog.showModal());
+    document.getElementById("library").addEventListener("click", () => {
+      this.dialog.showModal();
+      this.dialog.querySelector("[aria-pressed=true]").focus();
+    });
     this.dialog.addEventListener("close", () => {
       if (this.dialog.returnValue === "take") open(this.chosen);
       this.dialog.returnValue = "";
@@ -32,8 +35,18 @@ export class Library {
     for (const one of this.dialog.querySelectorAll("#list button")) one.setAttribute("aria-pressed", String(one === button));
     this.text.replaceChildren();
     put(this.text, "h3", script.title);
-    for (const paragraph of script.told) put(this.text, "p", paragraph);
+    this.tell(script.told);
     put(this.text, "pre", script.text);
     this.text.scrollTop = 0;
+  }
+
+  /** Puts in paragraphs. Those with a dash in front are points of a list. */
+  tell(paragraphs) {
+    let list = null;
+    for (const paragraph of paragraphs) {
+      const isPoint = paragraph.startsWith("- ");
+      list = isPoint ? (list ?? put(this.text, "ul")) : null;
+      put(list ?? this.text, isPoint ? "li" : "p", isPoint ? paragraph.slice(2) : paragraph);
+    }
   }
 }

@@ -83,6 +83,7 @@ class Page {
     this.keep();
     this.text = text;
     this.editor.setText(text, line);
+    this.editor.show({ replies: [], fault: null, surprises: [] });
     return this.refresh();
   }
 

@@ -33,7 +33,8 @@ export class Panel {
       const item = put(list, "li", undefined, lines.includes(line) ? "now" : ""), button = put(item, "button", name);
       button.type = "button";
       button.addEventListener("click", () => this.goTo(lines[lines.length - 1]));
-      item.append(` ${told}${lines.length ? ` (line ${[...new Set(lines)].join(", ")})` : ""}`);
+      const all = [...new Set(lines)];
+      item.append(` ${told}${all.length ? ` (${all.length > 1 ? "lines" : "line"} ${all.join(", ")})` : ""}`);
     }
   }
 
@@ -63,6 +64,6 @@ export class Panel {
   putDocuments(node, { local, majority }) {
     const said = (documents) => (documents === null ? ["(the node is down)"] : documents.length ? documents : ["(none)"]);
     this.putTexts(`Documents at n${node}, at local`, said(local));
-    if (JSON.stringify(local) !== JSON.stringify(majority)) this.putTexts("at majority", said(majority));
+    if (JSON.stringify(local) !== JSON.stringify(majority)) this.putTexts("At majority", said(majority));
   }
 }

@@ -46,6 +46,7 @@ export class Picture {
     this.heading.size(this.left, width, head);
     for (const sheet of [this.body, this.over]) sheet.size(this.left, width, height);
     for (const caption of this.body.svg.querySelectorAll(".caption")) caption.setAttribute("x", String(this.left + 8));
+    if (this.place !== null) this.reveal(this.place);
   }
 
   rowOf(line) {
