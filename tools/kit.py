@@ -39,11 +39,20 @@ def _put_script(path, text):
     os.chmod(path, 0o755)
 
 
+def put_toolchain(folder, compiler):
+    """Makes a folder that is the kit's toolchain, but with this script for its compiler."""
+    os.makedirs(os.path.join(folder, "bin"))
+    os.symlink(os.path.join(TOOLCHAIN, "lib"), os.path.join(folder, "lib"))
+    for name in os.listdir(os.path.join(TOOLCHAIN, "bin")):
+        if name != "clang":
+            os.symlink(os.path.join(TOOLCHAIN, "bin", name), os.path.join(folder, "bin", name))
+    _put_script(os.path.join(folder, "bin", "clang"), compiler)
+
+
 def _kit_with_keeper(room, module):
     """A folder that is the kit but for its compiler and its prover."""
-    bin_folder, toolchain = os.path.join(room, "kit", "bin"), os.path.join(room, "kit", "toolchain")
+    bin_folder = os.path.join(room, "kit", "bin")
     os.makedirs(bin_folder)
-    os.makedirs(os.path.join(toolchain, "bin"))
     for name in os.listdir(KIT):
         if name not in ("bin", "toolchain"):
             os.symlink(os.path.join(KIT, name), os.path.join(room, "kit", name))
@@ -51,11 +60,7 @@ def _kit_with_keeper(room, module):
     for name in set(os.listdir(os.path.join(KIT, "bin"))) - {"rattle"}:
         put = shutil.copy if name in ("rt", "rtlib.py") else os.symlink
         put(os.path.join(KIT, "bin", name), os.path.join(bin_folder, name))
-    os.symlink(os.path.join(TOOLCHAIN, "lib"), os.path.join(toolchain, "lib"))
-    for name in os.listdir(os.path.join(TOOLCHAIN, "bin")):
-        if name != "clang":
-            os.symlink(os.path.join(TOOLCHAIN, "bin", name), os.path.join(toolchain, "bin", name))
-    _put_script(os.path.join(toolchain, "bin", "clang"), KEEPER.format(module=module, kit=KIT))
+    put_toolchain(os.path.join(room, "kit", "toolchain"), KEEPER.format(module=module, kit=KIT))
     return os.path.join(bin_folder, "rt")
 
 

@@ -50,12 +50,16 @@ def say(text):
         print(f"replset: {text}", file=sys.stderr, flush=True)
 
 
-def own_crates():
-    """The program's crate and its libraries in this repository, each after those that it stands on."""
+def libraries_of():
+    """Of each crate of this repository the libraries that it names."""
     with open(os.path.join(TOP, "crates.txt")) as file:
         lines = [line.partition("#")[0].partition(":") for line in file]
-    needs = {head.split()[0]: libraries.split() for head, colon, libraries in lines if colon}
-    found = []
+    return {head.split()[0]: libraries.split() for head, colon, libraries in lines if colon}
+
+
+def own_crates():
+    """The program's crate and its libraries in this repository, each after those that it stands on."""
+    found, needs = [], libraries_of()
 
     def visit(crate):
         if crate in needs and crate not in found:
@@ -137,9 +141,9 @@ def alone(program, how=fcntl.LOCK_EX):
         yield
 
 
-def called(*words):
-    """Runs a tool. Gives its end, with what it said."""
-    return subprocess.run(words, stdin=subprocess.DEVNULL, stdout=subprocess.PIPE, stderr=subprocess.STDOUT, text=True)
+def called(*words, where=None):
+    """Runs a tool, in a folder. Gives its end, with what it said."""
+    return subprocess.run(words, cwd=where, stdin=subprocess.DEVNULL, stdout=subprocess.PIPE, stderr=subprocess.STDOUT, text=True)
 
 
 def watched(program, *words):

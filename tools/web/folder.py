@@ -9,6 +9,7 @@ import program
 from kit import CLANG, OtherKit, keep_module
 from lab.drawing import STYLE
 
+from . import proved
 from .lab import lab_modules
 from .module import build_module
 from .scripts import scripts
@@ -17,19 +18,11 @@ TOP = Path(program.TOP)
 TOOLS = TOP / "tools"
 PAGE = TOOLS / "web" / "page"
 
-#: The module of the proved program, where whoever built that has kept it.
-PROVED_MODULE = TOP / "crates" / "replset" / "out" / "module.bc"
 #: The module for browsers, which is kept as long as nothing changes that it is made of. Git ignores the folder.
 KEPT = TOP / "build" / "replset.wasm"
 
 #: The pages that the lab's explanations are taken from.
 PAGES = ("docs/REFERENCE.md", "docs/GLOSSARY.md")
-
-
-def proved_module():
-    """The proved program's module, where it stands beside the program of the present sources."""
-    standing = PROVED_MODULE.is_file() and program.proved()
-    return PROVED_MODULE if standing and PROVED_MODULE.stat().st_mtime_ns >= os.stat(standing).st_mtime_ns else None
 
 
 def _sum_of(files):
@@ -55,7 +48,7 @@ def module_for_browsers():
     """The module, whether it is of the proved program, and the sum of the sources."""
     if not os.access(CLANG, os.X_OK):
         raise OtherKit("there is no `rt` on the PATH, the toolchain's command, whose compiler builds the program for browsers")
-    module = proved_module()
+    module = proved.standing()
     sources = program.contents(program.PROVED_OF if module else ("src",))
     made_of = [CLANG, TOOLS / "kit.py", TOOLS / "web" / "module.py", *sorted((TOOLS / "web" / "c").iterdir()), *filter(None, [module])]
     told = f"{sources} {_sum_of(made_of)}"
@@ -68,7 +61,7 @@ def module_for_browsers():
 
 def files():
     """What stands in the folder: each file's bytes by its path."""
-    module, proved, sources = module_for_browsers()
+    module, is_proved, sources = module_for_browsers()
     found = {"replset.wasm": module}
     for path in sorted(PAGE.rglob("*")):
         if path.is_file():
@@ -79,7 +72,7 @@ def files():
         found[page] = (TOP / page).read_bytes()
     found["drawing.css"] = (STYLE + (TOOLS / "lab" / "drawing.css").read_text(encoding="utf-8")).encode()
     found["scripts.json"] = json.dumps(scripts(TOP), ensure_ascii=False, indent=0).encode()
-    found["built.json"] = json.dumps({"proved": proved, "sources": sources[:12]}).encode()
+    found["built.json"] = json.dumps({"proved": is_proved, "sources": sources[:12]}).encode()
     return found
 
 

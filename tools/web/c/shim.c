@@ -56,3 +56,11 @@ i32 sched_yield(void) { return 0; }
 /* Only waiting threads ask the system for anything else. */
 i64 rattle_syscall(i64 number, void *one, i64 two, i64 three, void *four) { return -1; }
 i64 __sysv_signal(i32 number, i64 handler) { return 0; }
+
+/* A program for the gate's target asks first whether the processor has all that its code needs. Here no code needs any of it. */
+const u64 *__x86_get_cpuid_feature_leaf(i32 leaf) {
+    static const u64 all[] = {~0ul, ~0ul, ~0ul, ~0ul};
+    return all;
+}
+
+i64 __write(i32 file, const u8 *bytes, u64 count) { return write(file, bytes, count); }
