@@ -8,6 +8,11 @@ import signal
 import sys
 
 
+#: What goes with each file: it may have changed when it is asked for again, is of the kind that is said, and no other page
+#: may frame it.
+HEADERS = {"Cache-Control": "no-cache", "X-Content-Type-Options": "nosniff", "Content-Security-Policy": "frame-ancestors 'none'"}
+
+
 class Handler(http.server.SimpleHTTPRequestHandler):
     """Hands out the files as they are now, and says nothing of it."""
 
@@ -17,7 +22,8 @@ class Handler(http.server.SimpleHTTPRequestHandler):
     }
 
     def end_headers(self):
-        self.send_header("Cache-Control", "no-cache")
+        for name, value in HEADERS.items():
+            self.send_header(name, value)
         super().end_headers()
 
     def log_message(self, format, *words):

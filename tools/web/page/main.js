@@ -47,7 +47,7 @@ class Page {
     for (const [name, act] of Object.entries(does)) find(name).addEventListener("click", act);
     find("stop").addEventListener("click", () => [this.quick, this.asking].forEach((one) => one.stop()));
     find("link").addEventListener("click", () => this.copyLink());
-    find("save").addEventListener("change", ({ target }) => this.save(target));
+    find("save").addEventListener("click", () => this.save(find("kind-of-file").value));
     find("help").addEventListener("click", () => this.help());
     find("explain").addEventListener("submit", (event) => this.explain(event));
     addEventListener("hashchange", () => this.openLink());
@@ -279,13 +279,10 @@ class Page {
     find("judged").showModal();
   }
 
-  async save(select) {
-    const kind = select.value, line = this.editor.line;
-    select.value = "";
-    if (kind === "script") save(`${this.text}\n`, "run.lab", "text/plain");
+  async save(kind) {
+    if (kind === "script") return save(`${this.text}\n`, "run.lab", "text/plain");
     const types = { plain: ["run.replset", "text/plain"], svg: ["run.svg", "image/svg+xml"], trace: ["run.trace", "text/plain"] };
-    if (!(kind in types)) return;
-    const content = await this.quietly(this.asking.ask(kind, { line, title: "run" }));
+    const content = await this.quietly(this.asking.ask(kind, { title: "run" }));
     if (content) save(content, ...types[kind]);
   }
 

@@ -37,6 +37,7 @@ class Page:
         self._session = self._ask("Target.attachToTarget", {"targetId": target, "flatten": True}, None)["sessionId"]
         for domain in ("Page", "Runtime", "Log"):
             self._ask(f"{domain}.enable")
+        self.size(1400, 900)
         self.go(address)
 
     def _start(self):
@@ -120,9 +121,13 @@ class Page:
         """Calls a function of JavaScript with these values, which JSON can have; bytes come as an array."""
         return self.run(f"({function})(...{json.dumps(given, default=_bytes)}.map({READ_BYTES}))")
 
+    def size(self, width, height):
+        """Gives the page's window this size."""
+        self._ask("Emulation.setDeviceMetricsOverride", {"width": width, "height": height, "deviceScaleFactor": 1, "mobile": False})
+
     def shot(self, file, width, height, dark):
         """Takes a picture of the page at this size."""
-        self._ask("Emulation.setDeviceMetricsOverride", {"width": width, "height": height, "deviceScaleFactor": 1, "mobile": False})
+        self.size(width, height)
         features = [{"name": "prefers-color-scheme", "value": "dark" if dark else "light"}]
         self._ask("Emulation.setEmulatedMedia", {"features": features})
         time.sleep(0.5)
@@ -134,6 +139,12 @@ class Page:
         for kind in ("keyDown" if text else "rawKeyDown", "keyUp"):
             event = {"type": kind, "key": key, "code": key, "windowsVirtualKeyCode": code, "modifiers": modifiers, "text": text}
             self._ask("Input.dispatchKeyEvent", event)
+
+    def point(self, place, click=False):
+        """Moves the pointer to a place in the window, and clicks there if that is asked."""
+        for kind in ("mouseMoved", "mousePressed", "mouseReleased")[: 3 if click else 1]:
+            button = "none" if kind == "mouseMoved" else "left"
+            self._ask("Input.dispatchMouseEvent", {"type": kind, "x": place[0], "y": place[1], "button": button, "clickCount": 1})
 
     def type(self, text):
         """Types a text where the cursor is."""

@@ -213,6 +213,64 @@ def keys(page, *_):
     yield
 
 
+PLACE = """(line, node) => {
+  const { picture } = page, row = picture.rowOf(line), { told, left } = picture;
+  picture.reveal(row);
+  const bounds = picture.body.svg.getBoundingClientRect();
+  return [bounds.left - left + told.lanes[node], bounds.top + (row + 0.5) * told.row];
+}"""
+MIDDLE = "(writes) => { const { x, y } = document.querySelector(`#next button[data-writes=\"${writes}\"]`).getBoundingClientRect(); return [x + 5, y + 5]; }"
+
+
+def pointing(page, *_):
+    """Who points at a button is told what it would do, and a click in the picture shows a node and its documents there."""
+    page.call(OPEN, "set 3\nelect n0\ninsert n0 t {_id: 1}\nspread n0\ndelete n0 t 1")
+    page.wait(IDLE)
+    page.point(page.call(MIDDLE, "crash n2"))
+    page.wait("document.getElementById('preview').textContent === 'crash n2 → down; n2: Secondary→Down'")
+    for line, node, said in ((4, 2, "t {_id: 1}"), (3, 1, "(none)")):
+        page.point(page.call(PLACE, line, node), click=True)
+        page.wait(f"page.editor.line === {line} && {IDLE}")
+        told = page.run("document.getElementById('told').innerText")
+        if f"Documents at n{node}, at local\n{said}" not in told:
+            yield f"a click at n{node} in line {line} shows {told!r}"
+
+
+KEEP_FILES = """(() => {
+  globalThis.saved = [];
+  URL.createObjectURL = (blob) => { saved.push(blob); return "#"; };
+  HTMLAnchorElement.prototype.click = function () { saved.push(this.download); };
+})()"""
+SAVED = "async () => { const [blob, name] = saved.splice(0); return [name, [...new Uint8Array(await blob.arrayBuffer())]]; }"
+DROP = """(raw) => {
+  const dataTransfer = new DataTransfer();
+  dataTransfer.items.add(new File([raw], "file"));
+  document.body.dispatchEvent(new DragEvent("drop", { dataTransfer, bubbles: true, cancelable: true }));
+}"""
+
+
+def files(page, *_):
+    """A script, its plain lines, its trace and its picture are saved, and what was saved is opened where it is dropped."""
+    text = "set 3\nelect n0\n# é\ninsert n0 t {_id: 1}"
+    page.call(OPEN, text)
+    page.wait(IDLE)
+    page.run(KEEP_FILES)
+    saved = {}
+    for kind in ("script", "plain", "svg", "trace"):
+        page.call("(kind) => { document.getElementById('kind-of-file').value = kind; document.getElementById('save').click(); }", kind)
+        page.wait("saved.length === 2")
+        name, raw = page.call(SAVED)
+        saved[name] = bytes(raw)
+    plain = script_bytes(expand(text.split("\n")).lines)
+    expected = {"run.lab": f"{text}\n".encode(), "run.replset": plain, "run.trace": run_program(["trace"], plain).stdout}
+    yield from (f"{name} is saved as {saved.get(name)!r}" for name, raw in expected.items() if saved.get(name) != raw)
+    if not saved["run.svg"].startswith(b"<svg "):
+        yield "no picture is saved"
+    page.call(OPEN, "set 1")
+    page.call(DROP, saved["run.lab"])
+    page.wait(f"page.text === {json.dumps(text)}", 20)
+
+
 def checks(page, *_):
     """A trace that is dropped is checked, and the first line that is wrong is told."""
     trace = _read("examples/first.trace")
@@ -266,7 +324,7 @@ def unfit(page, address, _):
         yield "a browser that can't run the program is shown the page"
 
 
-PARTS = (replies_and_traces, refused, expansions, drawings, checks, links, keys, typing, hostile, shots, unfit)
+PARTS = (replies_and_traces, refused, expansions, drawings, checks, links, keys, pointing, files, typing, hostile, shots, unfit)
 
 
 def _wrong_of(part, page, address, asked):
