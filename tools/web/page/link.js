@@ -9,7 +9,7 @@ async function through(stream, raw) {
     const { done, value } = await reader.read();
     if (done) break;
     size += value.length;
-    if (size > MOST_BYTES) throw new RangeError("the script of this link has more than 8,388,608 bytes");
+    if (size > MOST_BYTES) throw new RangeError("The script of this link has more than 8,388,608 bytes");
     parts.push(value);
   }
   return new Uint8Array(await new Blob(parts).arrayBuffer());
@@ -29,10 +29,18 @@ export async function fragmentOf(text, line) {
   return `#script=${spelled(packed)}&line=${line}`;
 }
 
+async function unpacked(script) {
+  try {
+    return await through(new DecompressionStream("deflate-raw"), read(script));
+  } catch (fault) {
+    throw fault instanceof RangeError ? fault : new Error("The script of this link can't be read. Was the link cut short?");
+  }
+}
+
 /** The script and the line of a fragment; null of one that has none. */
 export async function readFragment(fragment) {
   const said = new URLSearchParams(fragment.replace(/^#/, "")), script = said.get("script");
   if (script === null) return null;
-  const raw = await through(new DecompressionStream("deflate-raw"), read(script));
+  const raw = await unpacked(script);
   return { text: new TextDecoder().decode(raw), line: Number(said.get("line")) || null };
 }

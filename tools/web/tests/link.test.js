@@ -14,7 +14,7 @@ test("another fragment has no script", async () => {
 });
 
 test("what is no script of a link is refused", async () => {
-  await assert.rejects(readFragment("#script=%%%"));
-  await assert.rejects(readFragment("#script=AAAA"));
+  for (const fragment of ["#script=%%%", "#script=AAAA", (await fragmentOf("set 3\nelect n0", 1)).replace(/.{4}&/, "&")])
+    await assert.rejects(readFragment(fragment), /can't be read/);
   await assert.rejects(readFragment(await fragmentOf("x".repeat(8_388_609), 1)), RangeError);
 });
