@@ -1,95 +1,204 @@
-"""Many runs that begin as one script does. Inside of this process what they share is played and watched once."""
+"""Many runs that begin alike. Inside of this process each goes on from where it parts from the one before.
+
+Neighbours should be alike for as long as can be: a run then has a few lines of its own, and their replies alone are read.
+"""
 from __future__ import annotations
 
-from bisect import bisect_right
-from typing import List, NamedTuple, Optional, Sequence
+from typing import AbstractSet, Dict, FrozenSet, Iterator, List, NamedTuple, Optional, Sequence
 
-from .fates import endings
+from .fates import Reader, endings, hidden_reads, story_of
 from .inside import opened
 from .library import STEPS, Held
-from .observe import MOST_LINES, Run, TooLong, Watching, observe, probed_part
+from .observe import MOST_LINES, QUESTIONS, Run, TooLong, Watching, observe, touched
+from .outcomes import Outcome, Watch, dumps, endings_of, outcome, outcome_of, whole
 from .program import script_bytes
-from .script import set_size
-from .transcript import read_replies
+from .script import first_word, set_size
+from .story import Story
+from .transcript import Reply, read_replies
+from .variations import Token, lines_of
 
-#: At so many places of the script a set is kept, from which runs go on.
-STAGES = 64
+#: A stage is made where it spares the next run so many lines.
+WORTH = 3
 
 #: Scripts near the program's limits are for the program.
-MOST_BYTES, MOST_PROBED = 4_000_000, MOST_LINES - 1_000
+MOST_BYTES, MOST_ASKED = 4_000_000, MOST_LINES - 1_000
+
+#: The commands that only look at something, so that nothing is asked after them.
+_LOOKS = ("read", "dump", "log", "state", "rolled")
 
 
-class Stage(NamedTuple):
-    """A place of the script: how many lines are done, the set that did them, and what was watched of it."""
+class End(NamedTuple):
+    """What is compared of a run, and what is told of it: each where it is wanted, and the latter where the run isn't too long."""
 
-    done: int
-    held: Held
-    watching: Watching
+    outcome: Optional[Outcome]
+    story: Optional[Story]
 
 
-class Base:
-    """A script, and what of its run is kept."""
+class Line(NamedTuple):
+    """A line of a run: its number in the script, or 0 where it was put in, the nodes that are asked after it, and all as bytes."""
 
-    def __init__(self, lines: Sequence[str]):
-        self._lines = list(lines)
-        self._stages: List[Stage] = []
-        first = self._first()
-        step = max(1, len(self._lines) // STAGES)
-        while first is not None:
-            self._stages.append(first)
-            some = self._lines[first.done : first.done + step]
-            first = _gone_on(first, self._lines, some) if some else None
+    text: str
+    number: int
+    asked: Sequence[int]
+    script: bytes
 
-    def _first(self) -> Optional[Stage]:
-        """The set that the script begins with; none where it is played by the program."""
+
+class _Lines(Dict[Token, Line]):
+    """The lines of a script, and those that are put in."""
+
+    def __init__(self, lines: Sequence[str], nodes: int, with_questions: bool):
+        super().__init__()
+        self._nodes, self._with_questions = nodes, with_questions
+        self.update({place: self._line(text, place + 1) for place, text in enumerate(lines)})
+
+    def __missing__(self, text: Token) -> Line:
+        """A line that is put in, when it is met first."""
+        self[text] = self._line(str(text), 0)
+        return self[text]
+
+    def _line(self, text: str, number: int) -> Line:
+        changes = first_word(text) not in ("", *_LOOKS)
+        asked = touched(text, self._nodes) if changes and self._with_questions else ()
+        return Line(text, number, asked, script_bytes([text, *(QUESTIONS[node] for node in asked)]))
+
+
+class Stage:
+    """A place of a run: how many lines are done, the set that did them, and what was seen of them."""
+
+    def __init__(self, done: int, held: Held, watching: Watching, reader: Reader, replies: Dict[int, str]):
+        self.done, self.held, self.watching, self.reader, self.replies = done, held, watching, reader, replies
+
+    def branch(self, hidden: AbstractSet[int]) -> "Stage":
+        """The same, for a run that goes on otherwise and whose reads in these lines are hidden."""
+        return Stage(self.done, self.held.copy(), self.watching.branch(), self.reader.branch(hidden), dict(self.replies))
+
+    def go_on(self, lines: Sequence[Line], watch: Optional[Watch]) -> bool:
+        """Does more lines. Gives whether all of them could be done."""
+        replies = self.ask(lines)
+        if replies is None:
+            return False
+        for line in lines:
+            self.done += 1
+            if first_word(line.text):
+                self._take(line, next(replies), replies, watch)
+        return True
+
+    def _take(self, line: Line, reply: Reply, states: Iterator[Reply], watch: Optional[Watch]) -> None:
+        """The reply to a line, and what the nodes are then that are asked."""
+        if watch is not None and watch.sees(line.number, line.text, whole(reply)):
+            self.replies[line.number] = whole(reply)
+        step = self.watching.step(self.done, line.text, reply)
+        for node in line.asked:
+            state = self.watching.state(node, next(states).text)
+            if node == step.node:
+                step.after = state
+        self.reader.take(step, self.watching.mail)
+
+    def restart(self, lines: Sequence[Line], replies: Iterator[Reply]) -> None:
+        """What restarts tell that stand after the run."""
+        for line in lines:
+            step = self.watching.step(self.done, line.text, next(replies))
+            step.after = self.watching.state(line.asked[0], next(replies).text)
+            self.reader.take_restart(step)
+
+    def ask(self, lines: Sequence[Line]) -> Optional[Iterator[Reply]]:
+        """The replies to more lines, which are to be read; nothing where one of the lines can't be done."""
+        answer = self.held.call(STEPS, b"".join([line.script for line in lines]))
+        return None if answer.status else iter(read_replies(answer.text.decode("utf-8", "surrogateescape")))
+
+
+class Runs:
+    """Runs of a script whose lines are lost, repeated or moved, and that has others put in.
+
+    What `watch` sees is compared, if there is one. Stories are told where they are wanted."""
+
+    def __init__(self, lines: Sequence[str], watch: Optional[Watch], with_stories: bool):
+        self._lines, self._watch, self._with_stories = list(lines), watch, with_stories
+        self._size = set_size(lines)
+        self._known = _Lines(lines, self._size.nodes, with_stories)
+        self._dumps = [] if watch is None else dumps(self._size.nodes)
+        self._hides = bool(hidden_reads(lines))
+        #: The stages of the last run, which the next one may go on from.
+        self._stages = self._first()
+        self._last: Sequence[Token] = range(len(lines))
+
+    def _first(self) -> List[Stage]:
+        """The set that the script begins with; none where that is for the program."""
         script = script_bytes(self._lines)
-        if len(script) > MOST_BYTES:
-            return None
+        if len(script) > MOST_BYTES or sum(1 + len(line.asked) for line in self._known.values()) > MOST_ASKED:
+            return []
         begun = opened(script)
         if begun is None:
-            return None
-        try:
-            size = set_size(self._lines)
-            if len(probed_part(self._lines, size.nodes).lines) > MOST_PROBED:
-                return None
-        except TooLong:
-            return None
+            return []
         held, place = begun
-        return Stage(script[:place].count(b"\n"), held, Watching(self._lines, size))
+        return [Stage(script[:place].count(b"\n"), held, Watching(self._size), Reader(self._size.nodes), {})]
 
-    def run(self, lines: Sequence[str], after: Sequence[str]) -> Optional[Run]:
-        """A run of lines that begin as the script does or not, of others after them, and of its endings; none
-        where it is too long to be watched."""
-        whole = [*lines, *after]
-        stage = self._stage(lines)
-        gone = None if stage is None else _gone_on(stage, whole, whole[stage.done :])
-        if gone is not None:
-            # A disk that works well needs one restart.
-            down = [f"restart n{node}" for node, state in gone.watching.run.closing.items() if state.down]
-            whole += down
-            gone = _gone_on(gone, whole, down) if down else gone
-        if gone is not None:
-            return gone.watching.run
+    def ends(self, orders: Sequence[Sequence[Token]]) -> Iterator[End]:
+        """What runs come to, one after another."""
+        for place, order in enumerate(orders, 1):
+            end = self._end(order, orders[place] if place < len(orders) else ()) if self._stages else None
+            yield end or self._apart(order)
+
+    def _end(self, order: Sequence[Token], following: Sequence[Token]) -> Optional[End]:
+        """What a run comes to that goes on from a stage; nothing where it is for the program.
+
+        Before the place where the following run parts from it another stage is made, where that is worth while."""
+        shared = _shared(self._last, order)
+        while self._stages[-1].done > shared:
+            self._stages.pop()
+        self._last = order
+        hidden = hidden_reads(lines_of(order, self._lines)[0]) if self._hides else _NONE
+        shared = _shared(order, following)
+        if shared - self._stages[-1].done >= WORTH:
+            stage = self._stages[-1].branch(hidden)
+            if stage.go_on(self._between(order, stage.done, shared), self._watch):
+                self._stages.append(stage)
+        stage = self._stages[-1].branch(hidden)
+        done = stage.go_on(self._between(order, stage.done, len(order)), self._watch)
+        return self._ended(stage) if done else None
+
+    def _between(self, order: Sequence[Token], begins: int, ends: int) -> List[Line]:
+        return [self._known[token] for token in order[begins:ends]]
+
+    def _ended(self, stage: Stage) -> Optional[End]:
+        """What a run comes to that is done. A disk that works well needs one restart."""
+        down = [node for node, state in stage.watching.states.items() if state.down]
+        restarts = [self._known[f"restart n{node}"] for node in down]
+        replies = stage.ask([*(self._known[line] for line in self._dumps), *restarts])
+        if replies is None:
+            return None
+        compared = None if self._watch is None else Outcome(stage.replies, endings_of([next(replies) for _ in self._dumps]))
+        if not self._with_stories:
+            return End(compared, None)
+        stage.restart(restarts, replies)
+        return End(compared, stage.reader.story())
+
+    def _apart(self, order: Sequence[Token]) -> End:
+        """What a run comes to that is played from its beginning."""
+        lines, source = lines_of(order, self._lines)
+        nodes, run = self._size.nodes, self._observed(lines)
+        story = None if run is None else story_of(run, len(lines))
+        if self._watch is None:
+            return End(None, story)
+        if run is None:
+            return End(outcome(lines, source, nodes, self._watch), story)
+        return End(outcome_of({step.line: step.reply for step in run.steps}, lines, source, nodes, self._watch), story)
+
+    def _observed(self, lines: List[str]) -> Optional[Run]:
         try:
-            return observe([*lines, *after, *endings(lines)])
+            return observe([*lines, *self._dumps, *endings(lines)]) if self._with_stories else None
         except TooLong:
             return None
 
-    def _stage(self, lines: Sequence[str]) -> Optional[Stage]:
-        """The last place that is before the first line which differs."""
-        same = next((place for place, (one, other) in enumerate(zip(lines, self._lines)) if one is not other), len(lines))
-        place = bisect_right([stage.done for stage in self._stages], same)
-        return self._stages[place - 1] if place else None
+
+_NONE: FrozenSet[int] = frozenset()
 
 
-def _gone_on(stage: Stage, whole: List[str], rest: Sequence[str]) -> Optional[Stage]:
-    """Does more lines of a script, which stand after the stage's; nothing where that is for the program."""
-    watching, held = stage.watching.branch(whole), stage.held.copy()
-    probed = probed_part(rest, watching.run.size.nodes)
-    answer = held.call(STEPS, script_bytes(probed.lines))
-    if answer.status:
-        return None
-    replies = read_replies(answer.text.decode("utf-8", "surrogateescape"))
-    for (number, asked), reply in zip(probed.answered, replies):
-        watching.take(stage.done + number, asked, reply)
-    return Stage(stage.done + len(rest), held, watching)
+def _shared(one: Sequence[Token], other: Sequence[Token]) -> int:
+    """How long two runs are the same."""
+    place = 0
+    for token, opposite in zip(one, other):
+        if token != opposite:
+            break
+        place += 1
+    return place

@@ -45,7 +45,7 @@ def choices(lines: Sequence[str]) -> List[Choice]:
 def _messages(mail: Mail, lines: Sequence[str]) -> Iterator[Choice]:
     """The messages that nobody got yet, and for each a line that gives it up."""
     lost = {line[len(LOST) :] for line in lines if line.startswith(LOST)}
-    waiting = [one for one in mail.messages if not one.deliveries and str(one.number) not in lost]
+    waiting = [one for one in mail.messages if one.number not in mail.delivered and str(one.number) not in lost]
     newest = {(one.sender, one.receiver): one.number for one in mail.messages}
     for message in waiting[-MOST_MESSAGES:]:
         name = f"{_named(message)} n{message.sender} → n{message.receiver}"

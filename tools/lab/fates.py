@@ -5,98 +5,19 @@ is put after the script and is no part of it.
 """
 from __future__ import annotations
 
-from dataclasses import dataclass, field
-from typing import Dict, List, Optional, Sequence, Set, Tuple
+from typing import AbstractSet, Dict, List, NamedTuple, Optional, Sequence, Set, Tuple
 
 from .asking import TOLD
 from .histories import ZERO, Histories
 from .keys import Place, read_place, written_place
+from .mail import Mail
 from .observe import Run, Step, observe
 from .script import first_word, is_silent, words_of
-from .state import Optime, State, optime
+from .state import Optime, opening_state, optime
+from .story import Config, Read, Removal, Story, Write
 
 #: Each of a node's two disks may be told to fail once, so that the third restart succeeds.
 RESTARTS = 3
-
-
-@dataclass(frozen=True)
-class Removal:
-    """A node gave up an entry: in a rollback, or as it crashed before the entry was on its disk."""
-
-    node: int
-    line: int
-    rollback: bool
-
-
-@dataclass
-class Write:
-    """A write of the script, with the optime that it was answered or began with."""
-
-    line: int
-    text: str
-    node: int
-    at: Optime
-    place: Optional[Place]
-    #: Whether its entry was ever written; a writer's isn't before its `commit`.
-    done: bool = True
-    #: The concerns at which it was acknowledged, each with the first line.
-    acks: Dict[str, int] = field(default_factory=dict)
-    removals: List[Removal] = field(default_factory=list)
-    #: The nodes that have it at the end, and those that are down and have it on disk.
-    logs: List[int] = field(default_factory=list)
-    disks: List[int] = field(default_factory=list)
-    committed: bool = False
-    lost: bool = False
-
-
-@dataclass
-class Read:
-    """A `read` or a `dump` that was answered: up to where it shows the node's log, where that is known."""
-
-    line: int
-    node: int
-    level: str
-    place: Optional[Place]
-    front: Optional[Optime]
-    #: The write that a `read` shows.
-    shown: Optional[Write] = None
-    #: A write that was acknowledged at majority, or shown by a majority read, before this, and that this doesn't show.
-    missed: Optional[Write] = None
-
-
-@dataclass
-class Config:
-    """A configuration: its line, who made it, what it came from, and who votes in it."""
-
-    line: int
-    asked: bool
-    parent: str
-    voters: Tuple[int, ...]
-
-
-@dataclass
-class Story:
-    """All that is told of a run."""
-
-    writes: List[Write] = field(default_factory=list)
-    reads: List[Read] = field(default_factory=list)
-    histories: Histories = field(default_factory=Histories)
-    #: At the end: each node's state, where its log ends, or where on disk it does if it is down.
-    states: Dict[int, State] = field(default_factory=dict)
-    lasts: Dict[int, Optime] = field(default_factory=dict)
-    configs: Dict[str, Config] = field(default_factory=dict)
-    #: The configuration of each node at the end, or on its disk.
-    held: Dict[int, str] = field(default_factory=dict)
-    #: The nodes whose last rollback `rolled` still shows, with the line of that rollback.
-    shown_by_rolled: Dict[int, int] = field(default_factory=dict)
-    #: The nodes that were primary at once, each with the line that made it so; and the line that ended the last primary.
-    together: List[Tuple[Tuple[int, int], Tuple[int, int]]] = field(default_factory=list)
-    ended: Optional[int] = None
-
-    def leader(self) -> Optional[int]:
-        """The primary of the highest term at the end."""
-        leaders = [(int(state.term), node) for node, state in self.states.items() if state.role == "Primary"]
-        return max(leaders)[1] if leaders else None
 
 
 def read_fates(lines: Sequence[str]) -> Story:
@@ -111,7 +32,13 @@ def endings(lines: Sequence[str]) -> List[str]:
 
 def story_of(run: Run, count: int) -> Story:
     """What became of the writes of a run whose script has so many lines. After them it goes on, at last with the endings."""
-    return _Reader(run, count).read()
+    reader = Reader(run.size.nodes, hidden_reads(run.lines), _block_lines(run.lines))
+    for step in run.steps:
+        if step.line <= count:
+            reader.take(step, run.mail)
+        else:
+            reader.take_restart(step)
+    return reader.story()
 
 
 def _nodes(lines: Sequence[str]) -> int:
@@ -126,40 +53,80 @@ _TOLD = {
 }
 
 
-class _Reader:
-    """Goes over a run, step by step."""
+class _Begun(NamedTuple):
+    """A write as it was when it was told first."""
 
-    def __init__(self, run: Run, count: int):
-        self._run, self._count = run, count
-        self._story = Story(states=dict(run.opening))
-        nodes = range(run.size.nodes)
-        self._last = dict.fromkeys(nodes, ZERO)
-        self._applied = dict.fromkeys(nodes, ZERO)
-        self._config = dict.fromkeys(nodes, "0/1")
+    line: int
+    text: str
+    node: int
+    at: Optime
+    place: Optional[Place]
+
+
+class _Seen(NamedTuple):
+    """A read, with the optimes of the writes that it showed and missed."""
+
+    line: int
+    node: int
+    level: str
+    place: Optional[Place]
+    front: Optional[Optime]
+    shown: Optional[Optime] = None
+    missed: Optional[Optime] = None
+
+
+class Reader:
+    """Goes over a run, step by step.
+
+    Nothing that it holds is changed but its own lists, sets and maps, so that a branch copies no more than these."""
+
+    def __init__(self, nodes: int, hidden: AbstractSet[int] = frozenset(), blocks: AbstractSet[int] = frozenset()):
+        #: The lines of reads that nobody was shown, and those within blocks.
+        self._hidden, self._blocks = hidden, blocks
+        # Of each node: what it is, where its log ends and up to where it is applied, its configuration, since when it is down.
+        self._states = {node: opening_state() for node in range(nodes)}
+        self._last: Dict[int, Optime] = {node: ZERO for node in range(nodes)}
+        self._applied = dict(self._last)
+        self._config = {node: "0/1" for node in range(nodes)}
         self._down: Dict[int, int] = {}
-        self._primaries: Dict[int, int] = {}
-        self._writers: Dict[Tuple[int, str], Write] = {}
-        self._at: Dict[Optime, Write] = {}
-        self._of_place: Dict[Place, List[Write]] = {}
+        self._rolled: Dict[int, int] = {}
+        # Of writes: those of each document, those of writers, and what is known to be safe.
+        self._writes: Dict[Optime, _Begun] = {}
+        self._done: Set[Optime] = set()
+        self._acks: List[Tuple[Optime, str, int]] = []
+        self._removals: List[Tuple[Optime, Removal]] = []
+        self._writers: Dict[Tuple[int, str], Optime] = {}
+        self._of_place: Dict[Place, Tuple[Optime, ...]] = {}
+        self._histories = Histories()
         self._committed: Set[Optime] = set()
         self._acked = ZERO
-        self._shown: Dict[Place, Write] = {}
-        self._blocks, self._hidden = _block_lines(run.lines), _hidden_reads(run.lines)
+        # Of reads: all of them, and the newest write of each document that a majority read has shown.
+        self._reads: List[_Seen] = []
+        self._shown: Dict[Place, Optime] = {}
+        # Of primaries and configurations.
+        self._primaries: Dict[int, int] = {}
+        self._together: List[Tuple[Tuple[int, int], Tuple[int, int]]] = []
+        self._ended: Optional[int] = None
+        self._configs: Dict[str, Config] = {}
 
-    def read(self) -> Story:
-        """The story of the run."""
-        story = self._story
-        for step in self._run.steps:
-            if step.node is None:
-                continue
-            if step.line > self._count:
-                self._take_restart(step, step.node)
-                continue
-            self._take(step, step.node)
+    def branch(self, hidden: AbstractSet[int]) -> "Reader":
+        """One that has come as far, in a run that goes on otherwise."""
+        made = Reader.__new__(Reader)
+        made._hidden, made._blocks, made._acked, made._ended = hidden, self._blocks, self._acked, self._ended
+        made._states, made._last, made._applied = dict(self._states), dict(self._last), dict(self._applied)
+        made._config, made._down, made._rolled = dict(self._config), dict(self._down), dict(self._rolled)
+        made._writes, made._done, made._acks = dict(self._writes), set(self._done), list(self._acks)
+        made._removals, made._writers, made._of_place = list(self._removals), dict(self._writers), dict(self._of_place)
+        made._histories, made._committed = self._histories.branch(), set(self._committed)
+        made._reads, made._shown, made._primaries = list(self._reads), dict(self._shown), dict(self._primaries)
+        made._together, made._configs = list(self._together), dict(self._configs)
+        return made
+
+    def take(self, step: Step, mail: Mail) -> None:
+        """The next step. The mail has the configurations that it tells of."""
+        if step.node is not None:
+            self._take(step, step.node, mail)
             self._watch(step, step.node)
-        story.lasts, story.held = self._last, self._config
-        self._settle()
-        return story
 
     def _watch(self, step: Step, node: int) -> None:
         """Notes who is primary, and what a state tells of commit points and configurations."""
@@ -167,20 +134,20 @@ class _Reader:
         if after is None or step.line in self._blocks and after is step.before:
             # Within a block nodes aren't asked. The last step of each there has the state in which the block left it.
             return
-        if after is self._story.states.get(node):
+        if after is self._states.get(node):
             return
-        self._story.states[node] = after
+        self._states[node] = after
         if after.role == "Primary" and node not in self._primaries:
             for other, line in self._primaries.items():
-                self._story.together.append(((other, line), (node, step.line)))
+                self._together.append(((other, line), (node, step.line)))
             self._primaries[node] = step.line
         elif after.role != "Primary" and self._primaries.pop(node, 0) and not self._primaries:
-            self._story.ended = step.line
+            self._ended = step.line
         if not after.down:
             self._config[node] = after.config
             self._committed.add(optime(after.commit))
 
-    def _take(self, step: Step, node: int) -> None:
+    def _take(self, step: Step, node: int, mail: Mail) -> None:
         head = step.reply.text.split(" ", 1)[0]
         if head not in _TOLD:
             return
@@ -188,14 +155,14 @@ class _Reader:
         if head in ("written", "begun", "committed", "aborted"):
             self._take_write(step, node, words)
         elif head == "primary":
-            self._take_drain(step, node, words)
+            self._take_drain(step, node, words, mail)
         elif head == "took":
             self._last[node] = optime(words[3])
         elif head == "applied":
             self._applied[node] = optime(words[3])
         elif head == "rolled":
             self._remove(node, step.line, optime(words[3]), rollback=True)
-            self._story.shown_by_rolled[node] = step.line
+            self._rolled[node] = step.line
         elif head == "down" or words[1:3] == ["29", "DiskFailed"]:
             self._down.setdefault(node, step.line)
         elif head == "up":
@@ -203,7 +170,7 @@ class _Reader:
         elif head == "acked":
             self._take_ack(step, optime(words[1]))
         elif head == "config":
-            self._configure(step, node, words[1], asked=True)
+            self._configure(step, node, words[1], mail, asked=True)
         elif head in ("found", "missing") or head == "documents" and step.word == "dump":
             self._take_read(step, node)
 
@@ -214,78 +181,78 @@ class _Reader:
             return
         at = optime(words[1])
         if words[0] == "committed":
-            write = self._writers.pop((node, name))
-            write.done = True
-        elif at not in self._at:
-            write = Write(step.line, step.text, node, at, written_place(step.text), done=words[0] == "written")
-            self._at[at] = write
-            self._story.writes.append(write)
+            self._done.add(self._writers.pop((node, name)))
+        elif at not in self._writes:
+            self._writes[at] = _Begun(step.line, step.text, node, at, written_place(step.text))
+            if words[0] == "written":
+                self._done.add(at)
         if words[0] == "begun":
-            self._writers[node, name] = self._at[at]
-        elif not self._story.histories.has(max(self._last[node], at), at):
+            self._writers[node, name] = at
+        elif not self._histories.has(max(self._last[node], at), at):
             # A retried write that the log had already is told once more, and not done.
-            self._story.histories.write(at)
+            self._histories.write(at)
             self._last[node] = self._applied[node] = max(self._last[node], at)
-            place = self._at[at].place
+            place = self._writes[at].place
             if place is not None:
-                self._of_place.setdefault(place, []).append(self._at[at])
+                self._of_place[place] = (*self._of_place.get(place, ()), at)
 
-    def _take_drain(self, step: Step, node: int, words: List[str]) -> None:
+    def _take_drain(self, step: Step, node: int, words: List[str], mail: Mail) -> None:
         at = optime(words[3])
-        self._story.histories.begin(at[0], self._last[node])
-        self._story.histories.write(at)
+        self._histories.begin(at[0], self._last[node])
+        self._histories.write(at)
         self._last[node] = self._applied[node] = at
-        self._configure(step, node, f"{words[1]}/{self._config[node].split('/')[1]}", asked=False)
+        self._configure(step, node, f"{words[1]}/{self._config[node].split('/')[1]}", mail, asked=False)
 
-    def _configure(self, step: Step, node: int, name: str, asked: bool) -> None:
-        voters = self._run.mail.members_of(name).voters
-        self._story.configs.setdefault(name, Config(step.line, asked, self._config[node], voters))
+    def _configure(self, step: Step, node: int, name: str, mail: Mail, asked: bool) -> None:
+        if name not in self._configs:
+            self._configs[name] = Config(step.line, asked, self._config[node], mail.members_of(name).voters)
         self._config[node] = name
 
     def _remove(self, node: int, line: int, cut: Optime, rollback: bool) -> None:
         """The node's log ends at `cut` now."""
-        for at in self._story.histories.after(self._last[node], cut):
-            if at in self._at:
-                self._at[at].removals.append(Removal(node, line, rollback))
+        for at in self._histories.after(self._last[node], cut):
+            if at in self._writes:
+                self._removals.append((at, Removal(node, line, rollback)))
         self._last[node] = self._applied[node] = cut
 
     def _take_up(self, node: int, last: Optime) -> None:
         self._remove(node, self._down.pop(node, 0), last, rollback=False)
-        self._story.shown_by_rolled.pop(node, None)
+        self._rolled.pop(node, None)
 
     def _take_ack(self, step: Step, at: Optime) -> None:
         concern = words_of(step.text)[3]
-        if at in self._at:
-            self._at[at].acks.setdefault(concern.lstrip("0"), step.line)
+        if at in self._writes:
+            self._acks.append((at, concern.lstrip("0"), step.line))
         if concern == "majority":
             self._acked = max(self._acked, at)
             self._committed.add(at)
 
-    def _take_restart(self, step: Step, node: int) -> None:
+    def take_restart(self, step: Step) -> None:
         """What a restart after the script tells of the disk of a node that is down."""
-        if step.reply.text.startswith("up "):
-            self._remove(node, self._down.pop(node, 0), optime(step.reply.text.split(" ")[2]), rollback=False)
+        if step.node is not None and step.reply.text.startswith("up "):
+            last = optime(step.reply.text.split(" ")[2])
+            self._remove(step.node, self._down.pop(step.node, 0), last, rollback=False)
             if step.after is not None and not step.after.down:
-                self._config[node] = step.after.config
+                self._config[step.node] = step.after.config
 
     # Reads.
 
     def _take_read(self, step: Step, node: int) -> None:
         if step.line in self._hidden:
             return
-        level = words_of(step.text)[2]
-        read = Read(step.line, node, level, read_place(step.text), self._front(step, node, level))
-        self._story.reads.append(read)
-        if read.front is None:
+        level, place = words_of(step.text)[2], read_place(step.text)
+        front = self._front(step, node, level)
+        if front is None:
+            self._reads.append(_Seen(step.line, node, level, place, None))
             return
-        if read.place is not None:
-            read.shown = self._newest(read.place, read.front)
-        places = [read.place] if read.place is not None else list(self._of_place)
-        read.missed = next((write for place in places for write in self._unshown(place, read.front)), None)
+        places = [place] if place is not None else list(self._of_place)
+        shown = None if place is None else self._newest(place, front)
+        missed = next((at for one in places for at in self._unshown(one, front)), None)
+        self._reads.append(_Seen(step.line, node, level, place, front, shown, missed))
         if level == "majority":
-            self._committed.add(read.front)
-            for place in places:
-                self._show(place, read.front)
+            self._committed.add(front)
+            for one in places:
+                self._show(one, front)
 
     def _front(self, step: Step, node: int, level: str) -> Optional[Optime]:
         """Up to where a read shows the log. In a block nobody knows where a commit point is."""
@@ -295,26 +262,46 @@ class _Reader:
             return None
         return min(optime(step.before.commit), optime(step.before.applied))
 
-    def _newest(self, place: Place, front: Optime) -> Optional[Write]:
+    def _newest(self, place: Place, front: Optime) -> Optional[Optime]:
         """The last write to a document in the log that ends there."""
-        writes = reversed(self._of_place.get(place, []))
-        return next((write for write in writes if self._story.histories.has(front, write.at)), None)
+        return next((at for at in reversed(self._of_place.get(place, ())) if self._histories.has(front, at)), None)
 
-    def _unshown(self, place: Place, front: Optime) -> List[Write]:
+    def _unshown(self, place: Place, front: Optime) -> List[Optime]:
         """The writes to a document that are known to be safe by now, and that a log up to there hasn't got."""
         safe = [self._newest(place, self._acked), self._shown.get(place)]
-        return [write for write in safe if write is not None and not self._story.histories.has(front, write.at)]
+        return [at for at in safe if at is not None and not self._histories.has(front, at)]
 
     def _show(self, place: Place, front: Optime) -> None:
         newest = self._newest(place, front)
-        if newest is not None and (place not in self._shown or self._shown[place].at < newest.at):
+        if newest is not None and (place not in self._shown or self._shown[place] < newest):
             self._shown[place] = newest
 
     # The end.
 
-    def _settle(self) -> None:
+    def story(self) -> Story:
+        """All that is told of the run, whose end this is."""
+        writes = {at: Write(one.line, one.text, one.node, at, one.place, at in self._done) for at, one in self._writes.items()}
+        for at, concern, line in self._acks:
+            writes[at].acks.setdefault(concern, line)
+        for at, removal in self._removals:
+            writes[at].removals.append(removal)
+        reads = [
+            Read(
+                one.line, one.node, one.level, one.place, one.front,
+                None if one.shown is None else writes[one.shown], None if one.missed is None else writes[one.missed],
+            )
+            for one in self._reads
+        ]
+        story = Story(
+            list(writes.values()), reads, self._histories, self._states, self._last, self._configs, self._config, self._rolled,
+            self._together, self._ended,
+        )
+        self._settle(story)
+        return story
+
+    def _settle(self, story: Story) -> None:
         """Says of each write where it stands at the end, whether it is committed, and whether it is lost."""
-        story, leader = self._story, self._story.leader()
+        leader = story.leader()
         has, farthest = story.histories.has, max(self._committed, default=ZERO)
         for write in story.writes:
             having = [node for node in sorted(story.lasts) if write.done and has(story.lasts[node], write.at)]
@@ -325,7 +312,7 @@ class _Reader:
             write.lost = write.done and (not having or led and leader not in write.logs)
 
 
-def _hidden_reads(lines: Sequence[str]) -> Set[int]:
+def hidden_reads(lines: Sequence[str]) -> Set[int]:
     """The lines of reads that nobody was shown: those of linearizable reads that were refused then."""
     found: Set[int] = set()
     begins = 0

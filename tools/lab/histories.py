@@ -20,6 +20,12 @@ class Histories:
         self._written: Dict[int, List[Optime]] = {}
         self._before: Dict[int, Optime] = {}
 
+    def branch(self) -> "Histories":
+        """The same, for a run that goes on otherwise."""
+        made = Histories.__new__(Histories)
+        made._written, made._before = {term: list(written) for term, written in self._written.items()}, dict(self._before)
+        return made
+
     def begin(self, term: int, last: Optime) -> None:
         """A primary's term begins, over a log that ends there."""
         self._before.setdefault(term, last)

@@ -325,7 +325,7 @@ def _put_messages(picture: Picture, run: Run, first: int) -> None:
         if message.line not in place_of or message.number in tried or message.line < first:
             continue
         top, label = place_of[message.line], _name(message.kind, message.answers is not None)
-        if message.deliveries:
+        if message.number in run.mail.delivered:
             picture.arrows.append(Arrow(message.sender, message.receiver, top, end, message.kind, label, False, False))
         else:
             _put_stub(picture, message, top, label)

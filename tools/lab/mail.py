@@ -3,12 +3,12 @@ from __future__ import annotations
 
 import json
 import re
-from dataclasses import dataclass, field
+from dataclasses import dataclass
 from functools import lru_cache
-from typing import Dict, List, Optional, Tuple
+from typing import Dict, List, Optional, Set, Tuple
 
 from .script import KEPT, SetSize, acting_node, words_of
-from .state import read_state
+from .state import State
 
 _ASKED = re.compile(r"(?:candidate|dryrun) \d+ sent m(\d+) (\d+)$")
 _SENT = re.compile(r"sent m(\d+)(?: to n(\d+))?$")
@@ -30,7 +30,6 @@ class Message:
     kind: str
     line: int
     answers: Optional[int] = None
-    deliveries: List[int] = field(default_factory=list)
 
 
 @dataclass(frozen=True)
@@ -46,6 +45,8 @@ class Mail:
 
     def __init__(self, size: SetSize):
         self.messages: List[Message] = []
+        #: The numbers of those that were handed over.
+        self.delivered: Set[int] = set()
         self._newest: Dict[Tuple[int, int], Message] = {}
         self._members = {"0/1": Members(tuple(range(size.members)), tuple(range(size.voters)))}
         self._config: Dict[int, str] = {}
@@ -53,13 +54,12 @@ class Mail:
     def branch(self) -> "Mail":
         """The messages so far, of a run that goes on otherwise."""
         made = Mail.__new__(Mail)
-        made.messages, made._newest = list(self.messages), dict(self._newest)
+        made.messages, made.delivered, made._newest = list(self.messages), set(self.delivered), dict(self._newest)
         made._members, made._config = dict(self._members), dict(self._config)
         return made
 
-    def notice_state(self, node: int, reply: str) -> None:
-        """Learns a node's configuration from its `state` line."""
-        state = read_state(reply)
+    def notice_state(self, node: int, state: State) -> None:
+        """Learns which configuration a node has."""
         if not state.down:
             self._config[node] = state.config
 
@@ -80,7 +80,7 @@ class Mail:
         if message is None:
             return None
         if not reply.startswith("refused"):
-            message.deliveries.append(number)
+            self.delivered.add(message.number)
         answered = _REPLIED.match(reply) if reply.startswith("replied") else None
         if answered:
             self._send(message.receiver, message.sender, message.kind, number, message.number)

@@ -17,7 +17,8 @@ from .transcript import Reply, Transcript
 #: A script has at most so many lines.
 MOST_LINES = 200_000
 
-_QUESTIONS = [f"state n{node}" for node in range(50)]
+#: What each node is asked.
+QUESTIONS = [f"state n{node}" for node in range(50)]
 
 
 class TooLong(LabError):
@@ -72,45 +73,29 @@ class _Probed:
     def __init__(self, lines: Sequence[str], nodes: int, first: int, last: int):
         self.lines: List[str] = []
         self.source: List[Tuple[int, Optional[int]]] = []
-        #: Of these the ones that have a reply, where there are no blocks.
-        self.answered: List[Tuple[int, Optional[int]]] = []
-        self._everyone = list(range(nodes))
         in_block = begun = False
         for number, line in enumerate(lines, 1):
             word = first_word(line)
             if number == first and begun:
-                self._ask(number - 1, self._everyone)
-            self._put(line, (number, None), word)
+                self._ask(number - 1, range(nodes))
+            self._put(line, (number, None))
             in_block = word == "par" or (in_block and word != "end")
             if word and not in_block and first <= number <= last:
-                self._ask(number, self._touched(line, word))
+                self._ask(number, touched(line, nodes))
             elif word in ("campaign", "dryrun", "drain"):
                 # Whom a candidate asks, its configuration says.
-                self._ask(number, self._named(line))
+                self._ask(number, _named(line, nodes))
             begun = begun or word == "set"
         if len(self.lines) > MOST_LINES:
             raise TooLong
 
-    def _touched(self, line: str, word: str) -> List[int]:
-        """The nodes that a line may change; all of them where it doesn't say which."""
-        if word == "end" or word == "deliver" and len(words_of(line)) == 2:
-            return self._everyone
-        return self._named(line)
+    def _ask(self, number: int, asked: Sequence[int]) -> None:
+        for node in asked:
+            self._put(QUESTIONS[node], (number, node))
 
-    def _named(self, line: str) -> List[int]:
-        """The node that a line is for, where it names one of the set's."""
-        node = acting_node(line)
-        return [node] if node is not None and node < len(self._everyone) else []
-
-    def _ask(self, number: int, nodes: List[int]) -> None:
-        for node in nodes:
-            self._put(_QUESTIONS[node], (number, node), "state")
-
-    def _put(self, line: str, source: Tuple[int, Optional[int]], word: str) -> None:
+    def _put(self, line: str, source: Tuple[int, Optional[int]]) -> None:
         self.lines.append(line)
         self.source.append(source)
-        if word:
-            self.answered.append(source)
 
     def play(self) -> Transcript:
         """The replies, or the fault of a line by the number that it has in the script as it was."""
@@ -123,54 +108,73 @@ class _Probed:
             raise ScriptFault(number, fault.rule, text) from None
 
 
+def touched(line: str, nodes: int) -> Sequence[int]:
+    """The nodes of a set of so many that a line may change; all of them where it doesn't say which."""
+    everyone = first_word(line) == "end" or first_word(line) == "deliver" and len(words_of(line)) == 2
+    return range(nodes) if everyone else _named(line, nodes)
+
+
+def _named(line: str, nodes: int) -> Sequence[int]:
+    """The node that a line is for, where it names one of the set's."""
+    node = acting_node(line)
+    return (node,) if node is not None and node < nodes else ()
+
+
 def observe(lines: Sequence[str], first: int = 1, last: int = MOST_LINES) -> Run:
     """Plays a script, and watches what its lines from `first` to `last` change. Of the others it follows the messages alone."""
     first = _before_block(lines, first)
-    watching = Watching(list(lines), set_size(lines), first)
-    probed = _Probed(lines, watching.run.size.nodes, first, last)
+    size = set_size(lines)
+    probed, watching = _Probed(lines, size.nodes, first, last), Watching(size)
+    run = Run(list(lines), size, watching.mail, [], dict(watching.states), watching.states)
+    latest: Dict[int, Step] = {}
     for reply in probed.play().replies:
-        watching.take(*probed.source[reply.line - 1], reply)
-    return watching.run
+        number, asked = probed.source[reply.line - 1]
+        if asked is None:
+            step = watching.step(number, run.lines[number - 1], reply)
+            run.steps.append(step)
+            if step.node is not None:
+                latest[step.node] = step
+            continue
+        state = watching.state(asked, reply.text)
+        if number < first:
+            run.opening[asked] = state
+        elif asked in latest:
+            latest[asked].after = state
+    return run
 
 
 class Watching:
-    """A run of some lines, as far as its replies have come."""
+    """What the replies to a run tell, as far as they have come: its messages, and what each node is."""
 
-    def __init__(self, lines: List[str], size: SetSize, first: int = 1):
-        opening = {node: opening_state() for node in range(size.nodes)}
-        self.run = Run(lines, size, Mail(size), [], opening, dict(opening))
-        self._first = first
-        self._latest: Dict[int, Step] = {}
+    def __init__(self, size: SetSize):
+        self.mail = Mail(size)
+        self.states: Dict[int, State] = {node: opening_state() for node in range(size.nodes)}
 
-    def branch(self, lines: List[str]) -> "Watching":
-        """One that has come as far, in a run that goes on with other lines."""
-        run = self.run
-        made = Watching(lines, run.size, self._first)
-        made.run.mail, made.run.steps = run.mail.branch(), list(run.steps)
-        made.run.closing.update(run.closing)
-        made._latest.update(self._latest)
+    def branch(self) -> "Watching":
+        """The same, for a run that goes on otherwise."""
+        made = Watching.__new__(Watching)
+        made.mail, made.states = self.mail.branch(), dict(self.states)
         return made
 
-    def take(self, number: int, asked: Optional[int], reply: Reply) -> None:
-        """The reply to a line, or to a question after it where a node is asked."""
-        run = self.run
-        if asked is None:
-            step = _step(run, number, reply, run.closing)
-            run.steps.append(step)
-            if step.node is not None:
-                self._latest[step.node] = step
-            return
-        run.mail.notice_state(asked, reply.text)
-        run.closing[asked] = read_state(reply.text)
-        if number < self._first:
-            run.opening[asked] = run.closing[asked]
-        elif asked in self._latest:
-            self._latest[asked].after = run.closing[asked]
+    def state(self, node: int, reply: str) -> State:
+        """What a node is, by its reply to a question."""
+        state = read_state(reply)
+        self.mail.notice_state(node, state)
+        self.states[node] = state
+        return state
 
-
-def probed_part(lines: Sequence[str], nodes: int) -> _Probed:
-    """A part of a script that has no blocks, with all its lines watched."""
-    return _Probed(lines, nodes, 1, MOST_LINES)
+    def step(self, number: int, text: str, reply: Reply) -> Step:
+        """What a line did, by its reply. What the node is after it is known later."""
+        own = Reply(number, reply.text, reply.more)
+        if first_word(text) == "deliver":
+            count = len(self.mail.messages)
+            message = self.mail.deliver(text, number, reply.text)
+            node, sent = (message.receiver if message else None), self.mail.messages[count:]
+        else:
+            sent = self.mail.act(text, number, reply.text)
+            message, node = None, acting_node(text)
+        state = None if node is None else self.states.get(node)
+        return Step(number, text, own, node, sent, message, state, state)
 
 
 def _before_block(lines: Sequence[str], first: int) -> int:
@@ -183,17 +187,3 @@ def _before_block(lines: Sequence[str], first: int) -> int:
         elif word == "end":
             begins = 0
     return begins or first
-
-
-def _step(run: Run, number: int, reply: Reply, states: Dict[int, State]) -> Step:
-    text = run.lines[number - 1]
-    own = Reply(number, reply.text, reply.more)
-    if first_word(text) == "deliver":
-        count = len(run.mail.messages)
-        message = run.mail.deliver(text, number, reply.text)
-        node, sent = (message.receiver if message else None), run.mail.messages[count:]
-    else:
-        sent = run.mail.act(text, number, reply.text)
-        message, node = None, acting_node(text)
-    state = None if node is None else states.get(node)
-    return Step(number, text, own, node, sent, message, state, state)

@@ -5,7 +5,7 @@ import random
 import re
 from dataclasses import dataclass
 from functools import lru_cache
-from typing import Collection, Dict, Iterator, List, Sequence, Set, Tuple
+from typing import Dict, FrozenSet, Iterable, Iterator, List, NamedTuple, Sequence, Set, Tuple
 
 from .expand import Expanded
 from .program import play
@@ -28,11 +28,25 @@ class Outcome:
     endings: Dict[int, Tuple[str, ...]]
 
 
-def outcome(
-    lines: Sequence[str], source: Sequence[int], nodes: int, watch: "re.Pattern[str]", also: Collection[int] = ()
-) -> Outcome:
-    """What is watched of a run of these lines: what the pattern matches, and the lines with the numbers in `also`."""
-    return outcome_of(play([*lines, *dumps(nodes)]).by_line, lines, source, nodes, watch, also)
+class Watch(NamedTuple):
+    """Which replies are compared: those to lines with these numbers, and where the pattern is found in the line or the reply."""
+
+    pattern: "re.Pattern[str]"
+    also: FrozenSet[int] = frozenset()
+
+    def sees(self, number: int, line: str, said: str) -> bool:
+        """Whether a reply is compared. The number is the line's in the script as it is, or 0 where it was put in."""
+        return number > 0 and (number in self.also or _is_found(self.pattern, line) or _is_found(self.pattern, said))
+
+
+@lru_cache(KEPT)
+def _is_found(pattern: "re.Pattern[str]", text: str) -> bool:
+    return pattern.search(text) is not None
+
+
+def outcome(lines: Sequence[str], source: Sequence[int], nodes: int, watch: Watch) -> Outcome:
+    """What is watched of a run of these lines, of which each was the script's line of that number."""
+    return outcome_of(play([*lines, *dumps(nodes)]).by_line, lines, source, nodes, watch)
 
 
 def dumps(nodes: int) -> List[str]:
@@ -40,33 +54,27 @@ def dumps(nodes: int) -> List[str]:
     return [f"dump n{node} local" for node in range(nodes)]
 
 
-def outcome_of(
-    replies: Dict[int, Reply], lines: Sequence[str], source: Sequence[int], nodes: int, watch: "re.Pattern[str]", also: Collection[int]
-) -> Outcome:
+def outcome_of(replies: Dict[int, Reply], lines: Sequence[str], source: Sequence[int], nodes: int, watch: Watch) -> Outcome:
     """The same, where they were played with the dumps after them."""
-    endings = {}
-    for node in range(nodes):
-        reply = replies[len(lines) + 1 + node]
-        if not reply.refused:
-            endings[node] = reply.more
     found: Dict[int, str] = {}
     for number, line in enumerate(lines, 1):
         said, was = replies.get(number), source[number - 1]
-        if said is not None and was and (was in also or _is_watched(watch, line) or _is_watched(watch, _whole(said))):
-            found[was] = _whole(said)
-    return Outcome(found, endings)
+        if said is not None and watch.sees(was, line, whole(said)):
+            found[was] = whole(said)
+    return Outcome(found, endings_of([replies[len(lines) + 1 + node] for node in range(nodes)]))
 
 
-@lru_cache(KEPT)
-def _is_watched(watch: "re.Pattern[str]", text: str) -> bool:
-    return watch.search(text) is not None
+def endings_of(dumped: Iterable[Reply]) -> Dict[int, Tuple[str, ...]]:
+    """The documents of each node that is up, by the replies to the dumps."""
+    return {node: reply.more for node, reply in enumerate(dumped) if not reply.refused}
 
 
-def _whole(reply: Reply) -> str:
+def whole(reply: Reply) -> str:
+    """A reply with what stands below it."""
     return "\n".join([reply.text, *reply.more]) if reply.more else reply.text
 
 
-def usual_outcomes(lines: Sequence[str], nodes: int, watch: "re.Pattern[str]") -> List[Outcome]:
+def usual_outcomes(lines: Sequence[str], nodes: int, watch: Watch) -> List[Outcome]:
     """What comes of the script as it is. Where it has blocks, that is something else in each order of their lines."""
     found: List[Outcome] = []
     for merged, source in merges(lines):

@@ -5,9 +5,10 @@ from itertools import groupby
 from typing import Iterator, List, Optional, Sequence, Tuple
 
 from .expand import Expanded
-from .fates import Story, Write, read_fates
+from .fates import read_fates
 from .observe import TooLong
 from .show import printable
+from .story import Story, Write
 from .verdicts import Verdict, named, verdicts
 
 #: So many writes, and so many verdicts, are told after a run, where not all are asked for.

@@ -10,6 +10,8 @@ from .script import SetSize, is_silent, words_of
 from .show import printable
 
 KINDS = ("drop", "repeat", "swap", "crash", "bounce")
+#: Those that are about a delivery.
+_DELIVERED = ("drop", "repeat", "swap")
 
 #: Orders of more lines than these are too many.
 MOST_ORDERED = 8
@@ -35,6 +37,10 @@ class Change(NamedTuple):
             "crash": f"{name}: n{self.other} crashes after it",
             "bounce": f"{name}: n{self.other} crashes after it and comes back",
         }[self.kind]
+
+    def rests_on(self, other: "Change") -> bool:
+        """Whether another change loses the delivery after which this one has its own."""
+        return self.kind == "swap" and other.kind == "drop" and self.other == other.place
 
     def apply(self, order: List[Token]) -> None:
         """Changes the script, whose lines stand there by their places."""
@@ -91,9 +97,8 @@ class Order(NamedTuple):
 Variation = Union[Faults, Order]
 
 
-def played(variation: Variation, lines: Sequence[str]) -> Tuple[List[str], List[int]]:
+def lines_of(order: Sequence[Token], lines: Sequence[str]) -> Tuple[List[str], List[int]]:
     """The changed lines, and of each the number of the line that it was, or 0 for one that was put in."""
-    order = variation.order(len(lines))
     changed = [token if isinstance(token, str) else lines[token] for token in order]
     return changed, [0 if isinstance(token, str) else token + 1 for token in order]
 
@@ -105,18 +110,15 @@ def faults(lines: Sequence[str], size: SetSize, kinds: Sequence[str], most: int)
         yield from (Faults(some) for some in combinations(single, count) if count == 1 or _fit(some))
 
 
-def count_of_faults(lines: Sequence[str], size: SetSize, kinds: Sequence[str], most: int) -> int:
-    """How many variations `faults` has."""
-    return sum(1 for _ in faults(lines, size, kinds, most))
-
-
 def _fit(changes: Sequence[Change]) -> bool:
     """Whether no two of the changes are of one line's delivery, or rest on one that is lost."""
-    moved = [change.place for change in changes if change.kind in ("drop", "repeat", "swap")]
-    lost = {change.place for change in changes if change.kind == "drop"}
-    rests = {change.other for change in changes if change.kind == "swap"}
-    rests |= {change.place for change in changes if change.kind in ("crash", "bounce")}
-    return len(moved) == len(set(moved)) and not lost & rests
+    return all(_fit_both(one, other) for one, other in combinations(changes, 2))
+
+
+def _fit_both(one: Change, other: Change) -> bool:
+    if one.place == other.place:
+        return "drop" not in (one.kind, other.kind) and not (one.kind in _DELIVERED and other.kind in _DELIVERED)
+    return not (one.rests_on(other) or other.rests_on(one))
 
 
 def _changes(lines: Sequence[str], size: SetSize, kinds: Sequence[str]) -> Iterator[Change]:

@@ -4,7 +4,7 @@ from __future__ import annotations
 from dataclasses import dataclass
 from typing import Callable, Dict, Iterator, List, Optional, Sequence, Tuple
 
-from .fates import Config, Read, Story, Write
+from .story import Config, Read, Story, Write
 
 #: What each verdict means, in the order in which they are told.
 MEANINGS = {

@@ -12,32 +12,44 @@ from .errors import LabError
 Item = TypeVar("Item")
 Answer = TypeVar("Answer")
 
-#: So many items are done by one process before the next has its turn.
+#: So many items are done by one process before the next has its turn, where nothing else is said.
 AT_A_TIME = 8
 
 
 def in_order(work: Callable[[Item], Answer], items: Iterable[Item], jobs: int) -> Iterator[Tuple[Item, Answer]]:
-    """Each item with what the work on it gives, in the order of the items.
+    """Each item with what the work on it gives, in the order of the items."""
+    return some_in_order(lambda some: [work(item) for item in some], items, jobs, AT_A_TIME)
+
+
+def some_in_order(
+    work: Callable[[List[Item]], List[Answer]], items: Iterable[Item], jobs: int, at_a_time: int
+) -> Iterator[Tuple[Item, Answer]]:
+    """The same, where the work is on so many items that follow one another.
 
     Every process goes over the items by itself, and does those whose turn is its own. So nothing is handed to it."""
-    left = iter(items)
+    some = _parts(items, at_a_time)
     if jobs <= 1 or not hasattr(os, "fork"):
-        yield from ((item, work(item)) for item in left)
+        for part in some:
+            yield from zip(part, work(part))
         return
-    workers = [_forked(work, left, place, jobs) for place in range(jobs)]
+    workers = [_forked(work, some, place, jobs) for place in range(jobs)]
     try:
-        turn = 0
-        while True:
-            some = list(islice(left, AT_A_TIME))
-            if not some:
-                return
-            yield from zip(some, _answers(workers[turn % jobs][1]))
-            turn += 1
+        for turn, part in enumerate(some):
+            yield from zip(part, _answers(workers[turn % jobs][1]))
     finally:
         for child, pipe in workers:
             pipe.close()
             os.kill(child, signal.SIGKILL)
             os.waitpid(child, 0)
+
+
+def _parts(items: Iterable[Item], size: int) -> Iterator[List[Item]]:
+    """The items, so many at a time."""
+    left = iter(items)
+    part = list(islice(left, size))
+    while part:
+        yield part
+        part = list(islice(left, size))
 
 
 def _answers(pipe: BinaryIO) -> List[Any]:
@@ -50,38 +62,38 @@ def _answers(pipe: BinaryIO) -> List[Any]:
     return list(answers)
 
 
-def _forked(work: Callable[[Any], Any], items: Iterator[Any], place: int, jobs: int) -> Tuple[int, BinaryIO]:
+def _forked(
+    work: Callable[[List[Any]], List[Any]], some: Iterator[List[Any]], place: int, jobs: int
+) -> Tuple[int, BinaryIO]:
     """A process that does the work whose turn is at this place, and the pipe by which it answers."""
     read, write = os.pipe()
     child = os.fork()
     if child == 0:
         os.close(read)
-        _work(work, items, place, jobs, os.fdopen(write, "wb"))
+        _work(work, some, place, jobs, os.fdopen(write, "wb"))
     os.close(write)
     return child, os.fdopen(read, "rb")
 
 
-def _work(work: Callable[[Any], Any], items: Iterator[Any], place: int, jobs: int, pipe: BinaryIO) -> NoReturn:
+def _work(
+    work: Callable[[List[Any]], List[Any]], some: Iterator[List[Any]], place: int, jobs: int, pipe: BinaryIO
+) -> NoReturn:
     """What a process does until it has no more. The one that forked it hears interrupts, and ends it."""
     signal.signal(signal.SIGINT, signal.SIG_IGN)
     try:
-        turn = 0
-        while True:
-            some = list(islice(items, AT_A_TIME))
-            if not some:
-                os._exit(0)
+        for turn, part in enumerate(some):
             if turn % jobs == place:
-                pickle.dump(_done(work, some), pipe)
+                pickle.dump(_done(work, part), pipe)
                 pipe.flush()
-            turn += 1
+        os._exit(0)
     except BrokenPipeError:
         os._exit(0)
     finally:
         os._exit(1)
 
 
-def _done(work: Callable[[Any], Any], items: List[Any]) -> Any:
+def _done(work: Callable[[List[Any]], List[Any]], part: List[Any]) -> Any:
     try:
-        return [work(item) for item in items]
+        return work(part)
     except LabError as fault:
         return fault

@@ -11,8 +11,9 @@ from support import COMMITTED, TOP, LabTest
 from slow_reading import SlowReading
 
 from lab.expand import expand
-from lab.fates import Write, read_fates
+from lab.fates import read_fates
 from lab.program import find_program
+from lab.story import Write
 from lab.verdicts import MEANINGS, Verdict, verdicts
 
 sys.path.insert(0, str(TOP / "tools" / "fuzz"))

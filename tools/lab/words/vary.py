@@ -8,18 +8,17 @@ from collections import Counter
 from itertools import compress, repeat
 from typing import Callable, Dict, Iterable, Iterator, List, NamedTuple, Tuple
 
-from ..branches import Base
+from ..branches import End, Runs
 from ..errors import DIFFERENT, INTERRUPT, NOTHING, WORDS, LabError
 from ..expand import Expanded, read_expanded
-from ..fates import story_of
-from ..outcomes import differences, dumps, outcome, outcome_of, usual_outcomes
+from ..outcomes import Watch, differences, usual_outcomes
 from ..program import script_bytes, write_file
 from ..script import set_size
 from ..show import Progress
 from ..telling import of_name, verdicts_of
-from ..variations import KINDS, Variation, faults, orders, played
+from ..variations import KINDS, Variation, faults, lines_of, orders
 from ..verdicts import MEANINGS, verdicts
-from ..workers import in_order
+from ..workers import some_in_order
 from .shrink import pattern
 
 SUMMARY = "plays variations of a script, and tells what makes a difference"
@@ -39,6 +38,10 @@ was found till then. The status is 1 where something differs, or where a verdict
 
 #: So many outcomes are shown, and so many variations of each, where not all are asked for.
 MOST_OUTCOMES, MOST_NAMED = 12, 4
+
+
+#: So many variations are played by one process before the next has its turn.
+AT_A_TIME = 16
 
 
 class Answer(NamedTuple):
@@ -100,26 +103,22 @@ def _variations(arguments: argparse.Namespace, script: Expanded) -> Iterator[Var
     return faults(script.lines, set_size(script.lines), kinds, arguments.faults)
 
 
-def _answers(arguments: argparse.Namespace, script: Expanded) -> Callable[[Numbered], Answer]:
-    """What gives the answer to a variation."""
-    watch, nodes, name = pattern(arguments.watch), set_size(script.lines).nodes, arguments.verdict
+def _answers(arguments: argparse.Namespace, script: Expanded) -> Callable[[List[Numbered]], List[Answer]]:
+    """What gives the answers to variations that follow one another."""
+    nodes, name, watch = set_size(script.lines).nodes, arguments.verdict, Watch(pattern(arguments.watch))
     usual = usual_outcomes(script.lines, nodes, watch)
-    watched = {number for one in usual for number in one.replies}
-    base = Base(script.lines)
+    also = frozenset(number for one in usual for number in one.replies)
+    runs = Runs(script.lines, watch._replace(also=also) if name is None else None, not arguments.no_verdicts)
 
-    def answer(numbered: Numbered) -> Answer:
-        lines, source = played(numbered[1], script.lines)
-        run = None if arguments.no_verdicts else base.run(lines, dumps(nodes))
-        found = [] if run is None else of_name(verdicts(story_of(run, len(lines))), name)
-        names = tuple(dict.fromkeys(verdict.name for verdict in found))
-        if name is not None:
-            return Answer(tuple(dict.fromkeys(verdict.told for verdict in found)), names)
-        if run is None:
-            return Answer(differences(script, usual, outcome(lines, source, nodes, watch, watched)), names)
-        replies = {step.line: step.reply for step in run.steps}
-        return Answer(differences(script, usual, outcome_of(replies, lines, source, nodes, watch, watched)), names)
+    def answer(end: End) -> Answer:
+        found = [] if end.story is None else of_name(verdicts(end.story), name)
+        told = differences(script, usual, end.outcome) if end.outcome else tuple(dict.fromkeys(one.told for one in found))
+        return Answer(told, tuple(dict.fromkeys(one.name for one in found)))
 
-    return answer
+    def answers(some: List[Numbered]) -> List[Answer]:
+        return list(map(answer, runs.ends([variation.order(len(script.lines)) for _, variation in some])))
+
+    return answers
 
 
 def _report(script: Expanded, found: Found, arguments: argparse.Namespace) -> Iterable[str]:
@@ -154,14 +153,14 @@ def main(arguments: argparse.Namespace) -> int:
     script = read_expanded(arguments.file)
     if arguments.save:
         return _save(arguments, script)
-    answer = _answers(arguments, script)
+    answers = _answers(arguments, script)
     usual = [] if arguments.no_verdicts else [verdict.name for verdict in verdicts_of(script.lines)]
     count = sum(1 for _ in _variations(arguments, script))
     wanted = compress(enumerate(_variations(arguments, script), 1), _thinned(count, arguments.limit or 0))
     count = min(count, arguments.limit or count)
     found: Found = {}
     counts: "Counter[str]" = Counter()
-    interrupted = _play(wanted, count, answer, arguments.jobs, found, counts)
+    interrupted = _play(wanted, count, answers, arguments.jobs, found, counts)
     print("\n".join(_report(script, found, arguments)))
     if not arguments.no_verdicts and arguments.verdict is None:
         print("\n".join(_verdict_report(counts, usual)))
@@ -176,7 +175,7 @@ def _save(arguments: argparse.Namespace, script: Expanded) -> int:
     number, name = arguments.save
     for place, variation in enumerate(_variations(arguments, script), 1):
         if str(place) == number:
-            lines, _ = played(variation, script.lines)
+            lines, _ = lines_of(variation.order(len(script.lines)), script.lines)
             write_file(name, script_bytes([f"# {variation.told(script)}", *lines]))
             print(f"{name}: {variation.told(script)}")
             return 0
@@ -184,12 +183,13 @@ def _save(arguments: argparse.Namespace, script: Expanded) -> int:
 
 
 def _play(
-    wanted: Iterator[Numbered], count: int, answer: Callable[[Numbered], Answer], jobs: int, found: Found, counts: "Counter[str]"
+    wanted: Iterator[Numbered], count: int, answers: Callable[[List[Numbered]], List[Answer]], jobs: int, found: Found,
+    counts: "Counter[str]",
 ) -> bool:
     """Puts each variation below what it changes. Gives whether the user interrupted it."""
     progress = Progress(count, "playing")
     try:
-        for numbered, (told, names) in in_order(answer, wanted, jobs):
+        for numbered, (told, names) in some_in_order(answers, wanted, jobs, AT_A_TIME):
             found.setdefault(told, []).append(numbered)
             counts.update(names)
             progress.step()
