@@ -430,7 +430,7 @@ CASES = {
     # a set
     "fetches_again": Case(fetches_again, 5_000, 5_000, bound=(80, 12)),
     "answers_again": Case(answers_again, 5_000, 5_000, bound=(80, 12)),
-    "commons_again": Case(commons_again, 9_000, 9_000),
+    "commons_again": Case(commons_again, 9_000, 9_000, bound=(150, 14)),
     "linear_of_50": Case(inserts_of_50, 190_000, 20_000, words=lambda n: ["linear", "n0", "items", "1"], bound=(2_600, 260)),
     "pulls": Case(pulls, 10_000, 2_000),
     "pulls_of_one": Case(pulls_of_one, 2_000, 4_000),
