@@ -15,6 +15,9 @@ use std::alloc::Global;
 /// So many answers of a kind are kept at most: more than a set has nodes that ask.
 const MOST_KEPT: usize = 64;
 
+/// An answer of fewer entries is made anew as fast.
+const LEAST_KEPT: usize = 2;
+
 /// Answers about a log as it is.
 #[derive(Drop)]
 pub(crate) struct Told {
@@ -45,6 +48,9 @@ impl Told {
     pub(crate) fn clear(&mut self)
         ensures { (log : List AnEntry) → IsTold log self.new }
     {
+        if self.replies.is_empty() && self.lists.is_empty() {
+            return;
+        }
         self.replies.clear();
         self.lists.clear();
     }
@@ -63,10 +69,14 @@ impl Told {
         None
     }
 
-    /// Keeps an answer where there is memory for it, in place of all others once there are many.
+    /// Keeps an answer of more than one entry where there is memory for it, in place of all others once there
+    /// are many.
     pub(crate) fn keep_reply(&mut self, reply: FetchReply)
         ensures { (log : List AnEntry) → IsTold log self.old → IsAnswer log reply → IsTold log self.new }
     {
+        if reply.entries.as_slice().len() < LEAST_KEPT {
+            return;
+        }
         if self.replies.len() >= MOST_KEPT {
             self.replies.clear();
         }
