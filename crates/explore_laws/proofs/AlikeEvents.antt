@@ -154,7 +154,7 @@ worlds_stay_alike one two first second settled alike same = (are_done one two fi
 
 -- ---- one world
 
-alike_itself : (world : World) → AlikeWorlds world world
+pub alike_itself : (world : World) → AlikeWorlds world world
 alike_itself world = record {
   count = refl;
   nodes = λ number a b a_there b_there. subst (λ n. AlikeNodes a n) (same_Some a b (sym a_there ∙ b_there)) (record { others = refl; records = record { vote = refl; config = refl; entries = refl; point = refl } });
