@@ -20,6 +20,14 @@ export function drawn(part) {
   return made;
 }
 
+/** Sets an attribute, where it isn't so already. */
+export function change(part, name, value) {
+  if (part.getAttribute(name) !== String(value)) part.setAttribute(name, String(value));
+}
+
+/** An SVG grows by so much at once. */
+const ROOM = 4000;
+
 /** An SVG whose parts change: what stays as it is isn't made anew. */
 export class Sheet {
   constructor(parent) {
@@ -31,19 +39,25 @@ export class Sheet {
   show(parts) {
     const before = this.known;
     this.known = new Map();
-    let at = this.svg.firstChild;
-    for (const part of parts) {
-      const node = before.get(part)?.pop() ?? drawn(JSON.parse(part));
+    const nodes = parts.map((part) => {
+      const node = before.get(part)?.shift() ?? drawn(JSON.parse(part));
       this.known.set(part, [...(this.known.get(part) ?? []), node]);
+      return node;
+    });
+    // First, since each of them would have all that follow it moved.
+    for (const rest of before.values()) for (const node of rest) node.remove();
+    let at = this.svg.firstChild;
+    for (const node of nodes) {
       if (node === at) at = at.nextSibling;
       else this.svg.insertBefore(node, at);
     }
-    for (const rest of before.values()) for (const node of rest) node.remove();
   }
 
-  /** Shows what is right of `left`. */
+  /** Shows what is right of `left`. The SVG is higher than that: where its size changes, a browser lays out all of its texts anew. */
   size(left, width, height) {
-    const attributes = { viewBox: `${left} 0 ${width - left} ${height}`, width: width - left, height };
-    for (const [name, value] of Object.entries(attributes)) this.svg.setAttribute(name, String(value));
+    change(this.svg, "width", width);
+    change(this.svg, "height", Math.ceil(height / ROOM) * ROOM);
+    this.svg.style.marginLeft = `${-left}px`;
+    Object.assign(this.svg.parentElement.style, { width: `${width - left}px`, height: `${height}px` });
   }
 }

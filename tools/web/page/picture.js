@@ -1,5 +1,5 @@
 // The picture of the run, as the lab draws it, and the row and the node that are chosen in it.
-import { Sheet, drawn, put } from "./elements.js";
+import { Sheet, change, drawn, put } from "./elements.js";
 
 export class Picture {
   /** `chosen` is told the row and the node. */
@@ -45,7 +45,7 @@ export class Picture {
     this.left = this.box.clientWidth < width ? gutter - 8 : 0;
     this.heading.size(this.left, width, head);
     for (const sheet of [this.body, this.over]) sheet.size(this.left, width, height);
-    for (const caption of this.body.svg.querySelectorAll(".caption")) caption.setAttribute("x", String(this.left + 8));
+    for (const caption of this.body.svg.querySelectorAll(".caption")) change(caption, "x", this.left + 8);
     if (this.place !== null) this.reveal(this.place);
   }
 
@@ -83,7 +83,7 @@ export class Picture {
   point(event) {
     if (!this.told || !this.body.svg.contains(event.target)) return;
     const bounds = this.body.svg.getBoundingClientRect();
-    const place = Math.floor((event.clientY - bounds.top) / this.told.row), x = event.clientX - bounds.left + this.left;
+    const place = Math.floor((event.clientY - bounds.top) / this.told.row), x = event.clientX - bounds.left;
     if (place < 0 || place >= this.told.rows.length || !this.told.rows[place].states.length) return;
     const near = this.told.lanes.map((lane) => Math.abs(lane - x));
     const node = x < this.told.gutter ? this.node : near.indexOf(Math.min(...near));

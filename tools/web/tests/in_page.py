@@ -214,10 +214,10 @@ def keys(page, *_):
 
 
 PLACE = """(line, node) => {
-  const { picture } = page, row = picture.rowOf(line), { told, left } = picture;
+  const { picture } = page, row = picture.rowOf(line), { told } = picture;
   picture.reveal(row);
   const bounds = picture.body.svg.getBoundingClientRect();
-  return [bounds.left - left + told.lanes[node], bounds.top + (row + 0.5) * told.row];
+  return [bounds.left + told.lanes[node], bounds.top + (row + 0.5) * told.row];
 }"""
 MIDDLE = "(writes) => { const { x, y } = document.querySelector(`#next button[data-writes=\"${writes}\"]`).getBoundingClientRect(); return [x + 5, y + 5]; }"
 
