@@ -15,6 +15,7 @@ from .lab.library import ASK, BAD_LINE, MESSAGES, STEP, STEPS, TRACE, Answer, He
 from .lab.macros import CannotGoOn, Kept
 from .lab.player import Player
 from .lab.script import MOST_VOTERS
+from .lab.transcript import read_texts
 from .lab.verdicts import Verdict
 from .optimes import Optime
 from .past import Past
@@ -38,7 +39,7 @@ class Replies(Sequence[Reply]):
 
     def __init__(self, text: str):
         #: Each reply's text, with the lines below it as they stand.
-        self.texts = _texts(text)
+        self.texts = read_texts(text)
 
     def __len__(self) -> int:
         return len(self.texts)
@@ -59,20 +60,6 @@ class Replies(Sequence[Reply]):
 
     def __repr__(self) -> str:
         return f"<{len(self)} replies>"
-
-
-def _texts(text: str) -> List[str]:
-    """The replies of a transcript without their numbers."""
-    lines = text.split("\n")[:-1]
-    if "\n  " not in text:
-        return [line.partition(": ")[2] for line in lines]
-    found: List[str] = []
-    for line in lines:
-        if line.startswith("  "):
-            found[-1] += "\n" + line
-        else:
-            found.append(line.partition(": ")[2])
-    return found
 
 
 def _read(text: str) -> Reply:

@@ -9,12 +9,12 @@ from typing import AbstractSet, Dict, FrozenSet, Iterator, List, NamedTuple, Opt
 from .fates import Reader, endings, hidden_reads, story_of
 from .inside import opened
 from .library import STEPS, Held
-from .observe import MOST_LINES, QUESTIONS, Run, TooLong, Watching, observe, touched
-from .outcomes import Outcome, Watch, dumps, endings_of, outcome, outcome_of, whole
+from .observe import MOST_LINES, QUESTIONS, Run, Step, TooLong, Watching, observe, touched
+from .outcomes import Outcome, Watch, dumps, endings_of, outcome, outcome_of
 from .program import script_bytes
-from .script import first_word, set_size
+from .script import acting_node, first_word, set_size
 from .story import Story
-from .transcript import Reply, read_replies
+from .transcript import Reply, read_texts
 from .variations import Token, lines_of
 
 #: A stage is made where it spares the next run so many lines.
@@ -35,10 +35,12 @@ class End(NamedTuple):
 
 
 class Line(NamedTuple):
-    """A line of a run: its number in the script, or 0 where it was put in, the nodes that are asked after it, and all as bytes."""
+    """A line of a run: its number in the script, or 0 where it was put in, and how it is handed over with questions after it."""
 
     text: str
     number: int
+    word: str
+    node: Optional[int]
     asked: Sequence[int]
     script: bytes
 
@@ -57,20 +59,28 @@ class _Lines(Dict[Token, Line]):
         return self[text]
 
     def _line(self, text: str, number: int) -> Line:
-        changes = first_word(text) not in ("", *_LOOKS)
-        asked = touched(text, self._nodes) if changes and self._with_questions else ()
-        return Line(text, number, asked, script_bytes([text, *(QUESTIONS[node] for node in asked)]))
+        word = first_word(text)
+        asked = touched(text, self._nodes) if self._with_questions and word not in ("", *_LOOKS) else ()
+        return Line(text, number, word, acting_node(text), asked, script_bytes([text, *(QUESTIONS[node] for node in asked)]))
 
 
 class Stage:
     """A place of a run: how many lines are done, the set that did them, and what was seen of them."""
 
-    def __init__(self, done: int, held: Held, watching: Watching, reader: Reader, replies: Dict[int, str]):
+    def __init__(self, done: int, held: Held, watching: Watching, reader: Optional[Reader], replies: Dict[int, str]):
         self.done, self.held, self.watching, self.reader, self.replies = done, held, watching, reader, replies
 
     def branch(self, hidden: AbstractSet[int]) -> "Stage":
         """The same, for a run that goes on otherwise and whose reads in these lines are hidden."""
-        return Stage(self.done, self.held.copy(), self.watching.branch(), self.reader.branch(hidden), dict(self.replies))
+        reader = None if self.reader is None else self.reader.branch(hidden)
+        return Stage(self.done, self.held.copy(), self.watching.branch(), reader, dict(self.replies))
+
+    def ask(self, lines: Sequence[Line]) -> Optional[Iterator[str]]:
+        """The replies to more lines and to their questions, each with the lines below it; nothing where a line can't be done."""
+        answer = self.held.call(STEPS, b"".join([line.script for line in lines]))
+        if answer.status:
+            return None
+        return (reply.replace("\n  ", "\n") for reply in read_texts(answer.text.decode("utf-8", "surrogateescape")))
 
     def go_on(self, lines: Sequence[Line], watch: Optional[Watch]) -> bool:
         """Does more lines. Gives whether all of them could be done."""
@@ -79,32 +89,36 @@ class Stage:
             return False
         for line in lines:
             self.done += 1
-            if first_word(line.text):
-                self._take(line, next(replies), replies, watch)
+            if line.word:
+                reply = next(replies)
+                if watch is not None and watch.sees(line.number, line.text, reply):
+                    self.replies[line.number] = reply
+                if self.reader is not None:
+                    self._read(self.reader, line, reply, replies)
         return True
 
-    def _take(self, line: Line, reply: Reply, states: Iterator[Reply], watch: Optional[Watch]) -> None:
-        """The reply to a line, and what the nodes are then that are asked."""
-        if watch is not None and watch.sees(line.number, line.text, whole(reply)):
-            self.replies[line.number] = whole(reply)
-        step = self.watching.step(self.done, line.text, reply)
-        for node in line.asked:
-            state = self.watching.state(node, next(states).text)
-            if node == step.node:
-                step.after = state
-        self.reader.take(step, self.watching.mail)
+    def _read(self, reader: Reader, line: Line, reply: str, states: Iterator[str]) -> None:
+        """Reads the reply to a line, and what nodes are after it."""
+        mail, node, message = self.watching.mail, line.node, None
+        if line.word == "deliver":
+            message = mail.deliver(line.text, self.done, reply)
+            node = message.receiver if message else None
+        else:
+            mail.act(line.text, self.done, reply)
+        before = after = None if node is None else self.watching.states.get(node)
+        for asked in line.asked:
+            state = self.watching.state(asked, next(states))
+            after = state if asked == node else after
+        if after is not before or reader.tells(reply):
+            reader.take(Step(self.done, line.text, Reply(self.done, reply), node, [], message, before, after), mail)
 
-    def restart(self, lines: Sequence[Line], replies: Iterator[Reply]) -> None:
-        """What restarts tell that stand after the run."""
+    def restart(self, lines: Sequence[Line], replies: Iterator[str]) -> None:
+        """Reads what restarts tell that stand after the run."""
         for line in lines:
-            step = self.watching.step(self.done, line.text, next(replies))
-            step.after = self.watching.state(line.asked[0], next(replies).text)
-            self.reader.take_restart(step)
-
-    def ask(self, lines: Sequence[Line]) -> Optional[Iterator[Reply]]:
-        """The replies to more lines, which are to be read; nothing where one of the lines can't be done."""
-        answer = self.held.call(STEPS, b"".join([line.script for line in lines]))
-        return None if answer.status else iter(read_replies(answer.text.decode("utf-8", "surrogateescape")))
+            step = self.watching.step(self.done, line.text, Reply(self.done, next(replies)))
+            step.after = self.watching.state(line.asked[0], next(replies))
+            if self.reader is not None:
+                self.reader.take_restart(step)
 
 
 class Runs:
@@ -131,7 +145,8 @@ class Runs:
         if begun is None:
             return []
         held, place = begun
-        return [Stage(script[:place].count(b"\n"), held, Watching(self._size), Reader(self._size.nodes), {})]
+        reader = Reader(self._size.nodes) if self._with_stories else None
+        return [Stage(script[:place].count(b"\n"), held, Watching(self._size), reader, {})]
 
     def ends(self, orders: Sequence[Sequence[Token]]) -> Iterator[End]:
         """What runs come to, one after another."""
@@ -167,11 +182,10 @@ class Runs:
         replies = stage.ask([*(self._known[line] for line in self._dumps), *restarts])
         if replies is None:
             return None
-        compared = None if self._watch is None else Outcome(stage.replies, endings_of([next(replies) for _ in self._dumps]))
-        if not self._with_stories:
-            return End(compared, None)
+        documents = endings_of([next(replies) for _ in self._dumps])
         stage.restart(restarts, replies)
-        return End(compared, stage.reader.story())
+        compared = None if self._watch is None else Outcome(stage.replies, documents)
+        return End(compared, None if stage.reader is None else stage.reader.story())
 
     def _apart(self, order: Sequence[Token]) -> End:
         """What a run comes to that is played from its beginning."""

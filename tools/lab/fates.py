@@ -122,6 +122,11 @@ class Reader:
         made._together, made._configs = list(self._together), dict(self._configs)
         return made
 
+    @staticmethod
+    def tells(reply: str) -> bool:
+        """Whether a reply may tell something, so that its step must be taken. A step that changes a state must be, too."""
+        return reply.split(" ", 1)[0] in _TOLD
+
     def take(self, step: Step, mail: Mail) -> None:
         """The next step. The mail has the configurations that it tells of."""
         if step.node is not None:

@@ -16,8 +16,8 @@ _REPLIED = re.compile(r"replied m(\d+)$")
 _CONFIG = re.compile(r"config (\d+)/(\d+)$")
 _DRAINED = re.compile(r"primary (\d+) noop ")
 
-#: Replies that tell of messages or of configurations.
-_TELLING = ("sent ", "candidate ", "dryrun ", "config ", "primary ")
+#: The first words of replies that tell of messages or of configurations.
+_ASKING, _MAKING = ("candidate", "dryrun"), ("config", "primary")
 
 
 @dataclass
@@ -88,22 +88,29 @@ class Mail:
 
     def act(self, line: str, number: int, reply: str) -> List[Message]:
         """Notes what a command other than `deliver` sent, and the configurations that it made."""
-        node = acting_node(line)
+        node, head = acting_node(line), reply.split(" ", 1)[0]
+        before = len(self.messages)
         if node is None:
             return []
-        if not reply.startswith(_TELLING):
-            return []
-        before = len(self.messages)
-        words = words_of(line)
-        asked, sent = _ASKED.match(reply), _SENT.match(reply)
+        if head == "sent":
+            self._note_sent(node, line, number, reply)
+        elif head in _ASKING:
+            self._note_asked(node, number, reply)
+        elif head in _MAKING:
+            self._learn_config(node, line, reply)
+        return self.messages[before:]
+
+    def _note_asked(self, node: int, number: int, reply: str) -> None:
+        asked = _ASKED.match(reply)
         if asked and int(asked[2]):
             for voter in self._others(node):
                 self._send(node, voter, "vote", number)
-        elif sent:
-            receiver = int(sent[2]) if sent[2] else int(words[2][1:])
-            self._send(node, receiver, words[0], number)
-        self._learn_config(node, line, reply)
-        return self.messages[before:]
+
+    def _note_sent(self, node: int, line: str, number: int, reply: str) -> None:
+        sent = _SENT.match(reply)
+        if sent:
+            words = words_of(line)
+            self._send(node, int(sent[2] or words[2][1:]), words[0], number)
 
     def _learn_config(self, node: int, line: str, reply: str) -> None:
         made, drained = _CONFIG.match(reply), _DRAINED.match(reply)

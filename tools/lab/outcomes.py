@@ -61,12 +61,12 @@ def outcome_of(replies: Dict[int, Reply], lines: Sequence[str], source: Sequence
         said, was = replies.get(number), source[number - 1]
         if said is not None and watch.sees(was, line, whole(said)):
             found[was] = whole(said)
-    return Outcome(found, endings_of([replies[len(lines) + 1 + node] for node in range(nodes)]))
+    return Outcome(found, endings_of([whole(replies[len(lines) + 1 + node]) for node in range(nodes)]))
 
 
-def endings_of(dumped: Iterable[Reply]) -> Dict[int, Tuple[str, ...]]:
+def endings_of(dumped: Iterable[str]) -> Dict[int, Tuple[str, ...]]:
     """The documents of each node that is up, by the replies to the dumps."""
-    return {node: reply.more for node, reply in enumerate(dumped) if not reply.refused}
+    return {node: tuple(reply.split("\n")[1:]) for node, reply in enumerate(dumped) if not reply.startswith("refused ")}
 
 
 def whole(reply: Reply) -> str:

@@ -50,3 +50,17 @@ def read_replies(text: str) -> List[Reply]:
     """The same, in their order."""
     found = _REPLY.findall(text)
     return [Reply(int(number), said, tuple(more[3:].split("\n  ")) if more else ()) for number, said, more in found]
+
+
+def read_texts(text: str) -> List[str]:
+    """The same without their numbers, each with the lines below it as they stand."""
+    lines = text.split("\n")[:-1]
+    if "\n  " not in text:
+        return [line.partition(": ")[2] for line in lines]
+    found: List[str] = []
+    for line in lines:
+        if line.startswith("  "):
+            found[-1] += "\n" + line
+        else:
+            found.append(line.partition(": ")[2])
+    return found
