@@ -80,7 +80,8 @@ class Stage:
         answer = self.held.call(STEPS, b"".join([line.script for line in lines]))
         if answer.status:
             return None
-        return (reply.replace("\n  ", "\n") for reply in read_texts(answer.text.decode("utf-8", "surrogateescape")))
+        replies = read_texts(answer.text.decode("utf-8", "surrogateescape"))
+        return iter(replies) if b"\n  " not in answer.text else (reply.replace("\n  ", "\n") for reply in replies)
 
     def go_on(self, lines: Sequence[Line], watch: Optional[Watch]) -> bool:
         """Does more lines. Gives whether all of them could be done."""
@@ -151,29 +152,38 @@ class Runs:
     def ends(self, orders: Sequence[Sequence[Token]]) -> Iterator[End]:
         """What runs come to, one after another."""
         for place, order in enumerate(orders, 1):
-            end = self._end(order, orders[place] if place < len(orders) else ()) if self._stages else None
+            end = None
+            if self._stages:
+                self._return_to(order)
+                self._prepare(order, orders[place + 1 : place + 2])
+                end = self._end(order)
             yield end or self._apart(order)
 
-    def _end(self, order: Sequence[Token], following: Sequence[Token]) -> Optional[End]:
-        """What a run comes to that goes on from a stage; nothing where it is for the program.
-
-        Before the place where the following run parts from it another stage is made, where that is worth while."""
+    def _return_to(self, order: Sequence[Token]) -> None:
+        """Keeps the stages before the place where a run parts from the last one."""
         shared = _shared(self._last, order)
         while self._stages[-1].done > shared:
             self._stages.pop()
         self._last = order
-        hidden = hidden_reads(lines_of(order, self._lines)[0]) if self._hides else _NONE
-        shared = _shared(order, following)
-        if shared - self._stages[-1].done >= WORTH:
-            stage = self._stages[-1].branch(hidden)
-            if stage.go_on(self._between(order, stage.done, shared), self._watch):
-                self._stages.append(stage)
-        stage = self._stages[-1].branch(hidden)
-        done = stage.go_on(self._between(order, stage.done, len(order)), self._watch)
-        return self._ended(stage) if done else None
 
-    def _between(self, order: Sequence[Token], begins: int, ends: int) -> List[Line]:
-        return [self._known[token] for token in order[begins:ends]]
+    def _prepare(self, order: Sequence[Token], later: Sequence[Sequence[Token]]) -> None:
+        """Makes a stage up to which the next run but one is the same, too, where that is worth while."""
+        shared = _shared(order, later[0]) if later else 0
+        if shared - self._stages[-1].done >= WORTH:
+            stage = self._gone_on(order, shared)
+            self._stages += [stage] if stage else []
+
+    def _end(self, order: Sequence[Token]) -> Optional[End]:
+        """What a run comes to that goes on from the last stage; nothing where it is for the program."""
+        stage = self._gone_on(order, len(order))
+        return self._ended(stage) if stage else None
+
+    def _gone_on(self, order: Sequence[Token], count: int) -> Optional[Stage]:
+        """What comes of the last stage after so many lines of a run; nothing where that is for the program."""
+        hidden = hidden_reads(lines_of(order, self._lines)[0]) if self._hides else _NONE
+        stage = self._stages[-1].branch(hidden)
+        lines = [self._known[token] for token in order[stage.done : count]]
+        return stage if stage.go_on(lines, self._watch) else None
 
     def _ended(self, stage: Stage) -> Optional[End]:
         """What a run comes to that is done. A disk that works well needs one restart."""

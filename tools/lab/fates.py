@@ -307,14 +307,17 @@ class Reader:
     def _settle(self, story: Story) -> None:
         """Says of each write where it stands at the end, whether it is committed, and whether it is lost."""
         leader = story.leader()
+        term = 0 if leader is None else int(story.states[leader].term)
         has, farthest = story.histories.has, max(self._committed, default=ZERO)
+        nodes = [(node, last, story.states[node].down) for node, last in sorted(story.lasts.items())]
         for write in story.writes:
-            having = [node for node in sorted(story.lasts) if write.done and has(story.lasts[node], write.at)]
-            write.logs = [node for node in having if not story.states[node].down]
-            write.disks = [node for node in having if story.states[node].down]
-            write.committed = write.done and has(farthest, write.at)
-            led = leader is not None and int(story.states[leader].term) > write.at[0]
-            write.lost = write.done and (not having or led and leader not in write.logs)
+            if not write.done:
+                continue
+            for node, last, down in nodes:
+                if has(last, write.at):
+                    (write.disks if down else write.logs).append(node)
+            write.committed = has(farthest, write.at)
+            write.lost = not write.logs and not write.disks or term > write.at[0] and leader not in write.logs
 
 
 def hidden_reads(lines: Sequence[str]) -> Set[int]:
