@@ -1,5 +1,5 @@
 -- An answer to a fetch that a node ignores.
-use Rattle.std.proofs.Common.{◌≡◌, ◌∙◌, ap, sym, ℕ, Bool, true, false, cond, not, length, List, Option, None, Some}
+use Rattle.std.proofs.Common.{◌≡◌, ◌∙◌, ap, ℕ, Bool, true, false, cond, not, length, List, Option, None, Some}
 use Rattle.std.specs.Prelude.{unwrap_or}
 use Rattle.repl_msg.specs.Fetching.{continues}
 use Rattle.repl_msg.specs.declared.message.FetchReply.{FetchReply}

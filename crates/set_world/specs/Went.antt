@@ -47,6 +47,6 @@ pub record WentOn {D : Type 0} (state : D → State) (old new : Set D) : Type 0 
   pub ran : DisksRun state (run old.sizes old.history).world added old.disks new.disks
   pub played : new.whole ≡ true → DisksPlay state (run old.sizes old.history).world added old.disks new.disks
 
--- whatever moment the old set has come from, the new one has come from too
+-- the new set went on from each moment that the old one went on from
 abbrev pub GoesOn : {D : Type 0} → (D → State) → Set D → Set D → Type 0
 GoesOn {D} state old new = (begun : Set D) → WentOn state begun old → WentOn state begun new
