@@ -216,7 +216,7 @@ fn is_deletion_up_to(record: &Record, at: OpTime) -> bool {
 #[test]
 fn a_record_is_copied_with_its_entries(rt: HostRuntime) -> Result<(), Fail> {
     let record = Record::Entries {
-        list: EntryList::new(deletion(rt.alloc())?),
+        list: deletion(rt.alloc())?,
         point: LATER,
     };
     let copy = record.copy()?;
@@ -288,7 +288,7 @@ fn optimes_are_copied(rt: HostRuntime) -> Result<(), Fail> {
 }
 
 /// One entry, which deletes a document.
-fn deletion(alloc: Global) -> Result<Vec<Entry>, Fail> {
+fn deletion(alloc: Global) -> Result<EntryList, Fail> {
     let mut entries = Vec::new(alloc);
     let op = Op::Delete {
         ns: Text::from_str(alloc, LONG)?,
@@ -299,7 +299,7 @@ fn deletion(alloc: Global) -> Result<Vec<Entry>, Fail> {
         op: SharedOp::new(alloc, op)?,
         session: None,
     })?;
-    Ok(entries)
+    Ok(EntryList::new(entries))
 }
 
 /// Whether there is one entry, which deletes from the collection with the long name.
@@ -322,7 +322,7 @@ fn fetched_entries_are_copied(rt: HostRuntime) -> Result<(), Fail> {
     let reply = FetchReply {
         base: OpTime::ZERO,
         holds: true,
-        entries: SharedEntries::new(rt.alloc(), deletion(rt.alloc())?)?,
+        entries: SharedEntries::new(rt.alloc(), deletion(rt.alloc())?.into_entries())?,
         visible: LATER,
         commit: AT,
         primary: false,
@@ -349,7 +349,7 @@ fn what_a_journal_keeps_is_copied(rt: HostRuntime) -> Result<(), Fail> {
         form: 2,
         vote,
         config: Some(of_one(alloc)?),
-        entries: EntryList::new(deletion(alloc)?),
+        entries: deletion(alloc)?,
         point: AT,
         count: 4,
     };
