@@ -8,9 +8,13 @@ from pathlib import Path
 
 from lab.errors import LabError
 from lab.expand import expand
+from lab.fates import read_fates
 from lab.program import find_program, run_program, script_bytes
-from lab.script import split_lines
+from lab.script import is_silent, split_lines
+from lab.show import printable
+from lab.telling import what_happened
 from lab.traces import verdict_of
+from lab.verdicts import verdicts
 
 from .chromium import Failed
 from .short_scripts import script_of
@@ -111,6 +115,32 @@ def expansions(page, _, asked):
     for seed in range(asked.scripts):
         if _differs(page, script_of(seed)):
             yield f"the short script of seed {seed}: the page expands it otherwise than the lab\n" + "\n".join(script_of(seed))
+
+
+#: As the page has it in answers.js.
+MOST_TOLD = 4000
+TELL = """async (text) => {
+  await page.asking.ask('script', { text });
+  return [await page.asking.ask('told'), (await page.asking.ask('draw', { line: 1 }))?.verdicts.map((one) => one.name) ?? []];
+}"""
+
+
+def _told(script):
+    """What the lab tells of a run, and the names of its verdicts; nothing where there is none."""
+    if all(map(is_silent, script.lines)):
+        return [[], []]
+    return [[printable(line) for line in what_happened(script, True)], [one.name for one in verdicts(read_fates(script.lines))]]
+
+
+def tellings(page, *_):
+    """What is told of each run that isn't too long for that, and its verdicts, are what the lab tells of it."""
+    for path in _files():
+        raw = path.read_bytes()
+        lines, script = _lines(raw), expand(_lines(raw))
+        is_told = not _has_block(raw) and len(script.lines) <= MOST_TOLD
+        is_told = is_told and run_program(["run"], script_bytes(script.lines)).returncode == 0
+        if is_told and page.call(TELL, "\n".join(lines)) != _told(script):
+            yield f"{path.name}: the page tells something else of the run than the lab"
 
 
 def refused(page, *_):
@@ -324,7 +354,7 @@ def unfit(page, address, _):
         yield "a browser that can't run the program is shown the page"
 
 
-PARTS = (replies_and_traces, refused, expansions, drawings, checks, links, keys, pointing, files, typing, hostile, shots, unfit)
+PARTS = (replies_and_traces, refused, expansions, tellings, drawings, checks, links, keys, pointing, files, typing, hostile, shots, unfit)
 
 
 def _wrong_of(part, page, address, asked):
