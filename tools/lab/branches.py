@@ -23,8 +23,8 @@ WORTH = 3
 #: Scripts near the program's limits are for the program.
 MOST_BYTES, MOST_ASKED = 4_000_000, MOST_LINES - 1_000
 
-#: The commands that only look at something, so that nothing is asked after them.
-_LOOKS = ("read", "dump", "log", "state", "rolled")
+#: After these nothing is asked: they look at a node or have it send something, and leave its state as it is.
+_QUIET = ("read", "dump", "log", "state", "rolled", "ack", "heartbeat", "fetch", "report", "common", "dryrun")
 
 
 class End(NamedTuple):
@@ -60,7 +60,7 @@ class _Lines(Dict[Token, Line]):
 
     def _line(self, text: str, number: int) -> Line:
         word = first_word(text)
-        asked = touched(text, self._nodes) if self._with_questions and word not in ("", *_LOOKS) else ()
+        asked = touched(text, self._nodes) if self._with_questions and word not in ("", *_QUIET) else ()
         return Line(text, number, word, acting_node(text), asked, script_bytes([text, *(QUESTIONS[node] for node in asked)]))
 
 
@@ -149,15 +149,19 @@ class Runs:
         reader = Reader(self._size.nodes) if self._with_stories else None
         return [Stage(script[:place].count(b"\n"), held, Watching(self._size), reader, {})]
 
+    def has_stages(self) -> bool:
+        """Whether runs go on from stages, and aren't played from their beginning."""
+        return bool(self._stages)
+
     def ends(self, orders: Sequence[Sequence[Token]]) -> Iterator[End]:
         """What runs come to, one after another."""
         for place, order in enumerate(orders, 1):
             end = None
-            if self._stages:
+            if self.has_stages():
                 self._return_to(order)
                 self._prepare(order, orders[place + 1 : place + 2])
                 end = self._end(order)
-            yield end or self._apart(order)
+            yield end or self.apart(order)
 
     def _return_to(self, order: Sequence[Token]) -> None:
         """Keeps the stages before the place where a run parts from the last one."""
@@ -197,7 +201,7 @@ class Runs:
         compared = None if self._watch is None else Outcome(stage.replies, documents)
         return End(compared, None if stage.reader is None else stage.reader.story())
 
-    def _apart(self, order: Sequence[Token]) -> End:
+    def apart(self, order: Sequence[Token]) -> End:
         """What a run comes to that is played from its beginning."""
         lines, source = lines_of(order, self._lines)
         nodes, run = self._size.nodes, self._observed(lines)
