@@ -5,7 +5,7 @@ import random
 import re
 from dataclasses import dataclass
 from functools import lru_cache
-from typing import Dict, FrozenSet, Iterable, Iterator, List, NamedTuple, Sequence, Set, Tuple
+from typing import Dict, FrozenSet, Iterable, Iterator, List, NamedTuple, Optional, Sequence, Set, Tuple
 
 from .expand import Expanded
 from .program import play
@@ -29,14 +29,16 @@ class Outcome:
 
 
 class Watch(NamedTuple):
-    """Which replies are compared: those to lines with these numbers, and where the pattern is found in the line or the reply."""
+    """Which replies are compared: those where the pattern is found in the line or the reply, and those to lines with these numbers."""
 
-    pattern: "re.Pattern[str]"
+    pattern: Optional["re.Pattern[str]"] = None
     also: FrozenSet[int] = frozenset()
 
     def sees(self, number: int, line: str, said: str) -> bool:
         """Whether a reply is compared. The number is the line's in the script as it is, or 0 where it was put in."""
-        return number > 0 and (number in self.also or _is_found(self.pattern, line) or _is_found(self.pattern, said))
+        if self.pattern is None or number == 0:
+            return number in self.also
+        return number in self.also or _is_found(self.pattern, line) or _is_found(self.pattern, said)
 
 
 @lru_cache(KEPT)

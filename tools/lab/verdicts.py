@@ -82,9 +82,10 @@ def _dirty(story: Story, read: Read) -> Optional[Write]:
         return None
     shown = [read.shown] if read.place is not None else [write for write in story.writes if write.place is not None]
     for write in shown:
-        if write is None or not story.histories.has(read.front, write.at):
+        if write is None:
             continue
-        if write.lost or any(removal.rollback and removal.line > read.line for removal in write.removals):
+        gone = write.lost or any(removal.rollback and removal.line > read.line for removal in write.removals)
+        if gone and story.histories.has(read.front, write.at):
             return write
     return None
 
@@ -103,9 +104,11 @@ def _together(story: Story) -> Iterator[Verdict]:
 
 def _configs(story: Story) -> Iterator[Verdict]:
     for name, config in story.configs.items():
+        if not config.asked:
+            continue
         having = [node for node in config.voters if name in _ancestry(story.configs, story.held[node])]
         needed = len(config.voters) // 2 + 1
-        if config.asked and len(having) < needed:
+        if len(having) < needed:
             told = f"{len(having)} of {len(config.voters)} voters have {name}, and {needed} must before a failover can't lose it"
             yield Verdict("uncommitted-config", (config.line,), told)
 

@@ -61,13 +61,13 @@ Found = Dict[Tuple[str, ...], List[Numbered]]
 def add_arguments(parser: argparse.ArgumentParser) -> None:
     """The word's arguments."""
     parser.add_argument("file", metavar="FILE", help="a script, short or plain; - for standard input")
-    parser.add_argument("--watch", metavar="REGEX", default=r"(?!)", help="which replies are compared")
+    parser.add_argument("--watch", metavar="REGEX", help="which replies are compared")
     parser.add_argument("--only", metavar="KINDS", help=f"some of {','.join(KINDS)} (all of them without it)")
     parser.add_argument("--faults", metavar="N", type=int, choices=(1, 2), default=1, help="how many faults a run has at most (1)")
     parser.add_argument("--orders", metavar="LINES", type=_numbers, help="up to eight lines of the file, as 5,7,9, in all orders")
     verdict = parser.add_mutually_exclusive_group()
     verdict.add_argument("--verdict", metavar="NAME", choices=list(MEANINGS), help="which verdict alone is looked for")
-    verdict.add_argument("--no-verdicts", action="store_true", help="look for no verdicts, which takes half the time")
+    verdict.add_argument("--no-verdicts", action="store_true", help="look for no verdicts, which takes a third of the time")
     parser.add_argument("--save", metavar=("N", "FILE"), nargs=2, help="keep the variation with that number, and play none")
     parser.add_argument("--limit", metavar="N", type=int, help="play no more than so many, spread over the script")
     parser.add_argument("--all", action="store_true", help="show every outcome and every variation")
@@ -105,7 +105,8 @@ def _variations(arguments: argparse.Namespace, script: Expanded) -> Iterator[Var
 
 def _answers(arguments: argparse.Namespace, script: Expanded) -> Callable[[List[Numbered]], List[Answer]]:
     """What gives the answers to variations that follow one another."""
-    nodes, name, watch = set_size(script.lines).nodes, arguments.verdict, Watch(pattern(arguments.watch))
+    nodes, name = set_size(script.lines).nodes, arguments.verdict
+    watch = Watch() if arguments.watch is None else Watch(pattern(arguments.watch))
     usual = usual_outcomes(script.lines, nodes, watch)
     also = frozenset(number for one in usual for number in one.replies)
     runs = Runs(script.lines, watch._replace(also=also) if name is None else None, not arguments.no_verdicts)
