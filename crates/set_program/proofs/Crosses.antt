@@ -53,7 +53,6 @@ use Rattle.node_data.specs.contracts.writer_map.WriterMap as writer_map
 use Rattle.node_data.specs.contracts.keeping.NodeData as node_data
 use Rattle.node_data.specs.contracts.session_log.SessionLog as session_log
 use Rattle.node_data.specs.contracts.session_log.SessionTable as session_table
-use Rattle.node_data.specs.contracts.told.Told as told
 use Rattle.node_data.specs.contracts.told.ToldOptimes as told_optimes
 use Rattle.node_state.specs.contracts.state.State as state
 use Rattle.node_core.specs.contracts.disks.Disks as disks
@@ -249,11 +248,8 @@ fetch_reply_send = search (sendable, heap.crosses, shared_entries_send) depth 40
 told_optimes_send : IsSend told_optimes.the_row
 told_optimes_send = search (sendable, heap.crosses, optime_list_send) depth 40 fits 20000
 
-told_send : IsSend told.the_row
-told_send = search (sendable, heap.crosses, fetch_reply_send, told_optimes_send) depth 40 fits 20000
-
 session_log_send : IsSend session_log.the_row
-session_log_send = search (sendable, heap.crosses, open_log_send, session_table_send, told_send) depth 40 fits 20000
+session_log_send = search (sendable, heap.crosses, open_log_send, session_table_send, fetch_reply_send, told_optimes_send) depth 80 fits 20000
 
 node_data_send : IsSend node_data.the_row
 node_data_send = search (sendable, heap.crosses, session_log_send, slots_send, writer_map_send, store_send) depth 40 fits 20000
