@@ -1,0 +1,7 @@
+pub mod Commands
+pub mod Faults
+pub mod Fits
+pub mod Gives
+pub mod Question
+pub mod Texts
+pub mod Wants
