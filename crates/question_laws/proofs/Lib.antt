@@ -1,0 +1,7 @@
+mod Acts
+mod Fitting
+mod Lines
+mod Plain
+mod Search
+mod Texts
+mod Wants
