@@ -1,4 +1,4 @@
-ghost use Rattle.std.specs.Prelude.{◌≡◌, ◌≤◌, [], ◌∷◌, length, IfOk, OnOk, OnErr};
+ghost use Rattle.std.specs.Prelude.{◌≡◌, IsTrue, ◌≤◌, [], ◌∷◌, length, IfOk, OnOk, OnErr};
 ghost use Rattle.member_config.specs.Voters.{majority, voters, with_vote};
 
 use crate::tally::{Count, Tally};
@@ -60,6 +60,13 @@ impl DryRun {
         ensures { result ≡ self.now.term }
     {
         self.term
+    }
+
+    /// Whether it is the same as another.
+    pub fn same(&self, other: &DryRun) -> bool
+        ensures { IsTrue result → self.now ≡ other.now }
+    {
+        self.term == other.term && self.config.same(&other.config) && self.tally.same(&other.tally)
     }
 
     /// The same dry run once more.

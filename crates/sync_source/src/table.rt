@@ -1,7 +1,9 @@
-ghost use Rattle.std.specs.Prelude.{◌≡◌, ◌<◌, IfOk, OnOk};
+ghost use Rattle.std.specs.Prelude.{◌≡◌, IsTrue, ◌<◌, IfOk, OnOk};
+ghost use Rattle.std.specs.Option.{option_map};
 ghost use Rattle.std.specs.FinMap as maps;
 ghost use Rattle.member_config.specs.Numbers.{lowest};
 ghost use Rattle.repl_msg.specs.Sources as words;
+ghost use Rattle.sync_source.specs.Known.{heard_by};
 
 use crate::source::{Known, is_further, lower};
 use member_config::Config;
@@ -81,6 +83,30 @@ impl KnownTable {
         ensures { result ≡ words.goes_further config.now last (maps.get self.now.heard member) }
     {
         is_further(config, last, self.known.get(&member).copied())
+    }
+
+    /// What was last heard of a member: its last visible optime, and whether it is primary. None where
+    /// nothing was heard of it.
+    pub fn of(&self, member: u32) -> Option<(OpTime, bool)>
+        ensures { result ≡ option_map (λ h. (h.last, h.primary)) (maps.get self.now.heard member) }
+    {
+        match self.heard(member) {
+            None => None,
+            Some(known) => Some((known.last, known.primary)),
+        }
+    }
+
+    fn heard(&self, member: u32) -> Option<Known>
+        ensures { option_map heard_by result ≡ maps.get self.now.heard member }
+    {
+        self.known.get(&member).copied()
+    }
+
+    /// Whether the same was heard as in another.
+    pub fn same(&self, other: &KnownTable) -> bool
+        ensures { IsTrue result → self.now.heard ≡ other.now.heard }
+    {
+        self.known == other.known
     }
 
     /// The same once more. What room there is for more isn't said.
