@@ -157,7 +157,7 @@ worlds_stay_alike one two first second settled alike same = (are_done one two fi
 pub alike_itself : (world : World) → AlikeWorlds world world
 alike_itself world = record {
   count = refl;
-  nodes = λ number a b a_there b_there. subst (λ n. AlikeNodes a n) (same_Some a b (sym a_there ∙ b_there)) (record { others = refl; records = record { vote = refl; config = refl; entries = refl; point = refl } });
+  nodes = λ number a b a_there b_there. subst (λ n. AlikeNodes a n) (same_Some a b (sym a_there ∙ b_there)) (record { others = refl; records = record { vote = refl; config = refl; entries = refl; point = refl }; tally = λ is. refl });
   there = λ message sent alive. sent;
   back = λ message sent alive. sent;
 }

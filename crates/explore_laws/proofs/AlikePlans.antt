@@ -1,4 +1,5 @@
--- What a plan comes to at two nodes that differ in their records alone, which come to the same.
+-- What a plan comes to at two nodes that differ in their records, which come to the same, and in votes that don't
+-- count.
 use Rattle.std.proofs.Common.{◌≡◌, ◌∙◌, ◌<◌, inl, inr, arith, ap, sym, subst, refl, ℕ, Bool, true, false, Option, None, Some, if◌then◌else◌, List, [], ◌∷◌, ◌++◌}
 use Rattle.repl_msg.specs.Kept.{kept, with_record}
 use Rattle.repl_msg.specs.declared.message.Message.{Message}
@@ -102,9 +103,9 @@ KeepsVote item = (before : Kept) → (with_record before item).vote ≡ before.v
 
 -- ---- plans
 
-module _ (node : Node) (other : List Record) (same : ComeToOne (kept node.records) (kept other)) (settled : IsSettled node) where
+module _ (node : Node) (other : List Record) (votes : List ℕ) (same : ComeToOne (kept node.records) (kept other)) (counts : is_candidate node.role ≡ true → node.tally ≡ votes) (settled : IsSettled node) where
   abbrev pub twin : Node
-  twin = record node { records = other }
+  twin = record node { records = other; tally = votes }
 
   pub if_goes : (test : Bool) (one two three four : Plan) → (test ≡ true → PlansGoAlike node one three) → (test ≡ false → PlansGoAlike node two four)
       → PlansGoAlike node (if test then one else two) (if test then three else four)
@@ -119,7 +120,7 @@ module _ (node : Node) (other : List Record) (same : ComeToOne (kept node.record
   -- nothing changes
   pub still : (one two : Reply) → AlikeReplies one two → GoAlike node (replied one node) (replied two twin)
   still one two alike = record {
-    nodes = record { others = refl; records = same };
+    nodes = record { others = refl; records = same; tally = counts };
     replies = alike;
     sent = refl;
     rises = inr (refl, same_role node.role);
@@ -148,16 +149,12 @@ module _ (node : Node) (other : List Record) (same : ComeToOne (kept node.record
       by roles.Candidate = refusal NotPrimary
       by roles.Draining = refusal NotPrimary
 
-  -- what a node has that counts here
-  abbrev Held : Type 0
-  Held = Bool × ℕ × List Record
-
   -- a node that has the same, but for what has nothing to do with it
-  pub changed : (new : Node) (one two : Reply) (sent : List Message) → AlikeReplies one two
-      → new.up ≡ node.up → new.doubt ≡ node.doubt → new.term ≡ node.term → new.records ≡ node.records → RoleStays node.role new.role
-      → GoAlike node (record { reply = one; node = new; sent = sent }) (record { reply = two; node = record new { records = other }; sent = sent })
-  changed new one two sent alike up doubt term items role = record {
-    nodes = record { others = refl; records = subst (λ (l : List Record). ComeToOne (kept l) (kept other)) (sym items) same };
+  pub changed : (new : Node) (tally : List ℕ) (one two : Reply) (sent : List Message) → AlikeReplies one two
+      → new.up ≡ node.up → new.doubt ≡ node.doubt → new.term ≡ node.term → new.records ≡ node.records → RoleStays node.role new.role → (is_candidate new.role ≡ true → new.tally ≡ tally)
+      → GoAlike node (record { reply = one; node = new; sent = sent }) (record { reply = two; node = record new { records = other; tally = tally }; sent = sent })
+  changed new tally one two sent alike up doubt term items role counted = record {
+    nodes = record { others = refl; records = subst (λ (l : List Record). ComeToOne (kept l) (kept other)) (sym items) same; tally = counted };
     replies = alike;
     sent = refl;
     rises = inr (same_term, role);
@@ -174,12 +171,12 @@ module _ (node : Node) (other : List Record) (same : ComeToOne (kept node.record
 
   module _ (up : node.up ≡ true) where
     -- a node that is still up, with one record more
-    stored_goes : (item : Record) (new : Node) (one two : Reply) (sent : List Message) → AlikeReplies one two
+    stored_goes : (item : Record) (new : Node) (tally : List ℕ) (one two : Reply) (sent : List Message) → AlikeReplies one two
         → new.up ≡ node.up → new.doubt ≡ node.doubt → new.records ≡ node.records ++ item ∷ []
-        → (with_record (kept node.records) item).vote.term ≡ new.term → RisesFrom node.term node.role new.term new.role
-        → GoAlike node (record { reply = one; node = new; sent = sent }) (record { reply = two; node = record new { records = other ++ item ∷ [] }; sent = sent })
-    stored_goes item new one two sent alike is_up doubt items term rises = record {
-      nodes = record { others = refl; records = subst (λ (l : List Record). ComeToOne (kept l) (kept (other ++ item ∷ []))) (sym items) (come_more node.records other item same) };
+        → (with_record (kept node.records) item).vote.term ≡ new.term → RisesFrom node.term node.role new.term new.role → (is_candidate new.role ≡ true → new.tally ≡ tally)
+        → GoAlike node (record { reply = one; node = new; sent = sent }) (record { reply = two; node = record new { records = other ++ item ∷ []; tally = tally }; sent = sent })
+    stored_goes item new tally one two sent alike is_up doubt items term rises counted = record {
+      nodes = record { others = refl; records = subst (λ (l : List Record). ComeToOne (kept l) (kept (other ++ item ∷ []))) (sym items) (come_more node.records other item same); tally = counted };
       replies = alike;
       sent = refl;
       rises = subst (λ t. RisesFrom t node.role (term_of new) new.role) (term_up node up)
@@ -191,15 +188,15 @@ module _ (node : Node) (other : List Record) (same : ComeToOne (kept node.record
     }
 
     -- a record that is no vote, at a node in the same term
-    pub kept_goes : (item : Record) → KeepsVote item → (new : Node) (one two : Reply) (sent : List Message) → AlikeReplies one two
-        → new.up ≡ node.up → new.doubt ≡ node.doubt → new.records ≡ node.records ++ item ∷ [] → new.term ≡ node.term → RoleStays node.role new.role
-        → GoAlike node (record { reply = one; node = new; sent = sent }) (record { reply = two; node = record new { records = other ++ item ∷ [] }; sent = sent })
-    kept_goes item keeps new one two sent alike is_up doubt items term role =
-        stored_goes item new one two sent alike is_up doubt items
-        (ap (λ (v : Vote). v.term) (keeps (kept node.records)) ∙ settled.term up ∙ sym term) (inr (sym term, role))
+    pub kept_goes : (item : Record) → KeepsVote item → (new : Node) (tally : List ℕ) (one two : Reply) (sent : List Message) → AlikeReplies one two
+        → new.up ≡ node.up → new.doubt ≡ node.doubt → new.records ≡ node.records ++ item ∷ [] → new.term ≡ node.term → RoleStays node.role new.role → (is_candidate new.role ≡ true → new.tally ≡ tally)
+        → GoAlike node (record { reply = one; node = new; sent = sent }) (record { reply = two; node = record new { records = other ++ item ∷ []; tally = tally }; sent = sent })
+    kept_goes item keeps new tally one two sent alike is_up doubt items term role counted =
+        stored_goes item new tally one two sent alike is_up doubt items
+        (ap (λ (v : Vote). v.term) (keeps (kept node.records)) ∙ settled.term up ∙ sym term) (inr (sym term, role)) counted
 
     -- a vote, at a node in the term that it is for
-    pub vote_goes : (vote : Vote) (new : Node) (one two : Reply) (sent : List Message) → AlikeReplies one two
-        → new.up ≡ node.up → new.doubt ≡ node.doubt → new.records ≡ node.records ++ records.Vote vote ∷ [] → vote.term ≡ new.term → RisesFrom node.term node.role new.term new.role
-        → GoAlike node (record { reply = one; node = new; sent = sent }) (record { reply = two; node = record new { records = other ++ records.Vote vote ∷ [] }; sent = sent })
-    vote_goes vote new one two sent alike is_up doubt items term rises = stored_goes (records.Vote vote) new one two sent alike is_up doubt items term rises
+    pub vote_goes : (vote : Vote) (new : Node) (tally : List ℕ) (one two : Reply) (sent : List Message) → AlikeReplies one two
+        → new.up ≡ node.up → new.doubt ≡ node.doubt → new.records ≡ node.records ++ records.Vote vote ∷ [] → vote.term ≡ new.term → RisesFrom node.term node.role new.term new.role → (is_candidate new.role ≡ true → new.tally ≡ tally)
+        → GoAlike node (record { reply = one; node = new; sent = sent }) (record { reply = two; node = record new { records = other ++ records.Vote vote ∷ []; tally = tally }; sent = sent })
+    vote_goes vote = stored_goes (records.Vote vote)

@@ -11,6 +11,7 @@ use Rattle.rs_optime.specs.Membership.{In}
 use Rattle.vote_store.specs.declared.vote.Vote.{Vote}
 use Rattle.set_model.specs.Node.{Node}
 use Rattle.set_model.specs.Outcome.{Outcome}
+use Rattle.set_model.specs.Roles.{is_candidate}
 use Rattle.set_model.specs.World.{World, with_outcome}
 use Rattle.safety_laws.proofs.Places.{get_set_same, get_set_other}
 use Rattle.explore_laws.specs.Alike.{AlikeNodes, AlikeWorlds, ComeToOne, HasLive}
@@ -76,8 +77,9 @@ come_on one two three first second = record {
 
 nodes_on : (one two three : Node) → AlikeNodes one two → AlikeNodes two three → AlikeNodes one three
 nodes_on one two three first second = record {
-  others = ap (λ (n : Node). record n { records = three.records }) first.others ∙ second.others;
+  others = ap (λ (n : Node). record n { records = three.records; tally = three.tally }) first.others ∙ second.others;
   records = come_on (kept one.records) (kept two.records) (kept three.records) first.records second.records;
+  tally = λ is. first.tally is ∙ second.tally (sym (ap (λ (n : Node). is_candidate n.role) first.others) ∙ is);
 }
 
 pub worlds_on : (one two three : World) → AlikeWorlds one two → AlikeWorlds two three → AlikeWorlds one three

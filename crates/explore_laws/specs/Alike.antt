@@ -1,5 +1,5 @@
--- When two nodes, two replies and two worlds are alike: what may come of the one may come of the other.
-use Rattle.std.specs.Prelude.{◌≡◌, ℕ, false, length, Some, slice_get}
+-- When two nodes, two replies and two worlds are alike: whatever may happen to one may happen to the other.
+use Rattle.std.specs.Prelude.{◌≡◌, ℕ, true, false, length, Some, slice_get}
 use Rattle.rs_optime.specs.Membership.{In}
 use Rattle.repl_msg.specs.Kept.{kept}
 use Rattle.repl_msg.specs.declared.message.Message.{Message}
@@ -7,6 +7,7 @@ use Rattle.repl_msg.specs.declared.record.Kept.{Kept}
 use Rattle.set_model.specs.declared.reply.Reply.{Reply}
 use Rattle.set_model.specs.declared.reply.Reply.TheVariants.{Candidate, DryRun, Sent, SentTo, Replied}
 use Rattle.set_model.specs.Node.{Node}
+use Rattle.set_model.specs.Roles.{is_candidate}
 use Rattle.set_model.specs.World.{World}
 use Rattle.explore_laws.specs.Dead.{is_dead_in}
 
@@ -17,10 +18,11 @@ pub record ComeToOne (one two : Kept) : Type 0 where
   pub entries : one.entries ≡ two.entries
   pub point : one.point ≡ two.point
 
--- the same but for their records, which come to the same
+-- the same but for their records, which come to the same, and for votes, which count at a candidate alone
 pub record AlikeNodes (one two : Node) : Type 0 where
-  pub others : record one { records = two.records } ≡ two
+  pub others : record one { records = two.records; tally = two.tally } ≡ two
   pub records : ComeToOne (kept one.records) (kept two.records)
+  pub tally : is_candidate one.role ≡ true → one.tally ≡ two.tally
 
 -- the reply with 0 in place of the number of a message
 abbrev pub unnumbered : Reply → Reply

@@ -25,7 +25,8 @@ RisesFrom term role later new = (term < later) ⊎ ((term ≡ later) × RoleStay
 abbrev pub Rises : Node → Node → Type 0
 Rises old new = RisesFrom (term_of old) old.role (term_of new) new.role
 
--- what comes of a node, and what of one alike: as much is sent, and the node rises
+-- Two alike nodes after the same step: they are alike again, they answer alike, and they send the same
+-- messages. The term of the first has risen, or its role stays.
 pub record GoAlike (start : Node) (one two : Outcome) : Type 0 where
   pub nodes : AlikeNodes one.node two.node
   pub replies : AlikeReplies one.reply two.reply

@@ -1,4 +1,4 @@
--- When what may come of a standing may come of another, with as many acts.
+-- When whatever may follow one standing may follow another, with as many acts.
 use Rattle.std.specs.Prelude.{◌≡◌, ◌≤◌, ℕ, Bool, true, not, ◌==◌, ◌&&◌, length}
 use Rattle.std.specs.List.{list_any}
 use Rattle.explore_laws.specs.Alike.{AlikeWorlds}
