@@ -2,9 +2,11 @@
 //! threads or shared memory. Each event does to it what set_model defines.
 #![tactic(auto)]
 
-mod deliver;
+mod delivery;
 mod machine;
 mod pool;
 mod rows;
 
+pub use delivery::deliver;
 pub use machine::{Machine, StepError};
+pub use rows::act;

@@ -11,7 +11,7 @@ ghost use Rattle.checker_machine.specs.Acting.{Acts, IsOutOfDoubt};
 ghost use Rattle.checker_machine.specs.Reached.{AreSound, CanBeTaken, IsReached, IsReadable};
 ghost use Rattle.checker_machine.specs.declared.machine.StepError.TheVariants as errors;
 
-use crate::deliver::deliver;
+use crate::delivery::deliver;
 use crate::pool::Pool;
 use crate::rows::act;
 use bson_doc::Mem;
@@ -159,6 +159,28 @@ impl Machine {
         ensures { result ≡ length self.now.nodes }
     {
         self.nodes.len() as u32
+    }
+
+    /// The nodes by their numbers.
+    pub fn nodes(&self) -> &[Node]
+        ensures { result.now ≡ self.now.nodes }
+    {
+        &self.nodes
+    }
+
+    /// The same set once more, which goes on by itself. The two share the ops of their entries.
+    pub fn copy(&self) -> Mem<Machine>
+        ensures { IfOk result (λ machine. machine ≡ self.now) }
+    {
+        let mut nodes = Vec::with_capacity(self.alloc, self.nodes.len())?;
+        for node in &self.nodes {
+            nodes.push(node.copy()?)?;
+        }
+        Ok(Machine {
+            alloc: self.alloc,
+            nodes,
+            pool: self.pool.copy()?,
+        })
     }
 
     /// Every message that was sent, oldest first.

@@ -1,5 +1,5 @@
 // All messages that were sent.
-ghost use Rattle.std.specs.Prelude.{◌≡◌, ◌++◌, ◌∷◌, [], length, OnOk, slice_get};
+ghost use Rattle.std.specs.Prelude.{◌≡◌, ◌++◌, ◌∷◌, [], length, IfOk, OnOk, slice_get};
 ghost use Rattle.std.specs.Option.{option_copied};
 ghost use Rattle.set_model.specs.World.{latest_between};
 ghost use Rattle.checker_machine.specs.Newest.{IsNewest, pair_of};
@@ -95,6 +95,18 @@ impl Pool {
             self.put(message)?;
         }
         Ok(())
+    }
+
+    /// The same messages once more, with the same ops.
+    pub(crate) fn copy(&self) -> Mem<Self>
+        ensures { IfOk result (λ pool. pool ≡ self.now) }
+    {
+        let newest = self.newest.clone()?;
+        let mut messages = Vec::with_capacity(*self.messages.allocator(), self.messages.len())?;
+        for message in &self.messages {
+            messages.push(message.copy()?)?;
+        }
+        Ok(Pool { messages, newest })
     }
 
     fn put(&mut self, message: Message) -> Mem<()>

@@ -17,7 +17,7 @@ use set_model::{Command, Refusal, Reply};
 /// `there` says whether what the node was storing when a disk failed is on disk, and `failed` is the number
 /// of the store that fails.
 #[tactic(auto, using(crate::proofs::StepLemmas::does_reply))]
-pub(crate) fn act(
+pub fn act(
     node: &mut Node,
     nodes: u32,
     next: u64,

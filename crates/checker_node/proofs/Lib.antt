@@ -6,5 +6,6 @@ mod ElectionLemmas
 mod FetchLemmas
 mod HearLemmas
 mod RollbackLemmas
+mod SameLemmas
 mod VoterLemmas
 mod WriteLemmas

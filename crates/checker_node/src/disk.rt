@@ -1,5 +1,5 @@
 // Batches, the journal, checkpoints, and what a crash leaves.
-ghost use Rattle.std.specs.Prelude.{◌≡◌, ◌==◌, ◌<◌, ◌≤◌, ◌^◌, ◌&&◌, None, drop, length, take, unwrap_or, IfOk, OnOk};
+ghost use Rattle.std.specs.Prelude.{◌≡◌, ◌==◌, ◌<◌, ◌≤◌, ◌^◌, ◌&&◌, None, length, take, unwrap_or, IfOk, OnOk};
 ghost use Rattle.repl_msg.specs.Kept.{kept};
 ghost use Rattle.repl_msg.specs.Logs.{same_optime};
 ghost use Rattle.set_model.specs.Disk as disk;
@@ -47,10 +47,10 @@ impl Node {
         ensures found { IfOk result (λ found. found.items ≡ take most (disk.unjournaled self.old)) }
         ensures same { self.new ≡ self.old }
     {
-        let entries = self.log.log().as_slice();
-        self.journaled = pass_kept(entries, self.journal.entries(), self.journaled);
-        let more = without_first(entries, self.journaled);
-        copy_unkept(self.alloc, more, self.journal.entries(), most)
+        let log = self.log.log();
+        let kept = self.journal.entries();
+        self.journaled = pass_kept(log, kept, self.journaled);
+        copy_unkept(self.alloc, log, kept, self.journaled, most)
     }
 
     /// Whether there is no entry left to store, and the log is durable as far as it is visible.
@@ -191,14 +191,6 @@ fn first_of(entries: &[Entry], most: usize) -> &[Entry]
     ensures { result.now ≡ take most entries.now }
 {
     &entries[..entries.len().min(most)]
-}
-
-/// The entries after the first `count`.
-fn without_first(entries: &[Entry], count: usize) -> &[Entry]
-    requires { count ≤ length entries.now }
-    ensures { result.now ≡ drop count entries.now }
-{
-    &entries[count..]
 }
 
 /// Cuts the entries after those of one record, and gives how far the log is durable with that record: what

@@ -33,7 +33,7 @@ Numbers = BTreeMap Place ℕ
 abbrev StayElsewhere : Place → Numbers → Numbers → Type 0
 StayElsewhere place old new = (q : Place) → is_at (Some place) q ≡ false → get place_cmp new q ≡ get place_cmp old q
 
-apart_at : (place q : Place) → place ≢ q → is_at (Some place) q ≡ false
+pub apart_at : (place q : Place) → place ≢ q → is_at (Some place) q ≡ false
 apart_at place q apart = is_at-other (Some place) q (λ e. apart (some_same e))
   where
     some_same : Some place ≡ Some q → place ≡ q

@@ -1,6 +1,6 @@
 -- Where an entry goes in a node's log.
-use Rattle.std.proofs.Common.{◌≡◌, ◌∙◌, zero, Bool, true, false, cond, List, [], ◌∷◌, length, refl, ap, arith}
-use Rattle.std.specs.Prelude.{insert, nat_lt}
+use Rattle.std.proofs.Common.{◌≡◌, ◌∙◌, zero, Bool, true, false, cond, List, [], ◌∷◌, length, drop, refl, ap, sym, subst, arith}
+use Rattle.std.specs.Prelude.{insert, nat_lt, slice_index_or}
 use Rattle.std.specs.List.{All, AllPairs, filter}
 use Rattle.std.proofs.lemmas.List.Elements.{All-tail}
 use Rattle.oplog_entry.specs.Lawful.{IsLawful}
@@ -26,6 +26,9 @@ entry_lawful log entry oplog = of_new IsLawful log entry oplog.lawful
 
 -- ---- after those before it
 
+late_one : (entry other : Entry) → StandsBefore entry other → is_before other.optime entry.optime ≡ true → ⊥
+late_one entry other before early = grind (arith, before.earlier, before.term, early)
+
 -- none of the entries after another one is before it
 none_before : (entry : Entry) (log : List Entry) → All (StandsBefore entry) log → filter (λ (e : Entry). is_before e.optime entry.optime) log ≡ []
 none_before entry [] all = refl
@@ -33,9 +36,6 @@ none_before entry (other ∷ log) all = by_test (is_before other.optime entry.op
   where
     by_test : (b : Bool) → is_before other.optime entry.optime ≡ b → filter (λ (e : Entry). is_before e.optime entry.optime) log ≡ [] → cond b (other ∷ filter (λ (e : Entry). is_before e.optime entry.optime) log) (filter (λ (e : Entry). is_before e.optime entry.optime) log) ≡ []
     by_test true early rest = absurd (late_one entry other (all zero other (omega arith)) early)
-      where
-        late_one : (entry other : Entry) → StandsBefore entry other → is_before other.optime entry.optime ≡ true → ⊥
-        late_one entry other before early = grind (arith, before.earlier, before.term, early)
     by_test false late rest = rest
 
 pub placed : (log : List Entry) (entry : Entry) → AllPairs StandsBefore (with_entry log entry) → insert log (length (filter (λ (e : Entry). is_before e.optime entry.optime) log)) entry ≡ with_entry log entry
@@ -54,3 +54,34 @@ placed (other ∷ log) entry order = by_time (nat_lt other.optime.ts entry.optim
         ∙ ap (λ (l : List Entry). other ∷ l) (later (pairs_tail StandsBefore other (with_entry log entry) order))
     by_time false order later =
         ap (λ (l : List Entry). insert (other ∷ log) (length l) entry) (none_before entry (other ∷ log) (pairs_head StandsBefore entry (other ∷ log) order))
+
+-- what is so of each entry that isn't before it is so of those after its place
+pub late_after : (P : Entry → Type 0) (log : List Entry) (entry : Entry) → AllPairs StandsBefore (with_entry log entry) → All (λ (other : Entry). is_before other.optime entry.optime ≡ false → P other) log
+    → All P (drop (length (filter (λ (e : Entry). is_before e.optime entry.optime) log)) log)
+late_after P [] entry order all = λ k d within. absurd (omega (arith, within))
+late_after P (other ∷ log) entry order all = by_time (nat_lt other.optime.ts entry.optime.ts) order (late_after P log entry)
+  where
+    early : Entry → Bool
+    early e = is_before e.optime entry.optime
+
+    Late : Entry → Type 0
+    Late e = early e ≡ false → P e
+
+    not_early : (e : Entry) → StandsBefore entry e → early e ≡ false
+    not_early e before = by_test (early e) refl
+      where
+        by_test : (b : Bool) → early e ≡ b → early e ≡ false
+        by_test true is = absurd (late_one entry e before is)
+        by_test false is = is
+
+    by_time : (b : Bool) → AllPairs StandsBefore (cond b (other ∷ with_entry log entry) (entry ∷ other ∷ log))
+        → (AllPairs StandsBefore (with_entry log entry) → All Late log → All P (drop (length (filter early log)) log))
+        → All P (drop (length (cond (early other) (other ∷ filter early log) (filter early log))) (other ∷ log))
+    by_time true order later =
+        let before : StandsBefore other entry = of_new (StandsBefore other) log entry (pairs_head StandsBefore other (with_entry log entry) order) in
+        subst (λ (b : Bool). All P (drop (length (cond b (other ∷ filter early log) (filter early log))) (other ∷ log))) (sym (stands_before other entry before))
+        (later (pairs_tail StandsBefore other (with_entry log entry) order) (All-tail Late other log all))
+    by_time false order later =
+        let after : All (StandsBefore entry) (other ∷ log) = pairs_head StandsBefore entry (other ∷ log) order in
+        subst (λ (l : List Entry). All P (drop (length l) (other ∷ log))) (sym (none_before entry (other ∷ log) after))
+        (λ k d within. all k d within (not_early (slice_index_or (other ∷ log) k d) (after k d within)))

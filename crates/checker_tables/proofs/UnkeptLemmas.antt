@@ -23,7 +23,7 @@ unkept_full log found so_far place most so full =
     ∙ ap (λ (l : List Entry). l ++ unkept (drop place log) found) (sym so) in
     sym (ap (take most) parted ∙ take_at so_far (unkept (drop place log) found) most full)
 
-none_unkept : (found log : List Entry) → All (λ (e : Entry). has_entry found e.optime ≡ true) log → unkept log found ≡ []
+pub none_unkept : (found log : List Entry) → All (λ (e : Entry). has_entry found e.optime ≡ true) log → unkept log found ≡ []
 none_unkept found [] all = refl
 none_unkept found (entry ∷ log) all =
     let here : has_entry found entry.optime ≡ true = all zero entry (omega arith) in

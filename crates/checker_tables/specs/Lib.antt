@@ -3,3 +3,4 @@ pub mod Holding
 pub mod Journal
 pub mod Lending
 pub mod SessionTable
+pub mod Touching

@@ -10,6 +10,7 @@ ghost use Rattle.set_model.specs.Sessions.{last_write};
 
 use crate::merging::append;
 use crate::sessions::Sessions;
+use crate::touches::Touches;
 use bson_doc::{Doc, IdKey, Mem, Text};
 use doc_shelf::Shelf;
 use oplog_entry::Entry;
@@ -29,6 +30,7 @@ pub struct DocLog {
     /// What a read at majority shows.
     majority: Shelf,
     sessions: Sessions,
+    touches: Touches,
 }
 
 impl Model for DocLog {
@@ -38,6 +40,7 @@ impl Model for DocLog {
     ghost use Rattle.oplog_entry.specs.contracts.entry.Entry.{the_row};
     ghost use Rattle.doc_shelf.specs.Shelf.{IsOfFront};
     ghost use Rattle.checker_tables.specs.SessionTable.{IsTableOf};
+    ghost use Rattle.checker_tables.specs.Touching.{EndAll};
 
     ghost Value = { List Entry };
 
@@ -46,7 +49,7 @@ impl Model for DocLog {
     ghost view = { λ l. l.log.entries };
 
     ghost invariant = { λ l. IsOfFront l.log.entries l.local × IsOfFront l.log.entries l.majority
-        × IsTableOf l.log.entries l.sessions };
+        × IsTableOf l.log.entries l.sessions × EndAll l.log.entries l.touches.ends };
 }
 
 impl DocLog {
@@ -62,6 +65,7 @@ impl DocLog {
             local: Shelf::new(alloc),
             majority: Shelf::new(alloc),
             sessions: Sessions::new(alloc),
+            touches: Touches::new(alloc),
         }
     }
 
@@ -80,9 +84,13 @@ impl DocLog {
     {
         self.log.reserve(1)?;
         let place = self.log.before(entry.optime).len();
-        self.local.insert(self.log.as_slice(), place, &entry);
-        self.majority.insert(self.log.as_slice(), place, &entry);
+        let is_apart = self.touches.is_apart(self.log.as_slice(), place, &entry);
+        self.local
+            .insert(self.log.as_slice(), place, &entry, is_apart);
+        self.majority
+            .insert(self.log.as_slice(), place, &entry, is_apart);
         self.sessions.insert(place, entry.session);
+        self.touches.note(&entry);
         self.log.insert(entry);
         Ok(())
     }
@@ -94,6 +102,7 @@ impl DocLog {
         ensures err { OnErr result (self.new ≡ self.old) }
     {
         append(alloc, &mut self.log, entries)?;
+        self.touches.note_all(entries);
         Ok(())
     }
 
@@ -144,5 +153,14 @@ impl DocLog {
         ensures same { self.new ≡ self.old }
     {
         self.sessions.last_write(self.log.as_slice(), id)
+    }
+
+    /// The same log once more, with the same ops. Its documents and sessions follow it from its beginning.
+    pub fn copy(&self, alloc: Global) -> Mem<Self>
+        ensures { IfOk result (λ log. log ≡ self.now) }
+    {
+        let mut log = DocLog::new(alloc);
+        log.append(alloc, self.log.as_slice())?;
+        Ok(log)
     }
 }

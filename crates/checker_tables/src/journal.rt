@@ -1,5 +1,5 @@
 // What a node stored, and what its records give.
-ghost use Rattle.std.specs.Prelude.{◌≡◌, ◌∷◌, [], OnOk, OnErr};
+ghost use Rattle.std.specs.Prelude.{◌≡◌, ◌∷◌, [], IfOk, OnOk, OnErr};
 ghost use Rattle.std.specs.Option.{option_copied};
 ghost use Rattle.oplog_store.specs.Log.{IsOplog};
 ghost use Rattle.repl_msg.specs.Kept.{NEWEST_FORM, kept};
@@ -7,7 +7,7 @@ ghost use Rattle.repl_msg.specs.declared.record.Record.TheVariants.{Form};
 ghost use Rattle.set_model.specs.Disk.{has_more};
 ghost use Rattle.set_model.specs.Stores.{records_after};
 
-use crate::merging::merge;
+use crate::merging::{append, merge};
 use crate::optimes::earlier;
 use bson_doc::Mem;
 use member_config::Config;
@@ -119,5 +119,31 @@ impl Journal {
         }
         self.records = records;
         Ok(())
+    }
+
+    /// The same journal once more, with the same ops.
+    pub fn copy(&self, alloc: Global) -> Mem<Self>
+        ensures { IfOk result (λ journal. journal ≡ self.now) }
+    {
+        let config = copied(&self.config)?;
+        let mut entries = Oplog::new(alloc);
+        append(alloc, &mut entries, self.entries.as_slice())?;
+        Ok(Journal {
+            records: self.records.same(),
+            vote: self.vote,
+            config,
+            entries,
+            point: self.point,
+        })
+    }
+}
+
+/// The same configuration once more, if there is one.
+fn copied(config: &Option<Config>) -> Mem<Option<Config>>
+    ensures { IfOk result (λ copy. copy ≡ config.now) }
+{
+    match config {
+        Some(config) => Ok(Some(config.copy()?)),
+        None => Ok(None),
     }
 }

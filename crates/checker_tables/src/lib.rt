@@ -8,14 +8,17 @@ mod journal;
 mod last_writes;
 mod merging;
 mod optimes;
+mod sameness;
 mod sessions;
 mod slots;
+mod touches;
 mod unkept;
 mod writer_map;
 
 pub use doc_log::DocLog;
 pub use journal::Journal;
 pub use optimes::{earlier, last_optime};
+pub use sameness::{same_entries, same_entry};
 pub use slots::Slots;
 pub use unkept::{copy_unkept, pass_kept};
 pub use writer_map::WriterMap;

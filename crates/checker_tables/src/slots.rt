@@ -1,5 +1,5 @@
 // The open slots of a node.
-ghost use Rattle.std.specs.Prelude.{◌≡◌, OnOk};
+ghost use Rattle.std.specs.Prelude.{◌≡◌, IsTrue, IfOk, OnOk};
 ghost use Rattle.std.specs.FinSet as sets;
 ghost use Rattle.oplog_entry.specs.Visible.{least};
 
@@ -57,5 +57,21 @@ impl Slots {
         ensures { self.new ≡ sets.remove self.old at }
     {
         self.slots.remove(&at);
+    }
+
+    /// Whether the same slots are open as in another.
+    pub fn same(&self, other: &Slots) -> bool
+        ensures { IsTrue result → self.now ≡ other.now }
+    {
+        self.slots == other.slots
+    }
+
+    /// The same slots once more.
+    pub fn copy(&self) -> Mem<Self>
+        ensures { IfOk result (λ slots. slots ≡ self.now) }
+    {
+        Ok(Slots {
+            slots: self.slots.clone()?,
+        })
     }
 }

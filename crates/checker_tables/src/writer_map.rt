@@ -1,5 +1,5 @@
 // The writers of a node, by their numbers.
-ghost use Rattle.std.specs.Prelude.{◌≡◌, IfOk, OnOk};
+ghost use Rattle.std.specs.Prelude.{◌≡◌, IsTrue, IfOk, OnOk};
 ghost use Rattle.std.specs.Option.{option_copied};
 ghost use Rattle.std.specs.FinMap as maps;
 ghost use Rattle.bson_doc.specs.Place.{Place};
@@ -9,6 +9,7 @@ ghost use Rattle.set_model.specs.Holds as holds;
 ghost use Rattle.checker_tables.specs.Holding.{LeadToOthers};
 
 use crate::holders::{emptied, with, without};
+use crate::sameness::same_writer;
 use bson_doc::{IdKey, KeyError, Mem, Text};
 use oplog_entry::Op;
 use set_model::Writer;
@@ -121,6 +122,33 @@ impl WriterMap {
         }
         Ok(None)
     }
+
+    /// Whether the writers are the same as others.
+    pub fn same(&self, other: &WriterMap) -> bool
+        ensures { IsTrue result → self.now ≡ other.now }
+    {
+        let mut others = other.writers.iter();
+        for (number, writer) in &self.writers {
+            let Some((other_number, other_writer)) = others.next() else {
+                return false;
+            };
+            if number != other_number || !same_writer(writer, other_writer) {
+                return false;
+            }
+        }
+        others.next().is_none()
+    }
+
+    /// The same writers once more, which share their ops.
+    pub fn copy(&self, alloc: Global) -> Mem<Self>
+        ensures { IfOk result (λ writers. writers ≡ self.now) }
+    {
+        let mut copies = WriterMap::new(alloc);
+        for (number, writer) in self.writers.iter().rev() {
+            copies.insert(*number, writer.copy()?)?;
+        }
+        Ok(copies)
+    }
 }
 
 /// An open writer is lost, with the term of its slot.
@@ -168,7 +196,7 @@ fn held(writer: &Writer) -> Mem<Option<(Text, IdKey)>>
 }
 
 /// The place of the document that an op touches, which need not be lawful.
-fn touched(op: &Op) -> Mem<Option<(Text, IdKey)>>
+pub(crate) fn touched(op: &Op) -> Mem<Option<(Text, IdKey)>>
     ensures { IfOk result (λ place. place ≡ place_of op.now) }
 {
     let (ns, id) = match op {

@@ -1,12 +1,12 @@
 -- An entry in the middle of a log has the effect that it has after all later entries that
 -- touch other documents.
-use Rattle.std.proofs.Common.{◌≡◌, ℕ, suc, ◌+◌, ◌≤◌, cond, Bool, true, false, List, [], ◌∷◌, ◌++◌, length, take, drop, insert, fold, subst, ◌-◌, Option, None, Some, refl, sym, ap, ◌∙◌, append_assoc, arith}
+use Rattle.std.proofs.Common.{◌≡◌, ℕ, suc, ◌+◌, ◌≤◌, cond, Bool, true, false, List, [], ◌∷◌, ◌++◌, length, take, drop, insert, fold, subst, ◌-◌, Option, None, Some, refl, sym, ap, ◌∙◌, arith}
 use Rattle.std.specs.Cmp.{Equal-is, eq_by_cmp_equiv}
 use Rattle.std.specs.Ordering.{eq_by_cmp}
 use Rattle.std.specs.FinMap.{get, same_map}
-use Rattle.std.specs.List.{list_any}
-use Rattle.std.proofs.lemmas.Bool.{or_parts}
-use Rattle.std.proofs.lemmas.List.{append-nil, drop_at, length-append, length-take-le, take-append-drop, take-append-le}
+use Rattle.std.specs.List.{All}
+use Rattle.std.proofs.lemmas.List.{length-append, length-take-le, take-append-drop, take-append-le}
+use Rattle.std.proofs.lemmas.List.Elements.{All-head, All-tail, All-take}
 use Rattle.std.proofs.lemmas.List.Edits.{insert-append_left, insert_end, length-insert}
 use Rattle.std.proofs.lemmas.List.Sums.{fold-append}
 use Rattle.bson_doc.specs.Tree.{Fields}
@@ -16,15 +16,23 @@ use Rattle.oplog_entry.specs.Docs.{Documents, applied}
 use Rattle.oplog_entry.specs.Step.{place_of, document_after}
 use Rattle.oplog_entry.specs.declared.entry.Entry.{Entry}
 use Rattle.oplog_entry.proofs.DocsLemmas.{applied-nothing, get-applied, get-applied-other}
-use Rattle.doc_shelf.specs.Shelf.{Before, IsOfFront, Shelf, empty_shelf, is_touched, shelf_of, stood_at, stood_before, touches, with_applied}
+use Rattle.doc_shelf.specs.Shelf.{AreApart, Before, IsOfFront, Shelf, empty_shelf, shelf_of, stood_at, stood_before, with_applied}
 use Rattle.doc_shelf.proofs.ShelfLemmas.{length_shelf, same_parts, take_past}
 
--- two entries touch no document both
+-- the same by the order of places
 abbrev Apart : Entry → Entry → Type 0
 Apart one other = (p q : Place) → place_of one.op ≡ Some p → place_of other.op ≡ Some q → eq_by_cmp place_cmp q p ≡ false
 
 turned : (p q : Place) → eq_by_cmp place_cmp q p ≡ false → eq_by_cmp place_cmp p q ≡ false
 turned p q apart = (eq_by_cmp_equiv place_cmp-total).symm p q ∙ apart
+
+apart_by_order : (one other : Entry) → AreApart one other → Apart one other
+apart_by_order one other apart p q is_p is_q = by_test (eq_by_cmp place_cmp q p) refl
+  where
+    by_test : (b : Bool) → eq_by_cmp place_cmp q p ≡ b → eq_by_cmp place_cmp q p ≡ false
+    by_test false is = is
+    by_test true is =
+        let same : q ≡ p = place_cmp-antisymmetric q p ((Equal-is _).0 is) in absurd (apart p is_p (is_q ∙ ap (λ (x : Place). Some x) same))
 
 -- what stands at the other's place stays
 stood_apart : (documents : Documents) (one other : Entry) → Apart one other → stood_before (applied documents one) other ≡ stood_before documents other
@@ -102,42 +110,13 @@ one_after place entry other stood old new apart apart_too is = record {
   within = omega (arith, is.within, length-append old.before (stood_before old.documents other ∷ []));
 }
 
--- what stood before each of some entries
-abbrev befores : Documents → List Entry → List Before
-befores documents [] = []
-befores documents (entry ∷ log) = stood_before documents entry ∷ befores (applied documents entry) log
-
-shows_before : (shelf : Shelf) (log : List Entry) → (fold with_applied shelf log).before ≡ shelf.before ++ befores shelf.documents log
-shows_before shelf [] = sym (append-nil shelf.before)
-shows_before shelf (entry ∷ log) =
-    shows_before (with_applied shelf entry) log
-    ∙ append_assoc shelf.before (stood_before shelf.documents entry ∷ []) (befores (applied shelf.documents entry) log)
-
--- an entry that doesn't touch the document at another one's place
-apart_of : (documents : Documents) (entry other : Entry) (place : Place) → place_of entry.op ≡ Some place → touches (stood_before documents other) place ≡ false → Apart entry other
-apart_of documents entry other place at away own q is_own is_q =
-    let same : own ≡ place = cc (is_own, at) in
-    ap (eq_by_cmp place_cmp q) same ∙ sym (ap (λ (p : Option Place). touches (stood_at documents p) place) is_q) ∙ away
-
--- none of some entries touches the document of another one
-abbrev AreAway : Documents → Entry → List Entry → Type 0
-AreAway documents entry later =
-    (place : Place) → place_of entry.op ≡ Some place → list_any (λ before. touches before place) (befores documents later) ≡ false
-
-all_after : (place : ℕ) (entry : Entry) (stood : Before) (old new : Shelf) (later : List Entry) → AreAway old.documents entry later → IsInserted place entry stood old new
+all_after : (place : ℕ) (entry : Entry) (stood : Before) (old new : Shelf) (later : List Entry) → All (AreApart entry) later → IsInserted place entry stood old new
     → IsInserted place entry stood (fold with_applied old later) (fold with_applied new later)
-all_after place entry stood old new [] away is = is
-all_after place entry stood old new (other ∷ later) away is =
-    let apart : Apart entry other = λ p q is_p is_q. apart_of old.documents entry other p is_p (or_parts _ _ (away p is_p)).0 p q is_p is_q in
-    let apart_too : Apart other entry = λ q p is_q is_p. turned p q (apart p q is_p is_q) in
-    let rest : AreAway (applied old.documents other) entry later = λ p is_p. (or_parts _ _ (away p is_p)).1 in
-    all_after place entry stood (with_applied old other) (with_applied new other) later rest (one_after place entry other stood old new apart apart_too is)
-
--- what is found of the applied entries from a place on is so of them
-are_away : (documents now : Documents) (entry : Entry) (later : List Entry) (befores_are : List Before) → befores_are ≡ befores documents later → is_touched (stood_before now entry) befores_are ≡ false → AreAway documents entry later
-are_away documents now entry later befores_are are untouched place at =
-    sym (ap (λ (p : Option Place). is_touched (stood_at now p) (befores documents later)) at)
-    ∙ ap (is_touched (stood_before now entry)) (sym are) ∙ untouched
+all_after place entry stood old new [] all is = is
+all_after place entry stood old new (other ∷ later) all is =
+    let apart : Apart entry other = apart_by_order entry other (All-head (AreApart entry) other later all) in
+    let apart_too : Apart other entry = λ p q is_q is_p. turned q p (apart q p is_p is_q) in
+    all_after place entry stood (with_applied old other) (with_applied new other) later (All-tail (AreApart entry) other later all) (one_after place entry other stood old new apart apart_too is)
 
 -- ---- an entry put into a log
 
@@ -159,10 +138,10 @@ parted log other place more within =
 
 -- in the prefix that is applied, where no entry after it touches its document
 put_in_front : (log : List Entry) (old new : Shelf) (place more : ℕ) (entry : Entry) → IsOfFront log old → place + more ≡ length old.before → place ≤ length log
-    → is_touched (stood_before old.documents entry) (drop place old.before) ≡ false
+    → All (AreApart entry) (drop place log)
     → new.documents ≡ applied old.documents entry → new.before ≡ insert old.before place (stood_before old.documents entry)
     → IsOfFront (insert log place entry) new
-put_in_front log old new place more entry front counts in_log untouched documents before =
+put_in_front log old new place more entry front counts in_log apart documents before =
     record { within = omega (arith, front.within, longer, length-insert log place entry in_log); is = is }
   where
     first : List Entry
@@ -183,12 +162,6 @@ put_in_front log old new place more entry front counts in_log untouched document
     base_count : length base.before ≡ place
     base_count = length_shelf first ∙ length-take-le place log in_log
 
-    after_are : drop place old.before ≡ befores base.documents later
-    after_are =
-        ap (drop place) (ap (λ (s : Shelf). s.before) old_is ∙ shows_before base later)
-        ∙ ap (λ (n : ℕ). drop n (base.before ++ befores base.documents later)) (sym base_count)
-        ∙ drop_at base.before (befores base.documents later) (length base.before) refl
-
     begun : IsInserted place entry (stood_before base.documents entry) base (with_applied base entry)
     begun = record {
       documents = refl;
@@ -202,7 +175,7 @@ put_in_front log old new place more entry front counts in_log untouched document
 
     done : IsInserted place entry (stood_before base.documents entry) old made
     done =
-        let at_base = all_after place entry (stood_before base.documents entry) base (with_applied base entry) later (are_away base.documents old.documents entry later (drop place old.before) after_are untouched) begun in
+        let at_base = all_after place entry (stood_before base.documents entry) base (with_applied base entry) later (All-take (AreApart entry) more (drop place log) apart) begun in
         subst (λ (s : Shelf). IsInserted place entry (stood_before base.documents entry) s made) (sym old_is) at_base
 
     new_is : new ≡ made
@@ -218,7 +191,7 @@ put_in_front log old new place more entry front counts in_log untouched document
         ∙ ap (λ (n : ℕ). shelf_of (take n (insert log place entry))) (sym longer)
 
 pub put_in : (log : List Entry) (old new : Shelf) (place : ℕ) (entry : Entry) → IsOfFront log old → place ≤ length old.before → place ≤ length log
-    → is_touched (stood_before old.documents entry) (drop place old.before) ≡ false
+    → All (AreApart entry) (drop place log)
     → new.documents ≡ applied old.documents entry → new.before ≡ insert old.before place (stood_before old.documents entry)
     → IsOfFront (insert log place entry) new
 put_in log old new place entry front within in_log =

@@ -1,9 +1,7 @@
 -- The documents that result from a prefix of a log, with what was there before each of its entries.
-use Rattle.std.specs.Prelude.{◌≡◌, ◌≤◌, Bool, false, List, [], ◌∷◌, ◌++◌, Option, None, Some, fold, length, take}
+use Rattle.std.specs.Prelude.{◌≡◌, ◌≢◌, ◌≤◌, List, [], ◌∷◌, ◌++◌, Option, None, Some, fold, length, take}
 use Rattle.std.specs.FinMap as maps
-use Rattle.std.specs.List.{list_any}
-use Rattle.std.specs.Ordering.{eq_by_cmp}
-use Rattle.bson_doc.specs.Place.{Place, place_cmp}
+use Rattle.bson_doc.specs.Place.{Place}
 use Rattle.bson_doc.specs.Tree.{Fields}
 use Rattle.oplog_entry.specs.Docs.{Documents, applied}
 use Rattle.oplog_entry.specs.Step.{place_of}
@@ -48,12 +46,6 @@ pub record IsOfFront (log : List Entry) (shelf : Shelf) : Type 0 where
 
 -- ---- an entry in the middle
 
--- an entry with this state before it touches the document at a place
-abbrev pub touches : Before → Place → Bool
-touches None place = false
-touches (Some (other, document)) place = eq_by_cmp place_cmp other place
-
--- one of these entries touches the document of another one
-abbrev pub is_touched : Before → List Before → Bool
-is_touched None later = false
-is_touched (Some (place, document)) later = list_any (λ before. touches before place) later
+-- two entries don't both touch one document
+abbrev pub AreApart : Entry → Entry → Type 0
+AreApart one other = (place : Place) → place_of one.op ≡ Some place → place_of other.op ≢ Some place

@@ -3,5 +3,6 @@
 
 mod documents;
 mod shelf;
+mod stood;
 
 pub use shelf::Shelf;

@@ -1,5 +1,4 @@
-ghost use Rattle.std.specs.Prelude.{◌≡◌, ◌<◌, ◌≤◌, List, length, take, drop, insert, All, IfOk, OnOk};
-ghost use Rattle.std.specs.List.{list_any};
+ghost use Rattle.std.specs.Prelude.{◌≡◌, ◌<◌, ◌≤◌, List, length, take, drop, insert, All, IsTrue, IfOk, OnOk};
 ghost use Rattle.std.specs.Option.{option_copied};
 ghost use Rattle.std.specs.FinMap as maps;
 ghost use Rattle.doc_fold.specs.Map.{documents_of};
@@ -7,9 +6,10 @@ ghost use Rattle.oplog_entry.specs.Docs.{applied};
 ghost use Rattle.oplog_entry.specs.Lawful.{IsLawful};
 ghost use Rattle.oplog_entry.specs.Step.{document_after as op_left};
 ghost use Rattle.oplog_entry.specs.declared.entry.Entry.{Entry};
-ghost use Rattle.doc_shelf.specs.Shelf.{Shelf as Shown, IsOfFront, empty_shelf, shelf_of, stood_before, is_touched, touches, with_applied};
+ghost use Rattle.doc_shelf.specs.Shelf.{Shelf as Shown, AreApart, IsOfFront, empty_shelf, shelf_of, stood_before, with_applied};
 
 use crate::documents::{copy_at, document_at, put_at};
+use crate::stood::Stood;
 use bson_doc::{Doc, IdKey, Mem, Text};
 use doc_fold::{apply_entry, document_after};
 use oplog_entry::{Entry, Op};
@@ -17,16 +17,13 @@ use std::alloc::Global;
 use std::collections::BTreeMap;
 use std::marker::Model;
 
-/// The place that an entry touches, with what was there before; none where the entry touches no document.
-type Before = Option<((Text, IdKey), Option<Doc>)>;
-
 /// The documents that result from the first entries of a log, with what is needed to undo each entry: what
 /// was at its place, and none where it touches no document.
 #[derive(Drop)]
 pub struct Shelf {
     alloc: Global,
     documents: BTreeMap<(Text, IdKey), Doc>,
-    before: Vec<Before>,
+    before: Vec<Stood>,
 }
 
 impl Model for Shelf {
@@ -39,23 +36,6 @@ impl Model for Shelf {
     ghost coded = { shelf_code };
 
     ghost view = { λ s. record { documents = documents_of s.documents.entries; before = s.before.items } };
-}
-
-/// Whether an entry with this state before it touches the document at a place.
-fn touches(before: &Before, place: &(Text, IdKey)) -> bool
-    ensures { result ≡ touches before.now place.now }
-{
-    match before {
-        Some((other, _)) => other.cmp(place).is_eq(),
-        None => false,
-    }
-}
-
-/// Whether one of the entries with these states before them touches the document at a place.
-fn is_among(stood: &[Before], place: &(Text, IdKey)) -> bool
-    ensures { result ≡ list_any (λ before. touches before place.now) stood.now }
-{
-    stood.iter().any(|before| touches(before, place))
 }
 
 impl Shelf {
@@ -110,14 +90,19 @@ impl Shelf {
         }
     }
 
-    /// Follows an insertion of an entry into the log at a place. Where no applied entry after it touches the
-    /// same document, none of these is undone. Where memory runs out, no entry is applied.
-    pub fn insert(&mut self, entries: &[Entry], place: usize, entry: &Entry)
+    /// Follows an insertion of an entry into the log at a place. `is_apart` says that no later entry touches
+    /// the same document: then none of these is undone. Where memory runs out, no entry is applied.
+    pub fn insert(&mut self, entries: &[Entry], place: usize, entry: &Entry, is_apart: bool)
         requires front { IsOfFront entries.now self.old }
         requires within { place ≤ length entries.now }
         requires lawful { IsLawful entry.now }
+        requires apart { IsTrue is_apart → All (AreApart entry.now) (drop place entries.now) }
         ensures { IsOfFront (insert entries.now place entry.now) self.new }
     {
+        if !is_apart {
+            self.back_to(entries, place);
+            return;
+        }
         if self.count() <= place {
             return;
         }
@@ -126,18 +111,17 @@ impl Shelf {
         }
     }
 
-    /// Follows an insertion of an entry into the log at a place before applied ones.
+    /// Follows an insertion of an entry into the log at a place before applied ones, which touch other
+    /// documents.
     fn insert_applied(&mut self, entries: &[Entry], place: usize, entry: &Entry) -> Mem<()>
         requires front { IsOfFront entries.now self.old }
         requires applied { place ≤ length self.old.before }
         requires lawful { IsLawful entry.now }
+        requires apart { All (AreApart entry.now) (drop place entries.now) }
         ensures { OnOk result (IsOfFront (insert entries.now place entry.now) self.new) }
     {
+        let _ = entries;
         let stood = self.standing(entry)?;
-        if self.is_touched(place, &stood) {
-            self.back_to(entries, place);
-            return Ok(());
-        }
         self.put_in(place, entry, stood)?;
         Ok(())
     }
@@ -149,27 +133,8 @@ impl Shelf {
         *self = Shelf::new(self.alloc);
     }
 
-    /// Whether one of the applied entries from a place on touches the document of another entry.
-    fn is_touched(&self, place: usize, stood: &Before) -> bool
-        requires { place ≤ length self.now.before }
-        ensures { result ≡ is_touched stood.now (drop place self.now.before) }
-    {
-        match stood {
-            Some((own, _)) => is_among(self.stood_from(place), own),
-            None => false,
-        }
-    }
-
-    /// What was there before each of the applied entries from a place on.
-    fn stood_from(&self, place: usize) -> &[Before]
-        requires { place ≤ length self.now.before }
-        ensures { result.now ≡ drop place self.now.before }
-    {
-        &self.before[place..]
-    }
-
     /// Applies an entry with this state before it as the one at a place.
-    fn put_in(&mut self, place: usize, entry: &Entry, stood: Before) -> Mem<()>
+    fn put_in(&mut self, place: usize, entry: &Entry, stood: Stood) -> Mem<()>
         requires within { place ≤ length self.old.before }
         requires lawful { IsLawful entry.now }
         ensures documents { OnOk result (self.new.documents ≡ applied self.old.documents entry.now) }
@@ -203,13 +168,13 @@ impl Shelf {
         ensures { OnOk result (self.new ≡ with_applied self.old entry.now) }
     {
         let Some(place) = entry.key()? else {
-            self.before.push(None)?;
+            self.before.push(Stood::none())?;
             return Ok(());
         };
         let after = self.left_at(&place, entry)?;
         let own = (place.0.copy()?, place.1.copy()?);
         let stood = put_at(&mut self.documents, own, after)?;
-        self.before.push(Some((place, stood)))?;
+        self.before.push(Stood::new(self.alloc, place, stood)?)?;
         Ok(())
     }
 
@@ -230,15 +195,15 @@ impl Shelf {
     }
 
     /// What is at the place of an entry.
-    fn standing(&self, entry: &Entry) -> Mem<Before>
+    fn standing(&self, entry: &Entry) -> Mem<Stood>
         requires { IsLawful entry.now }
         ensures { IfOk result (λ stood. stood ≡ stood_before self.now.documents entry.now) }
     {
         let Some(place) = entry.key()? else {
-            return Ok(None);
+            return Ok(Stood::none());
         };
         let document = copy_at(&self.documents, &place)?;
-        Ok(Some((place, document)))
+        Stood::new(self.alloc, place, document)
     }
 
     /// Undoes the last entry. Where memory runs out, no entry is applied.
@@ -260,7 +225,7 @@ impl Shelf {
         let Some(last) = self.before.pop() else {
             return Ok(());
         };
-        let Some((place, document)) = last else {
+        let Some((place, document)) = last.into_parts() else {
             return Ok(());
         };
         put_at(&mut self.documents, place, document)?;

@@ -5,5 +5,5 @@ use Rattle.checker_tables.proofs.unkept.is_kept.Goals as goal
 
 pub returns : goal.returns
 returns c =
-    let some : c.is_some.result ≡ is_some c.find.result = search rules in
-    some ∙ sym (has_found c.args.kept.now.entries c.args.at c.find.result c.find.ensures.found c.find.ensures.none)
+    let some : c.is_some.result ≡ is_some c.find_near-found.result = search rules in
+    some ∙ sym (has_found c.args.kept.now.entries c.args.at c.find_near-found.result c.find_near-found.ensures.found c.find_near-found.ensures.none)

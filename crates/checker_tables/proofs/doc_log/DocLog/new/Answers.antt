@@ -8,4 +8,5 @@ invariant_of-result c =
       none_of_front log c.new-2.result c.new-2.ensures,
       none_of_front log c.new-3.result c.new-3.ensures,
       table_none log c.new-4.result c.new-4.ensures,
+      c.new-5.ensures log,
     )

@@ -31,7 +31,7 @@ fn brings_term(body: &Body) -> bool
 
 /// Takes a message; `next` is the number of the next one.
 #[tactic(auto, using(crate::proofs::StepLemmas::can_hear, crate::proofs::StepLemmas::deliveries))]
-pub(crate) fn deliver(
+pub fn deliver(
     node: &mut Node,
     next: u64,
     message: &Message,

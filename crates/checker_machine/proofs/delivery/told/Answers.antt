@@ -1,5 +1,5 @@
 use Rattle.checker_machine.proofs.StepLemmas.{does_told}
-use Rattle.checker_machine.proofs.deliver.told.Goals as goal
+use Rattle.checker_machine.proofs.delivery.told.Goals as goal
 
 pub returns-in_default : goal.returns-in_default
 returns-in_default c =
