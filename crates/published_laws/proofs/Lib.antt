@@ -1,0 +1,11 @@
+pub mod Histories
+pub mod Logs
+pub mod RaftMongoActions
+pub mod RaftMongoHappens
+pub mod RaftMongoRuns
+pub mod RaftMongoTied
+pub mod ReconfigActions
+pub mod ReconfigHappens
+pub mod ReconfigRuns
+pub mod ReconfigTied
+pub mod SetRuns

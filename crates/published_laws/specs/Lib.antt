@@ -1,0 +1,9 @@
+pub mod Histories
+pub mod Oplog
+pub mod RaftMongo
+pub mod RaftMongoNames
+pub mod RaftMongoShown
+pub mod Reconfig
+pub mod ReconfigNames
+pub mod ReconfigShown
+pub mod SetShown
