@@ -1,6 +1,6 @@
 -- How the two events of a call may end.
 use Rattle.std.proofs.Common.{◌≡◌, ◌∙◌, ◌<◌, ap, sym, subst, refl, inl, inr, Bool, ℕ, List, [], ◌∷◌, ◌++◌, append-nil, append_assoc, Option, None, Some, length}
-use Rattle.std.specs.Prelude.{option_map}
+use Rattle.std.specs.Prelude.{IsSome, option_map}
 use Rattle.std.proofs.lemmas.Option.{same_Some}
 use Rattle.rs_optime.specs.declared.optime.OpTime.{OpTime}
 use Rattle.oplog_entry.specs.declared.entry.Entry.{Entry}
@@ -20,6 +20,11 @@ use Rattle.change_stream.specs.Errors.{of_step}
 use Rattle.change_stream.specs.declared.error.WatchError.TheVariants.{NodeDown}
 use Rattle.change_stream.specs.Shown.{shown_log, shown_state}
 use Rattle.change_stream.proofs.StepLemmas.{entries_are, log_down, state_down}
+
+-- a commit point is of a state
+pub is_state_of : (found : Option (ℕ × OpTime)) (commit : OpTime) → Some commit ≡ option_map (λ state. state.1) found → IsSome found
+is_state_of None commit is = absurd (cc is)
+is_state_of (Some state) commit is = refl
 
 -- the state that a commit point is of
 pub commit_of : (found : Option (ℕ × OpTime)) (commit : OpTime) → Some commit ≡ option_map (λ state. state.1) found → (term : ℕ) × (found ≡ Some (term, commit))
@@ -50,15 +55,15 @@ module _ (alone : Bool) (sizes : Sizes) (old between new own mid own' : List Eve
     did_second answer second adds = own_event alone sizes between new mid own' 0 (commands.Log node) answer second adds
         ∙ ap (λ l. l ++ second.event ∷ []) did_first ∙ append_assoc own (first.event ∷ []) (second.event ∷ [])
 
-    pub second_broken : (error : StepError) → Learns alone between new → own' ≡ mid → (error ≡ steps.HistoryFull → length new ≡ 4294967295) → OwnBreaks alone sizes old new own own' node (of_step error)
-    second_broken steps.Memory learns idle full = (inr (record { between = between; state = state; first = first; on = learns }), idle ∙ did_first)
-    second_broken steps.HistoryFull learns idle full = ((inr (record { between = between; state = state; first = first; on = learns }), full refl), idle ∙ did_first)
+    pub second_broken : IsSome (shown_state state) → (error : StepError) → Learns alone between new → own' ≡ mid → (error ≡ steps.HistoryFull → length new ≡ 4294967295) → OwnBreaks alone sizes old new own own' node (of_step error)
+    second_broken is steps.Memory learns idle full = (inr (record { between = between; state = state; is_state = is; first = first; on = learns }), idle ∙ did_first)
+    second_broken is steps.HistoryFull learns idle full = ((inr (record { between = between; state = state; is_state = is; first = first; on = learns }), full refl), idle ∙ did_first)
 
-    pub second_refused : node < sizes.nodes → NumbersStaySmall sizes new → (answer : Reply) → Does alone sizes between new (commands.Log node) answer → AddsOne new mid own' → shown_log answer ≡ None
+    pub second_refused : IsSome (shown_state state) → node < sizes.nodes → NumbersStaySmall sizes new → (answer : Reply) → Does alone sizes between new (commands.Log node) answer → AddsOne new mid own' → shown_log answer ≡ None
         → OwnBreaks alone sizes old new own own' node NodeDown
-    second_refused known small answer steps adds none =
+    second_refused is known small answer steps adds none =
         let down = subst (λ a. Does alone sizes between new (commands.Log node) a) (log_down alone sizes between new node known small answer steps none) steps in
-        (inr (record { between = between; state = state; first = first; on = down }), did_second (reply.Refused IsDown) down adds)
+        (inr (record { between = between; state = state; is_state = is; first = first; on = down }), did_second (reply.Refused IsDown) down adds)
 
     pub both_shown : (commit : OpTime) (log : List Entry) (answer : Reply) → Some commit ≡ option_map (λ s. s.1) (shown_state state) → Does alone sizes between new (commands.Log node) answer → AddsOne new mid own' → shown_log answer ≡ Some log
         → OwnReads alone sizes old new own own' node commit log

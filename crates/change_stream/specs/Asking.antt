@@ -1,5 +1,5 @@
 -- The events of one call of a stream, and its result.
-use Rattle.std.specs.Prelude.{◌≡◌, ◌⊎◌, ℕ, Bool, List, [], ◌∷◌, ◌++◌, Result, Ok, Err, Some, length}
+use Rattle.std.specs.Prelude.{◌≡◌, ◌⊎◌, ℕ, Bool, List, [], ◌∷◌, ◌++◌, Result, Ok, Err, Some, IsSome, length}
 use mathlib.Core.Logic.{inl, inr}
 use Rattle.rs_optime.specs.declared.optime.OpTime.{OpTime}
 use Rattle.oplog_entry.specs.declared.entry.Entry.{Entry}
@@ -42,10 +42,11 @@ module _ (alone : Bool) (sizes : Sizes) (old new : List Event) where
     pub shows : Shows sizes new call
     pub told_is : answer token call ≡ told
 
-  -- the first event was answered
+  -- the first event showed the node's state
   pub record Begins (node : ℕ) (Goes : List Event → Type 0) : Type 0 where
     pub between : List Event
     pub state : Reply
+    pub is_state : IsSome (shown_state state)
     pub first : Does alone sizes old between (commands.State node) state
     pub on : Goes between
 

@@ -6,7 +6,7 @@ use Rattle.safety_laws.specs.Bounds.{NumbersStaySmall}
 use Rattle.safety_laws.specs.Logs.{LogsRise}
 use Rattle.change_stream.specs.Asking.{Does}
 use Rattle.change_stream.specs.Shown.{shown_state}
-use Rattle.change_stream.proofs.ReadLemmas.{both_shown, first_broken, first_refused, no_state, second_broken, second_refused}
+use Rattle.change_stream.proofs.ReadLemmas.{both_shown, first_broken, first_refused, is_state_of, no_state, second_broken, second_refused}
 use Rattle.change_stream.proofs.StepLemmas.{log_rises}
 use Rattle.change_stream.proofs.stream.read.Goals as goal
 
@@ -23,7 +23,7 @@ returns-in_err-reply-clause-err g c =
     let p = err_from_is_err_and c.from_residual-in_err-reply.result c.from_residual-in_err-reply.ensures.1 in
     rw (p.1, p.2) (second_broken g.S.Stepper.is_alone (g.S.Stepper.sizes c.args.set.now) (g.S.Stepper.known c.args.set.now) (g.S.Stepper.known c.ask_state.new.set) (g.S.Stepper.known c.ask_log.new.set)
     (g.S.Stepper.own c.args.set.now) (g.S.Stepper.own c.ask_state.new.set) (g.S.Stepper.own c.ask_log.new.set) c.args.node c.in_ok-state.state c.in_ok-state.ensures.step c.in_ok-state.ensures.own
-    c.in_err-reply.field-0.0 c.in_err-reply.ensures.err c.in_err-reply.ensures.idle (λ is. c.in_err-reply.ensures.full (ap Err is)))
+    (is_state_of (shown_state c.in_ok-state.state) c.in-Some.commit c.in-Some.ensures) c.in_err-reply.field-0.0 c.in_err-reply.ensures.err c.in_err-reply.ensures.idle (λ is. c.in_err-reply.ensures.full (ap Err is)))
 
 pub returns-in_default-clause-err : goal.returns-in_default-clause-err
 returns-in_default-clause-err g c =
@@ -49,7 +49,7 @@ returns-in_default-log_shown-clause-err g c =
     let own = g.S.Stepper.own c.args.set.now in
     let mid = g.S.Stepper.own c.ask_state.new.set in
     let own' = g.S.Stepper.own c.ask_log.new.set in
-    second_refused g.S.Stepper.is_alone sizes old between new own mid own' c.args.node c.in_ok-state.state c.in_ok-state.ensures.step c.in_ok-state.ensures.own c.requires small c.in_ok-reply.reply second c.in_ok-reply.ensures.own (sym c.in_default-log_shown.ensures.log)
+    second_refused g.S.Stepper.is_alone sizes old between new own mid own' c.args.node c.in_ok-state.state c.in_ok-state.ensures.step c.in_ok-state.ensures.own (is_state_of (shown_state c.in_ok-state.state) c.in-Some.commit c.in-Some.ensures) c.requires small c.in_ok-reply.reply second c.in_ok-reply.ensures.own (sym c.in_default-log_shown.ensures.log)
 
 pub returns-in_default-log_shown-clause-stays : goal.returns-in_default-log_shown-clause-stays
 returns-in_default-log_shown-clause-stays g c =
