@@ -1,4 +1,5 @@
-//! What no clause says of scripts and of printed texts: memory that suffices, and values from outside.
+//! What no clause says of scripts, of questions and of printed texts: memory that suffices, and values from
+//! outside.
 #![tactic(auto)]
 
 #[cfg(test)]
@@ -11,6 +12,8 @@ mod found;
 mod lines;
 #[cfg(test)]
 mod notation;
+#[cfg(test)]
+mod questions;
 #[cfg(test)]
 mod scripts;
 #[cfg(test)]
