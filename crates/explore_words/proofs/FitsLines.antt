@@ -1,174 +1,34 @@
 -- A question that is read fits its set.
-use Rattle.std.proofs.Common.{◌≡◌, ℕ, ◌+◌, ◌≤◌, ◌==◌, Bool, true, false, not, ◌&&◌, List, [], ◌∷◌, ◌++◌, length, Option, None, Some, Result, Ok, Err, refl, ◌∙◌, cond, arith}
+use Rattle.std.proofs.Common.{◌≡◌, ℕ, ◌+◌, ◌≤◌, ◌==◌, Bool, true, false, ◌&&◌, List, [], ◌∷◌, ◌++◌, length, Option, None, Some, Result, Ok, Err, refl, arith}
 use Rattle.std.specs.Prelude.{IfSome, codes, nat_le, nat_lt}
 use Rattle.std.specs.List.{list_all}
 use Rattle.std.specs.Str.{bytes_eq}
 use Rattle.std.specs.Str.Lines.{lines}
-use Rattle.std.proofs.lemmas.Bool.{and_parts}
 use Rattle.std.proofs.lemmas.List.Folds.{list_all-append}
-use Rattle.bson_doc.specs.Bind.{◌>>=◌}
 use Rattle.oplog_store.proofs.PlaceLemmas.{last_length}
 use Rattle.bson_doc.proofs.BindLemmas.{Gets, bind_gets, cond_gets, gets_more}
-use Rattle.set_model.specs.declared.command.Command.{Command}
 use Rattle.set_model.specs.Limits.{is_for}
 use Rattle.set_model.specs.Run.{AreSizes}
 use Rattle.script_words.specs.Commands.{words_at}
 use Rattle.script_words.specs.Set.{set_line}
 use Rattle.script_words.specs.Words.{Left, has_shape, number_at, word_at}
-use Rattle.script_words.specs.declared.rule.ScriptRule.{ScriptRule}
 use Rattle.script_words.specs.declared.set.SetLine.{SetLine}
 use Rattle.script_words.specs.declared.shape.Shape.TheVariants.{Words}
-use Rattle.script_words.specs.declared.verb.Verb.{Verb}
 use Rattle.script_words.proofs.CommandsFit.{Fit, IsIn, number_within, words_within}
-use Rattle.script_words.proofs.Gets.{both}
 use Rattle.fault_script.specs.Lines.{is_passed_over, text_of}
 use Rattle.fault_script.proofs.WholeFits.{line_sizes, set_sized}
 use Rattle.explore_words.specs.declared.fault.QuestionFault.{QuestionFault}
 use Rattle.explore_words.specs.declared.fault.QuestionRule.{QuestionRule}
-use Rattle.explore_words.specs.declared.looking.SightVerb.{SightVerb}
 use Rattle.explore_words.specs.declared.question.Act.{Act}
-use Rattle.explore_words.specs.declared.question.Look.{Look}
 use Rattle.explore_words.specs.declared.question.Question.{Question}
 use Rattle.explore_words.specs.declared.question.Want.{Want}
-use Rattle.explore_words.specs.declared.question.Want.TheVariants.{Event, Seen}
 use Rattle.explore_words.specs.declared.reading.Reading.{Reading}
-use Rattle.explore_words.specs.Commands.{any_node_at, event_at, is_star, names_one, sight_at, sight_verb, verb_at, wanted_verb_at}
-use Rattle.explore_words.specs.Fits.{fits_set, is_act_for, is_limit, is_look_for, is_node_or_any, is_want_for, is_within_sight, sizes_of}
+use Rattle.explore_words.specs.Commands.{verb_at}
+use Rattle.explore_words.specs.Fits.{fits_set, is_act_for, is_limit, is_want_for, sizes_of}
 use Rattle.explore_words.specs.Gives.{as_scripts}
-use Rattle.explore_words.specs.Question.{with_act, with_want, act_line, add_any, add_command, add_verb, and_then, begin_act, begin_want, end_act, end_acts, end_want, ended, lacks_line, limit_at, line_count, next_act, next_want, question, question_from, some_wants, start, whole, with_command, with_line, with_part, with_text, with_word, with_words}
-use Rattle.explore_words.specs.Texts.{cut_at_last, goes_on}
-use Rattle.explore_words.specs.Wants.{add_verb as add_wanted_verb, add_wanted, is_new, may_be_event, may_go_on, may_have, new_event, one_more_look, parts_of, want_line}
-use Rattle.explore_words.proofs.FitsTexts.{longer_fits}
-use Rattle.explore_words.proofs.FitsWords.{any_within, sight_within}
-
--- ---- reading, step by step
-
--- what the rules of scripts give
-scripts_gets : {A : Type 0} (read : Result A ScriptRule) (P : A → Type 0) → Gets read P → Gets (as_scripts read) P
-scripts_gets (Ok x) P holds = holds
-scripts_gets (Err rule) P holds = tt
-
-any_step : {A B : Type 0} (read : Result A QuestionRule) (later : A → Result B QuestionRule) (Q : B → Type 0) → ((x : A) → Gets (later x) Q) → Gets (read >>= later) Q
-any_step (Ok x) later Q each = each x
-any_step (Err rule) later Q each = tt
-
--- one more that passes
-pushed : {A : Type 0} (p : A → Bool) (xs : List A) (x : A) → p x ≡ true → list_all p xs ≡ true → list_all p (xs ++ x ∷ []) ≡ true
-pushed p xs x one all = list_all-append p xs (x ∷ []) ∙ both (list_all p xs) (p x && true) all (both (p x) true one refl)
-
--- ---- an act and a want of which some lines are read
-
-pub record IsActSoFar (nodes : ℕ) (act : Act) : Type 0 where
-  pub limit : is_limit act.limit ≡ true
-  pub few : line_count act ≤ 1000
-  pub commands : list_all (is_for nodes) act.commands ≡ true
-
-abbrev IsWantSoFar : ℕ → Want → Type 0
-IsWantSoFar nodes want = is_new want ≡ false → is_want_for nodes want ≡ true
-
--- ---- the lines of an act
-
-below : (a b : ℕ) → nat_lt a b ≡ true → a + 1 ≤ b
-below a b less = grind arith
-
-lines_more : (first : Bool) (count more : ℕ) → more ≡ count + 1 → (cond first (more + 1) more) ≡ (cond first (count + 1) count) + 1
-lines_more true count more same = rw same refl
-lines_more false count more same = same
-
-line_more : (act : Act) (command : Command) → line_count (add_command act command) ≡ line_count act + 1
-line_more act command = lines_more act.any_message (length act.commands) (length (act.commands ++ command ∷ [])) (last_length act.commands command)
-
-at_most : (count other most : ℕ) → count ≡ other → other ≤ most → count ≤ most
-at_most count other most same few = rw same few
-
-zero_few : (most : ℕ) → 0 ≤ most
-zero_few most = omega arith
-
--- of no line the first one comes
-first_line : (any : Bool) (count : ℕ) → ((cond any (count + 1) count) == 0) ≡ true → count + 1 ≤ 1000
-first_line true count none = grind arith
-first_line false count none = grind arith
-
-any_fits : (nodes : ℕ) (act : Act) (left : Left) → IsActSoFar nodes act → Gets (add_any act left) (IsActSoFar nodes)
-any_fits nodes act left so_far =
-    cond_gets (is_star left && lacks_line act) _ _ (IsActSoFar nodes)
-    (λ first. record {
-      limit = so_far.limit;
-      few = first_line act.any_message (length act.commands) (and_parts (is_star left) (lacks_line act) first).1;
-      commands = so_far.commands;
-    })
-    (λ other. tt)
-
-added_fits : (nodes : ℕ) (act : Act) (verb : Verb) (left : Left) → IsActSoFar nodes act → Gets (add_verb nodes act verb left) (IsActSoFar nodes)
-added_fits nodes act verb left so_far =
-    cond_gets (nat_lt (line_count act) 1000) _ _ (IsActSoFar nodes)
-    (λ room. cond_gets (names_one verb left) _ _ (IsActSoFar nodes) (λ one. any_fits nodes act left so_far)
-    (λ other. bind_gets (as_scripts (words_at nodes verb left)) _ (Fit nodes) (IsActSoFar nodes) (scripts_gets (words_at nodes verb left) (Fit nodes) (words_within nodes verb left))
-    (λ command fit. record {
-      limit = so_far.limit;
-      few = at_most (line_count (add_command act command)) (line_count act + 1) 1000 (line_more act command) (below (line_count act) 1000 room);
-      commands = pushed (is_for nodes) act.commands command fit so_far.commands;
-    })))
-    (λ full. tt)
-
-act_fits : (nodes : ℕ) (text : List ℕ) (act : Act) → IsActSoFar nodes act → Gets (act_line nodes text act) (IsActSoFar nodes)
-unfolding act_line
-act_fits nodes text act so_far = any_step (as_scripts (verb_at text)) _ (IsActSoFar nodes) (λ verb. added_fits nodes act verb.0 verb.1 so_far)
-
--- ---- the lines of a want
-
-new_fits : (nodes : ℕ) (verb : Verb) (left : Left) (text : List ℕ) → Gets (new_event nodes verb left text) (IsWantSoFar nodes)
-unfolding new_event
-new_fits nodes verb left text =
-    any_step (as_scripts (event_at nodes verb left)) _ (IsWantSoFar nodes) (λ event.
-    cond_gets (may_have event text) _ _ (IsWantSoFar nodes) (λ may. λ old. may) (λ other. tt))
-
-above : (n : ℕ) → nat_lt 0 (n + 1) ≡ true
-above n = grind arith
-
-some_pushed : {A : Type 0} (xs : List A) (x : A) → nat_lt 0 (length (xs ++ x ∷ [])) ≡ true
-some_pushed xs x = rw (last_length xs x) (above (length xs))
-
-look_added : (nodes : ℕ) (looks : List Look) (look : Look) → list_all (is_look_for nodes) looks ≡ true → is_look_for nodes look ≡ true → is_want_for nodes (Seen (looks ++ look ∷ [])) ≡ true
-look_added nodes looks look fit one =
-    both (nat_lt 0 (length (looks ++ look ∷ []))) (list_all (is_look_for nodes) (looks ++ look ∷ [])) (some_pushed looks look) (pushed (is_look_for nodes) looks look one fit)
-
-look_fits : (nodes : ℕ) (verb : SightVerb) (left : Left) (text : List ℕ) (looks : List Look) → list_all (is_look_for nodes) looks ≡ true
-    → Gets (one_more_look nodes verb left text looks) (IsWantSoFar nodes)
-unfolding one_more_look
-look_fits nodes verb left text looks fit =
-    bind_gets (as_scripts (any_node_at nodes left)) _ (λ x. is_node_or_any nodes x.0 ≡ true) (IsWantSoFar nodes) (scripts_gets (any_node_at nodes left) (λ x. is_node_or_any nodes x.0 ≡ true) (any_within nodes left)) (λ node ours.
-    bind_gets (as_scripts (sight_at verb node.1)) _ (λ sight. is_within_sight sight ≡ true) (IsWantSoFar nodes) (scripts_gets (sight_at verb node.1) (λ sight. is_within_sight sight ≡ true) (sight_within verb node.1)) (λ sight within. λ old.
-    look_added nodes looks (record { node = node.0; sight = sight; text = text }) fit (both (is_node_or_any nodes node.0) (is_within_sight sight) ours within)))
-
-looks_of : (nodes : ℕ) (looks : List Look) → IsWantSoFar nodes (Seen looks) → list_all (is_look_for nodes) looks ≡ true
-looks_of nodes [] so_far = refl
-looks_of nodes (look ∷ looks) so_far = (and_parts (nat_lt 0 (length (look ∷ looks))) (list_all (is_look_for nodes) (look ∷ looks)) (so_far refl)).1
-
-verb_fits : (nodes : ℕ) (verb : Verb) (kind : Option SightVerb) (left : Left) (text : List ℕ) (want : Want) → IsWantSoFar nodes want
-    → Gets (add_wanted_verb nodes verb kind left text want) (IsWantSoFar nodes)
-verb_fits nodes verb None left text want so_far = cond_gets (may_be_event verb left want) _ _ (IsWantSoFar nodes) (λ may. new_fits nodes verb left text) (λ other. tt)
-verb_fits nodes verb (Some sight) left text (Event event known) so_far = tt
-verb_fits nodes verb (Some sight) left text (Seen looks) so_far = look_fits nodes sight left text looks (looks_of nodes looks so_far)
-
-wanted_fits : (nodes : ℕ) (line : List ℕ) (want : Want) → IsWantSoFar nodes want → Gets (add_wanted nodes line want) (IsWantSoFar nodes)
-unfolding add_wanted
-wanted_fits nodes line want so_far =
-    any_step (parts_of (cut_at_last (codes " => ") line)) _ (IsWantSoFar nodes) (λ parts.
-    any_step (as_scripts (wanted_verb_at parts.0)) _ (IsWantSoFar nodes) (λ verb.
-    verb_fits nodes verb.0 (sight_verb verb.0) verb.1 parts.1 want so_far))
-
-not_new : (a b : Bool) → (a && not b) ≡ true → b ≡ false
-not_new true false is = refl
-not_new true true is = absurd cc
-not_new false b is = absurd cc
-
-want_fits : (nodes : ℕ) (line : List ℕ) (want : Want) → IsWantSoFar nodes want → Gets (want_line nodes line want) (IsWantSoFar nodes)
-want_fits nodes line want so_far =
-    cond_gets (goes_on line && not (is_new want)) _ _ (IsWantSoFar nodes)
-    (λ goes. cond_gets (may_go_on want line) _ _ (IsWantSoFar nodes)
-    (λ may. λ old. longer_fits nodes want line (so_far (not_new (goes_on line) (is_new want) goes)) may) (λ other. tt))
-    (λ other. wanted_fits nodes line want so_far)
+use Rattle.explore_words.specs.Question.{with_act, with_want, act_line, and_then, begin_act, begin_want, end_act, end_acts, end_want, ended, lacks_line, limit_at, line_count, next_act, next_want, question, question_from, some_wants, start, whole, with_command, with_line, with_part, with_text, with_word, with_words}
+use Rattle.explore_words.specs.Wants.{is_new, want_line}
+use Rattle.explore_words.proofs.FitsParts.{IsActSoFar, IsWantSoFar, act_fits, any_step, below, scripts_gets, want_fits, zero_few}
 
 -- ---- all that is read so far
 
@@ -236,9 +96,9 @@ act_ends set reading (Some act) is after =
         sizes = after.sizes;
         parts = record {
           beginning = after.parts.beginning;
-          acts = pushed (is_act_for set.nodes) reading.acts act
-              (whole_act (is_limit act.limit) (list_all (is_for set.nodes) act.commands) (line_count act) so_far.limit some so_far.few so_far.commands)
-              after.parts.acts;
+          acts =
+              let whole = whole_act (is_limit act.limit) (list_all (is_for set.nodes) act.commands) (line_count act) so_far.limit some so_far.few so_far.commands in
+              rw (list_all-append (is_act_for set.nodes) reading.acts (act ∷ []), after.parts.acts, whole) refl;
           few_acts = one_more reading.acts act reading.act 1000 is after.parts.few_acts;
           act = tt;
           wants = after.parts.wants;
@@ -269,7 +129,7 @@ want_ends set reading (Some want) is acted =
             acts = parts.acts;
             few_acts = parts.few_acts;
             act = parts.act;
-            wants = pushed (is_want_for set.nodes) reading.wants want (opened reading.want want (IsWantSoFar set.nodes) is parts.want old) parts.wants;
+            wants = rw (list_all-append (is_want_for set.nodes) reading.wants (want ∷ []), parts.wants, opened reading.want want (IsWantSoFar set.nodes) is parts.want old) refl;
             few_wants = one_more reading.wants want reading.want 100 is parts.few_wants;
             want = tt;
           };
@@ -378,7 +238,7 @@ command_fits set reading text after =
       known = after.known;
       sizes = after.sizes;
       parts = record {
-        beginning = pushed (is_for set.nodes) reading.beginning command fit after.parts.beginning;
+        beginning = rw (list_all-append (is_for set.nodes) reading.beginning (command ∷ []), after.parts.beginning, fit) refl;
         acts = after.parts.acts;
         few_acts = after.parts.few_acts;
         act = after.parts.act;

@@ -1,4 +1,5 @@
 mod FitsLines
+mod FitsParts
 mod FitsTexts
 mod FitsWords
 mod QuestionRead
