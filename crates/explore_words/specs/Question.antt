@@ -223,7 +223,7 @@ abbrev pub whole : Reading → Option SetLine → Result Question QuestionRule
 whole reading None = Err (Script NoSetLine)
 whole reading (Some set) = ended reading set
 
--- what comes of a line of this number, where it has no fault
+-- the rest of the reading, if the line of this number has no fault
 abbrev pub and_then : {A B : Type 0} → ℕ → Result A QuestionRule → (A → Result B QuestionFault)
     → Result B QuestionFault
 and_then number (Err rule) later = Err (record { line = number; rule = rule })
