@@ -21,12 +21,12 @@ use Rattle.question_laws.specs.Laws.{FollowersAreRuns}
 
 -- ---- the nodes stay as many
 
-kept_count : (nodes : List Node) (n : ℕ) (node : Node) → length (slice_set nodes n node) ≡ length nodes
+pub kept_count : (nodes : List Node) (n : ℕ) (node : Node) → length (slice_set nodes n node) ≡ length nodes
 kept_count [] n node = refl
 kept_count (first ∷ nodes) zero node = refl
 kept_count (first ∷ nodes) (suc n) node = ap suc (kept_count nodes n node)
 
-count_along : (world : World) (events : List Event) → length (world_after world events).nodes ≡ length world.nodes
+pub count_along : (world : World) (events : List Event) → length (world_after world events).nodes ≡ length world.nodes
 count_along world [] = refl
 count_along world (event ∷ events) = count_along (step world event).world events ∙ by (event_plan world event)
   where
@@ -36,8 +36,12 @@ count_along world (event ∷ events) = count_along (step world event).world even
 
 -- ---- each event fits
 
+pub fit_together : (world : World) (front rest : List Event) → AllFit world front → AllFit (world_after world front) rest → AllFit world (front ++ rest)
+fit_together world [] rest fit others = others
+fit_together world (event ∷ front) rest fit others = (fit.0, fit_together (step world event).world front rest fit.1 others)
+
 module _ (nodes : ℕ) where
-  fits_one : (world : World) (command : Command) → length world.nodes ≡ nodes → AreFor nodes (command ∷ []) → Fits world (event_of command)
+  pub fits_one : (world : World) (command : Command) → length world.nodes ≡ nodes → AreFor nodes (command ∷ []) → Fits world (event_of command)
   fits_one world command count are = record {
     command = subst (λ k. is_for k command ≡ true) (sym count) (are command (inl refl)).0;
     documents = (are command (inl refl)).1;
@@ -49,15 +53,16 @@ module _ (nodes : ℕ) where
       by None = refl
       by (Some plan) = refl
 
-  fit_together : (world : World) (front rest : List Event) → AllFit world front → AllFit (world_after world front) rest → AllFit world (front ++ rest)
-  fit_together world [] rest fit others = others
-  fit_together world (event ∷ front) rest fit others = (fit.0, fit_together (step world event).world front rest fit.1 others)
+  -- one command of the set
+  pub of_command : (command : Command) → is_for nodes command ≡ true → IfSome (write_of command) IsSoundWrite → AreFor nodes (command ∷ [])
+  of_command command is_for_set sound found (inl same) = subst (λ (c : Command). (is_for nodes c ≡ true) × IfSome (write_of c) IsSoundWrite) same (is_for_set, sound)
+  of_command command is_for_set sound found (inr none) = absurd none
 
   only_first : (command : Command) (lines : List Command) → AreFor nodes (command ∷ lines) → AreFor nodes (command ∷ [])
   only_first command lines are found (inl same) = are found (inl same)
   only_first command lines are found (inr none) = absurd none
 
-  fit_all : (world : World) (lines : List Command) → length world.nodes ≡ nodes → AreFor nodes lines → AllFit world (map event_of lines)
+  pub fit_all : (world : World) (lines : List Command) → length world.nodes ≡ nodes → AreFor nodes lines → AllFit world (map event_of lines)
   fit_all world [] count are = tt
   fit_all world (command ∷ lines) count are = (
     fits_one world command count (only_first command lines are),
@@ -90,7 +95,7 @@ module _ (nodes : ℕ) where
 
 pub followers_runs : FollowersAreRuns
 followers_runs question acts events has follows = subst (AllFit start) (sym follows.1)
-    (fit_together nodes start (beginning question) follows.0 (fit_all nodes start question.beginning count has.beginning)
+    (fit_together start (beginning question) follows.0 (fit_all nodes start question.beginning count has.beginning)
     (fit_from nodes question has.acts acts (begun question) (λ place. 0) follows.0 (count_along start (beginning question) ∙ count) follows.2))
   where
     nodes : ℕ

@@ -1,7 +1,7 @@
-mod Acts
-mod Fitting
-mod Lines
-mod Plain
-mod Search
-mod Texts
-mod Wants
+pub mod Acts
+pub mod Fitting
+pub mod Lines
+pub mod Plain
+pub mod Search
+pub mod Texts
+pub mod Wants
