@@ -43,7 +43,7 @@ neither_there (x ∷ xs) (y ∷ ys) (suc n) same there = neither_there xs ys n (
 
 -- ---- dead at nodes and in worlds that are alike
 
-dead_alike : (one two : Node) (message : Message) → AlikeNodes one two → is_dead one message ≡ is_dead two message
+pub dead_alike : (one two : Node) (message : Message) → AlikeNodes one two → is_dead one message ≡ is_dead two message
 dead_alike one two message alike =
     ap (λ (v : Vote). is_dead_at (if one.up then one.term else v.term) one.role message.term message.body) alike.records.vote
     ∙ ap (λ (n : Node). is_dead n message) alike.others
@@ -75,7 +75,7 @@ come_on one two three first second = record {
   point = first.point ∙ second.point;
 }
 
-nodes_on : (one two three : Node) → AlikeNodes one two → AlikeNodes two three → AlikeNodes one three
+pub nodes_on : (one two three : Node) → AlikeNodes one two → AlikeNodes two three → AlikeNodes one three
 nodes_on one two three first second = record {
   others = ap (λ (n : Node). record n { records = three.records; tally = three.tally }) first.others ∙ second.others;
   records = come_on (kept one.records) (kept two.records) (kept three.records) first.records second.records;
@@ -114,7 +114,7 @@ at_after P world number node outcome there new old m n is = elim (cases_eq numbe
   | inr other ↦ old m n (sym (get_set_other world.nodes number m outcome.node other) ∙ is)
 ]
 
-not_dead_before : (before after : Bool) → (before ≡ true → after ≡ true) → after ≡ false → before ≡ false
+pub not_dead_before : (before after : Bool) → (before ≡ true → after ≡ true) → after ≡ false → before ≡ false
 not_dead_before true after stays alive = absurd (cc (stays refl, alive))
 not_dead_before false after stays alive = refl
 

@@ -1,7 +1,7 @@
-mod AlikeBodies
+pub mod AlikeBodies
 pub mod AlikeEvents
-mod AlikePlans
-mod AlikeRows
+pub mod AlikePlans
+pub mod AlikeRows
 pub mod AlikeWorlds
-mod DeadLemmas
+pub mod DeadLemmas
 pub mod Untaken

@@ -7,31 +7,27 @@ use Rattle.std.specs.Prelude.{IfSome, is_some}
 use Rattle.commit_machine.proofs.Growth.{any_is}
 use Rattle.repl_msg.specs.declared.message.Message.{Message}
 use Rattle.rs_optime.specs.Membership.{In}
-use Rattle.safety_laws.specs.Quiet.{Stays}
 use Rattle.safety_laws.proofs.Places.{get_in}
 use Rattle.set_model.specs.declared.command.Command.{Command}
 use Rattle.set_model.specs.declared.command.Command.TheVariants.{Deliver}
 use Rattle.set_model.specs.declared.command.Event.{Event}
-use Rattle.set_model.specs.World.{World, is_delivery, step, takes, taking, task}
+use Rattle.set_model.specs.World.{World, step, taking}
 use Rattle.explore_laws.specs.Alike.{AlikeWorlds}
 use Rattle.explore_laws.specs.Dead.{has_dead, is_dead_in}
 use Rattle.explore_laws.specs.Laws.{AreSame, DeadMessagesChangeNothing}
 use Rattle.explore_laws.specs.Settled.{AreSettled}
 use Rattle.explore_laws.proofs.AlikeEvents.{AreDone, are_done, some_any}
-use Rattle.explore_laws.proofs.Untaken.{are_untaken}
 use Rattle.explore_words.specs.declared.question.Act.{Act}
 use Rattle.explore_words.specs.declared.question.Question.{Question}
 use Rattle.explore_words.specs.declared.question.Want.{Want}
-use Rattle.explore_words.specs.declared.question.Want.TheVariants.{Event as Happens, Seen}
-use Rattle.explore_words.specs.declared.question.WantedEvent.TheVariants as wanted
 use Rattle.question_laws.specs.Covered.{IsCovered, IsFit, goes_on}
 use Rattle.question_laws.specs.Doing.{act_done, event_of, lines_done, lines_of, world_after}
 use Rattle.question_laws.specs.Following.{Doing, LeadsTo, MayDo, Standing, used_more}
-use Rattle.question_laws.specs.Lawful.{AreLawful, HasNoNumber, IsLawful, IsLawfulWant}
+use Rattle.question_laws.specs.Lawful.{HasNoNumber, IsLawful}
 use Rattle.question_laws.specs.Laws.{ActsAreCovered}
-use Rattle.question_laws.specs.Meeting.{IsMet, Leaves, LeavesAfter, unseen}
+use Rattle.question_laws.specs.Meeting.{Leaves, unseen}
+use Rattle.question_laws.proofs.DeadEvents.{dead_stays, leaves_all, leaves_same}
 use Rattle.question_laws.proofs.Lines.{GoOver, SentAlike, all_lawful, all_met, go_over, lines_same, lines_settled, still_sent}
-use Rattle.question_laws.proofs.Texts.{untaken_idle}
 use Rattle.question_laws.proofs.Wants.{unseen_same}
 
 -- ---- places
@@ -54,37 +50,8 @@ begun_alike one two = record {
   since = drop_of_length-le one.messages {i = length one.messages} (omega arith) ∙ sym (drop_of_length-le two.messages {i = length two.messages} (omega arith));
 }
 
--- ---- the delivery of a dead message
-
 abbrev delivery : ℕ → Event
 delivery number = event_of (Deliver number)
-
-module _ (nothing_changes : DeadMessagesChangeNothing) (world : World) (number : ℕ) (message : Message) (there : slice_get world.messages number ≡ Some message)
-    (dead : is_dead_in world message ≡ true) where
-  takes_it : task world (Deliver number) ≡ takes message
-  takes_it = ap taking there
-
-  dead_stays : Stays world (delivery number)
-  dead_stays = nothing_changes world (delivery number) message takes_it dead
-
-  meets_none : (want : Want) → IsLawfulWant want → IsMet want world (delivery number) → ⊥
-  meets_none (Happens (wanted.Delivery route) text) may met =
-      cc (may.1, untaken_idle (step world (delivery number)).reply text (are_untaken world (delivery number) message takes_it dead) met.1)
-  meets_none (Happens (wanted.Heartbeat route) text) may met = cc met.0.2
-  meets_none (Happens (wanted.Report route) text) may met = cc met.0.2
-  meets_none (Happens (wanted.Common route) text) may met = cc met.0.2
-  meets_none (Happens (wanted.Command (Some node) asked) text) may met = cc (ap is_delivery met.0, may.0)
-  meets_none (Happens (wanted.Command None asked) text) may met = cc (ap is_delivery met.0, may.0)
-  meets_none (Seen looks) may met = absurd met
-
-  leaves_same : (wants next : List Want) → AreLawful wants → unseen world wants ≡ wants → LeavesAfter world (delivery number) wants next → next ≡ wants
-  leaves_same [] next lawful met leaves = leaves
-  leaves_same (want ∷ wants) next lawful met (inl is) = absurd (meets_none want (lawful want (inl refl)) is.0)
-  leaves_same (want ∷ wants) next lawful met (inr is) = is.1 ∙ ap (λ (w : World). unseen w (want ∷ wants)) dead_stays ∙ met
-
-  leaves_all : (wants : List Want) → AreLawful wants → unseen world wants ≡ wants → LeavesAfter world (delivery number) wants wants
-  leaves_all [] lawful met = refl
-  leaves_all (want ∷ wants) lawful met = inr (meets_none want (lawful want (inl refl)), sym (ap (λ (w : World). unseen w (want ∷ wants)) dead_stays ∙ met))
 
 module _ (nothing_changes : DeadMessagesChangeNothing) (one two : World) (settled : AreSettled one) (alike : AlikeWorlds one two) (lines : List Command) (unnumbered : HasNoNumber lines) where
   abbrev before : ℕ
@@ -118,18 +85,18 @@ module _ (nothing_changes : DeadMessagesChangeNothing) (one two : World) (settle
     dead = λ given. rest.dead (λ is. ap has_dead two_stays ∙ given (sym (ap has_dead one_stays) ∙ is));
     leaves = λ wants left lawful met leaves. (
       wants,
-      leaves_all nothing_changes two second found second_is two_dead wants lawful (sym (unseen_same one two settled alike wants) ∙ met),
+      leaves_all nothing_changes two (Deliver second) found (ap taking second_is) two_dead wants lawful (sym (unseen_same one two settled alike wants) ∙ met),
       rest.leaves wants left lawful (ap (λ (w : World). unseen w wants) one_stays ∙ met)
           (subst (λ next. Leaves (step one (delivery first)).world (lines_done before (step one (delivery first)).world lines) next left)
-          (leaves_same nothing_changes one first message first_is one_dead wants leaves.0 lawful met leaves.1) leaves.2),
+          (leaves_same nothing_changes one (Deliver first) message (ap taking first_is) one_dead wants leaves.0 lawful met leaves.1) leaves.2),
     );
   }
     where
       one_stays : (step one (delivery first)).world ≡ one
-      one_stays = dead_stays nothing_changes one first message first_is one_dead
+      one_stays = dead_stays nothing_changes one (Deliver first) message (ap taking first_is) one_dead
 
       two_stays : (step two (delivery second)).world ≡ two
-      two_stays = dead_stays nothing_changes two second found second_is two_dead
+      two_stays = dead_stays nothing_changes two (Deliver second) found (ap taking second_is) two_dead
 
       rest : GoOver (step one (delivery first)).world (step two (delivery second)).world (lines_done before (step one (delivery first)).world lines) (lines_done other (step two (delivery second)).world lines)
       rest = subst (λ (w : World). GoOver w (step two (delivery second)).world (lines_done before w lines) (lines_done other (step two (delivery second)).world lines)) (sym one_stays)
@@ -214,13 +181,13 @@ module _ (nothing_changes : DeadMessagesChangeNothing) (question : Question) (of
         where
           stays : world_after of.world (act_done of.world act (Some number)) ≡ of.world
           stays = ap (λ (l : List Command). world_after of.world (lines_done (length of.world.messages) of.world (Deliver number ∷ l))) none
-              ∙ dead_stays nothing_changes of.world number message there dead
+              ∙ dead_stays nothing_changes of.world (Deliver number) message (ap taking there) dead
 
           alone : Leaves of.world (delivery number ∷ []) of.left left
           alone = subst (λ (l : List Command). Leaves of.world (lines_done (length of.world.messages) of.world (Deliver number ∷ l)) of.left left) none leaves
 
           left_is : left ≡ of.left
-          left_is = alone.2 ∙ leaves_same nothing_changes of.world number message there dead of.left alone.0 fit.wants fit.met alone.1
+          left_is = alone.2 ∙ leaves_same nothing_changes of.world (Deliver number) message (ap taking there) dead of.left alone.0 fit.wants fit.met alone.1
 
       -- more follows, and the other has a dead message too
       with_dead : is_dead_in of.world message ≡ true → (not (length act.commands == 0)) ≡ true → Covers question by (led (Some number) left)

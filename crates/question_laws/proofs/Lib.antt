@@ -1,4 +1,5 @@
 pub mod Acts
+pub mod DeadEvents
 pub mod Fitting
 pub mod Lines
 pub mod Plain

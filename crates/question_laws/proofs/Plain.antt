@@ -43,10 +43,10 @@ use Rattle.explore_laws.proofs.AlikeEvents.{step_nowhere, step_whole}
 use Rattle.question_laws.specs.Lawful.{may_name}
 
 -- no number of a message stands in the reply
-abbrev IsPlain : Outcome → Type 0
+abbrev pub IsPlain : Outcome → Type 0
 IsPlain outcome = unnumbered outcome.reply ≡ outcome.reply
 
-abbrev IsPlainPlan : Plan → Type 0
+abbrev pub IsPlainPlan : Plan → Type 0
 IsPlainPlan plan = IsPlain (done plan None)
 
 end_if : (test : Bool) (one two : Outcome) → IsPlain one → IsPlain two → IsPlain (if test then one else two)
@@ -130,7 +130,7 @@ module _ (node : Node) where
       by : (start : Node) → IsPlainPlan (recovered start)
       by start = plan_if (has_more (kept start.records)) _ _ refl refl
 
-  plain_row : (nodes next : ℕ) (there : Bool) (command : Command) → may_name command ≡ false → IsPlainPlan (row nodes next there node command)
+  pub plain_row : (nodes next : ℕ) (there : Bool) (command : Command) → may_name command ≡ false → IsPlainPlan (row nodes next there node command)
   plain_row nodes next there (commands.Campaign number) is = absurd (cc is)
   plain_row nodes next there (commands.DryRun number) is = absurd (cc is)
   plain_row nodes next there (commands.Heartbeat number to) is = absurd (cc is)

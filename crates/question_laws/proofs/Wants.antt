@@ -57,12 +57,12 @@ same_itself one two command is = record { task = same_task one two command is; c
 
 -- ---- events
 
-first_delivery : (command : Command) → is_delivery (at_first command) ≡ is_delivery command
+pub first_delivery : (command : Command) → is_delivery (at_first command) ≡ is_delivery command
 first_delivery (commands.Deliver message) = refl
 first_delivery (commands.DeliverLatest from to) = refl
 first_delivery command = refl
 
-first_names : (command : Command) → may_name (at_first command) ≡ may_name command
+pub first_names : (command : Command) → may_name (at_first command) ≡ may_name command
 first_names (commands.Deliver message) = refl
 first_names (commands.DeliverLatest from to) = refl
 first_names command = refl
