@@ -1,0 +1,5 @@
+mod ChainLemmas
+mod NodeLemmas
+mod PlaceLemmas
+mod RowLemmas
+pub mod Tables

@@ -1,0 +1,5 @@
+pub mod Alike
+pub mod Chains
+pub mod Growing
+pub mod Numbers
+pub mod Rows
