@@ -1,6 +1,6 @@
 -- Each action of RaftMongo happens: in a run of the machine with two elections, a count, a rollback and a
 -- restart.
-use Rattle.std.proofs.Common.{◌≡◌, ◌∙◌, inl, inr, refl, arith, ap, sym, subst, ℕ, zero, suc, Bool, true, false, Option, None, Some, List, [], ◌∷◌, ◌++◌, length}
+use Rattle.std.proofs.Common.{◌≡◌, ◌∙◌, inl, inr, refl, arith, ap, sym, subst, ℕ, zero, suc, Bool, true, false, Option, None, Some, List, [], ◌∷◌, ◌++◌}
 use Rattle.std.proofs.lemmas.Bool.{and_parts}
 use Rattle.std.specs.Prelude.{◌&&◌, not}
 use Rattle.rs_optime.specs.declared.optime.OpTime.{OpTime}

@@ -1,6 +1,6 @@
 -- Each action of MongoRaftReconfig happens: in a run of the machine with two elections, a count, a
 -- reconfiguration, a rollback and a restart.
-use Rattle.std.proofs.Common.{◌≡◌, ◌∙◌, inl, inr, refl, arith, ap, sym, subst, ℕ, zero, suc, true, Option, None, Some, List, [], ◌∷◌, ◌++◌, length}
+use Rattle.std.proofs.Common.{◌≡◌, ◌∙◌, inl, inr, refl, arith, ap, sym, subst, ℕ, zero, suc, true, Option, None, Some, List, [], ◌∷◌, ◌++◌}
 use Rattle.rs_optime.specs.declared.optime.OpTime.{OpTime}
 use Rattle.oplog_entry.specs.declared.entry.Entry.{Entry}
 use Rattle.oplog_entry.specs.declared.entry.Op.TheVariants.{Noop}

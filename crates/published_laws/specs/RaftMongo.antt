@@ -60,7 +60,7 @@ Init = record { servers = λ number. first_server }
 
 -- ---- one server and another
 
--- in a term, a server may vote for one with this log (notBehind)
+-- in a term, a server may vote for one with this log
 pub record CanVote (term : ℕ) (voter candidate : Server) : Type 0 where
   pub first : (voter.currentTerm < term) ⊎ ((voter.currentTerm ≡ term) × (voter.votedFor ≡ None))
   pub log : AtMost (last_of voter.log) (last_of candidate.log)
