@@ -1,5 +1,5 @@
 -- The delivery of a dead message leaves the world and the wants as they were.
-use Rattle.std.proofs.Common.{◌≡◌, ◌∙◌, inl, inr, ap, sym, refl, ℕ, true, false, Bool, None, Some, List, [], ◌∷◌}
+use Rattle.std.proofs.Common.{◌≡◌, ◌∙◌, inl, inr, ap, sym, refl, true, false, None, Some, List, [], ◌∷◌}
 use Rattle.repl_msg.specs.declared.message.Message.{Message}
 use Rattle.safety_laws.specs.Quiet.{Stays}
 use Rattle.set_model.specs.declared.command.Command.{Command}
