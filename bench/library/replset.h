@@ -75,8 +75,8 @@ enum {
 uint32_t replset_open(uint32_t nodes, uint32_t voters, uint32_t members, uint32_t line, replset **set);
 
 /*
- * Makes an independent set that has come just as far: neither sees what is done with the other. The copy does
- * the events so far again as it is first used. `*copy` is written only at REPLSET_OK.
+ * Makes an independent set that has come just as far: neither sees what is done with the other. It takes the
+ * time of the set's logs and messages, and shares the rest. `*copy` is written only at REPLSET_OK.
  */
 uint32_t replset_copy(replset *set, replset **copy);
 

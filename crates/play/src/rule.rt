@@ -1,4 +1,7 @@
 // Why a line isn't done.
+ghost use Rattle.std.specs.Prelude.{◌≡◌, ◌++◌, OnOk, string_bytes};
+ghost use Rattle.play.specs.Lines.{bad_line_text, own_name};
+
 use bson_doc::Mem;
 use fault_script::{ScriptFault, ScriptRule};
 use script_words::LineError;
@@ -30,6 +33,9 @@ pub enum PlayError {
 }
 
 impl From<LineRule> for PlayError {
+    ghost use Rattle.play.specs.declared.rule.PlayError.TheVariants.{Rule};
+
+    ghost from_gives = { λ rule error. error ≡ Rule rule };
 
     fn from(rule: LineRule) -> Self {
         PlayError::Rule(rule)
@@ -37,6 +43,10 @@ impl From<LineRule> for PlayError {
 }
 
 impl From<ScriptRule> for PlayError {
+    ghost use Rattle.play.specs.declared.rule.LineRule.TheVariants.{Script};
+    ghost use Rattle.play.specs.declared.rule.PlayError.TheVariants.{Rule};
+
+    ghost from_gives = { λ rule error. error ≡ Rule (Script rule) };
 
     fn from(rule: ScriptRule) -> Self {
         PlayError::Rule(LineRule::Script(rule))
@@ -44,6 +54,9 @@ impl From<ScriptRule> for PlayError {
 }
 
 impl From<LineError> for PlayError {
+    ghost use Rattle.play.specs.Lines.{play_error};
+
+    ghost from_gives = { λ line_error error. error ≡ play_error line_error };
 
     fn from(error: LineError) -> Self {
         match error {
@@ -54,6 +67,9 @@ impl From<LineError> for PlayError {
 }
 
 impl From<AllocError> for PlayError {
+    ghost use Rattle.play.specs.declared.rule.PlayError.TheVariants.{Memory};
+
+    ghost from_gives = { λ _ error. error ≡ Memory };
 
     fn from(_: AllocError) -> Self {
         PlayError::Memory
@@ -62,7 +78,9 @@ impl From<AllocError> for PlayError {
 
 /// Appends what is said of a bad line of this number, as of a script's first faulty line. After out of memory
 /// a part may be appended.
-pub fn write_bad_line(line: u32, rule: LineRule, out: &mut String) -> Mem<()> {
+pub fn write_bad_line(line: u32, rule: LineRule, out: &mut String) -> Mem<()>
+    ensures { OnOk result (string_bytes out.new ≡ string_bytes out.old ++ bad_line_text line rule) }
+{
     match rule {
         LineRule::Script(rule) => write_fault(&ScriptFault { line, rule }, out),
         LineRule::LineFeed => write_own(line, "LineFeed", out),
@@ -72,7 +90,9 @@ pub fn write_bad_line(line: u32, rule: LineRule, out: &mut String) -> Mem<()> {
     }
 }
 
-fn write_own(line: u32, name: &str, out: &mut String) -> Mem<()> {
+fn write_own(line: u32, name: &str, out: &mut String) -> Mem<()>
+    ensures { OnOk result (string_bytes out.new ≡ string_bytes out.old ++ own_name line name.now) }
+{
     out.push_str("line ")?;
     write_number(u64::from(line), out)?;
     out.push_str(": ")?;
