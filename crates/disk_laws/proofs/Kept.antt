@@ -1,5 +1,5 @@
 -- A node's records have what the machine has of it durably, in every image.
-use Rattle.std.proofs.Common.{◌≡◌, ◌∙◌, inl, inr, ap, sym, subst, arith, not, ◌&&◌, ◌==◌, eqb-true, ℕ, true, Option, None, Some, List, [], ◌∷◌, ◌++◌}
+use Rattle.std.proofs.Common.{◌≡◌, ◌∙◌, inl, inr, ap, sym, subst, arith, not, ◌&&◌, ◌==◌, eqb-true, ◌≤◌, ℕ, true, Option, None, Some, List, [], ◌∷◌, ◌++◌}
 use Rattle.std.proofs.lemmas.Bool.{and_parts, not-true}
 use Rattle.rs_optime.specs.Order.{AtMost, is_before}
 use Rattle.rs_optime.specs.declared.optime.OpTime.{OpTime}
@@ -88,6 +88,11 @@ module _ (sizes : Sizes) (events : List Event) (are : AreSizes sizes) (is : IsRu
 
   up : IsUp (state_of rows_tied deliveries_tied sizes events are is h) primary
   up = (up_of rows_tied deliveries_tied sizes events are is h m primary committed.node_at).1
+
+  -- its term is one that was won
+  pub positive : 1 ≤ primary.term
+  positive = (inv.self_vote m (snapshot_of primary) (had_of rows_tied deliveries_tied sizes events are is h h m primary committed.node_at (omega arith))
+      (λ secondary. absurd (cc (secondary, ap role_of committed.role)))).1
 
   -- it is durable at the primary itself
   low : AtMost at primary.durable

@@ -3,4 +3,4 @@
 
 mod laws;
 
-pub use laws::counted_entries_stay;
+pub use laws::{acknowledged_entries_stay, counted_entries_stay};
