@@ -35,26 +35,26 @@ static void play(replset *set, const char *lines)
 
 int main(void)
 {
-    replset *set, *other;
+    replset set = REPLSET_NONE, other = REPLSET_NONE;
     must(replset_open(3, 3, 3, 1, &set), "replset_open");
-    play(set, "campaign n0\ndeliver n0 n1\ndeliver n1 n0\ndrain n0\ninsert n0 t {_id: 1}\n");
-    must(replset_copy(set, &other), "replset_copy");
+    play(&set, "campaign n0\ndeliver n0 n1\ndeliver n1 n0\ndrain n0\ninsert n0 t {_id: 1}\n");
+    must(replset_copy(&set, &other), "replset_copy");
 
     puts("n1 fetches the write:");
-    play(set, "heartbeat n0 n1\ndeliver n0 n1\nfetch n1\ndeliver n1 n0\ndeliver n0 n1\napply n1\n");
-    play(set, "read n1 local t 1\n");
+    play(&set, "heartbeat n0 n1\ndeliver n0 n1\nfetch n1\ndeliver n1 n0\ndeliver n0 n1\napply n1\n");
+    play(&set, "read n1 local t 1\n");
 
     puts("n1 is elected without it:");
-    play(other, "campaign n1\ndeliver n1 n2\ndeliver n2 n1\ndrain n1\nread n1 local t 1\n");
+    play(&other, "campaign n1\ndeliver n1 n2\ndeliver n2 n1\ndrain n1\nread n1 local t 1\n");
 
     puts("a bad line changes nothing:");
     char text[64];
     size_t size;
-    if (replset_step(set, "par", 3, text, sizeof text, &size) != REPLSET_BAD_LINE)
+    if (replset_step(&set, "par", 3, text, sizeof text, &size) != REPLSET_BAD_LINE)
         return 1;
     fwrite(text, 1, size, stdout);
 
-    replset_free(other);
-    replset_free(set);
+    replset_free(&other);
+    replset_free(&set);
     return 0;
 }

@@ -6,14 +6,18 @@
  * `thread` and `end` are refused. Nothing is random, and no clock is read: the same lines get the same
  * replies.
  *
- * OWNERSHIP. `replset_open` and `replset_copy` make a set, which belongs to the caller until `replset_free`
- * takes it back. Everything else belongs to the caller all the time: the library keeps no pointer to a line,
- * a buffer or a size that it was passed, and hands out no pointer into its own memory.
+ * OWNERSHIP. A `replset` is a handle, which the caller keeps: it leads to a set, or nowhere. It begins as
+ * REPLSET_NONE. `replset_open` and `replset_copy` let it lead to a new set, and give back the one that it led
+ * to before; `replset_free` gives that back, and the handle leads nowhere again. Everything else belongs to
+ * the caller all the time: the library keeps no pointer to a line, a buffer or a size that it was passed.
  *
- * POINTERS. No pointer may be null, but a line or a buffer of length 0 at the calls by name. A set that was
- * given back, or that no call made, may not be passed: nothing tests for it, as nothing does for a pointer
- * that was freed. What a pointer leads to may not overlap what another one of the same call leads to. Any
- * bytes may stand in a line: it need be neither UTF-8 nor end in a zero byte, which is a byte like any other.
+ * HANDLES. A call with a handle that leads nowhere answers REPLSET_NO_SET, and giving back does nothing then:
+ * twice is as once. A handle may be moved to another place, but of two with the same bytes only one may be
+ * used from then on: nothing tests for that, as nothing does for a pointer that was freed.
+ *
+ * POINTERS. No pointer may be null, but a line or a buffer of length 0 at the calls by name. What a pointer
+ * leads to may not overlap what another one of the same call leads to. Any bytes may stand in a line: it need
+ * be neither UTF-8 nor end in a zero byte, which is a byte like any other.
  *
  * THREADS. A set stays on the thread that opened it, and so do its copies, as they share its history. Sets
  * that aren't copies of one another may be used by several threads at once. No call is for a signal handler.
@@ -35,8 +39,13 @@
 extern "C" {
 #endif
 
-/* A set. Its fields are the library's own. */
-typedef struct replset replset;
+/* A handle. Its field is the library's own. */
+typedef struct replset {
+    void *held;
+} replset;
+
+/* What a handle begins as. */
+#define REPLSET_NONE {NULL}
 
 /* What a call answers. */
 enum {
@@ -51,7 +60,9 @@ enum {
     /* `replset_open`: there is no set of these sizes, or no script has so many lines. */
     REPLSET_BAD_SIZES = 3,
     /* `replset_call`: there is no call of this number. */
-    REPLSET_BAD_CALL = 4
+    REPLSET_BAD_CALL = 4,
+    /* The handle leads nowhere. */
+    REPLSET_NO_SET = 5
 };
 
 /* The numbers of calls, for `replset_call`. */
@@ -69,18 +80,19 @@ enum {
 /*
  * Opens a set of `nodes` nodes (1 to 50), of which the first `voters` vote (1 to 7) and the first `members`
  * are members (from `voters` to `nodes`). `line` is the number of the script's line that says so, 1 unless
- * others stand before it (up to 200,000). The next line has the next number. `*set` is written only at
+ * others stand before it (up to 200,000). The next line has the next number. `set` stays as it was but at
  * REPLSET_OK.
  */
-uint32_t replset_open(uint32_t nodes, uint32_t voters, uint32_t members, uint32_t line, replset **set);
+uint32_t replset_open(uint32_t nodes, uint32_t voters, uint32_t members, uint32_t line, replset *set);
 
 /*
- * Makes an independent set that has come just as far: neither sees what is done with the other. It takes the
- * time of the set's logs and messages, and shares the rest. `*copy` is written only at REPLSET_OK.
+ * Lets `copy` lead to an independent set that has come just as far: neither sees what is done with the other.
+ * It takes the time of the set's logs and messages, and shares the rest. `copy` stays as it was but at
+ * REPLSET_OK.
  */
-uint32_t replset_copy(replset *set, replset **copy);
+uint32_t replset_copy(replset *set, replset *copy);
 
-/* Gives a set back, which may not be null: see `replset_close`. */
+/* Gives a set back. The handle leads nowhere from then on. */
 void replset_free(replset *set);
 
 /*
@@ -101,13 +113,6 @@ static inline uint32_t replset_call_or_empty(replset *set, uint32_t call, uint64
     uint8_t none[1] = {0};
     return replset_call(set, call, number, length ? (const uint8_t *)line : none + 0, length,
                         room ? (uint8_t *)out : none + 1, room, size);
-}
-
-/* Gives a set back, or does nothing where it is null. */
-static inline void replset_close(replset *set)
-{
-    if (set)
-        replset_free(set);
 }
 
 /*

@@ -9,7 +9,7 @@ from pathlib import Path
 from typing import Any, Dict, NamedTuple, Optional, Tuple
 
 #: What a call answers.
-OK, BAD_LINE, MEMORY, BAD_SIZES, BAD_CALL = range(5)
+OK, BAD_LINE, MEMORY, BAD_SIZES, BAD_CALL, NO_SET = range(6)
 STEP, STEPS, ASK, SCRIPT, TRACE, MESSAGES, LINE, TEXT = range(1, 9)
 
 #: Texts up to this size come with the call that makes them.
@@ -29,12 +29,13 @@ class _Interface:
     def __init__(self, path: str, locked: bool):
         loaded: Any = (ctypes.PyDLL if locked else ctypes.CDLL)(path)
         number, pointer, size = ctypes.c_uint32, ctypes.c_void_p, ctypes.c_size_t
+        handle = ctypes.POINTER(pointer)
         self.open, self.copy = loaded.replset_open, loaded.replset_copy
         self.free, self.call = loaded.replset_free, loaded.replset_call
-        self.open.argtypes = [number, number, number, number, ctypes.POINTER(pointer)]
-        self.copy.argtypes = [pointer, ctypes.POINTER(pointer)]
-        self.free.argtypes = [pointer]
-        self.call.argtypes = [pointer, number, ctypes.c_uint64, ctypes.c_char_p, size, pointer, size, ctypes.POINTER(size)]
+        self.open.argtypes = [number, number, number, number, handle]
+        self.copy.argtypes = [handle, handle]
+        self.free.argtypes = [handle]
+        self.call.argtypes = [handle, number, ctypes.c_uint64, ctypes.c_char_p, size, pointer, size, ctypes.POINTER(size)]
         self.open.restype = self.copy.restype = self.call.restype = number
         self.free.restype = None
 
@@ -98,7 +99,7 @@ class Held:
 
     def __init__(self, interface: _Interface, handle: "ctypes.c_void_p"):
         self._interface = interface
-        self._handle: Optional[ctypes.c_void_p] = handle
+        self._handle: Optional[Any] = ctypes.byref(handle)
 
     def call(self, number: int, line: bytes = b"", first: int = 0) -> Answer:
         """One call by its number."""
