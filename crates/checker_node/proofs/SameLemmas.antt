@@ -6,8 +6,8 @@ use Rattle.std.proofs.lemmas.Bool.{false≢true}
 use Rattle.std.specs.Option.{option_eq}
 use Rattle.bson_doc.specs.Place.{Place}
 use Rattle.bson_doc.specs.Same.{same_fields}
+use Rattle.bson_doc.specs.SameLaws.{same_fields-decides}
 use Rattle.bson_doc.specs.Tree.{Fields}
-use Rattle.checker_tables.proofs.SameLemmas.{documents_same}
 use Rattle.explore_laws.specs.Alike.{AlikeNodes}
 use Rattle.set_model.specs.Node.{Node}
 use Rattle.checker_node.specs.Same.{SameHeard, SamePoints, SameRole, SameTables}
@@ -32,7 +32,7 @@ pub options_same : (a b : Option Fields) → option_eq same_fields a b ≡ true 
 options_same None None same = refl
 options_same None (Some b) same = absurd (false≢true same)
 options_same (Some a) None same = absurd (false≢true same)
-options_same (Some a) (Some b) same = ap (λ (d : Fields). Some d) (documents_same a b same)
+options_same (Some a) (Some b) same = ap (λ (d : Fields). Some d) ((same_fields-decides a b).0 same)
 
 pub pairs_same : (one two : Place × Option Fields) → one.0 ≡ two.0 → one.1 ≡ two.1 → one ≡ two
 pairs_same (a, b) (c, d) first second = cc

@@ -28,5 +28,5 @@ mod writers;
 
 pub use answer::Answer;
 pub use node::Node;
-pub use sameness::mixed;
+pub use sameness::{mixed, with_optime};
 pub use stores::vote_record;

@@ -145,13 +145,14 @@ fn with_config(hash: u64, config: &Config) -> u64 {
     mixed(mixed(hash, config.term), u64::from(config.version))
 }
 
-fn with_optime(hash: u64, at: OpTime) -> u64 {
-    mixed(mixed(hash, at.term), at.ts)
-}
-
 /// The hash, with one number more.
 pub fn mixed(hash: u64, number: u64) -> u64 {
     (hash ^ number)
         .wrapping_mul(0x9e37_79b9_7f4a_7c15)
         .rotate_left(29)
+}
+
+/// The hash, with an optime more.
+pub fn with_optime(hash: u64, at: OpTime) -> u64 {
+    mixed(mixed(hash, at.term), at.ts)
 }

@@ -1,26 +1,27 @@
-// Whether two tables hold the same. One way is enough for who keeps each node once: what isn't found to be
-// the same is kept twice.
-ghost use Rattle.std.specs.Prelude.{◌≡◌, IsTrue};
+// Whether entries are the same, and whether two tables hold the same. For tables one way is enough: who keeps
+// each node once keeps twice what isn't found to be the same.
+ghost use Rattle.std.specs.Prelude.{◌≡◌, ◌↔◌, IsTrue};
 ghost use Rattle.std.specs.Option.{option_copied};
 ghost use Rattle.repl_msg.specs.Kept.{kept};
 ghost use Rattle.checker_tables.specs.Journal.{ComesTo};
 
 use crate::doc_log::DocLog;
 use crate::journal::Journal;
+use bson_doc::{Doc, Items, Text, Value};
 use member_config::Config;
 use oplog_entry::{Entry, Op, SharedOp};
 use set_model::Writer;
 
 /// Whether two entries are the same.
 pub fn same_entry(one: &Entry, other: &Entry) -> bool
-    ensures { IsTrue result → one.now ≡ other.now }
+    ensures { IsTrue result ↔ one.now ≡ other.now }
 {
     one.optime == other.optime && one.session == other.session && same_shared(&one.op, &other.op)
 }
 
 /// Whether two lists of entries are the same.
 pub fn same_entries(one: &[Entry], other: &[Entry]) -> bool
-    ensures { IsTrue result → one.now ≡ other.now }
+    ensures { IsTrue result ↔ one.now ≡ other.now }
 {
     if one.len() != other.len() {
         return false;
@@ -34,16 +35,18 @@ pub fn same_entries(one: &[Entry], other: &[Entry]) -> bool
 }
 
 fn same_shared(one: &SharedOp, other: &SharedOp) -> bool
-    ensures { IsTrue result → one.now ≡ other.now }
+    ensures { IsTrue result ↔ one.now ≡ other.now }
 {
     same_op(one.or(&Op::Noop), other.or(&Op::Noop))
 }
 
 fn same_op(one: &Op, other: &Op) -> bool
-    ensures { IsTrue result → one.now ≡ other.now }
+    ensures { IsTrue result ↔ one.now ≡ other.now }
 {
     match (one, other) {
-        (Op::Insert { ns, o }, Op::Insert { ns: ns_2, o: o_2 }) => ns == ns_2 && o == o_2,
+        (Op::Insert { ns, o }, Op::Insert { ns: ns_2, o: o_2 }) => {
+            same_text(ns, ns_2) && same_document(o, o_2)
+        }
         (
             Op::Replace { ns, id, o },
             Op::Replace {
@@ -51,7 +54,7 @@ fn same_op(one: &Op, other: &Op) -> bool
                 id: id_2,
                 o: o_2,
             },
-        ) => ns == ns_2 && id == id_2 && o == o_2,
+        ) => same_key(ns, id, ns_2, id_2) && same_document(o, o_2),
         (
             Op::Fields {
                 ns,
@@ -65,12 +68,50 @@ fn same_op(one: &Op, other: &Op) -> bool
                 sets: sets_2,
                 unsets: unsets_2,
             },
-        ) => ns == ns_2 && id == id_2 && sets == sets_2 && unsets == unsets_2,
-        (Op::Delete { ns, id }, Op::Delete { ns: ns_2, id: id_2 }) => ns == ns_2 && id == id_2,
+        ) => same_key(ns, id, ns_2, id_2) && same_change(sets, unsets, sets_2, unsets_2),
+        (Op::Delete { ns, id }, Op::Delete { ns: ns_2, id: id_2 }) => same_key(ns, id, ns_2, id_2),
         (Op::Noop, Op::Noop) => true,
         (Op::Note, Op::Note) => true,
         _ => false,
     }
+}
+
+/// The same collection and the same `_id`.
+fn same_key(one: &Text, id: &Value, other: &Text, other_id: &Value) -> bool
+    ensures { IsTrue result ↔ (one.now ≡ other.now) × (id.now ≡ other_id.now) }
+{
+    same_text(one, other) && same_value(id, other_id)
+}
+
+/// The same fields set, and the same ones removed.
+fn same_change(sets: &Doc, unsets: &Items, other_sets: &Doc, other_unsets: &Items) -> bool
+    ensures { IsTrue result ↔ (sets.now ≡ other_sets.now) × (unsets.now ≡ other_unsets.now) }
+{
+    same_document(sets, other_sets) && same_items(unsets, other_unsets)
+}
+
+fn same_text(one: &Text, other: &Text) -> bool
+    ensures { IsTrue result ↔ one.now ≡ other.now }
+{
+    one == other
+}
+
+fn same_value(one: &Value, other: &Value) -> bool
+    ensures { IsTrue result ↔ one.now ≡ other.now }
+{
+    one == other
+}
+
+fn same_document(one: &Doc, other: &Doc) -> bool
+    ensures { IsTrue result ↔ one.now ≡ other.now }
+{
+    one == other
+}
+
+fn same_items(one: &Items, other: &Items) -> bool
+    ensures { IsTrue result ↔ one.now ≡ other.now }
+{
+    one == other
 }
 
 /// Whether two writers are the same.

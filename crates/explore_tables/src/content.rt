@@ -1,15 +1,15 @@
 // What messages say: whether two say the same, and a number by which they are looked up.
-ghost use Rattle.std.specs.Prelude.{◌≡◌, IsTrue};
+ghost use Rattle.std.specs.Prelude.{◌≡◌, ◌↔◌, IsTrue};
 
 use crate::hashing::folded;
-use checker_node::mixed;
+use checker_node::{mixed, with_optime};
 use checker_tables::same_entries;
 use repl_msg::{Beat, Body, FetchReply, Message, VoteAsk, VoteRefusal};
 use rs_optime::OpTime;
 
 /// Whether two messages are the same.
-pub(crate) fn same_message(one: &Message, other: &Message) -> bool
-    ensures { IsTrue result → one.now ≡ other.now }
+pub fn same_message(one: &Message, other: &Message) -> bool
+    ensures { IsTrue result ↔ one.now ≡ other.now }
 {
     one.from == other.from
         && one.to == other.to
@@ -18,7 +18,7 @@ pub(crate) fn same_message(one: &Message, other: &Message) -> bool
 }
 
 fn same_body(one: &Body, other: &Body) -> bool
-    ensures { IsTrue result → one.now ≡ other.now }
+    ensures { IsTrue result ↔ one.now ≡ other.now }
 {
     match (one, other) {
         (Body::Fetch { base }, Body::Fetch { base: base_2 }) => base == base_2,
@@ -67,7 +67,7 @@ fn same_body(one: &Body, other: &Body) -> bool
 }
 
 fn same_beat(one: &Beat, other: &Beat) -> bool
-    ensures { IsTrue result → one.now ≡ other.now }
+    ensures { IsTrue result ↔ one.now ≡ other.now }
 {
     one.config.same(&other.config)
         && one.commit == other.commit
@@ -76,7 +76,7 @@ fn same_beat(one: &Beat, other: &Beat) -> bool
 }
 
 fn same_fetched(one: &FetchReply, other: &FetchReply) -> bool
-    ensures { IsTrue result → one.now ≡ other.now }
+    ensures { IsTrue result ↔ one.now ≡ other.now }
 {
     one.base == other.base
         && one.holds == other.holds
@@ -87,7 +87,7 @@ fn same_fetched(one: &FetchReply, other: &FetchReply) -> bool
 }
 
 fn same_optimes(one: &[OpTime], other: &[OpTime]) -> bool
-    ensures { IsTrue result → one.now ≡ other.now }
+    ensures { IsTrue result ↔ one.now ≡ other.now }
 {
     one == other
 }
@@ -152,10 +152,6 @@ fn with_beat(hash: u64, beat: &Beat) -> u64 {
 
 fn with_pair(hash: u64, pair: (u64, u32)) -> u64 {
     mixed(mixed(hash, pair.0), u64::from(pair.1))
-}
-
-fn with_optime(hash: u64, at: OpTime) -> u64 {
-    mixed(mixed(hash, at.term), at.ts)
 }
 
 fn refusal_number(refused: Option<VoteRefusal>) -> u64 {

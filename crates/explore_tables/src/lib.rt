@@ -15,6 +15,7 @@ mod numbers;
 mod pair_table;
 mod row_table;
 
+pub use content::same_message;
 pub use hashing::list_hash;
 pub use index::Index;
 pub use kept::{Kept, KeptNumber};

@@ -20,5 +20,5 @@ flags_same false false = search rules
 member_same : (a b : Member) → Decides (same_member a b) (a ≡ b)
 member_same a b = let h = flags_same a.votes b.votes in grind (arith, nat_tests, h)
 
-pub members_same : (xs ys : List Member) (r : Bool) → r ≡ pointwise same_member xs ys → r ≡ true → xs ≡ ys
-members_same xs ys r is = (slice_eq-Decides member_same xs ys r is).0
+pub members_same : (xs ys : List Member) (r : Bool) → r ≡ pointwise same_member xs ys → Decides r (xs ≡ ys)
+members_same xs ys r is = slice_eq-Decides member_same xs ys r is
