@@ -17,10 +17,10 @@ use Rattle.set_model.specs.Run.{Run, after}
 use Rattle.set_model.specs.World.{World, Task, acts, takes, nothing, actor, is_delivery, step, task, touched_node}
 use Rattle.node_core.specs.Acting.{DisksActed, DisksLeft, RunsWithoutOrders, orders_after}
 use Rattle.node_core.proofs.PuttingLemmas.{left_runs, runs_none, runs_then}
+use Rattle.safety_laws.proofs.QuietSteps.{failed_law}
 use Rattle.set_world.specs.Disks.{AtTouchedNode, DisksStep, DisksTouched, DisksUndone, OneChanged}
 use Rattle.set_world.specs.Went.{AllUndone, DisksPlay, DisksRun}
 use Rattle.set_world.proofs.DiskLemmas.{delivered_disks}
-use Rattle.set_world.proofs.FaultLemmas.{only_broken}
 use Rattle.set_program.specs.Counts.{FailedAtLeast, EitherFaultCounted, OrdersAre, failures_at, orders_since}
 
 -- ---- lists
@@ -376,7 +376,7 @@ one_event_back so_far first events place number event answer is = record { event
 pub broke : (number : ℕ) (world : World) (first event : Event) → first ≡ event → touched_node world event.command ≡ number → (step world event).reply ≡ Refused DiskFailed
     → (IsSome first.failed) × (touched_node world first.command ≡ number)
 broke number world first event same touches refused = (
-  only_broken world first (ap (λ e. (step world e).reply) same ∙ refused),
+  ap is_some (failed_law world first (ap (λ e. (step world e).reply) same ∙ refused)).fails,
   ap (λ (e : Event). touched_node world e.command) same ∙ touches,
 )
 

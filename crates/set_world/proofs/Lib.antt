@@ -3,7 +3,6 @@ mod BeginLemmas
 pub mod DiskLemmas
 pub mod DisksOpenLemmas
 pub mod EmptyLemmas
-pub mod FaultLemmas
 pub mod NodesLemmas
 mod OpenLemmas
 pub mod PointedLemmas
