@@ -87,14 +87,14 @@ mutual
   same_items-itself (item v a) =
       and_from (same_tree v v) (same_items a a) (same_tree-itself v) (same_items-itself a)
 
-same_tree-decides : (v w : Tree) → Decides (same_tree v w) (v ≡ w)
+pub same_tree-decides : (v w : Tree) → Decides (same_tree v w) (v ≡ w)
 same_tree-decides v w = (same_tree-equal v w, λ e. subst (λ x. same_tree v x ≡ true) e (same_tree-itself v))
 
-same_fields-decides : (a b : Fields) → Decides (same_fields a b) (a ≡ b)
+pub same_fields-decides : (a b : Fields) → Decides (same_fields a b) (a ≡ b)
 same_fields-decides a b =
     (same_fields-equal a b, λ e. subst (λ x. same_fields a x ≡ true) e (same_fields-itself a))
 
-same_items-decides : (a b : Trees) → Decides (same_items a b) (a ≡ b)
+pub same_items-decides : (a b : Trees) → Decides (same_items a b) (a ≡ b)
 same_items-decides a b =
     (same_items-equal a b, λ e. subst (λ x. same_items a x ≡ true) e (same_items-itself a))
 

@@ -82,7 +82,7 @@ value_in-tree_of (values.Boolean truth) = refl
 value_in-tree_of (values.Date milliseconds) = refl
 value_in-tree_of (values.Timestamp ts) = refl
 
-same_value : (v w : Value) → tree_of v ≡ tree_of w → v ≡ w
+pub same_value : (v w : Value) → tree_of v ≡ tree_of w → v ≡ w
 same_value v w same = sym (value_in-tree_of v) ∙ ap value_in same ∙ value_in-tree_of w
 
 pub same_only_id : (v w : Value) → only_id (tree_of v) ≡ only_id (tree_of w) → v ≡ w

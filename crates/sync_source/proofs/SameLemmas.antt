@@ -1,21 +1,16 @@
 -- What `==` says of two tables of what was heard.
 use mathlib.Core.Bool.{beq}
-use Rattle.std.specs.Prelude.{◌≡◌, Bool, true, false, ◌==◌, ◌&&◌, ℕ, nat_eq}
+use Rattle.std.specs.Prelude.{◌≡◌, Bool, true, ◌==◌, ◌&&◌, ℕ, nat_eq}
 use Rattle.std.specs.Bool.{Decides}
 use Rattle.std.specs.Cmp.{nat_eq_equiv}
 use Rattle.std.specs.HashMap.{HashMap}
 use Rattle.std.specs.HashMap as hash
-use Rattle.std.proofs.Common.{arith, rules}
+use Rattle.std.proofs.Common.{arith}
 use Rattle.std.proofs.lemmas.Bool.Decides.{nat_tests}
 use Rattle.std.proofs.lemmas.Map.Lookups.{hash_map_eq-Decides}
 use Rattle.rs_optime.specs.declared.optime.OpTime.{OpTime}
+use Rattle.member_config.proofs.SameLemmas.{flags_same}
 use Rattle.sync_source.specs.declared.source.Known.{Known}
-
-flags_same : (p q : Bool) → Decides (beq p q) (p ≡ q)
-flags_same true true = search rules
-flags_same true false = search rules
-flags_same false true = search rules
-flags_same false false = search rules
 
 abbrev same_optime : OpTime → OpTime → Bool
 same_optime p q = (p.term == q.term) && (p.ts == q.ts)
