@@ -32,12 +32,12 @@ use Rattle.question_laws.proofs.Wants.{unseen_same}
 
 -- ---- places
 
-place_of : {A : Type 0} (x : A) (xs : List A) → In x xs → (n : ℕ) × (slice_get xs n ≡ Some x)
+pub place_of : {A : Type 0} (x : A) (xs : List A) → In x xs → (n : ℕ) × (slice_get xs n ≡ Some x)
 place_of x [] there = absurd there
 place_of x (y ∷ xs) (inl same) = (0, ap Some same)
 place_of x (y ∷ xs) (inr there) = let later : (n : ℕ) × (slice_get xs n ≡ Some x) = place_of x xs there in (suc later.0, later.1)
 
-message_at : (messages : List Message) (n : ℕ) → n < length messages → (message : Message) × (slice_get messages n ≡ Some message)
+pub message_at : (messages : List Message) (n : ℕ) → n < length messages → (message : Message) × (slice_get messages n ≡ Some message)
 message_at messages n within = elim (slice_get_cases messages n).1 [
   | inl found ↦ (found.0, found.2)
   | inr past ↦ (let order : length messages ≤ n = past.0 in absurd (omega (arith, within, order)))

@@ -24,7 +24,7 @@ settled_along : (world : World) (lines : List Command) → AreSettled world → 
 settled_along world [] settled = settled
 settled_along world (command ∷ lines) settled = settled_along (step world (event_of command)).world lines (stay_settled world (event_of command) refl settled)
 
-fit_start : (question : Question) → IsLawful question → IsFit (start question)
+pub fit_start : (question : Question) → IsLawful question → IsFit (start question)
 fit_start question lawful = record {
   settled = settled_along _ question.beginning
       (are_settled (sizes_in question) [] 0 (λ i d within. absurd (omega (arith, within))));
@@ -34,10 +34,10 @@ fit_start question lawful = record {
 
 -- ---- covered by what is covered
 
-covered_itself : (question : Question) (of : Standing) → IsCovered question of of
+pub covered_itself : (question : Question) (of : Standing) → IsCovered question of of
 covered_itself question of = record { worlds = alike_itself of.world; left = refl; used = λ place. omega arith; dead = λ goes is. is }
 
-covered_on : (question : Question) (of by last : Standing) → IsCovered question of by → IsCovered question by last → IsCovered question of last
+pub covered_on : (question : Question) (of by last : Standing) → IsCovered question of by → IsCovered question by last → IsCovered question of last
 covered_on question of by last first second = record {
   worlds = worlds_on of.world by.world last.world first.worlds second.worlds;
   left = first.left ∙ second.left;
@@ -83,7 +83,7 @@ searches_whole acts_covered question depth acts table new lawful searched within
 
 -- ---- events that follow
 
-leaves_parted : (world : World) (front rest : List Event) (wants left : List Want) → Leaves world (front ++ rest) wants left
+pub leaves_parted : (world : World) (front rest : List Event) (wants left : List Want) → Leaves world (front ++ rest) wants left
     → (middle : List Want) × Leaves world front wants middle × Leaves (world_after world front) rest middle left
 leaves_parted world [] rest wants left leaves = (wants, refl, leaves)
 leaves_parted world (event ∷ front) rest wants left leaves =
