@@ -2,6 +2,6 @@ mod ActingLemmas
 mod ActorLemmas
 mod OpenLemmas
 mod PoolLemmas
-mod ReachedLemmas
+pub mod ReachedLemmas
 mod StepLemmas
 mod UpLemmas
