@@ -15,3 +15,4 @@ mod writer_map;
 mod writing;
 
 pub use keeping::NodeData;
+pub use told::{Told, optimes_of, told_again};

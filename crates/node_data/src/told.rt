@@ -18,9 +18,10 @@ const MOST_KEPT: usize = 64;
 /// An answer of fewer entries is made anew as fast.
 const LEAST_KEPT: usize = 2;
 
-/// Answers about a log as it is.
+/// Answers about a log as it is, so that whoever asks the same again gets the same list. At most 64 of a kind
+/// are kept; `clear` drops them where the log changes.
 #[derive(Drop)]
-pub(crate) struct Told {
+pub struct Told {
     replies: Vec<FetchReply>,
     lists: Vec<ToldOptimes>,
 }
@@ -35,7 +36,7 @@ pub(crate) struct ToldOptimes {
 
 impl Told {
     /// No answer.
-    pub(crate) fn new(alloc: Global) -> Self
+    pub fn new(alloc: Global) -> Self
         ensures { (log : List AnEntry) → IsTold log result }
     {
         Told {
@@ -45,7 +46,7 @@ impl Told {
     }
 
     /// Drops all answers, since the log changes.
-    pub(crate) fn clear(&mut self)
+    pub fn clear(&mut self)
         ensures { (log : List AnEntry) → IsTold log self.new }
     {
         if self.replies.is_empty() && self.lists.is_empty() {
@@ -55,8 +56,8 @@ impl Told {
         self.lists.clear();
     }
 
-    /// The answer that was given for a base, where the log was visible up to there.
-    pub(crate) fn reply(&self, visible: OpTime, base: OpTime) -> Option<&FetchReply>
+    /// The answer that was given for a base, where the log was visible up to `visible`.
+    pub fn reply(&self, visible: OpTime, base: OpTime) -> Option<&FetchReply>
         ensures kept { (log : List AnEntry) → IsTold log self.now
             → IfSome result (λ reply. IsAnswer log reply.now) }
         ensures asked { IfSome result (λ reply. (reply.now.visible ≡ visible) × (reply.now.base ≡ base)) }
@@ -69,9 +70,9 @@ impl Told {
         None
     }
 
-    /// Keeps an answer of more than one entry where there is memory for it, in place of all others once there
-    /// are many.
-    pub(crate) fn keep_reply(&mut self, reply: FetchReply)
+    /// Keeps an answer of more than one entry if there is memory for it, in place of all others once there
+    /// are 64.
+    pub fn keep_reply(&mut self, reply: FetchReply)
         ensures { (log : List AnEntry) → IsTold log self.old → IsAnswer log reply → IsTold log self.new }
     {
         if reply.entries.as_slice().len() < LEAST_KEPT {
@@ -84,7 +85,7 @@ impl Told {
     }
 
     /// The optimes that were told as those after an optime, up to another one.
-    pub(crate) fn optimes(&self, after: OpTime, to: OpTime) -> Option<&OptimeList>
+    pub fn optimes(&self, after: OpTime, to: OpTime) -> Option<&OptimeList>
         ensures { (log : List AnEntry) → IsTold log self.now
             → IfSome result (λ list. list.now ≡ optimes_of (log_after after (log_up_to to log))) }
     {
@@ -96,8 +97,9 @@ impl Told {
         None
     }
 
-    /// Keeps a list where there is memory for it, in place of all others once there are many.
-    pub(crate) fn keep_optimes(&mut self, after: OpTime, to: OpTime, optimes: OptimeList)
+    /// Keeps the optimes after `after` up to `to` if there is memory for them, in place of all others once
+    /// there are 64.
+    pub fn keep_optimes(&mut self, after: OpTime, to: OpTime, optimes: OptimeList)
         ensures { (log : List AnEntry) → IsTold log self.old
             → optimes ≡ optimes_of (log_after after (log_up_to to log)) → IsTold log self.new }
     {
@@ -108,8 +110,9 @@ impl Told {
     }
 }
 
-/// The same answer at another commit point and in another role.
-pub(crate) fn told_again(kept: &FetchReply, commit: OpTime, primary: bool) -> Mem<FetchReply>
+/// The same answer at another commit point and in another role, with the same list of entries. The only error
+/// is out of memory.
+pub fn told_again(kept: &FetchReply, commit: OpTime, primary: bool) -> Mem<FetchReply>
     ensures { IfOk result (λ reply. reply ≡ record kept.now { commit = commit; primary = primary }) }
 {
     let mut reply = kept.copy()?;
@@ -118,8 +121,8 @@ pub(crate) fn told_again(kept: &FetchReply, commit: OpTime, primary: bool) -> Me
     Ok(reply)
 }
 
-/// The optimes of some entries.
-pub(crate) fn optimes_of(alloc: Global, entries: &[Entry]) -> Mem<OptimeList>
+/// The optimes of some entries, in their order. The only error is out of memory.
+pub fn optimes_of(alloc: Global, entries: &[Entry]) -> Mem<OptimeList>
     ensures { IfOk result (λ list. list ≡ optimes_of entries.now) }
 {
     let mut optimes = Vec::with_capacity(alloc, entries.len())?;
