@@ -33,7 +33,7 @@ insert-requires-clause-apart c known =
     (apart_from_place c.args.entry c.reserve.new.self.entries (length c.before-place.result.now) (ap length c.before-place.ensures)
     (subst (λ (l : List Entry). IsOplog (with_entry l c.args.entry)) (sym (c.reserve.ensures.entries ∙ c.self.view_is)) c.requires)
     (subst (λ (l : List Entry). IsApartAfter c.args.entry l) c.as_slice.ensures.entries
-    (c.is_apart-is_apart.ensures.apart (subst (λ (l : List Entry). EndAll l c.self.inside.touches.ends) (sym (c.as_slice.ensures.entries ∙ c.reserve.ensures.entries)) c.self.invariant.3) known)))
+    (c.is_apart-is_apart.ensures.apart (subst (λ (l : List Entry). EndAll l c.self.inside.touches.ends) (sym (c.as_slice.ensures.entries ∙ c.reserve.ensures.entries)) c.self.invariant.4) known)))
 
 pub insert-requires-2-clause-apart : goal.insert-requires-2-clause-apart
 insert-requires-2-clause-apart c known =
@@ -41,21 +41,23 @@ insert-requires-2-clause-apart c known =
     (apart_from_place c.args.entry c.reserve.new.self.entries (length c.before-place.result.now) (ap length c.before-place.ensures)
     (subst (λ (l : List Entry). IsOplog (with_entry l c.args.entry)) (sym (c.reserve.ensures.entries ∙ c.self.view_is)) c.requires)
     (subst (λ (l : List Entry). IsApartAfter c.args.entry l) c.as_slice.ensures.entries
-    (c.is_apart-is_apart.ensures.apart (subst (λ (l : List Entry). EndAll l c.self.inside.touches.ends) (sym (c.as_slice.ensures.entries ∙ c.reserve.ensures.entries)) c.self.invariant.3) known)))
+    (c.is_apart-is_apart.ensures.apart (subst (λ (l : List Entry). EndAll l c.self.inside.touches.ends) (sym (c.as_slice.ensures.entries ∙ c.reserve.ensures.entries)) c.self.invariant.4) known)))
 
 pub invariant_of-self-2 : goal.invariant_of-self-2
 invariant_of-self-2 c =
     let log = c.reserve.new.self.entries in
     let place = length c.before-place.result.now in
     let within : place ≤ length log = omega (arith, ap length c.before-place.ensures, length-passed (λ (e : Entry). is_before e.optime c.args.entry.optime) log) in
-    let before : EndAll log c.self.inside.touches.ends = subst (λ (l : List Entry). EndAll l c.self.inside.touches.ends) (sym c.reserve.ensures.entries) c.self.invariant.3 in
+    let before : EndAll log c.self.inside.touches.ends = subst (λ (l : List Entry). EndAll l c.self.inside.touches.ends) (sym c.reserve.ensures.entries) c.self.invariant.4 in
     let asked : EndAll log c.is_apart-is_apart.new.self.ends =
     subst (λ (l : List Entry). EndAll l c.is_apart-is_apart.new.self.ends) c.as_slice.ensures.entries
     (c.is_apart-is_apart.ensures.ends (subst (λ (l : List Entry). EndAll l c.self.inside.touches.ends) (sym c.as_slice.ensures.entries) before)) in
+    let beside =
     subst (λ (l : List Entry). StandBeside l c.insert.new.self c.insert-2.new.self c.insert-3.new.self c.note.new.self.ends) (sym (ap (λ l. l.entries) c.insert-4.ensures))
     (beside_inserted log c.args.entry place c.insert.new.self c.insert-2.new.self c.insert-3.new.self c.note.new.self.ends (ap length c.before-place.ensures)
     (subst (λ (l : List Entry). IsOplog (with_entry l c.args.entry)) (sym (c.reserve.ensures.entries ∙ c.self.view_is)) c.requires)
     (subst (λ (l : List Entry). IsOfFront (insert l place c.args.entry) c.insert.new.self) c.as_slice-2.ensures.entries c.insert.ensures)
     (subst (λ (l : List Entry). IsOfFront (insert l place c.args.entry) c.insert-2.new.self) c.as_slice-3.ensures.entries c.insert-2.ensures)
-    (c.insert-3.ensures log c.args.entry refl within (subst (λ (l : List Entry). IsTableOf l c.self.inside.sessions) (sym c.reserve.ensures.entries) c.self.invariant.2))
-    (c.note.ensures log asked))
+    (c.insert-3.ensures log c.args.entry refl within (subst (λ (l : List Entry). IsTableOf l c.self.inside.sessions) (sym c.reserve.ensures.entries) c.self.invariant.3))
+    (c.note.ensures log asked)) in
+    (c.clear.ensures c.insert-4.new.self.entries, beside.0, beside.1, beside.2, beside.3)
