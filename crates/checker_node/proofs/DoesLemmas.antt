@@ -1,12 +1,14 @@
 -- What a plan does, store by store.
-use Rattle.std.proofs.Common.{◌≡◌, ℕ, zero, suc, true, false, [], Option, None, Some, refl, sym, subst}
+use Rattle.std.proofs.Common.{◌≡◌, ℕ, zero, suc, true, false, [], Option, None, Some, Result, IfOk, refl, sym, subst}
+use Rattle.std.specs.declared.alloc.AllocError.{AllocError}
+use Rattle.repl_msg.specs.declared.message.Body.{Body}
 use Rattle.set_model.specs.declared.reply.Refusal.TheVariants.{DiskFailed}
 use Rattle.set_model.specs.declared.reply.Reply.{Reply}
 use Rattle.set_model.specs.declared.reply.Reply.TheVariants.{Refused}
 use Rattle.set_model.specs.declared.store.Store.{Store}
 use Rattle.set_model.specs.Limits.{passes_first}
 use Rattle.set_model.specs.Node.{Node}
-use Rattle.set_model.specs.Outcome.{Outcome, replied}
+use Rattle.set_model.specs.Outcome.{Outcome, replied, sending}
 use Rattle.set_model.specs.Stores.{Plan, finished, storing, stored, in_doubt, then_stored}
 use Rattle.checker_node.specs.declared.answer.Answer.{Answer}
 use Rattle.checker_node.specs.Done.{Answers, Does, Replies, next_failed}
@@ -15,6 +17,15 @@ use Rattle.checker_node.specs.Done.{Answers, Does, Replies, next_failed}
 
 pub says : (said : Reply) (answer : Answer) (one new : Node) → new ≡ one → Replies answer said [] → Answers (replied said one) answer new
 says said answer one new is replies = λ i. record { reply = sym replies.reply_is i; node = sym is i; sent = sym replies.sent_is i }
+
+-- ---- one message
+
+-- it is sent by a node that is as it was
+pub sends_so : (said : Reply) (to : ℕ) (body other : Body) (node new : Node) (result : Result Answer AllocError) → new ≡ node → body ≡ other
+    → IfOk result (λ answer. Answers (sending said new to body) answer new) → IfOk result (λ answer. Answers (sending said node to other) answer new)
+sends_so said to body other node new result is same told =
+    subst (λ (n : Node). IfOk result (λ answer. Answers (sending said n to other) answer new)) is
+    (subst (λ (b : Body). IfOk result (λ answer. Answers (sending said new to b) answer new)) same told)
 
 -- ---- the next store
 

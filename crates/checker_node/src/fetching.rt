@@ -11,7 +11,7 @@ use crate::answer::Answer;
 use crate::node::Node;
 use bson_doc::Mem;
 use oplog_entry::Entry;
-use oplog_fetcher::{accept, reply_to};
+use oplog_fetcher::accept;
 use repl_msg::{Body, FetchReply};
 use rs_optime::OpTime;
 use set_model::{Ignored, Refusal, Reply, Role};
@@ -33,19 +33,17 @@ impl Node {
     }
 
     /// Answers a fetch.
-    pub fn fetch_told(&self, next: u64, from: u32, base: OpTime) -> Mem<Answer>
-        ensures { IfOk result (λ answer.
-            Answers (fetching.fetch_told next self.now from base) answer self.now) }
+    pub fn fetch_told(&mut self, next: u64, from: u32, base: OpTime) -> Mem<Answer>
+        ensures answer { IfOk result (λ answer.
+            Answers (fetching.fetch_told next self.old from base) answer self.new) }
+        ensures same { self.new ≡ self.old }
     {
         self.recall_log();
-        let reply = reply_to(
-            self.alloc,
-            self.log.log(),
-            self.visible_point(),
-            base,
-            self.commit,
-            self.is_primary(),
-        )?;
+        let visible = self.visible_point();
+        let primary = self.is_primary();
+        let reply = self
+            .log
+            .fetched(self.alloc, visible, base, self.commit, primary)?;
         self.sends(Reply::Replied(next), from, Body::FetchReply(reply))
     }
 

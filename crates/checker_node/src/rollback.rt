@@ -27,17 +27,6 @@ use std::alloc::Global;
 /// The most optimes that are sent at once.
 const MOST_OPTIMES: usize = 20_000;
 
-/// The optimes of some entries.
-fn optimes_of(alloc: Global, entries: &[Entry]) -> Mem<OptimeList>
-    ensures { IfOk result (λ list. list ≡ rollbacks.optimes_of entries.now) }
-{
-    let mut optimes = Vec::with_capacity(alloc, entries.len())?;
-    for entry in entries {
-        optimes.push(entry.optime)?;
-    }
-    OptimeList::new(alloc, optimes)
-}
-
 /// These places, each with the document that is there, or with none.
 fn stood(alloc: Global, shelf: &Shelf, places: Vec<(Text, IdKey)>) -> Mem<LostList>
     ensures { IfOk result (λ lost.
@@ -92,15 +81,16 @@ impl Node {
     }
 
     /// Tells the visible optimes after one.
-    pub fn common_asked(&self, next: u64, from: u32, after: OpTime) -> Mem<Answer>
-        ensures { IfOk result (λ answer.
-            Answers (rollbacks.common_asked next self.now from after) answer self.now) }
+    pub fn common_asked(&mut self, next: u64, from: u32, after: OpTime) -> Mem<Answer>
+        ensures answer { IfOk result (λ answer.
+            Answers (rollbacks.common_asked next self.old from after) answer self.new) }
+        ensures same { self.new ≡ self.old }
     {
         self.recall_log();
         let visible = self.visible_point();
         let body = Body::CommonReply {
             after,
-            optimes: optimes_of(self.alloc, self.between(after, visible))?,
+            optimes: self.log.optimes_between(self.alloc, after, visible)?,
             visible,
         };
         self.sends(Reply::Replied(next), from, body)

@@ -1,23 +1,23 @@
-use Rattle.std.proofs.Common.{◌≡◌, ◌∙◌, IfOk, List, ap, subst}
+use Rattle.std.proofs.Common.{◌≡◌, ◌∙◌, List, ap}
 use Rattle.oplog_entry.specs.declared.entry.Entry.{Entry}
 use Rattle.oplog_fetcher.specs.Fetch.{reply_to as answered}
 use Rattle.repl_msg.specs.declared.message.Body.TheVariants as bodies
-use Rattle.repl_msg.specs.declared.message.FetchReply.{FetchReply}
 use Rattle.set_model.specs.Fetching.{reply_to}
 use Rattle.set_model.specs.Node.{Node}
-use Rattle.set_model.specs.Outcome.{sending}
 use Rattle.set_model.specs.declared.reply.Reply.TheVariants.{Replied}
-use Rattle.checker_node.specs.Done.{Answers}
+use Rattle.checker_node.specs.contracts.node.Node.{the_view}
+use Rattle.checker_node.proofs.DoesLemmas.{sends_so}
 use Rattle.checker_node.proofs.FetchLemmas.{told_reply}
 use Rattle.checker_node.proofs.node.Node.fetch_told.Goals as goal
 
-pub returns : goal.returns
-returns c =
+pub returns-clause-answer : goal.returns-clause-answer
+returns-clause-answer c =
     let node = c.args.self.now in
-    let visible = c.visible_point.result in
-    let primary = c.is_primary.result in
+    let visible = c.visible_point-visible.result in
+    let primary = c.is_primary-primary.result in
     let told : c.in_ok-reply.reply ≡ reply_to node c.args.base =
-    told_reply node c.args.base visible primary c.in_ok-reply.reply c.recall_log.ensures.order c.visible_point.ensures c.is_primary.ensures
-    (c.in_ok-reply.ensures ∙ ap (λ (l : List Entry). answered l visible c.args.base c.self.inside.commit primary) c.log.ensures
-    ∙ ap (λ (n : Node). answered n.log visible c.args.base n.commit primary) c.self.view_is) in
-    subst (λ (r : FetchReply). IfOk c.sends.result (λ answer. Answers (sending (Replied c.args.next) node c.args.from (bodies.FetchReply r)) answer node)) told c.sends.ensures
+    told_reply node c.args.base visible primary c.in_ok-reply.reply c.recall_log.ensures.order c.visible_point-visible.ensures c.is_primary-primary.ensures
+    (c.in_ok-reply.ensures.reply ∙ ap (λ (n : Node). answered n.log visible c.args.base n.commit primary) c.self.view_is) in
+    sends_so (Replied c.args.next) c.args.from (bodies.FetchReply c.in_ok-reply.reply) (bodies.FetchReply (reply_to node c.args.base)) node
+    (record (the_view c.self.inside) { log = c.fetched.new.self }) c.sends.result
+    (ap (λ (log : List Entry). record (the_view c.self.inside) { log = log }) c.fetched.ensures.same ∙ c.self.view_is) (ap bodies.FetchReply told) c.sends.ensures
