@@ -58,12 +58,17 @@ def writers(n):
     return OPENING + lines + [f"commit n0 w{w}" for w in range(1000)]
 
 
+def trace(sizes, steps):
+    """The trace of commands with their replies, after the election of the only voter of a set of such sizes."""
+    lines = [f"trace {sizes}", "event 2 - 0 campaign n0", "2: won 1", "event 3 - 0 drain n0", "3: primary 1 noop 1/0/1"]
+    for k, (command, reply) in enumerate(steps):
+        lines += [f"event {k + 4} - 0 {command}", f"{k + 4}: {reply}"]
+    return lines
+
+
 def traced(writes):
     """The trace of writes of one node."""
-    lines = ["trace 1 1 1", "event 2 - 0 campaign n0", "2: won 1", "event 3 - 0 drain n0", "3: primary 1 noop 1/0/1"]
-    for k, write in enumerate(writes):
-        lines += [f"event {k + 4} - 0 {write}", f"{k + 4}: written 1/0/{k + 2}"]
-    return lines
+    return trace("1 1 1", [(write, f"written 1/0/{k + 2}") for k, write in enumerate(writes)])
 
 
 def inserts_traced(n):
@@ -81,10 +86,7 @@ def late_traced(n):
         left += 1 - count
         writes += [(f"commit n0 w{w}", f"committed 1/0/{w + 2}")]
         writes += [("flush n0", f"flushed {count} to 1/0/{w + 2 if w < 999 else n + 1001}")]
-    lines = traced([])
-    for k, (write, reply) in enumerate(writes):
-        lines += [f"event {k + 4} - 0 {write}", f"{k + 4}: {reply}"]
-    return lines
+    return trace("1 1 1", writes)
 
 
 def parse(n):
@@ -353,6 +355,23 @@ def commons_again(n):
     return asked_again(n, ["common n1 n0"], "deliver m0")
 
 
+def asked_traced(n, asking, again, first):
+    """The trace of `asked_again`, in which the first answer to what comes again is the message `first`."""
+    steps = [(f"insert n0 t {{_id: {k}}}", f"written 1/0/{k + 2}") for k in range(n)] + asking
+    return trace("2 1 1", steps + [(again, f"replied m{first + k}") for k in range(n)])
+
+
+def fetches_traced(n):
+    """The trace of `fetches_again`."""
+    asking = [("heartbeat n0 n1", "sent m0"), ("deliver n0 n1", "replied m1"), ("fetch n1", "sent m2 to n0")]
+    return asked_traced(n, asking, "deliver m2", 3)
+
+
+def commons_traced(n):
+    """The trace of `commons_again`."""
+    return asked_traced(n, [("common n1 n0", "sent m0")], "deliver m0", 1)
+
+
 def inserts_of_50(n):
     """Inserts at the primary of fifty."""
     return ["set 50", *elected(0, 50), *inserts(n)[len(OPENING):]]
@@ -431,6 +450,8 @@ CASES = {
     "fetches_again": Case(fetches_again, 5_000, 5_000, bound=(80, 12)),
     "answers_again": Case(answers_again, 5_000, 5_000, bound=(80, 12)),
     "commons_again": Case(commons_again, 9_000, 9_000, bound=(150, 14)),
+    "fetches_checked": Case(fetches_traced, 5_000, 5_000, words=lambda n: ["check"], bound=(130, 12)),
+    "commons_checked": Case(commons_traced, 9_000, 9_000, words=lambda n: ["check"], bound=(250, 12)),
     "linear_of_50": Case(inserts_of_50, 190_000, 20_000, words=lambda n: ["linear", "n0", "items", "1"], bound=(2_600, 260)),
     "pulls": Case(pulls, 10_000, 2_000),
     "pulls_of_one": Case(pulls_of_one, 2_000, 4_000),
