@@ -17,8 +17,8 @@ use Rattle.set_model.specs.Node.{Node}
 use Rattle.set_model.specs.Points.{visible_log}
 use Rattle.set_model.specs.Run.{AreSizes, Sizes}
 use Rattle.set_model.specs.Safety.{IsCommitted, is_durable_in}
-use Rattle.commit_machine.specs.Machine.{actor_after, after}
-use Rattle.commit_machine.specs.Nodes.{Snapshot, State, Was, now}
+use Rattle.commit_machine.specs.Machine.{Action, IsAllowed, actor, actor_after, after}
+use Rattle.commit_machine.specs.Nodes.{Snapshot, State, now}
 use Rattle.commit_machine.specs.Words.{Has}
 use Rattle.commit_machine.proofs.Facts.{Invariant}
 use Rattle.commit_machine.proofs.Growth.{now_actor}
@@ -42,30 +42,36 @@ records_have items first a o log are has = record {
   entries = sym (up_to_twice o a.durable (kept items).entries has.durable) ∙ ap (λ l. log_up_to o l) are.entries ∙ up_to_twice o a.durable a.log has.durable ∙ has.same;
 }
 
-module _ (state : State) (inv : Invariant state) (m : ℕ) (x : Snapshot) (was : Was state m x) (o : OpTime) (commits : Commits x o) (v : ℕ) (y : Snapshot) (was_too : Was state v y)
-    (acks : WasDurable y x.term o) where
-  abbrev log : List Entry
-  log = log_up_to o x.log
+-- what a node's machine has durably is what the records give
+pub records_say : (items : List Record) (first : Config) (a : Snapshot) (o : OpTime) (log : List Entry) → AreKept items first a → HaveUpTo items o log → HasKept a o log
+records_say items first a o log are have =
+    let within : AtMost o a.durable = subst (λ (p : OpTime). AtMost o p) are.point have.point in
+    record {
+      durable = within;
+      same = sym (up_to_twice o a.durable a.log within) ∙ ap (λ l. log_up_to o l) (sym are.entries) ∙ up_to_twice o a.durable (kept items).entries within ∙ have.entries;
+    }
 
+-- A node has a log up to an optime durably, and also after whatever it does next.
+module _ (state : State) (v : ℕ) (o : OpTime) (log : List Entry) (has : HasKept (now state v) o log)
+    (has_then : (action : Action) → IsAllowed state action → actor action ≡ v → HasKept (now (after state action) v) o log) where
   -- with a record in doubt the journal has what some action leaves
   doubt_has : (items : List Record) (first : Config) (stable : OpTime) (doubt : Option Store) → AreKept items first (now state v) → IsDoubt state v items first stable doubt → HaveUpTo (with_doubt items doubt) o log
-  doubt_has items first stable None are may = records_have items first (now state v) o log are (has_kept state inv m x was o commits v y was_too acks)
-  doubt_has items first stable (Some (stores.Checkpoint at)) are may = records_have items first (now state v) o log are (has_kept state inv m x was o commits v y was_too acks)
+  doubt_has items first stable None are may = records_have items first (now state v) o log are has
+  doubt_has items first stable (Some (stores.Checkpoint at)) are may = records_have items first (now state v) o log are has
   doubt_has items first stable (Some (stores.Record item)) are may =
       records_have (items ++ item ∷ []) first (actor_after state may.action) o log may.are_kept
-      (subst (λ a. HasKept a o log) (ap (now (after state may.action)) (sym may.own) ∙ now_actor state may.action)
-      (has_kept (after state may.action) (keeps state may.action may.allowed inv) m x (inr was) o commits v y (inr was_too) acks))
+      (subst (λ a. HasKept a o log) (ap (now (after state may.action)) (sym may.own) ∙ now_actor state may.action) (has_then may.action may.allowed may.own))
 
   pub node_keeps : (node : Node) → node.number ≡ v → IsNode state node → Keeps node o log
   node_keeps node number (inl up) =
       let are : HaveUpTo node.records o log =
       records_have node.records node.first (snapshot_of node) o log up.records
-      (subst (λ a. HasKept a o log) (ap (now state) (sym number) ∙ up.snapshot) (has_kept state inv m x was o commits v y was_too acks)) in
+      (subst (λ a. HasKept a o log) (ap (now state) (sym number) ∙ up.snapshot) has) in
       record { without = are; with_it = subst (λ d. HaveUpTo (with_doubt node.records d) o log) (sym up.doubt) are }
   node_keeps node number (inr down) =
       let are : AreKept node.records node.first (now state v) = subst (λ n. AreKept node.records node.first (now state n)) number down.records in
       record {
-        without = records_have node.records node.first (now state v) o log are (has_kept state inv m x was o commits v y was_too acks);
+        without = records_have node.records node.first (now state v) o log are has;
         with_it = doubt_has node.records node.first node.stable node.doubt are (subst (λ n. IsDoubt state n node.records node.first node.stable node.doubt) number down.doubt);
       }
 
@@ -116,6 +122,12 @@ pub counted_stay : InEveryRun CountedEntriesStay
 counted_stay sizes events are is h m primary at committed i v member member_at durable j node late order there =
     let node_is = (rel_of rows_tied deliveries_tied sizes events are is j).nodes v node there in
     subst (λ (l : List Entry). Keeps node at l) (seen_same sizes events are is h m primary at committed)
-    (node_keeps (state_of rows_tied deliveries_tied sizes events are is j) (kept_of rows_tied deliveries_tied sizes events are is j) m (snapshot_of primary)
+    (node_keeps (state_of rows_tied deliveries_tied sizes events are is j) v at (log_up_to at (snapshot_of primary).log)
+    (has_kept (state_of rows_tied deliveries_tied sizes events are is j) (kept_of rows_tied deliveries_tied sizes events are is j) m (snapshot_of primary)
     (had_of rows_tied deliveries_tied sizes events are is h j m primary committed.node_at late) at (commits sizes events are is h m primary at committed) v (snapshot_of member)
-    (had_of rows_tied deliveries_tied sizes events are is i j v member member_at order) (durable_parts sizes events primary.term committed.point at member committed.before durable) node node_is.0 node_is.1)
+    (had_of rows_tied deliveries_tied sizes events are is i j v member member_at order) (durable_parts sizes events primary.term committed.point at member committed.before durable))
+    (λ action allowed own. has_kept (after (state_of rows_tied deliveries_tied sizes events are is j) action)
+    (keeps (state_of rows_tied deliveries_tied sizes events are is j) action allowed (kept_of rows_tied deliveries_tied sizes events are is j)) m (snapshot_of primary)
+    (inr (had_of rows_tied deliveries_tied sizes events are is h j m primary committed.node_at late)) at (commits sizes events are is h m primary at committed) v (snapshot_of member)
+    (inr (had_of rows_tied deliveries_tied sizes events are is i j v member member_at order)) (durable_parts sizes events primary.term committed.point at member committed.before durable))
+    node node_is.0 node_is.1)

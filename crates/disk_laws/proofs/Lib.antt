@@ -1,6 +1,7 @@
 mod Acknowledged
 mod Counted
 mod Kept
+mod Lasting
 mod OtherRestingRows
 mod Resting
 mod RestingDelivers

@@ -9,7 +9,7 @@ use Rattle.set_model.specs.declared.reply.Reply.TheVariants as reply
 use Rattle.set_model.specs.Node.{Node}
 use Rattle.set_model.specs.Run.{Sizes, world_at}
 use Rattle.set_model.specs.Safety.{Answers, IsAt, IsCommitted, is_majority_ack, was_durable}
-use Rattle.disk_laws.specs.Kept.{Keeps}
+use Rattle.disk_laws.specs.Kept.{HaveUpTo, Keeps}
 
 module _ (sizes : Sizes) (events : List Event) where
   -- From a place on the journal of this node, up or down, has this log up to the optime, in every image.
@@ -43,3 +43,11 @@ module _ (sizes : Sizes) (events : List Event) where
   CommitPointsStay =
       (i n : ℕ) (node : Node) → IsAt sizes events i n node → node.commit ≢ ZERO
       → IsKeptByMajority i node.commit (log_up_to node.commit node.log)
+
+  -- Whoever has on its journal what is acknowledged, earlier or later, keeps it.
+  abbrev pub AcknowledgedEntriesAreNotLost : Type 0
+  AcknowledgedEntriesAreNotLost =
+      (k n : ℕ) (event : Event) (at : OpTime) → Answers sizes events k n event (reply.Acked at)
+      → is_majority_ack event.command ≡ true → (node : Node) → IsAt sizes events (suc k) n node
+      → (i v : ℕ) (member : Node) → slice_get (world_at sizes events i).nodes v ≡ Some member
+      → HaveUpTo member.records at (log_up_to at node.log) → KeepsFrom i v at (log_up_to at node.log)

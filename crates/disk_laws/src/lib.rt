@@ -3,4 +3,6 @@
 
 mod laws;
 
-pub use laws::{acknowledged_entries_stay, counted_entries_stay};
+pub use laws::{
+    acknowledged_entries_are_not_lost, acknowledged_entries_stay, counted_entries_stay,
+};
