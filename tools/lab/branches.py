@@ -4,150 +4,109 @@ Neighbours should be alike for as long as can be: a run then has a few lines of 
 """
 from __future__ import annotations
 
-from typing import AbstractSet, Dict, FrozenSet, Iterator, List, NamedTuple, Optional, Sequence
+import gc
+from itertools import compress, count
+from operator import ne
+from typing import Any, Callable, Dict, FrozenSet, Generic, Iterator, List, Optional, Sequence, Tuple, TypeVar
 
-from .fates import Reader, endings, hidden_reads, story_of
+from .fates import endings, hidden_reads, story_of
 from .inside import opened
-from .library import STEPS, Held
-from .observe import MOST_LINES, QUESTIONS, Run, Step, TooLong, Watching, observe, touched
+from .library import ASK, STEPS, Held
+from .observe import MOST_LINES, QUESTIONS, Run, TooLong, observe
 from .outcomes import Outcome, Watch, dumps, endings_of, outcome, outcome_of
 from .program import script_bytes
-from .script import acting_node, first_word, set_size
-from .story import Story
-from .transcript import Reply, read_texts
+from .script import set_size
+from .sights import BELOW, Line, Lines, Sights, View, reply_text
+from .trails import Reading, Trail, reading_of
 from .variations import Token, lines_of
-
-#: A stage is made where it spares the next run so many lines.
-WORTH = 3
+from .verdicts import Verdict, verdicts
 
 #: Scripts near the program's limits are for the program.
-MOST_BYTES, MOST_ASKED = 4_000_000, MOST_LINES - 1_000
+MOST_BYTES, MOST_ASKED = 4_000_000, MOST_LINES // 2 - 1_001
 
-#: After these nothing is asked: they look at a node or have it send something, and leave its state as it is.
-_QUIET = ("read", "dump", "log", "state", "rolled", "ack", "heartbeat", "fetch", "report", "common", "dryrun")
+#: A stage is made for so many runs besides the one that comes first.
+WORTH = 3
 
+#: So often something is seen for the first time before all that was seen is forgotten.
+MOST_SEEN = 200_000
 
-class End(NamedTuple):
-    """What is compared of a run, and what is told of it: each where it is wanted, and the latter where the run isn't too long."""
+Compared = TypeVar("Compared")
+Judged = TypeVar("Judged")
 
-    outcome: Optional[Outcome]
-    story: Optional[Story]
-
-
-class Line(NamedTuple):
-    """A line of a run: its number in the script, or 0 where it was put in, and how it is handed over with questions after it."""
-
-    text: str
-    number: int
-    word: str
-    node: Optional[int]
-    asked: Sequence[int]
-    script: bytes
-
-
-class _Lines(Dict[Token, Line]):
-    """The lines of a script, and those that are put in."""
-
-    def __init__(self, lines: Sequence[str], nodes: int, with_questions: bool):
-        super().__init__()
-        self._nodes, self._with_questions = nodes, with_questions
-        self.update({place: self._line(text, place + 1) for place, text in enumerate(lines)})
-
-    def __missing__(self, text: Token) -> Line:
-        """A line that is put in, when it is met first."""
-        self[text] = self._line(str(text), 0)
-        return self[text]
-
-    def _line(self, text: str, number: int) -> Line:
-        word = first_word(text)
-        asked = touched(text, self._nodes) if self._with_questions and word not in ("", *_QUIET) else ()
-        return Line(text, number, word, acting_node(text), asked, script_bytes([text, *(QUESTIONS[node] for node in asked)]))
+#: What a run comes to, compared and judged: each where it is wanted, and the latter where the run isn't too long.
+End = Tuple[Optional[Compared], Optional[Judged]]
 
 
 class Stage:
-    """A place of a run: how many lines are done, the set that did them, and what was seen of them."""
+    """A place of a run: how many lines are done, the set that did them, what was seen, and which nodes are down."""
 
-    def __init__(self, done: int, held: Held, watching: Watching, reader: Optional[Reader], replies: Dict[int, str]):
-        self.done, self.held, self.watching, self.reader, self.replies = done, held, watching, reader, replies
+    def __init__(self, done: int, held: Held, view: View, down: FrozenSet[int]):
+        self.done, self.held, self.view, self.down = done, held, view, down
 
-    def branch(self, hidden: AbstractSet[int]) -> "Stage":
-        """The same, for a run that goes on otherwise and whose reads in these lines are hidden."""
-        reader = None if self.reader is None else self.reader.branch(hidden)
-        return Stage(self.done, self.held.copy(), self.watching.branch(), reader, dict(self.replies))
-
-    def ask(self, lines: Sequence[Line]) -> Optional[Iterator[str]]:
-        """The replies to more lines and to their questions, each with the lines below it; nothing where a line can't be done."""
-        answer = self.held.call(STEPS, b"".join([line.script for line in lines]))
-        if answer.status:
-            return None
-        replies = read_texts(answer.text.decode("utf-8", "surrogateescape"))
-        return iter(replies) if b"\n  " not in answer.text else (reply.replace("\n  ", "\n") for reply in replies)
-
-    def go_on(self, lines: Sequence[Line], watch: Optional[Watch]) -> bool:
-        """Does more lines. Gives whether all of them could be done."""
-        replies = self.ask(lines)
-        if replies is None:
-            return False
-        for line in lines:
-            self.done += 1
-            if line.word:
-                reply = next(replies)
-                if watch is not None and watch.sees(line.number, line.text, reply):
-                    self.replies[line.number] = reply
-                if self.reader is not None:
-                    self._read(self.reader, line, reply, replies)
-        return True
-
-    def _read(self, reader: Reader, line: Line, reply: str, states: Iterator[str]) -> None:
-        """Reads the reply to a line, and what nodes are after it."""
-        mail, node, message = self.watching.mail, line.node, None
-        if line.word == "deliver":
-            message = mail.deliver(line.text, self.done, reply)
-            node = message.receiver if message else None
-        else:
-            mail.act(line.text, self.done, reply)
-        before = after = None if node is None else self.watching.states.get(node)
-        for asked in line.asked:
-            state = self.watching.state(asked, next(states))
-            after = state if asked == node else after
-        if after is not before or reader.tells(reply):
-            reader.take(Step(self.done, line.text, Reply(self.done, reply), node, [], message, before, after), mail)
-
-    def restart(self, lines: Sequence[Line], replies: Iterator[str]) -> None:
-        """Reads what restarts tell that stand after the run."""
-        for line in lines:
-            step = self.watching.step(self.done, line.text, Reply(self.done, next(replies)))
-            step.after = self.watching.state(line.asked[0], next(replies))
-            if self.reader is not None:
-                self.reader.take_restart(step)
+    def branch(self) -> "Stage":
+        """The same, for a run that goes on otherwise."""
+        return Stage(self.done, self.held.copy(), self.view, self.down)
 
 
-class Runs:
+def replies_to(held: Held, script: Sequence[bytes]) -> Optional[List[bytes]]:
+    """The replies to more lines, with their numbers; nothing where a line can't be done."""
+    answer = held.call(STEPS, b"".join(script))
+    if answer.status:
+        return None
+    text = answer.text.replace(b"\n  ", BELOW) if b"\n " in answer.text else answer.text
+    return text.split(b"\n")[:-1]
+
+
+def down_after(lines: Sequence[Line], down: FrozenSet[int]) -> FrozenSet[int]:
+    """Which nodes are down after these lines."""
+    for line in lines:
+        if line.turn is not None and line.node is not None:
+            down = down | {line.node} if line.turn == "down" else down - {line.node}
+    return down
+
+
+class Runs(Generic[Compared, Judged]):
     """Runs of a script whose lines are lost, repeated or moved, and that has others put in.
 
-    What `watch` sees is compared, if there is one. Stories are told where they are wanted."""
+    What `watch` sees is compared, if there is one, and verdicts are looked for where there is something that judges them."""
 
-    def __init__(self, lines: Sequence[str], watch: Optional[Watch], with_stories: bool):
-        self._lines, self._watch, self._with_stories = list(lines), watch, with_stories
+    def __init__(
+        self, lines: Sequence[str], watch: Optional[Watch], compare: Callable[[Outcome], Compared],
+        judge: Optional[Callable[[Sequence[Verdict]], Judged]],
+    ):
+        self._lines, self._watch, self._compare, self._judge = list(lines), watch, compare, judge
         self._size = set_size(lines)
-        self._known = _Lines(lines, self._size.nodes, with_stories)
         self._dumps = [] if watch is None else dumps(self._size.nodes)
-        self._hides = bool(hidden_reads(lines))
+        self._hides = judge is not None and bool(hidden_reads(lines))
+        self._endings: Dict[FrozenSet[int], Tuple[bytes, List[int]]] = {}
+        self._begin()
+
+    def _begin(self) -> None:
+        """Forgets all runs."""
+        self._known = Lines(self._lines, self._size.nodes, self._watch, self._judge is not None)
+        self._compared: Dict[Tuple[Trail, Tuple[bytes, ...]], Compared] = {}
+        self._judged: Dict[Trail, Judged] = {}
         #: The stages of the last run, which the next one may go on from.
         self._stages = self._first()
-        self._last: Sequence[Token] = range(len(lines))
+        self._last: Sequence[Token] = range(len(self._lines))
 
     def _first(self) -> List[Stage]:
         """The set that the script begins with; none where that is for the program."""
-        script = script_bytes(self._lines)
-        if len(script) > MOST_BYTES or sum(1 + len(line.asked) for line in self._known.values()) > MOST_ASKED:
-            return []
-        begun = opened(script)
+        script, asked = script_bytes(self._lines), sum(1 + len(line.asked) for line in self._known.values())
+        # Numbers from a power of ten on are as long as each other.
+        digits = len(str(asked + 1_000))
+        begun = opened(script, 10**digits) if len(script) <= MOST_BYTES and asked <= MOST_ASKED else None
         if begun is None:
             return []
         held, place = begun
-        reader = Reader(self._size.nodes) if self._with_stories else None
-        return [Stage(script[:place].count(b"\n"), held, Watching(self._size), reader, {})]
+        #: The set that a run ends with.
+        self._held = held.copy()
+        self._front = len(f"{10**digits}: ")
+        self._sights = Sights(self._lines, self._watch, self._front)
+        told = Trail()
+        told.reading = Reading(self._size)
+        states = [held.call(ASK, question.encode()).text[self._front : -1] for question in QUESTIONS[: self._size.nodes]]
+        return [Stage(script[:place].count(b"\n"), held, self._sights.opening(told, states), frozenset())]
 
     def has_stages(self) -> bool:
         """Whether runs go on from stages, and aren't played from their beginning."""
@@ -155,78 +114,123 @@ class Runs:
 
     def ends(self, orders: Sequence[Sequence[Token]]) -> Iterator[End]:
         """What runs come to, one after another."""
-        for place, order in enumerate(orders, 1):
+        shared = [*map(_shared, [self._last, *orders], orders), 0]
+        for place, order in enumerate(orders):
             end = None
+            if self.has_stages() and self._sights.count > MOST_SEEN:
+                self._begin()
+                gc.collect()
             if self.has_stages():
-                self._return_to(order)
-                self._prepare(order, orders[place + 1 : place + 2])
+                self._return_to(shared[place])
+                self._prepare(order, shared, place + 1)
                 end = self._end(order)
-            yield end or self.apart(order)
+            self._last = order
+            yield self.apart(order) if end is None else end
 
-    def _return_to(self, order: Sequence[Token]) -> None:
+    def _return_to(self, shared: int) -> None:
         """Keeps the stages before the place where a run parts from the last one."""
-        shared = _shared(self._last, order)
         while self._stages[-1].done > shared:
             self._stages.pop()
-        self._last = order
 
-    def _prepare(self, order: Sequence[Token], later: Sequence[Sequence[Token]]) -> None:
-        """Makes a stage up to which the next run but one is the same, too, where that is worth while."""
-        shared = _shared(order, later[0]) if later else 0
-        if shared - self._stages[-1].done >= WORTH:
-            stage = self._gone_on(order, shared)
-            self._stages += [stage] if stage else []
+    def _prepare(self, order: Sequence[Token], shared: Sequence[int], place: int) -> None:
+        """Makes a stage up to where the next runs are as this one, in place of the last stage if none of them needs that."""
+        last, ahead = self._stages[-1], min(shared[place : place + WORTH])
+        if ahead <= last.done:
+            return
+        returns = next((one for one in shared[place:] if one < ahead), 0)
+        keeps = len(self._stages) == 1 or returns >= last.done
+        stage = last.branch() if keeps else last
+        if self._go_on(stage, order, ahead):
+            self._stages += [stage] if keeps else []
+        elif not keeps:
+            self._stages.pop()
+
+    def _go_on(self, stage: Stage, order: Sequence[Token], end: int) -> bool:
+        """Does a run's lines up to there. Gives whether all of them could be done."""
+        lines = self._between(order, stage.done, end)
+        replies = replies_to(stage.held, [line.script for line in lines])
+        if replies is None:
+            return False
+        stage.done, stage.view, stage.down = end, self._sights.after(stage.view, lines, replies), down_after(lines, stage.down)
+        return True
+
+    def _between(self, order: Sequence[Token], begin: int, end: int) -> List[Line]:
+        """The lines of a run between two places."""
+        known = self._known
+        if self._hides:
+            hidden = hidden_reads(lines_of(order, self._lines)[0])
+            return [known.hidden(order[at]) if at + 1 in hidden else known[order[at]] for at in range(begin, end)]
+        return [known[token] for token in order[begin:end]]
 
     def _end(self, order: Sequence[Token]) -> Optional[End]:
         """What a run comes to that goes on from the last stage; nothing where it is for the program."""
-        stage = self._gone_on(order, len(order))
-        return self._ended(stage) if stage else None
-
-    def _gone_on(self, order: Sequence[Token], count: int) -> Optional[Stage]:
-        """What comes of the last stage after so many lines of a run; nothing where that is for the program."""
-        hidden = hidden_reads(lines_of(order, self._lines)[0]) if self._hides else _NONE
-        stage = self._stages[-1].branch(hidden)
-        lines = [self._known[token] for token in order[stage.done : count]]
-        return stage if stage.go_on(lines, self._watch) else None
-
-    def _ended(self, stage: Stage) -> Optional[End]:
-        """What a run comes to that is done. A disk that works well needs one restart."""
-        down = [node for node, state in stage.watching.states.items() if state.down]
-        restarts = [self._known[f"restart n{node}"] for node in down]
-        replies = stage.ask([*(self._known[line] for line in self._dumps), *restarts])
+        stage = self._stages[-1]
+        lines = self._between(order, stage.done, len(order))
+        script, down = self._ending(down_after(lines, stage.down))
+        stage.held.copy_to(self._held)
+        replies = replies_to(self._held, [*[line.script for line in lines], script])
         if replies is None:
             return None
-        documents = endings_of([next(replies) for _ in self._dumps])
-        stage.restart(restarts, replies)
-        compared = None if self._watch is None else Outcome(stage.replies, documents)
-        return End(compared, None if stage.reader is None else stage.reader.story())
+        view = self._sights.after(stage.view, lines, replies)
+        place = len(replies) - len(self._dumps) - 2 * len(down)
+        last = tuple([reply[self._front :] for reply in replies[place:]])
+        if last not in view.ends:
+            self._sights.count += 1
+            view.ends[last] = self._ended(view, last, down)
+        end: End = view.ends[last]
+        return end
+
+    def _ending(self, down: FrozenSet[int]) -> Tuple[bytes, List[int]]:
+        """What is played after a run at whose end these nodes are down, and which of them it restarts.
+
+        A disk that works well needs one restart."""
+        if down not in self._endings:
+            nodes = [] if self._judge is None else sorted(down)
+            restarts = [line for node in nodes for line in (f"restart n{node}", QUESTIONS[node])]
+            self._endings[down] = script_bytes([*self._dumps, *restarts]), nodes
+        return self._endings[down]
+
+    def _ended(self, view: View, last: Sequence[bytes], down: Sequence[int]) -> End:
+        """What a run comes to with this view and these replies after it, for the first time."""
+        count, told = len(self._dumps), view.told
+        for place, node in enumerate(down):
+            told = self._sights.restarted(told, node, *last[count + 2 * place :][:2])
+        dumped = tuple(last[:count])
+        compared = None if self._watch is None else self._compared_of(view.watched, dumped)
+        return compared, None if self._judge is None else self._judged_of(told, self._judge)
+
+    def _compared_of(self, watched: Trail, dumped: Tuple[bytes, ...]) -> Compared:
+        if (watched, dumped) not in self._compared:
+            outcome = Outcome(dict(watched.path()), endings_of(map(reply_text, dumped)))
+            self._compared[watched, dumped] = self._compare(outcome)
+        return self._compared[watched, dumped]
+
+    def _judged_of(self, told: Trail, judge: Callable[[Sequence[Verdict]], Judged]) -> Judged:
+        if told not in self._judged:
+            last = self._stages[-1].view.told
+            if last.reading is None:
+                last.reading = reading_of(last)
+            self._judged[told] = judge(reading_of(told).verdicts())
+        return self._judged[told]
 
     def apart(self, order: Sequence[Token]) -> End:
         """What a run comes to that is played from its beginning."""
         lines, source = lines_of(order, self._lines)
         nodes, run = self._size.nodes, self._observed(lines)
-        story = None if run is None else story_of(run, len(lines))
+        judged = None if run is None or self._judge is None else self._judge(verdicts(story_of(run, len(lines))))
         if self._watch is None:
-            return End(None, story)
+            return None, judged
         if run is None:
-            return End(outcome(lines, source, nodes, self._watch), story)
-        return End(outcome_of({step.line: step.reply for step in run.steps}, lines, source, nodes, self._watch), story)
+            return self._compare(outcome(lines, source, nodes, self._watch)), judged
+        return self._compare(outcome_of({step.line: step.reply for step in run.steps}, lines, source, nodes, self._watch)), judged
 
     def _observed(self, lines: List[str]) -> Optional[Run]:
         try:
-            return observe([*lines, *self._dumps, *endings(lines)]) if self._with_stories else None
+            return None if self._judge is None else observe([*lines, *self._dumps, *endings(lines)])
         except TooLong:
             return None
 
 
-_NONE: FrozenSet[int] = frozenset()
-
-
 def _shared(one: Sequence[Token], other: Sequence[Token]) -> int:
     """How long two runs are the same."""
-    place = 0
-    for token, opposite in zip(one, other):
-        if token != opposite:
-            break
-        place += 1
-    return place
+    return next(compress(count(), map(ne, one, other)), min(len(one), len(other)))

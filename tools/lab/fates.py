@@ -10,7 +10,7 @@ from typing import AbstractSet, Dict, List, NamedTuple, Optional, Sequence, Set,
 from .asking import TOLD
 from .histories import ZERO, Histories
 from .keys import Place, read_place, written_place
-from .mail import Mail
+from .mail import Configs
 from .observe import Run, Step, observe
 from .script import first_word, is_silent, words_of
 from .state import Optime, opening_state, optime
@@ -35,7 +35,7 @@ def story_of(run: Run, count: int) -> Story:
     reader = Reader(run.size.nodes, hidden_reads(run.lines), _block_lines(run.lines))
     for step in run.steps:
         if step.line <= count:
-            reader.take(step, run.mail)
+            reader.take(step, run.mail.configs)
         else:
             reader.take_restart(step)
     return reader.story()
@@ -51,6 +51,16 @@ _TOLD = {
     "written", "begun", "committed", "aborted", "primary", "took", "applied", "rolled", "down", "refused", "up", "acked", "config",
     "found", "missing", "documents",
 }
+
+
+#: Those of them of which the first word is all that is looked at.
+_SHOWN = ("found", "missing", "documents")
+
+
+def told_of(reply: str) -> str:
+    """What of a reply a reader looks at, where no disk fails; nothing where it tells of no data."""
+    head = reply.split(" ", 1)[0]
+    return head if head in _SHOWN else reply if head in _TOLD and head != "refused" else ""
 
 
 class _Begun(NamedTuple):
@@ -109,10 +119,10 @@ class Reader:
         self._ended: Optional[int] = None
         self._configs: Dict[str, Config] = {}
 
-    def branch(self, hidden: AbstractSet[int]) -> "Reader":
+    def branch(self) -> "Reader":
         """One that has come as far, in a run that goes on otherwise."""
         made = Reader.__new__(Reader)
-        made._hidden, made._blocks, made._acked, made._ended = hidden, self._blocks, self._acked, self._ended
+        made._hidden, made._blocks, made._acked, made._ended = self._hidden, self._blocks, self._acked, self._ended
         made._states, made._last, made._applied = dict(self._states), dict(self._last), dict(self._applied)
         made._config, made._down, made._rolled = dict(self._config), dict(self._down), dict(self._rolled)
         made._writes, made._done, made._acks = dict(self._writes), set(self._done), list(self._acks)
@@ -122,15 +132,10 @@ class Reader:
         made._together, made._configs = list(self._together), dict(self._configs)
         return made
 
-    @staticmethod
-    def tells(reply: str) -> bool:
-        """Whether a reply may tell something, so that its step must be taken. A step that changes a state must be, too."""
-        return reply.split(" ", 1)[0] in _TOLD
-
-    def take(self, step: Step, mail: Mail) -> None:
-        """The next step. The mail has the configurations that it tells of."""
+    def take(self, step: Step, configs: Configs) -> None:
+        """The next step, where these configurations have been told of."""
         if step.node is not None:
-            self._take(step, step.node, mail)
+            self._take(step, step.node, configs)
             self._watch(step, step.node)
 
     def _watch(self, step: Step, node: int) -> None:
@@ -152,7 +157,7 @@ class Reader:
             self._config[node] = after.config
             self._committed.add(optime(after.commit))
 
-    def _take(self, step: Step, node: int, mail: Mail) -> None:
+    def _take(self, step: Step, node: int, configs: Configs) -> None:
         head = step.reply.text.split(" ", 1)[0]
         if head not in _TOLD:
             return
@@ -160,7 +165,7 @@ class Reader:
         if head in ("written", "begun", "committed", "aborted"):
             self._take_write(step, node, words)
         elif head == "primary":
-            self._take_drain(step, node, words, mail)
+            self._take_drain(step, node, words, configs)
         elif head == "took":
             self._last[node] = optime(words[3])
         elif head == "applied":
@@ -171,11 +176,11 @@ class Reader:
         elif head == "down" or words[1:3] == ["29", "DiskFailed"]:
             self._down.setdefault(node, step.line)
         elif head == "up":
-            self._take_up(node, optime(words[2]))
+            self._take_up(step, node, optime(words[2]))
         elif head == "acked":
             self._take_ack(step, optime(words[1]))
         elif head == "config":
-            self._configure(step, node, words[1], mail, asked=True)
+            self._configure(step, node, words[1], configs, asked=True)
         elif head in ("found", "missing") or head == "documents" and step.word == "dump":
             self._take_read(step, node)
 
@@ -201,16 +206,16 @@ class Reader:
             if place is not None:
                 self._of_place[place] = (*self._of_place.get(place, ()), at)
 
-    def _take_drain(self, step: Step, node: int, words: List[str], mail: Mail) -> None:
+    def _take_drain(self, step: Step, node: int, words: List[str], configs: Configs) -> None:
         at = optime(words[3])
         self._histories.begin(at[0], self._last[node])
         self._histories.write(at)
         self._last[node] = self._applied[node] = at
-        self._configure(step, node, f"{words[1]}/{self._config[node].split('/')[1]}", mail, asked=False)
+        self._configure(step, node, f"{words[1]}/{self._config[node].split('/')[1]}", configs, asked=False)
 
-    def _configure(self, step: Step, node: int, name: str, mail: Mail, asked: bool) -> None:
+    def _configure(self, step: Step, node: int, name: str, configs: Configs, asked: bool) -> None:
         if name not in self._configs:
-            self._configs[name] = Config(step.line, asked, self._config[node], mail.members_of(name).voters)
+            self._configs[name] = Config(step.line, asked, self._config[node], configs.members_of(name).voters)
         self._config[node] = name
 
     def _remove(self, node: int, line: int, cut: Optime, rollback: bool) -> None:
@@ -220,8 +225,8 @@ class Reader:
                 self._removals.append((at, Removal(node, line, rollback)))
         self._last[node] = self._applied[node] = cut
 
-    def _take_up(self, node: int, last: Optime) -> None:
-        self._remove(node, self._down.pop(node, 0), last, rollback=False)
+    def _take_up(self, step: Step, node: int, last: Optime) -> None:
+        self._remove(node, self._down.pop(node, step.line), last, rollback=False)
         self._rolled.pop(node, None)
 
     def _take_ack(self, step: Step, at: Optime) -> None:

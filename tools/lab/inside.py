@@ -52,13 +52,13 @@ def _is_beyond(script: bytes) -> bool:
     return any(word in script or script.startswith(word[1:]) for word in _BEYOND)
 
 
-def opened(script: bytes) -> Optional[Tuple[Held, int]]:
+def opened(script: bytes, number: Optional[int] = None) -> Optional[Tuple[Held, int]]:
     """The set that a script begins with, and where its other lines begin; nothing where it is for the
-    program."""
-    return None if not is_wanted() or _is_beyond(script) else _opened(script, locked=True)
+    program. With a number that is the `set` line's, and those after it have the next."""
+    return None if not is_wanted() or _is_beyond(script) else _opened(script, True, number)
 
 
-def _opened(script: bytes, locked: bool) -> Optional[Tuple[Held, int]]:
+def _opened(script: bytes, locked: bool, number: Optional[int] = None) -> Optional[Tuple[Held, int]]:
     """The set that a script begins with, and where its other lines begin."""
     front = _FRONT.match(script)
     if front is None or front.end() > LONGEST:
@@ -66,7 +66,7 @@ def _opened(script: bytes, locked: bool) -> Optional[Tuple[Held, int]]:
     try:
         lines = split_lines(front[0].decode())
         size = set_size(lines)
-        return open_set(size.nodes, size.voters, size.members, len(lines), locked), front.end()
+        return open_set(size.nodes, size.voters, size.members, number or len(lines), locked), front.end()
     except (ValueError, NoLibrary):
         return None
 

@@ -127,6 +127,13 @@ class Held:
             raise MemoryError("the library ran out of memory")
         return Held(self._interface, made)
 
+    def copy_to(self, other: "Held") -> None:
+        """Makes another such a set, and gives back what it was."""
+        if self._handle is None or other._handle is None:
+            raise ValueError("this set was closed")
+        if self._interface.copy(self._handle, other._handle) != OK:
+            raise MemoryError("the library ran out of memory")
+
     @property
     def closed(self) -> bool:
         """Whether it was given back."""

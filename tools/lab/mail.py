@@ -40,21 +40,16 @@ class Members:
     voters: Tuple[int, ...] = ()
 
 
-class Mail:
-    """The messages so far, with what is needed to know to whom a candidate's go: who the voters of each configuration are."""
+class Configs:
+    """The configurations that a run has told of: who the members of each are, and which one a node has."""
 
     def __init__(self, size: SetSize):
-        self.messages: List[Message] = []
-        #: The numbers of those that were handed over.
-        self.delivered: Set[int] = set()
-        self._newest: Dict[Tuple[int, int], Message] = {}
         self._members = {"0/1": Members(tuple(range(size.members)), tuple(range(size.voters)))}
         self._config: Dict[int, str] = {}
 
-    def branch(self) -> "Mail":
-        """The messages so far, of a run that goes on otherwise."""
-        made = Mail.__new__(Mail)
-        made.messages, made.delivered, made._newest = list(self.messages), set(self.delivered), dict(self._newest)
+    def branch(self) -> "Configs":
+        """The same, for a run that goes on otherwise."""
+        made = Configs.__new__(Configs)
         made._members, made._config = dict(self._members), dict(self._config)
         return made
 
@@ -66,6 +61,35 @@ class Mail:
     def members_of(self, config: str) -> Members:
         """The members of a configuration, named by term and version, as far as the run has told."""
         return self._members.get(config, Members())
+
+    def other_voters(self, node: int) -> List[int]:
+        """The voters of a node's configuration but itself."""
+        return [voter for voter in self.members_of(self._config.get(node, "0/1")).voters if voter != node]
+
+    def learn(self, node: int, line: str, reply: str) -> None:
+        """Learns of the configuration that a reply tells of, if it does."""
+        made, drained = _CONFIG.match(reply), _DRAINED.match(reply)
+        if made:
+            config = f"{made[1]}/{made[2]}"
+            self._members[config] = _members_of(line.split(" ", 2)[2])
+        elif drained:
+            was = self._config.get(node, "0/1")
+            config = f"{drained[1]}/{was.split('/')[1]}"
+            self._members.setdefault(config, self.members_of(was))
+        else:
+            return
+        self._config[node] = config
+
+
+class Mail:
+    """The messages so far, with what is needed to know to whom a candidate's go: who the voters of each configuration are."""
+
+    def __init__(self, size: SetSize):
+        self.messages: List[Message] = []
+        #: The numbers of those that were handed over.
+        self.delivered: Set[int] = set()
+        self.configs = Configs(size)
+        self._newest: Dict[Tuple[int, int], Message] = {}
 
     def receive(self, line: str) -> Optional[Message]:
         """The message that a `deliver` line hands over, if there is one."""
@@ -97,13 +121,13 @@ class Mail:
         elif head in _ASKING:
             self._note_asked(node, number, reply)
         elif head in _MAKING:
-            self._learn_config(node, line, reply)
+            self.configs.learn(node, line, reply)
         return self.messages[before:]
 
     def _note_asked(self, node: int, number: int, reply: str) -> None:
         asked = _ASKED.match(reply)
         if asked and int(asked[2]):
-            for voter in self._others(node):
+            for voter in self.configs.other_voters(node):
                 self._send(node, voter, "vote", number)
 
     def _note_sent(self, node: int, line: str, number: int, reply: str) -> None:
@@ -111,22 +135,6 @@ class Mail:
         if sent:
             words = words_of(line)
             self._send(node, int(sent[2] or words[2][1:]), words[0], number)
-
-    def _learn_config(self, node: int, line: str, reply: str) -> None:
-        made, drained = _CONFIG.match(reply), _DRAINED.match(reply)
-        if made:
-            config = f"{made[1]}/{made[2]}"
-            self._members[config] = _members_of(line.split(" ", 2)[2])
-        elif drained:
-            was = self._config.get(node, "0/1")
-            config = f"{drained[1]}/{was.split('/')[1]}"
-            self._members.setdefault(config, self.members_of(was))
-        else:
-            return
-        self._config[node] = config
-
-    def _others(self, node: int) -> List[int]:
-        return [voter for voter in self.members_of(self._config.get(node, "0/1")).voters if voter != node]
 
     def _send(self, sender: int, receiver: int, kind: str, line: int, answers: Optional[int] = None) -> None:
         message = Message(len(self.messages), sender, receiver, kind, line, answers)

@@ -150,16 +150,10 @@ class Watching:
         self.mail = Mail(size)
         self.states: Dict[int, State] = {node: opening_state() for node in range(size.nodes)}
 
-    def branch(self) -> "Watching":
-        """The same, for a run that goes on otherwise."""
-        made = Watching.__new__(Watching)
-        made.mail, made.states = self.mail.branch(), dict(self.states)
-        return made
-
     def state(self, node: int, reply: str) -> State:
         """What a node is, by its reply to a question."""
         state = read_state(reply)
-        self.mail.notice_state(node, state)
+        self.mail.configs.notice_state(node, state)
         self.states[node] = state
         return state
 

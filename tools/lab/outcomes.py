@@ -34,6 +34,10 @@ class Watch(NamedTuple):
     pattern: Optional["re.Pattern[str]"] = None
     also: FrozenSet[int] = frozenset()
 
+    def may_see(self, number: int) -> bool:
+        """Whether it may compare a reply to the line of this number."""
+        return number in self.also or self.pattern is not None and number != 0
+
     def sees(self, number: int, line: str, said: str) -> bool:
         """Whether a reply is compared. The number is the line's in the script as it is, or 0 where it was put in."""
         if self.pattern is None or number == 0:

@@ -5,7 +5,7 @@ import re
 from typing import Dict, List, Optional
 
 from .inside import Follower
-from .mail import Mail, Members, Message
+from .mail import Configs, Members, Message
 from .observe import observe
 from .program import last_replies, play
 from .script import SetSize, acting_node, is_silent, set_size, words_of
@@ -89,8 +89,8 @@ class Player:
         """The members of the configuration that a node has."""
         config = read_state(self.look(f"state n{node}").text).config
         if config.endswith("/1"):
-            return Mail(self.size()).members_of("0/1")
-        return observe(self.lines, len(self.lines) + 1).mail.members_of(config)
+            return Configs(self.size()).members_of("0/1")
+        return observe(self.lines, len(self.lines) + 1).mail.configs.members_of(config)
 
     def other_members(self, node: int) -> List[int]:
         """The members of a node's configuration but itself."""

@@ -2,7 +2,7 @@
 from __future__ import annotations
 
 from itertools import combinations, permutations
-from typing import Dict, Iterator, List, NamedTuple, Sequence, Tuple, Union
+from typing import Dict, Iterator, List, NamedTuple, Sequence, Set, Tuple, Union
 
 from .errors import WORDS, LabError
 from .expand import Expanded
@@ -106,16 +106,24 @@ def lines_of(order: Sequence[Token], lines: Sequence[str]) -> Tuple[List[str], L
 def faults(lines: Sequence[str], size: SetSize, kinds: Sequence[str], most: int) -> Iterator[Faults]:
     """The variations by one change of the wanted kinds, in the order of the script's lines; then those by two, and so on."""
     single = list(_changes(lines, size, kinds))
+    apart = _apart(single)
     for count in range(1, most + 1):
-        yield from (Faults(some) for some in combinations(single, count) if count == 1 or _fit(some))
+        some = (one for one in combinations(range(len(single)), count) if apart.isdisjoint(combinations(one, 2)))
+        yield from (Faults(tuple([single[place] for place in one])) for one in some)
 
 
-def _fit(changes: Sequence[Change]) -> bool:
-    """Whether no two of the changes are of one line's delivery, or rest on one that is lost."""
-    return all(_fit_both(one, other) for one, other in combinations(changes, 2))
+def _apart(changes: Sequence[Change]) -> Set[Tuple[int, int]]:
+    """Which two of the changes don't go together, by their places here."""
+    of_line: Dict[int, List[int]] = {}
+    for place, change in enumerate(changes):
+        for line in {change.place, change.other if change.kind == "swap" else change.place}:
+            of_line.setdefault(line, []).append(place)
+    pairs = (pair for some in of_line.values() for pair in combinations(some, 2))
+    return {(one, other) for one, other in pairs if not _fit_both(changes[one], changes[other])}
 
 
 def _fit_both(one: Change, other: Change) -> bool:
+    """Whether two changes aren't of one line's delivery, and neither rests on one that is lost."""
     if one.place == other.place:
         return "drop" not in (one.kind, other.kind) and not (one.kind in _DELIVERED and other.kind in _DELIVERED)
     return not (one.rests_on(other) or other.rests_on(one))

@@ -1,6 +1,7 @@
 """Does much work side by side, in processes that are forked for it."""
 from __future__ import annotations
 
+import gc
 import os
 import pickle
 import signal
@@ -11,6 +12,9 @@ from .errors import LabError
 
 Item = TypeVar("Item")
 Answer = TypeVar("Answer")
+
+#: Of so much that is made Python looks at once for what nothing holds any more.
+GARBAGE = 100_000
 
 #: So many items are done by one process before the next has its turn, where nothing else is said.
 AT_A_TIME = 8
@@ -80,6 +84,9 @@ def _work(
 ) -> NoReturn:
     """What a process does until it has no more. The one that forked it hears interrupts, and ends it."""
     signal.signal(signal.SIGINT, signal.SIG_IGN)
+    # What is there stays, and little of what comes is in circles.
+    gc.freeze()
+    gc.set_threshold(GARBAGE)
     try:
         for turn, part in enumerate(some):
             if turn % jobs == place:

@@ -5,7 +5,7 @@ import os
 import random
 import sys
 import unittest
-from typing import Any, List, Set, Tuple
+from typing import Any, Callable, List, Set, Tuple
 
 from support import COMMITTED, TOP, LabTest
 from slow_reading import SlowReading
@@ -25,10 +25,16 @@ SCRIPTS = int(os.environ.get("LAB_SCRIPTS", "200"))
 
 
 def random_script(program: str, dice: random.Random) -> Tuple[List[str], int]:
-    """A short random script, which ends anywhere, and how many nodes its set has."""
+    """A short random script, and how many nodes its set has."""
+    return read_and_written(lambda sizes: Player(program, sizes), dice, 0.35)
+
+
+def read_and_written(begin: Callable[[Any], Any], dice: random.Random, failing: float) -> Tuple[List[str], int]:
+    """A short random script with writes and reads, which ends anywhere, and how many nodes its set has. Of all scripts that
+    part has failing disks."""
     sizes = sizes_by(dice)
-    player = Player(program, sizes)
-    author = Author(dice, player, sizes, disk_faults=dice.random() < 0.35)
+    player = begin(sizes)
+    author = Author(dice, player, sizes, disk_faults=dice.random() < failing)
     author.elect()
     steps = [author.diverge, author.reconfigure, author.fail_disk, author.crash, author.elect, author.writers, author.roll_back,
              author.old_messages, author.step_down_or_clock]

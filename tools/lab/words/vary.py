@@ -6,18 +6,18 @@ import os
 import re
 from collections import Counter
 from itertools import compress, repeat
-from typing import Callable, Dict, Iterable, Iterator, List, NamedTuple, Tuple
+from typing import Callable, Dict, Iterable, Iterator, List, Sequence, Tuple
 
 from ..branches import End, Runs
 from ..errors import DIFFERENT, INTERRUPT, NOTHING, WORDS, LabError
 from ..expand import Expanded, read_expanded
-from ..outcomes import Watch, differences, usual_outcomes
+from ..outcomes import Outcome, Watch, differences, usual_outcomes
 from ..program import script_bytes, write_file
 from ..script import set_size
 from ..show import Progress
 from ..telling import of_name, verdicts_of
 from ..variations import KINDS, Variation, faults, lines_of, orders
-from ..verdicts import MEANINGS, verdicts
+from ..verdicts import MEANINGS, Verdict
 from ..workers import some_in_order
 from .shrink import pattern
 
@@ -41,21 +41,18 @@ MOST_OUTCOMES, MOST_NAMED = 12, 4
 
 
 #: So many variations are played by one process before the next has its turn.
-AT_A_TIME = 16
+AT_A_TIME = 64
 
+Texts = Tuple[str, ...]
 
-class Answer(NamedTuple):
-    """What a variation changes, and the names of its verdicts."""
-
-    told: Tuple[str, ...]
-    verdicts: Tuple[str, ...]
-
+#: What differs in a variation, where that is wanted; and of its verdicts, where they are, what they tell, and their names.
+Answer = End[Texts, Tuple[Texts, Texts]]
 
 #: A variation with its number.
 Numbered = Tuple[int, Variation]
 
 #: Variations by what they change.
-Found = Dict[Tuple[str, ...], List[Numbered]]
+Found = Dict[Texts, List[Numbered]]
 
 
 def add_arguments(parser: argparse.ArgumentParser) -> None:
@@ -67,7 +64,7 @@ def add_arguments(parser: argparse.ArgumentParser) -> None:
     parser.add_argument("--orders", metavar="LINES", type=_numbers, help="up to eight lines of the file, as 5,7,9, in all orders")
     verdict = parser.add_mutually_exclusive_group()
     verdict.add_argument("--verdict", metavar="NAME", choices=list(MEANINGS), help="which verdict alone is looked for")
-    verdict.add_argument("--no-verdicts", action="store_true", help="look for no verdicts, which takes a third of the time")
+    verdict.add_argument("--no-verdicts", action="store_true", help="look for no verdicts, which is faster")
     parser.add_argument("--save", metavar=("N", "FILE"), nargs=2, help="keep the variation with that number, and play none")
     parser.add_argument("--limit", metavar="N", type=int, help="play no more than so many, spread over the script")
     parser.add_argument("--all", action="store_true", help="show every outcome and every variation")
@@ -109,17 +106,16 @@ def _answers(arguments: argparse.Namespace, script: Expanded) -> Callable[[List[
     watch = Watch() if arguments.watch is None else Watch(pattern(arguments.watch))
     usual = usual_outcomes(script.lines, nodes, watch)
     also = frozenset(number for one in usual for number in one.replies)
-    runs = Runs(script.lines, watch._replace(also=also) if name is None else None, not arguments.no_verdicts)
 
-    def answer(end: End) -> Answer:
-        found = [] if end.story is None else of_name(verdicts(end.story), name)
-        told = differences(script, usual, end.outcome) if end.outcome else tuple(dict.fromkeys(one.told for one in found))
-        return Answer(told, tuple(dict.fromkeys(one.name for one in found)))
+    def compare(one: Outcome) -> Texts:
+        return differences(script, usual, one)
 
-    def answers(some: List[Numbered]) -> List[Answer]:
-        return list(map(answer, runs.ends([variation.order(len(script.lines)) for _, variation in some])))
+    def judge(found: Sequence[Verdict]) -> Tuple[Texts, Texts]:
+        wanted = of_name(found, name)
+        return tuple(dict.fromkeys(one.told for one in wanted)), tuple(dict.fromkeys(one.name for one in wanted))
 
-    return answers
+    runs = Runs(script.lines, watch._replace(also=also) if name is None else None, compare, None if arguments.no_verdicts else judge)
+    return lambda some: list(runs.ends([variation.order(len(script.lines)) for _, variation in some]))
 
 
 def _report(script: Expanded, found: Found, arguments: argparse.Namespace) -> Iterable[str]:
@@ -190,9 +186,11 @@ def _play(
     """Puts each variation below what it changes. Gives whether the user interrupted it."""
     progress = Progress(count, "playing")
     try:
-        for numbered, (told, names) in some_in_order(answers, wanted, jobs, AT_A_TIME):
-            found.setdefault(told, []).append(numbered)
-            counts.update(names)
+        for numbered, (compared, judged) in some_in_order(answers, wanted, jobs, AT_A_TIME):
+            told, names = judged or ((), ())
+            found.setdefault(told if compared is None else compared, []).append(numbered)
+            for name in names:
+                counts[name] += 1
             progress.step()
         return False
     except KeyboardInterrupt:
