@@ -11,6 +11,7 @@ from typing import List, NamedTuple, Optional, Sequence, Tuple
 
 from .library import BAD_LINE, STEPS, Held, NoLibrary, find_library, open_set
 from .script import set_size, split_lines
+from .transcript import Transcript, read_replies
 
 MOST_BYTES, MOST_LINES, LONGEST = 8_388_608, 200_000, 1_048_576
 
@@ -83,11 +84,25 @@ class Follower:
         self._held, self._count = held, len(done)
         self._last = done[-1] if done else ""
         self._given = held is not None
+        self._unread: List[bytes] = []
+        self._transcript = Transcript()
 
     def forget(self) -> None:
         """Must be called where lines of the script were taken away."""
         if not self._given:
             self._held, self._count = None, 0
+            self._unread, self._transcript = [], Transcript()
+
+    def transcript(self, lines: List[str]) -> Optional[Transcript]:
+        """All replies to these lines, which grow as they do; nothing where that is for a play of all of
+        them."""
+        if self._given or not is_wanted() or not self._follow(lines):
+            return None
+        for reply in read_replies(b"".join(self._unread).decode("utf-8", "surrogateescape")):
+            self._transcript.replies.append(reply)
+            self._transcript.by_line[reply.line] = reply
+        self._unread = []
+        return self._transcript
 
     def replies(self, lines: List[str], asked: Sequence[str]) -> Optional[bytes]:
         """What lines would reply that stand after these; nothing where that is for a play of all of them."""
@@ -110,10 +125,13 @@ class Follower:
             return False
         if self._count < len(lines):
             script = _script(lines[self._count :])
-            if _is_beyond(script) or self._held is None or self._held.call(STEPS, script).status:
+            answer = None if _is_beyond(script) or self._held is None else self._held.call(STEPS, script)
+            if answer is None or answer.status:
                 self.forget()
                 return False
             self._count, self._last = len(lines), lines[-1]
+            if not self._given:
+                self._unread.append(answer.text)
         return True
 
     def _open(self, lines: List[str]) -> bool:

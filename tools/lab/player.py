@@ -69,6 +69,9 @@ class Player:
 
     def transcript(self) -> Transcript:
         """All replies so far."""
+        followed = self._follower.transcript(self.lines)
+        if followed is not None:
+            return followed
         if self._played is None:
             self._played = play(self.lines)
         return self._played

@@ -36,6 +36,9 @@ export class Follower {
   replies() {
     return null;
   }
+  transcript() {
+    return null;
+  }
 }
 
 /** Nobody watches a bar here: who asked is told once it is done, and may end it before. */
