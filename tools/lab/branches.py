@@ -112,7 +112,7 @@ class Runs(Generic[Compared, Judged]):
         """Whether runs go on from stages, and aren't played from their beginning."""
         return bool(self._stages)
 
-    def ends(self, orders: Sequence[Sequence[Token]]) -> Iterator[End]:
+    def ends(self, orders: Sequence[Sequence[Token]]) -> Iterator[End[Compared, Judged]]:
         """What runs come to, one after another."""
         shared = [*map(_shared, [self._last, *orders], orders), 0]
         for place, order in enumerate(orders):
@@ -162,7 +162,7 @@ class Runs(Generic[Compared, Judged]):
             return [known.hidden(order[at]) if at + 1 in hidden else known[order[at]] for at in range(begin, end)]
         return [known[token] for token in order[begin:end]]
 
-    def _end(self, order: Sequence[Token]) -> Optional[End]:
+    def _end(self, order: Sequence[Token]) -> Optional[End[Compared, Judged]]:
         """What a run comes to that goes on from the last stage; nothing where it is for the program."""
         stage = self._stages[-1]
         lines = self._between(order, stage.done, len(order))
@@ -177,7 +177,7 @@ class Runs(Generic[Compared, Judged]):
         if last not in view.ends:
             self._sights.count += 1
             view.ends[last] = self._ended(view, last, down)
-        end: End = view.ends[last]
+        end: End[Compared, Judged] = view.ends[last]
         return end
 
     def _ending(self, down: FrozenSet[int]) -> Tuple[bytes, List[int]]:
@@ -190,7 +190,7 @@ class Runs(Generic[Compared, Judged]):
             self._endings[down] = script_bytes([*self._dumps, *restarts]), nodes
         return self._endings[down]
 
-    def _ended(self, view: View, last: Sequence[bytes], down: Sequence[int]) -> End:
+    def _ended(self, view: View, last: Sequence[bytes], down: Sequence[int]) -> End[Compared, Judged]:
         """What a run comes to with this view and these replies after it, for the first time."""
         count, told = len(self._dumps), view.told
         for place, node in enumerate(down):
@@ -213,7 +213,7 @@ class Runs(Generic[Compared, Judged]):
             self._judged[told] = judge(reading_of(told).verdicts())
         return self._judged[told]
 
-    def apart(self, order: Sequence[Token]) -> End:
+    def apart(self, order: Sequence[Token]) -> End[Compared, Judged]:
         """What a run comes to that is played from its beginning."""
         lines, source = lines_of(order, self._lines)
         nodes, run = self._size.nodes, self._observed(lines)

@@ -156,7 +156,7 @@ class Sights:
         watched, told, now = view.watched, view.told, list(view.standings)
         if self._watch is not None and self._watch.sees(line.number, line.text, said):
             watched = watched.on((line.number, said), (line.number, said))
-        node, state = line.node, None
+        node, state = line.node, ""
         for asked, standing, text in zip(line.asked, seen[2:], states):
             # Of a message by its number the line doesn't say for whom it is: no other node changes.
             if standing != now[asked]:
@@ -164,7 +164,7 @@ class Sights:
         if line.word == "crash" and said == "down" and node is not None:
             state, now[node] = "refused 1 NodeDown", DOWN
         if line.is_told and node is not None:
-            told = self._told(view, Telling(line.text, said, node, now[node] if state else b"", state))
+            told = self._told(view, Telling(line.text, said, node, now[node] if state else b"", state or None))
         self.count += 1
         view.later[seen] = found = self.view(watched, told, tuple(now))
         return found

@@ -142,7 +142,9 @@ def reading_of(trail: Trail) -> Reading:
 
 def is_as_it_was(told: Trail, node: int, end: str, standing: bytes, opening: bytes) -> bool:
     """Whether a restart leaves a node as it was told of last: its log ended and was applied up to where it does now, and it stood so."""
-    last = applied = stood = None
+    last: Optional[str] = None
+    applied: Optional[str] = None
+    stood: Optional[bytes] = None
     trail = told
     while trail.before is not None and None in (last, applied, stood):
         telling: Telling = trail.seen
