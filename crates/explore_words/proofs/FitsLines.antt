@@ -24,7 +24,7 @@ use Rattle.explore_words.specs.declared.question.Question.{Question}
 use Rattle.explore_words.specs.declared.question.Want.{Want}
 use Rattle.explore_words.specs.declared.reading.Reading.{Reading}
 use Rattle.explore_words.specs.Commands.{verb_at}
-use Rattle.explore_words.specs.Fits.{fits_set, is_act_for, is_limit, is_want_for, sizes_of}
+use Rattle.explore_words.specs.Fits.{fits_set, is_act_for, is_limit, is_line_for, is_want_for, sizes_of}
 use Rattle.explore_words.specs.Gives.{as_scripts}
 use Rattle.explore_words.specs.Question.{with_act, with_want, act_line, and_then, begin_act, begin_want, end_act, end_acts, end_want, ended, lacks_line, limit_at, line_count, next_act, next_want, question, question_from, some_wants, start, whole, with_command, with_line, with_part, with_text, with_word, with_words}
 use Rattle.explore_words.specs.Wants.{is_new, want_line}
@@ -97,7 +97,7 @@ act_ends set reading (Some act) is after =
         parts = record {
           beginning = after.parts.beginning;
           acts =
-              let whole = whole_act (is_limit act.limit) (list_all (is_for set.nodes) act.commands) (line_count act) so_far.limit some so_far.few so_far.commands in
+              let whole = whole_act (is_limit act.limit) (list_all (is_line_for set.nodes) act.commands) (line_count act) so_far.limit some so_far.few so_far.commands in
               rw (list_all-append (is_act_for set.nodes) reading.acts (act ∷ []), after.parts.acts, whole) refl;
           few_acts = one_more reading.acts act reading.act 1000 is after.parts.few_acts;
           act = tt;

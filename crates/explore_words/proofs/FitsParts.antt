@@ -6,7 +6,7 @@ use Rattle.std.proofs.lemmas.Bool.{and_parts}
 use Rattle.std.proofs.lemmas.List.Folds.{list_all-append}
 use Rattle.bson_doc.specs.Bind.{◌>>=◌}
 use Rattle.oplog_store.proofs.PlaceLemmas.{last_length}
-use Rattle.bson_doc.proofs.BindLemmas.{Gets, bind_gets, cond_gets}
+use Rattle.bson_doc.proofs.BindLemmas.{Gets, bind_gets, cond_gets, gets_more}
 use Rattle.set_model.specs.declared.command.Command.{Command}
 use Rattle.set_model.specs.Limits.{is_for}
 use Rattle.script_words.specs.Commands.{words_at}
@@ -22,11 +22,12 @@ use Rattle.explore_words.specs.declared.question.Look.{Look}
 use Rattle.explore_words.specs.declared.question.Want.{Want}
 use Rattle.explore_words.specs.declared.question.Want.TheVariants.{Event, Seen}
 use Rattle.explore_words.specs.Commands.{any_node_at, event_at, is_star, names_one, sight_at, sight_verb, verb_at, wanted_verb_at}
-use Rattle.explore_words.specs.Fits.{is_limit, is_look_for, is_node_or_any, is_want_for, is_within_sight}
+use Rattle.explore_words.specs.Fits.{has_own, is_limit, is_line_for, is_look_for, is_node_or_any, is_numbered, is_want_for, is_within_sight}
 use Rattle.explore_words.specs.Gives.{as_scripts}
 use Rattle.explore_words.specs.Question.{act_line, add_any, add_command, add_verb, lacks_line, line_count}
 use Rattle.explore_words.specs.Texts.{cut_at_last, goes_on}
 use Rattle.explore_words.specs.Wants.{add_verb as add_wanted_verb, add_wanted, is_new, may_be_event, may_go_on, may_have, new_event, one_more_look, parts_of, want_line}
+use Rattle.explore_words.proofs.FitsOwn.{IsUnnumbered, event_own, words_unnumbered}
 use Rattle.explore_words.proofs.FitsTexts.{longer_fits}
 use Rattle.explore_words.proofs.FitsWords.{any_within, sight_within}
 
@@ -46,7 +47,7 @@ any_step (Err rule) later Q each = tt
 pub record IsActSoFar (nodes : ℕ) (act : Act) : Type 0 where
   pub limit : is_limit act.limit ≡ true
   pub few : line_count act ≤ 1000
-  pub commands : list_all (is_for nodes) act.commands ≡ true
+  pub commands : list_all (is_line_for nodes) act.commands ≡ true
 
 abbrev pub IsWantSoFar : ℕ → Want → Type 0
 IsWantSoFar nodes want = is_new want ≡ false → is_want_for nodes want ≡ true
@@ -84,15 +85,31 @@ any_fits nodes act left so_far =
     })
     (λ other. tt)
 
+abbrev IsLine : ℕ → Command → Type 0
+IsLine nodes command = is_line_for nodes command ≡ true
+
+both_got : {A : Type 0} (read : Result A ScriptRule) (P Q : A → Type 0) → Gets read P → Gets read Q → Gets read (λ x. P x × Q x)
+both_got (Ok x) P Q one other = (one, other)
+both_got (Err rule) P Q one other = tt
+
+line_is : (a b : Bool) → a ≡ true → b ≡ false → (a && not b) ≡ true
+line_is a b fits other = rw (fits, other) refl
+
+line_gets : (nodes : ℕ) (verb : Verb) (left : Left) → names_one verb left ≡ false → Gets (words_at nodes verb left) (IsLine nodes)
+line_gets nodes verb left other =
+    gets_more (words_at nodes verb left) (λ command. Fit nodes command × IsUnnumbered command) (IsLine nodes)
+    (both_got (words_at nodes verb left) (Fit nodes) IsUnnumbered (words_within nodes verb left) (words_unnumbered nodes verb left other))
+    (λ command both. line_is (is_for nodes command) (is_numbered command) both.0 both.1)
+
 added_fits : (nodes : ℕ) (act : Act) (verb : Verb) (left : Left) → IsActSoFar nodes act → Gets (add_verb nodes act verb left) (IsActSoFar nodes)
 added_fits nodes act verb left so_far =
     cond_gets (nat_lt (line_count act) 1000) _ _ (IsActSoFar nodes)
     (λ room. cond_gets (names_one verb left) _ _ (IsActSoFar nodes) (λ one. any_fits nodes act left so_far)
-    (λ other. bind_gets (as_scripts (words_at nodes verb left)) _ (Fit nodes) (IsActSoFar nodes) (scripts_gets (words_at nodes verb left) (Fit nodes) (words_within nodes verb left))
+    (λ other. bind_gets (as_scripts (words_at nodes verb left)) _ (IsLine nodes) (IsActSoFar nodes) (scripts_gets (words_at nodes verb left) (IsLine nodes) (line_gets nodes verb left other))
     (λ command fit. record {
       limit = so_far.limit;
       few = at_most (line_count (add_command act command)) (line_count act + 1) 1000 (line_more act command) (below (line_count act) 1000 room);
-      commands = rw (list_all-append (is_for nodes) act.commands (command ∷ []), so_far.commands, fit) refl;
+      commands = rw (list_all-append (is_line_for nodes) act.commands (command ∷ []), so_far.commands, fit) refl;
     })))
     (λ full. tt)
 
@@ -105,8 +122,8 @@ act_fits nodes text act so_far = any_step (as_scripts (verb_at text)) _ (IsActSo
 new_fits : (nodes : ℕ) (verb : Verb) (left : Left) (text : List ℕ) → Gets (new_event nodes verb left text) (IsWantSoFar nodes)
 unfolding new_event
 new_fits nodes verb left text =
-    any_step (as_scripts (event_at nodes verb left)) _ (IsWantSoFar nodes) (λ event.
-    cond_gets (may_have event text) _ _ (IsWantSoFar nodes) (λ may. λ old. may) (λ other. tt))
+    bind_gets (as_scripts (event_at nodes verb left)) _ (λ event. has_own event ≡ true) (IsWantSoFar nodes) (scripts_gets (event_at nodes verb left) (λ event. has_own event ≡ true) (event_own nodes verb left)) (λ event own.
+    cond_gets (may_have event text) _ _ (IsWantSoFar nodes) (λ may. λ old. both (may_have event text) (has_own event) may own) (λ other. tt))
 
 above : (n : ℕ) → nat_lt 0 (n + 1) ≡ true
 above n = grind arith

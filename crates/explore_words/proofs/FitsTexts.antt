@@ -8,7 +8,7 @@ use Rattle.explore_words.specs.declared.question.Look.{Look}
 use Rattle.explore_words.specs.declared.question.Want.{Want}
 use Rattle.explore_words.specs.declared.question.Want.TheVariants.{Event, Seen}
 use Rattle.explore_words.specs.declared.question.WantedEvent.{WantedEvent}
-use Rattle.explore_words.specs.Fits.{is_look_for, is_want_for}
+use Rattle.explore_words.specs.Fits.{has_own, is_look_for, is_want_for}
 use Rattle.explore_words.specs.Texts.{begin_alike, is_idle, names_message}
 use Rattle.explore_words.specs.Wants.{is_delivery, longer, longer_last, may_go_on, may_have, may_send}
 use Rattle.explore_words.proofs.TextsAlike.{still_apart}
@@ -57,5 +57,7 @@ same_count more (look ∷ next ∷ looks) = ap (λ (n : ℕ). suc n) (same_count
 
 pub longer_fits : (nodes : ℕ) (want : Want) (line : List ℕ) → is_want_for nodes want ≡ true → may_go_on want line ≡ true
     → is_want_for nodes (longer (10 ∷ line) want) ≡ true
-longer_fits nodes (Event event text) line fits goes = longer_event event text line fits goes
+longer_fits nodes (Event event text) line fits goes =
+    let parts = and_parts (may_have event text) (has_own event) fits in
+    both (may_have event (text ++ 10 ∷ line)) (has_own event) (longer_event event text line parts.0 goes) parts.1
 longer_fits nodes (Seen looks) line fits goes = rw (same_looks nodes (10 ∷ line) looks, same_count (10 ∷ line) looks) fits

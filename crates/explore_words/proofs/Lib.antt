@@ -1,4 +1,5 @@
 mod FitsLines
+mod FitsOwn
 mod FitsParts
 mod FitsTexts
 mod FitsWords

@@ -27,7 +27,7 @@ impl Act {
     }
 
     /// How many lines it has.
-    fn line_count(&self) -> usize
+    pub fn line_count(&self) -> usize
         ensures { result ≡ line_count self.now }
     {
         let count = self.commands.as_slice().len();

@@ -1,10 +1,10 @@
 -- What each question owes that was read from a text.
-use Rattle.std.specs.Prelude.{◌≡◌, ℕ, Bool, true, false, ◌&&◌, List, IfSome, ⊤}
+use Rattle.std.specs.Prelude.{◌≡◌, ℕ, true, false, ◌&&◌, List, IfSome, ⊤}
 use Rattle.rs_optime.specs.Membership.{In}
 use Rattle.set_model.specs.declared.command.Command.{Command}
-use Rattle.set_model.specs.declared.command.Command.TheVariants as commands
 use Rattle.set_model.specs.Limits.{IsSoundWrite, is_for, write_of}
 use Rattle.set_model.specs.World.{is_delivery}
+pub use Rattle.explore_words.specs.Fits.{is_numbered, may_name}
 use Rattle.explore_words.specs.Texts.{is_idle, names_message}
 use Rattle.explore_words.specs.declared.question.Act.{Act}
 use Rattle.explore_words.specs.declared.question.Question.{Question}
@@ -12,23 +12,6 @@ use Rattle.explore_words.specs.declared.question.Want.{Want}
 use Rattle.explore_words.specs.declared.question.Want.TheVariants.{Event as Happens, Seen}
 use Rattle.explore_words.specs.declared.question.WantedEvent.{WantedEvent}
 use Rattle.explore_words.specs.declared.question.WantedEvent.TheVariants as wanted
-
--- the reply may name a message
-abbrev pub may_name : Command → Bool
-may_name (commands.Campaign node) = true
-may_name (commands.DryRun node) = true
-may_name (commands.Heartbeat node to) = true
-may_name (commands.Report node to) = true
-may_name (commands.Common node to) = true
-may_name (commands.Fetch node) = true
-may_name (commands.Deliver message) = true
-may_name (commands.DeliverLatest from to) = true
-may_name _ = false
-
--- it delivers a message by its number
-abbrev pub is_numbered : Command → Bool
-is_numbered (commands.Deliver message) = true
-is_numbered _ = false
 
 -- a text names no message where the reply may name one, and that of a delivery isn't one of what isn't taken
 abbrev pub MayHave : WantedEvent → List ℕ → Type 0
