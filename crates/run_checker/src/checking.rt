@@ -190,7 +190,7 @@ fn number_after(byte: u8, line: u64) -> u64
 }
 
 /// The documents of a command are sound at every level: a fact for proofs, which costs nothing.
-fn recall_sound_write(command: &Command)
+pub fn recall_sound_write(command: &Command)
     ensures { IfSome (write_of command.now) IsSoundWrite }
 {
     match command {

@@ -12,7 +12,8 @@ mod words;
 mod writing;
 
 pub use bson_doc::Mem;
-pub use checking::{CheckError, check};
+pub use checking::{CheckError, check, recall_sound_write};
+pub use commands::write_command;
 pub use lines::next_line;
 pub use reading::{read_event, read_header};
 pub use sizes::Sizes;
