@@ -190,6 +190,14 @@ impl Machine {
         self.pool.as_slice()
     }
 
+    /// The message that a command delivers; none if no such message was sent.
+    pub fn delivered(&self, command: &Command) -> Option<&Message>
+        requires { is_delivery command.now ≡ true }
+        ensures { worlds.taking (option_copied result) ≡ worlds.task self.now command.now }
+    {
+        delivered(&self.pool, command)
+    }
+
     /// Does one event, and returns its reply.
     pub fn step(&mut self, event: &Event) -> Result<Reply, StepError>
         requires reached { IsReached self.old }
@@ -210,7 +218,7 @@ impl Machine {
     }
 
     /// There are at most fifty nodes, and each is sound: facts for proofs, which cost nothing.
-    fn recall_nodes(&self)
+    pub fn recall_nodes(&self)
         requires { IsReached self.now }
         ensures few { length self.now.nodes ≤ 50 }
         ensures sound { AreSound self.now }
