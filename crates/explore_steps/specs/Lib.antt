@@ -1,0 +1,11 @@
+pub mod Causes
+pub mod Courses
+pub mod Deals
+pub mod Keeping
+pub mod Met
+pub mod Reaching
+pub mod Seeing
+pub mod Standing
+pub mod Stepping
+pub mod Tables
+pub mod Words
